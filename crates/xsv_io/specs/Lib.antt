@@ -1,0 +1,5 @@
+pub mod Causes
+pub mod Writing
+pub mod Bounds
+pub mod BoundLaws
+pub mod Memory
