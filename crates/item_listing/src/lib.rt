@@ -1,0 +1,20 @@
+//! The items of a listing, from its bytes.
+//!
+//! A stream is lines in UTF-8, each ended by a line feed. A line is one item: the start of an element, an
+//! attribute, characters, the end of an element, a processing instruction, a section word or a command.
+#![tactic(auto)]
+
+mod escape;
+mod item;
+mod items;
+mod line;
+mod listing;
+mod locations;
+#[cfg(test)]
+mod tests;
+
+pub use escape::unescape;
+pub use item::{Item, Locations, Reason};
+pub use items::Items;
+pub use line::read_item;
+pub use listing::{Listing, ListingFault, lines_are_cut};

@@ -1,0 +1,59 @@
+ghost use Rattle.std.specs.Prelude.{◌≡◌, [], None, Ok, false, IfOk, IfErr};
+ghost use Rattle.plain_tree.specs.Building.{rows_from, tree};
+ghost use Rattle.plain_tree.specs.Builder.{IsRefusal};
+
+use crate::builder::{Builder, TreeError};
+use crate::{Row, Tree};
+use item_listing::Item;
+use std::alloc::{AllocError, Global};
+
+/// Why items are no tree.
+#[derive(Clone, Copy, Debug, PartialEq, Eq)]
+pub enum TreeReason {
+    /// A second element without a parent starts.
+    TwoRoots,
+    /// An element would have a depth of more than 128.
+    TooDeep,
+    /// There would be more than 131,072 nodes.
+    TooManyNodes,
+    /// Characters other than white space stand outside the root.
+    TextOutside,
+    /// An end does not name the innermost element that is open, or none is open.
+    EndMismatch,
+    /// An element is not ended.
+    Unclosed,
+    /// There is no element.
+    NoRoot,
+    /// An item is none of a tree, or an attribute follows no start.
+    NotHere,
+}
+
+/// What the items build, or why they build nothing.
+fn build(alloc: Global, items: &[Item]) -> Result<(Vec<Row>, u32), TreeError>
+    ensures ok { IfOk result (λ built. rows_from [] false 1 None [] items.now ≡ Ok (record { rows = built.0.items; next = built.1 })) }
+    ensures err { IfErr result (λ e. IsRefusal e (rows_from [] false 1 None [] items.now)) }
+{
+    let mut builder = Builder::new(alloc);
+    for item in items {
+        builder.item(item)?;
+    }
+    match builder.finish() {
+        Ok(built) => Ok(built),
+        Err(reason) => Err(TreeError::Refused(reason)),
+    }
+}
+
+/// The tree of the items of a section, or the first reason why they are no tree.
+///
+/// # Errors
+///
+/// `AllocError` is want of memory; a `TreeReason` is the items'.
+pub fn read_tree(alloc: Global, items: &[Item]) -> Result<Result<Tree, TreeReason>, AllocError>
+    ensures { IfOk result (λ read. tree items.now ≡ read) }
+{
+    match build(alloc, items) {
+        Ok((rows, next_free)) => Ok(Ok(Tree::from_rows(rows, next_free))),
+        Err(TreeError::Memory) => Err(AllocError),
+        Err(TreeError::Refused(reason)) => Ok(Err(reason)),
+    }
+}
