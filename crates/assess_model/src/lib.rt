@@ -1,0 +1,8 @@
+//! The schema of the first form, and what is known of the elements of a document that is assessed by it.
+#![tactic(auto)]
+
+mod record;
+mod schema;
+
+pub use record::{Attempted, ChildSummary, Code, Codes, ElementRecord, TypeId, Validity};
+pub use schema::Schema;

@@ -1,0 +1,106 @@
+ghost use Rattle.std.specs.Prelude.{◌≡◌, ◌∷◌, ◌++◌, [], length, OnOk, OnErr};
+ghost use Rattle.assess_model.specs.declared.record.Code.{Code};
+
+use std::alloc::{AllocError, Global};
+use std::marker::Model;
+
+/// A type that governs an element.
+#[derive(Clone, Copy, Debug, PartialEq, Eq)]
+pub enum TypeId {
+    /// `xs:anyType`, which governs where no declaration does.
+    AnyType,
+    /// `xs:string`.
+    StringType,
+    /// The complex type of the schema element with this node number.
+    ComplexType(u32),
+}
+
+/// Whether an element is valid (Structures 3.3.5).
+#[derive(Clone, Copy, Debug, PartialEq, Eq)]
+pub enum Validity {
+    Valid,
+    Invalid,
+    NotKnown,
+}
+
+/// How far an element was assessed (Structures 3.3.5).
+#[derive(Clone, Copy, Debug, PartialEq, Eq)]
+pub enum Attempted {
+    Full,
+    Partial,
+    NoneAttempted,
+}
+
+/// Why an element is invalid by itself.
+#[derive(Clone, Copy, Debug, PartialEq, Eq)]
+pub enum Code {
+    /// `cvc-elt.1`: the root has no declaration (Structures 3.3.4).
+    Undeclared,
+    /// `cvc-type.3.1.2`: an element of simple type has child elements (Structures 3.3.4).
+    HasElements,
+    /// `cvc-complex-type.2.3`: element-only content has characters other than white space (Structures 3.4.4).
+    HasCharacters,
+    /// `cvc-complex-type.2.4`: the child elements are no word of the content model; the place among them
+    /// where they get stuck, from 0 (Structures 3.4.4).
+    Stuck(u32),
+}
+
+/// Codes in their order. Contracts see their list.
+#[derive(Debug, Drop)]
+pub struct Codes {
+    inner: Vec<Code>,
+}
+
+impl Model for Codes {
+    ghost use Rattle.std.specs.Prelude.{List};
+    ghost use Rattle.assess_model.specs.declared.record.Code.{Code};
+
+    ghost Value = { List Code };
+
+    ghost view = { λ codes. codes.inner.items };
+}
+
+impl Codes {
+    /// No codes.
+    pub fn new(alloc: Global) -> Self
+        ensures { result ≡ [] }
+    {
+        Codes {
+            inner: Vec::new(alloc),
+        }
+    }
+
+    /// Puts a code at the end. Where memory is wanting, the codes stay.
+    pub fn push(&mut self, code: Code) -> Result<(), AllocError>
+        ensures ok { OnOk result (self.new ≡ self.old ++ code ∷ []) }
+        ensures err { OnErr result (self.new ≡ self.old) }
+    {
+        self.inner.push(code)?;
+        Ok(())
+    }
+
+    /// The codes in order.
+    pub fn as_slice(&self) -> &[Code]
+        ensures { result.now ≡ self.now }
+    {
+        self.inner.as_slice()
+    }
+}
+
+/// What is known of an element.
+#[derive(Debug, Drop)]
+pub struct ElementRecord {
+    /// The governing type.
+    pub of: TypeId,
+    pub validity: Validity,
+    pub attempted: Attempted,
+    pub codes: Codes,
+}
+
+/// What an element needs to know of the records of its child elements.
+#[derive(Clone, Copy, Debug, PartialEq, Eq)]
+pub struct ChildSummary {
+    pub any_invalid: bool,
+    pub all_full: bool,
+    pub all_none: bool,
+}

@@ -1,0 +1,5 @@
+pub mod PathLaws
+pub mod Pending
+pub mod Known
+pub mod Judged
+pub mod EntryLaws

@@ -1,0 +1,49 @@
+ghost use Rattle.std.specs.Prelude.{◌≡◌, ◌+◌, IfOk};
+ghost use Rattle.plain_tree.specs.Rows.{siblings};
+ghost use Rattle.assess_model.specs.Assessment.{child_names, has_characters};
+
+use plain_tree::{Content, Row, is_white_space};
+use std::alloc::{AllocError, Global};
+use xs_names::{Text, Texts};
+
+/// The names of the child elements of an element of this depth, by the rows behind it.
+pub fn read_child_names(alloc: Global, depth: u32, later: &[Row]) -> Result<Texts, AllocError>
+    ensures { IfOk result (λ names. names ≡ child_names (siblings later.now (depth + 1))) }
+{
+    let mut names = Texts::new(alloc);
+    'rows: for row in later {
+        if row.depth <= depth {
+            break;
+        }
+        if row.depth - 1 == depth {
+            match &row.content {
+                Content::Element(name) => names.push(Text::new(alloc, name.as_str())?)?,
+                Content::Chars(_) => {}
+            }
+        }
+    }
+    Ok(names)
+}
+
+/// Whether some child of an element of this depth is characters other than white space, by the rows behind
+/// it.
+pub fn find_characters(depth: u32, later: &[Row]) -> bool
+    ensures { result ≡ has_characters (siblings later.now (depth + 1)) }
+{
+    'rows: for row in later {
+        if row.depth <= depth {
+            return false;
+        }
+        if row.depth - 1 == depth {
+            match &row.content {
+                Content::Element(_) => {}
+                Content::Chars(chars) => {
+                    if !is_white_space(chars.as_str()) {
+                        return true;
+                    }
+                }
+            }
+        }
+    }
+    false
+}

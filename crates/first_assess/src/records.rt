@@ -1,0 +1,147 @@
+ghost use Rattle.std.specs.Prelude.{◌≡◌, ◌==◌, ◌+◌, ◌<◌, ℕ, List, IfOk, OnOk, None, reverse, nat_lt, length, slice_index_or, if◌then◌else◌};
+ghost use Rattle.plain_tree.specs.Rows.{rows_of, siblings};
+ghost use Rattle.assess_model.specs.Assessment.{assessment, nothing_below};
+ghost use Rattle.first_assess.specs.Paths.{none_open, row_types};
+ghost use Rattle.first_assess.specs.Rows.{AreBelow, record_by, row_entries, row_records, with_node};
+
+use crate::govern::govern_rows;
+use crate::judge::{judge, judge_codes, put_child};
+use assess_model::{ChildSummary, ElementRecord, Schema, TypeId};
+use plain_tree::{Content, Row, Tree};
+use std::alloc::{AllocError, Global};
+use std::marker::Model;
+
+const NOTHING_BELOW: ChildSummary = ChildSummary {
+    any_invalid: false,
+    all_full: true,
+    all_none: true,
+};
+
+/// The records of a tree's nodes in document order, none for a text. Contracts see their list.
+#[derive(Debug, Drop)]
+pub struct Records {
+    inner: Vec<Option<ElementRecord>>,
+}
+
+impl Model for Records {
+    ghost use Rattle.std.specs.Prelude.{List, Option};
+    ghost use Rattle.assess_model.specs.declared.record.ElementRecord.{ElementRecord};
+
+    ghost Value = { List (Option ElementRecord) };
+
+    ghost view = { λ records. records.inner.items };
+}
+
+impl Records {
+    /// The records in order.
+    pub fn as_slice(&self) -> &[Option<ElementRecord>]
+        ensures { result.now ≡ self.now }
+    {
+        self.inner.as_slice()
+    }
+}
+
+/// What governs the row of a place.
+fn own_type(types: &[Option<TypeId>], place: usize) -> Option<TypeId>
+    ensures { result ≡ slice_index_or types.now place None }
+{
+    match types.get(place) {
+        Some(of) => *of,
+        None => None,
+    }
+}
+
+/// What is known of the siblings of a depth that come next.
+fn summary_at(pending: &[ChildSummary], depth: usize) -> ChildSummary
+    ensures { result ≡ slice_index_or pending.now depth nothing_below }
+{
+    pending.get(depth).copied().unwrap_or(NOTHING_BELOW)
+}
+
+/// Sets what is known of the siblings of a depth, and forgets those that are deeper.
+fn set_summary(
+    pending: &mut Vec<ChildSummary>,
+    depth: usize,
+    summary: ChildSummary,
+) -> Result<(), AllocError>
+    ensures { OnOk result ((k : ℕ) → slice_index_or pending.new.items k nothing_below
+        ≡ (if k == depth then summary else (if nat_lt k depth then slice_index_or pending.old.items k nothing_below else nothing_below))) }
+{
+    pending.resize(depth, NOTHING_BELOW)?;
+    pending.push(summary)?;
+    Ok(())
+}
+
+/// The record of a row, by what governs it, the rows behind it, and what is known of its child elements.
+fn judge_row(
+    alloc: Global,
+    schema: &Schema,
+    own: Option<TypeId>,
+    row: &Row,
+    later: &[Row],
+    below: ChildSummary,
+) -> Result<Option<ElementRecord>, AllocError>
+    ensures { IfOk result (λ known. known ≡ record_by schema.now own row.now.depth row.now.content later.now below) }
+{
+    match &row.content {
+        Content::Chars(_) => Ok(None),
+        Content::Element(_) => {
+            let codes = judge_codes(alloc, schema, row.depth == 1, own, row.depth, later)?;
+            Ok(Some(judge(codes, own, below)))
+        }
+    }
+}
+
+fn put_node(known: &Option<ElementRecord>, others: ChildSummary) -> ChildSummary
+    ensures { result ≡ with_node known.now others }
+{
+    match known {
+        None => others,
+        Some(child) => put_child(child, others),
+    }
+}
+
+/// The records of rows, the last first.
+fn judge_rows(
+    alloc: Global,
+    schema: &Schema,
+    types: &[Option<TypeId>],
+    rows: &[Row],
+) -> Result<Vec<Option<ElementRecord>>, AllocError>
+    requires types { types.now ≡ row_types schema.now none_open rows.now }
+    requires below { AreBelow rows.now }
+    ensures { IfOk result (λ records. reverse records.items ≡ row_records schema.now none_open rows.now) }
+{
+    let mut records = Vec::new(alloc);
+    let mut pending = Vec::new(alloc);
+    let mut i = rows.len();
+    'rows: while i > 0 {
+        i -= 1;
+        let row = &rows[i];
+        let depth = row.depth as usize;
+        let below = summary_at(&pending, depth + 1);
+        let next = summary_at(&pending, depth);
+        let known = judge_row(
+            alloc,
+            schema,
+            own_type(types, i),
+            row,
+            &rows[i + 1..],
+            below,
+        )?;
+        set_summary(&mut pending, depth, put_node(&known, next))?;
+        records.push(known)?;
+    }
+    Ok(records)
+}
+
+/// The records of a tree's elements, by the schema.
+pub fn assess(alloc: Global, schema: &Schema, tree: &Tree) -> Result<Records, AllocError>
+    ensures { IfOk result (λ records. row_entries (rows_of 1 tree.now.forest) records ≡ assessment schema.now tree.now.forest) }
+{
+    let rows = tree.rows();
+    let types = govern_rows(alloc, schema, rows)?;
+    let mut records = judge_rows(alloc, schema, &types, rows)?;
+    records.reverse();
+    Ok(Records { inner: records })
+}
