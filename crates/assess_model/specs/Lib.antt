@@ -1,3 +1,4 @@
 pub mod Tables
+pub mod TablesCode
 pub mod Schema
 pub mod Assessment

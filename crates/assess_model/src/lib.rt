@@ -3,6 +3,8 @@
 
 mod record;
 mod schema;
+mod tables;
 
 pub use record::{Attempted, ChildSummary, Code, Codes, ElementRecord, TypeId, Validity};
 pub use schema::Schema;
+pub use tables::{ComplexType, Declaration, DeclaredType};

@@ -42,7 +42,7 @@ pub enum Code {
     HasCharacters,
     /// `cvc-complex-type.2.4`: the child elements are no word of the content model; the place among them
     /// where they get stuck, from 0 (Structures 3.4.4).
-    Stuck(u32),
+    Stuck(usize),
 }
 
 /// Codes in their order. Contracts see their list.

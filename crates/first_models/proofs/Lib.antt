@@ -1,0 +1,5 @@
+pub mod WordLaws
+pub mod LocalLaws
+pub mod ModelLaws
+pub mod Differ
+pub mod Places
