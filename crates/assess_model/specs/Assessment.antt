@@ -1,5 +1,5 @@
 -- Schema-validity assessment of a tree, by one recursion from its root (Structures 5.2).
-use Rattle.std.specs.Prelude.{ℕ, List, [], ◌∷◌, ◌++◌, Bool, true, false, ◌==◌, ◌&&◌, ◌||◌, not, length, Option, Some, None, if◌then◌else◌}
+use Rattle.std.specs.Prelude.{ℕ, ◌+◌, List, [], ◌∷◌, ◌++◌, Bool, true, false, ◌==◌, ◌&&◌, ◌||◌, not, length, Option, Some, None, if◌then◌else◌}
 use Rattle.plain_tree.specs.Forest.{Forest, none, text, element}
 use Rattle.plain_tree.specs.Building.{is_white}
 use Rattle.assess_model.specs.Tables.{Tables}
@@ -96,9 +96,10 @@ nothing_below = record { any_invalid = false; all_full = true; all_none = true }
 -- one more child element before the others
 abbrev pub with_child : ElementRecord → ChildSummary → ChildSummary
 with_child child others = record {
-    any_invalid = is_invalid child.validity || others.any_invalid;
-    all_full = is_full child.attempted && others.all_full;
-    all_none = is_none_attempted child.attempted && others.all_none }
+  any_invalid = is_invalid child.validity || others.any_invalid;
+  all_full = is_full child.attempted && others.all_full;
+  all_none = is_none_attempted child.attempted && others.all_none;
+}
 
 -- what is known of siblings that this governs the parent of
 abbrev pub summary : Tables → Bool → Option TypeId → Forest → ChildSummary
@@ -130,3 +131,13 @@ entries s root parent (element number name attributes children next) =
 -- the assessment of a document: the root is assessed strictly
 abbrev pub assessment : Tables → Forest → List Entry
 assessment s forest = entries s true None forest
+
+-- the number of all codes of all records
+abbrev pub code_total : List Entry → ℕ
+code_total [] = 0
+code_total (e ∷ more) = length e.known.codes + code_total more
+
+-- the validity of the root, which comes first
+abbrev pub root_validity : List Entry → Validity
+root_validity [] = NotKnown
+root_validity (e ∷ more) = e.known.validity

@@ -17,7 +17,6 @@ pub struct Schema {
 
 impl Model for Schema {
     ghost use Rattle.assess_model.specs.Tables.{Tables};
-
     ghost use Rattle.assess_model.specs.TablesCode.{tables_code};
 
     ghost Value = { Tables };
@@ -65,7 +64,11 @@ fn find_model(types: &[ComplexType], number: u32) -> Option<&ContentModel>
 
 impl Schema {
     /// The schema of these tables.
-    pub fn new(globals: Vec<Declaration>, declared: Vec<DeclaredType>, types: Vec<ComplexType>) -> Self
+    pub fn new(
+        globals: Vec<Declaration>,
+        declared: Vec<DeclaredType>,
+        types: Vec<ComplexType>,
+    ) -> Self
         ensures { result ≡ record { globals = globals.items; declared = declared.items; types = types.items } }
     {
         Schema {

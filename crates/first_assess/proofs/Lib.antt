@@ -3,3 +3,4 @@ pub mod Pending
 pub mod Known
 pub mod Judged
 pub mod EntryLaws
+pub mod Few

@@ -1,6 +1,6 @@
-ghost use Rattle.std.specs.Prelude.{◌≡◌, ◌==◌, ◌+◌, ◌<◌, ℕ, List, IfOk, OnOk, None, reverse, nat_lt, length, slice_index_or, if◌then◌else◌};
+ghost use Rattle.std.specs.Prelude.{◌≡◌, ◌==◌, ◌+◌, ◌*◌, ◌<◌, ◌≤◌, ℕ, List, IfOk, OnOk, None, reverse, nat_lt, length, slice_index_or, if◌then◌else◌};
 ghost use Rattle.plain_tree.specs.Rows.{rows_of, siblings};
-ghost use Rattle.assess_model.specs.Assessment.{assessment, nothing_below};
+ghost use Rattle.assess_model.specs.Assessment.{assessment, code_total, nothing_below};
 ghost use Rattle.first_assess.specs.Paths.{none_open, row_types};
 ghost use Rattle.first_assess.specs.Rows.{AreBelow, record_by, row_entries, row_records, with_node};
 
@@ -137,7 +137,8 @@ fn judge_rows(
 
 /// The records of a tree's elements, by the schema.
 pub fn assess(alloc: Global, schema: &Schema, tree: &Tree) -> Result<Records, AllocError>
-    ensures { IfOk result (λ records. row_entries (rows_of 1 tree.now.forest) records ≡ assessment schema.now tree.now.forest) }
+    ensures entries { IfOk result (λ records. row_entries (rows_of 1 tree.now.forest) records ≡ assessment schema.now tree.now.forest) }
+    ensures few { OnOk result (code_total (assessment schema.now tree.now.forest) ≤ 2 * length (rows_of 1 tree.now.forest)) }
 {
     let rows = tree.rows();
     let types = govern_rows(alloc, schema, rows)?;

@@ -145,9 +145,12 @@ texts_nested number depth (b ∷ bytes) more h n = (h, omega arith, refl, n)
 
 tag_nested : (tags : List (List ℕ)) (tag : Option Row) (more : List Row) → FitsTag tags tag → AreNested (length tags + 1) more → AreNested (most_at tags tag) (shown tag ++ more)
 tag_nested tags None more f n = n
-tag_nested tags (Some row) more f n =
-    ( omega (arith, f.0, f.1), omega (arith, f.0), fits_element row.content row.attributes f.2
-    , weaker (length tags + 1) (deepest row.depth row.content) more (omega (arith, f.0, deepest_element row.depth row.content f.2)) n )
+tag_nested tags (Some row) more f n = (
+  omega (arith, f.0, f.1),
+  omega (arith, f.0),
+  fits_element row.content row.attributes f.2,
+  weaker (length tags + 1) (deepest row.depth row.content) more (omega (arith, f.0, deepest_element row.depth row.content f.2)) n,
+)
 
 -- the tag, and then the characters
 both_nested : (tags : List (List ℕ)) (tag : Option Row) (number : ℕ) (chars : List ℕ) (more : List Row) → FitsTag tags tag → AreNested (length tags + 1) more

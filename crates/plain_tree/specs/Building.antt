@@ -66,8 +66,8 @@ rows_from tags rooted next tag chars (items.Start name ∷ more) =
     else (if nat_lt 127 (length tags) then Err TooDeep
     else (if too_many (after_text next chars + 1) then Err TooManyNodes
     else behind (shown tag ++ text_rows next (length tags + 1) chars)
-        (rows_from (name ∷ tags) true (after_text next chars + 1)
-        (Some (record { number = after_text next chars; depth = length tags + 1; content = contents.Element name; attributes = [] })) [] more)))
+    (rows_from (name ∷ tags) true (after_text next chars + 1)
+    (Some (record { number = after_text next chars; depth = length tags + 1; content = contents.Element name; attributes = [] })) [] more)))
 rows_from tags rooted next None chars (items.Attr name value ∷ more) = Err NotHere
 rows_from tags rooted next (Some row) chars (items.Attr name value ∷ more) = rows_from tags rooted next (Some (with_attribute name value row)) chars more
 rows_from tags rooted next tag chars (items.Chars text ∷ more) =

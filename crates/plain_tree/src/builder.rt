@@ -9,6 +9,7 @@ use std::mem;
 use xs_names::Text;
 
 const MAX_NODES: u32 = 131_072;
+
 const MAX_DEPTH: usize = 128;
 
 /// Why an item was not taken.
@@ -38,9 +39,7 @@ impl<T: Drop> From<AllocFailed<T>> for TreeError {
 pub fn is_white_space(text: &str) -> bool
     ensures { result ≡ is_white text.now }
 {
-    text.as_bytes()
-        .iter()
-        .all(|b| *b == b' ' || *b == b'\t' || (*b == b'\n' || *b == b'\r'))
+    text.as_bytes().iter().all(|b| *b == b' ' || *b == b'\t' || (*b == b'\n' || *b == b'\r'))
 }
 
 /// Puts the characters that have come into a text node, if there are any. Answers the number of the next node.
@@ -125,13 +124,23 @@ impl Builder {
         if self.tags.len() >= MAX_DEPTH {
             return Err(TreeError::Refused(TreeReason::TooDeep));
         }
-        let number = if self.chars.is_empty() { self.next } else { self.next + 1 };
+        let number = if self.chars.is_empty() {
+            self.next
+        } else {
+            self.next + 1
+        };
         if number > MAX_NODES {
             return Err(TreeError::Refused(TreeReason::TooManyNodes));
         }
         self.tags.push(Text::new(self.alloc, name.as_str())?)?;
         put_tag(&mut self.rows, &mut self.tag)?;
-        put_chars(self.alloc, &mut self.rows, &mut self.chars, self.next, depth)?;
+        put_chars(
+            self.alloc,
+            &mut self.rows,
+            &mut self.chars,
+            self.next,
+            depth,
+        )?;
         self.tag = Some(Row {
             number,
             depth,
@@ -184,12 +193,22 @@ impl Builder {
         if last.as_str() != name.as_str() {
             return Err(TreeError::Refused(TreeReason::EndMismatch));
         }
-        let next = if self.chars.is_empty() { self.next } else { self.next + 1 };
+        let next = if self.chars.is_empty() {
+            self.next
+        } else {
+            self.next + 1
+        };
         if next > MAX_NODES + 1 {
             return Err(TreeError::Refused(TreeReason::TooManyNodes));
         }
         put_tag(&mut self.rows, &mut self.tag)?;
-        put_chars(self.alloc, &mut self.rows, &mut self.chars, self.next, depth)?;
+        put_chars(
+            self.alloc,
+            &mut self.rows,
+            &mut self.chars,
+            self.next,
+            depth,
+        )?;
         self.next = next;
         Ok(())
     }

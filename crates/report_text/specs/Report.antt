@@ -1,10 +1,8 @@
 -- The record lines of a report, and what is counted over them.
-use Rattle.std.specs.Prelude.{ℕ, ◌+◌, List, [], ◌∷◌, ◌++◌, codes, length}
+use Rattle.std.specs.Prelude.{ℕ, List, [], ◌∷◌, ◌++◌, codes}
 use Rattle.std.specs.Fmt.{decimal}
 use Rattle.assess_model.specs.Assessment.{Entry}
 use Rattle.assess_model.specs.declared.record.ElementRecord.{ElementRecord}
-use Rattle.assess_model.specs.declared.record.Validity.{Validity}
-use Rattle.assess_model.specs.declared.record.Validity.TheVariants.{NotKnown}
 use Rattle.report_text.specs.Words.{validity_word, attempted_word, codes_text, type_text}
 
 -- number, name, type, validity, how far assessed, where the value comes from, codes
@@ -20,13 +18,3 @@ entry_line e = record_line e.number e.name e.known
 abbrev pub record_lines : List Entry → List ℕ
 record_lines [] = []
 record_lines (e ∷ more) = entry_line e ++ record_lines more
-
--- the number of all codes
-abbrev pub code_total : List Entry → ℕ
-code_total [] = 0
-code_total (e ∷ more) = length e.known.codes + code_total more
-
--- the validity of the root, which comes first
-abbrev pub root_validity : List Entry → Validity
-root_validity [] = NotKnown
-root_validity (e ∷ more) = e.known.validity

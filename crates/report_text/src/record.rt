@@ -8,7 +8,12 @@ use std::alloc::AllocError;
 use std::fmt::Write;
 
 /// Writes the record line of an element, by its number and its name.
-pub fn write_record(out: &mut String, number: u32, name: &str, known: &ElementRecord) -> Result<(), AllocError>
+pub fn write_record(
+    out: &mut String,
+    number: u32,
+    name: &str,
+    known: &ElementRecord,
+) -> Result<(), AllocError>
     ensures { OnOk result (string_bytes out.new ≡ string_bytes out.old ++ record_line number name.now known.now) }
 {
     let validity = validity_word(known.validity);

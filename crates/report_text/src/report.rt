@@ -1,6 +1,7 @@
 ghost use Rattle.std.specs.Prelude.{◌≡◌, ◌++◌, ◌*◌, ◌≤◌, length, OnOk, IfOk, string_bytes};
 ghost use Rattle.first_assess.specs.Rows.{row_entries, entry_of};
-ghost use Rattle.report_text.specs.Report.{entry_line, record_lines, code_total, root_validity};
+ghost use Rattle.assess_model.specs.Assessment.{code_total, root_validity};
+ghost use Rattle.report_text.specs.Report.{entry_line, record_lines};
 
 use crate::record::write_record;
 use assess_model::{ElementRecord, Validity};
@@ -18,7 +19,11 @@ fn write_row(out: &mut String, row: &Row, known: &ElementRecord) -> Result<(), A
 }
 
 /// Writes the record lines of all rows that have a record, and answers how many codes they have.
-pub fn write_report(out: &mut String, rows: &[Row], records: &[Option<ElementRecord>]) -> Result<u64, AllocError>
+pub fn write_report(
+    out: &mut String,
+    rows: &[Row],
+    records: &[Option<ElementRecord>],
+) -> Result<u64, AllocError>
     requires few { code_total (row_entries rows.now records.now) ≤ 2 * length rows.now }
     ensures lines { OnOk result (string_bytes out.new ≡ string_bytes out.old ++ record_lines (row_entries rows.now records.now)) }
     ensures total { IfOk result (λ total. total ≡ code_total (row_entries rows.now records.now)) }

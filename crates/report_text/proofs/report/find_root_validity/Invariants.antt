@@ -1,6 +1,6 @@
 use Rattle.std.proofs.Common.{◌≡◌, length}
 use Rattle.first_assess.specs.Rows.{row_entries}
-use Rattle.report_text.specs.Report.{root_validity}
+use Rattle.assess_model.specs.Assessment.{root_validity}
 use Rattle.report_text.proofs.report.find_root_validity.Given as goal
 
 abbrev pub invariant-rows : goal.invariant-rows

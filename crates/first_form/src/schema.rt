@@ -1,0 +1,85 @@
+ghost use Rattle.std.specs.Prelude.{◌≡◌, IfOk};
+ghost use Rattle.std.specs.Option.{option_map};
+ghost use Rattle.first_models.specs.Members.{all_differ, is_among};
+ghost use Rattle.first_form.specs.SchemaForm as form;
+
+use crate::attributes::binds_xs;
+use crate::declare::is_element;
+use crate::tables::{read_complex_types, read_globals, read_types};
+use assess_model::{ComplexType, Declaration, DeclaredType, Schema};
+use plain_tree::Row;
+use std::alloc::{AllocError, Global};
+
+/// Whether some declaration has the name.
+fn declares(globals: &[Declaration], name: &str) -> bool
+    ensures { result ≡ is_among name.now (form.global_names globals.now) }
+{
+    for global in globals {
+        if name == global.name.as_str() {
+            return true;
+        }
+    }
+    false
+}
+
+/// Whether the names of global declarations all differ.
+fn names_differ(globals: &[Declaration]) -> bool
+    ensures { result ≡ all_differ (form.global_names globals.now) }
+{
+    let mut rest = globals;
+    'globals: while let Some((global, more)) = rest.split_first() {
+        if declares(more, global.name.as_str()) {
+            return false;
+        }
+        rest = more;
+    }
+    true
+}
+
+fn is_schema_root(row: &Row) -> bool
+    ensures { result ≡ form.is_schema_root row.now }
+{
+    is_element("xs:schema", &row.content) && row.depth == 1 && binds_xs(row.attributes.as_slice())
+}
+
+/// The schema of these tables, if they are within the form's bounds.
+fn check_tables(
+    globals: Option<Vec<Declaration>>,
+    declared: Option<Vec<DeclaredType>>,
+    types: Option<Vec<ComplexType>>,
+) -> Option<Schema>
+    ensures { result ≡ form.checked_tables (option_map (λ v. v.items) globals) (option_map (λ v. v.items) declared) (option_map (λ v. v.items) types) }
+{
+    match globals {
+        None => None,
+        Some(globals) => match declared {
+            None => None,
+            Some(declared) => match types {
+                None => None,
+                Some(types) => {
+                    if !globals.is_empty() && declared.len() <= 1000 && names_differ(&globals) {
+                        Some(Schema::new(globals, declared, types))
+                    } else {
+                        None
+                    }
+                }
+            },
+        },
+    }
+}
+
+/// The schema of a tree's rows, or `None` where it is not of the form.
+pub fn read_schema(alloc: Global, rows: &[Row]) -> Result<Option<Schema>, AllocError>
+    ensures { IfOk result (λ found. found ≡ form.schema_tables rows.now) }
+{
+    let Some((root, rows)) = rows.split_first() else {
+        return Ok(None);
+    };
+    if !is_schema_root(root) {
+        return Ok(None);
+    }
+    let globals = read_globals(alloc, rows)?;
+    let declared = read_types(alloc, rows)?;
+    let types = read_complex_types(alloc, rows)?;
+    Ok(check_tables(globals, declared, types))
+}

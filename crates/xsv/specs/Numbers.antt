@@ -1,0 +1,13 @@
+-- The numbers that the program ends with.
+use Rattle.std.specs.Prelude.{ℕ}
+use Rattle.xsv.specs.declared.status.Status.{Status}
+use Rattle.xsv.specs.declared.status.Status.TheVariants.{Valid, NotValid, Unsupported, Words, ReadFault, WriteFault, Memory}
+
+abbrev pub number_of : Status → ℕ
+number_of Valid = 0
+number_of NotValid = 1
+number_of Unsupported = 5
+number_of Words = 6
+number_of ReadFault = 7
+number_of WriteFault = 8
+number_of Memory = 9
