@@ -6,11 +6,11 @@ use Rattle.plain_tree.specs.declared.builder.Builder.{Builder}
 use Rattle.plain_tree.specs.declared.build.TreeReason.{TreeReason}
 use Rattle.plain_tree.specs.declared.builder.TreeError.{TreeError}
 use Rattle.plain_tree.specs.declared.builder.TreeError.TheVariants as errors
-use Rattle.plain_tree.specs.Building.{Built, behind, rows_from}
+use Rattle.plain_tree.specs.Building.{Built, behind, rows_from, limits_of}
 
 -- what is built, where these items are still to come
 abbrev pub outcome : Builder → List Item → Result Built TreeReason
-outcome b more = behind b.rows.items (rows_from (reverse b.tags.items) b.rooted b.next b.tag (string_bytes b.chars) more)
+outcome b more = behind b.rows.items (rows_from (limits_of b.levels) (reverse b.tags.items) b.rooted b.next b.tag (string_bytes b.chars) more)
 
 -- an error is want of memory, or the outcome
 abbrev pub IsRefusal : TreeError → Result Built TreeReason → Type 0

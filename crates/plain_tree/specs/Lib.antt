@@ -6,3 +6,8 @@ pub mod Building
 pub mod Builder
 pub mod Held
 pub mod Spelling
+pub mod Edits
+pub mod EditRows
+pub mod Refusals
+pub mod Spots
+pub mod Blocks

@@ -1,5 +1,5 @@
 ghost use Rattle.std.specs.Prelude.{◌≡◌, [], None, Ok, false, IfOk, IfErr};
-ghost use Rattle.plain_tree.specs.Building.{rows_from, tree};
+ghost use Rattle.plain_tree.specs.Building.{limits_of, rows_from, tree};
 ghost use Rattle.plain_tree.specs.Builder.{IsRefusal};
 
 use crate::builder::{Builder, TreeError};
@@ -28,12 +28,18 @@ pub enum TreeReason {
     NotHere,
 }
 
-/// What the items build, or why they build nothing.
-fn build(alloc: Global, items: &[Item]) -> Result<(Vec<Row>, u32), TreeError>
-    ensures ok { IfOk result (λ built. rows_from [] false 1 None [] items.now ≡ Ok (record { rows = built.0.items; next = built.1 })) }
-    ensures err { IfErr result (λ e. IsRefusal e (rows_from [] false 1 None [] items.now)) }
+const MAX_LEVELS: usize = 128;
+
+/// What the items build where no element may stand deeper than `levels`, or why they build nothing.
+pub(crate) fn build(
+    alloc: Global,
+    levels: Option<usize>,
+    items: &[Item],
+) -> Result<(Vec<Row>, u32), TreeError>
+    ensures ok { IfOk result (λ built. rows_from (limits_of levels) [] false 1 None [] items.now ≡ Ok (record { rows = built.0.items; next = built.1 })) }
+    ensures err { IfErr result (λ e. IsRefusal e (rows_from (limits_of levels) [] false 1 None [] items.now)) }
 {
-    let mut builder = Builder::new(alloc);
+    let mut builder = Builder::new(alloc, levels);
     for item in items {
         builder.item(item)?;
     }
@@ -51,7 +57,7 @@ fn build(alloc: Global, items: &[Item]) -> Result<(Vec<Row>, u32), TreeError>
 pub fn read_tree(alloc: Global, items: &[Item]) -> Result<Result<Tree, TreeReason>, AllocError>
     ensures { IfOk result (λ read. tree items.now ≡ read) }
 {
-    match build(alloc, items) {
+    match build(alloc, Some(MAX_LEVELS), items) {
         Ok((rows, next_free)) => Ok(Ok(Tree::from_rows(rows, next_free))),
         Err(TreeError::Memory) => Err(AllocError),
         Err(TreeError::Refused(reason)) => Ok(Err(reason)),

@@ -1,6 +1,6 @@
 ghost use Rattle.std.specs.Prelude.{◌≡◌, List, ◌+◌, ◌≤◌, ◌<◌, ◌++◌, ◌^◌, ◌-◌, [], OnOk, IfOk, IfErr, None, Ok, false, string_bytes, vec_len};
 ghost use Rattle.plain_tree.specs.declared.builder.TreeError.TheVariants.{Memory};
-ghost use Rattle.plain_tree.specs.Building.{is_white, text_rows, after_text, shown};
+ghost use Rattle.plain_tree.specs.Building.{is_white, text_rows, after_text, shown, too_deep};
 
 use crate::{Attribute, Attributes, Content, Row, TreeReason};
 use item_listing::Item;
@@ -9,8 +9,6 @@ use std::mem;
 use xs_names::Text;
 
 const MAX_NODES: u32 = 131_072;
-
-const MAX_DEPTH: usize = 128;
 
 /// Why an item was not taken.
 #[derive(Clone, Copy, Debug)]
@@ -40,6 +38,16 @@ pub fn is_white_space(text: &str) -> bool
     ensures { result ≡ is_white text.now }
 {
     text.as_bytes().iter().all(|b| *b == b' ' || *b == b'\t' || (*b == b'\n' || *b == b'\r'))
+}
+
+/// Whether a depth passes a limit, if there is one.
+fn is_past(levels: Option<usize>, depth: usize) -> bool
+    ensures { result ≡ too_deep levels depth }
+{
+    match levels {
+        Some(most) => most < depth,
+        None => false,
+    }
 }
 
 /// Puts the characters that have come into a text node, if there are any. Answers the number of the next node.
@@ -83,6 +91,7 @@ fn put_tag(rows: &mut Vec<Row>, tag: &mut Option<Row>) -> Result<(), AllocError>
 #[derive(Drop)]
 pub struct Builder {
     alloc: Global,
+    levels: Option<usize>,
     rows: Vec<Row>,
     tags: Vec<Text>,
     rooted: bool,
@@ -90,20 +99,22 @@ pub struct Builder {
     tag: Option<Row>,
     chars: String,
     ghost few: { next ≤ 131073 },
-    ghost shallow: { vec_len tags ≤ 128 },
+    ghost shallow: { vec_len tags < next },
 }
 
 impl Builder {
     ghost use Rattle.item_listing.specs.declared.item.Item.{Item};
     ghost use Rattle.item_listing.specs.declared.item.Item.TheVariants as items;
     ghost use Rattle.plain_tree.specs.Builder.{outcome, Takes, Refuses, IsRefusal};
-    ghost use Rattle.plain_tree.specs.Building.{Built, rows_from};
+    ghost use Rattle.plain_tree.specs.Building.{Built, rows_from, limits_of};
 
-    pub fn new(alloc: Global) -> Self
-        ensures { (more : List Item) → outcome result more ≡ rows_from [] false 1 None [] more }
+    /// A builder that has taken nothing. No element may stand deeper than `levels`, where there is such a limit.
+    pub fn new(alloc: Global, levels: Option<usize>) -> Self
+        ensures { (more : List Item) → outcome result more ≡ rows_from (limits_of levels) [] false 1 None [] more }
     {
         Builder {
             alloc,
+            levels,
             rows: Vec::new(alloc),
             tags: Vec::new(alloc),
             rooted: false,
@@ -121,7 +132,7 @@ impl Builder {
         if depth == 1 && self.rooted {
             return Err(TreeError::Refused(TreeReason::TwoRoots));
         }
-        if self.tags.len() >= MAX_DEPTH {
+        if is_past(self.levels, self.tags.len() + 1) {
             return Err(TreeError::Refused(TreeReason::TooDeep));
         }
         let number = if self.chars.is_empty() {
@@ -132,7 +143,6 @@ impl Builder {
         if number > MAX_NODES {
             return Err(TreeError::Refused(TreeReason::TooManyNodes));
         }
-        self.tags.push(Text::new(self.alloc, name.as_str())?)?;
         put_tag(&mut self.rows, &mut self.tag)?;
         put_chars(
             self.alloc,
@@ -149,6 +159,7 @@ impl Builder {
         });
         self.next = number + 1;
         self.rooted = true;
+        self.tags.push(Text::new(self.alloc, name.as_str())?)?;
         Ok(())
     }
 

@@ -1,1 +1,7 @@
 mod CharacterLaws
+pub mod GrownLaws
+mod KeptLaws
+mod NumberedLaws
+pub mod NumberingLaws
+mod QNameLaws
+mod ScopeLaws

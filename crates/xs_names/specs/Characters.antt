@@ -1,5 +1,5 @@
 -- The characters of names, and the names: XML 1.0 Fifth Edition, 2.3, and Namespaces in XML 1.0, 3.
-use Rattle.std.specs.Prelude.{ℕ, List, [], ◌∷◌, Bool, false, not, ◌&&◌, ◌||◌, ◌==◌, nat_le}
+use Rattle.std.specs.Prelude.{◌≡◌, ℕ, List, [], ◌∷◌, Bool, true, false, not, ◌&&◌, ◌||◌, ◌==◌, nat_le, codes, refl}
 use Rattle.std.specs.List.{list_all, list_any}
 
 -- some range of the table holds the character
@@ -40,3 +40,16 @@ is_nmtoken (c ∷ cs) = list_all is_name_char (c ∷ cs)
 -- Namespaces in XML 1.0, production 4: NCName ::= Name - (Char* ':' Char*)
 abbrev pub is_ncname : List ℕ → Bool
 is_ncname cs = is_name cs && not (list_any is_colon cs)
+
+-- for example
+pub example-ncname : is_ncname (codes "xs-1.0") ≡ true
+example-ncname = refl
+
+pub example-colon : is_ncname (codes "xs:element") ≡ false
+example-colon = refl
+
+pub example-name : is_name (codes "xs:element") ≡ true
+example-name = refl
+
+pub example-nmtoken : is_nmtoken (codes "-1") ≡ true
+example-nmtoken = refl

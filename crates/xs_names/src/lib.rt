@@ -1,10 +1,21 @@
-//! Texts and the names of XML.
+//! Texts and the names of XML: what is a name, its two parts, namespaces and names by number, and the prefixes in scope.
 #![tactic(auto)]
 
 mod characters;
+mod ids;
+mod names;
+mod numbered;
+mod qname;
+mod scope;
+#[cfg(test)]
+mod tests;
 mod text;
 mod texts;
 
 pub use characters::{is_name, is_ncname, is_nmtoken};
+pub use ids::{NameId, NsId};
+pub use names::Names;
+pub use qname::{BadName, split_qname};
+pub use scope::{Scope, Unbound};
 pub use text::Text;
 pub use texts::Texts;

@@ -1,4 +1,5 @@
-ghost use Rattle.std.specs.Prelude.{◌≡◌, ◌==◌, ◌↔◌, [], ◌∷◌, ◌++◌, length, slice_get, IsTrue, Contains, OnOk, OnErr};
+ghost use Rattle.std.specs.Prelude.{◌≡◌, ◌==◌, ◌↔◌, [], ◌∷◌, ◌++◌, length, slice_get, bytes_eq, IsTrue, Contains, OnOk, OnErr};
+ghost use Rattle.std.specs.List.{list_any};
 ghost use Rattle.std.specs.Option.{option_copied};
 
 use crate::Text;
@@ -68,7 +69,8 @@ impl Texts {
 
     /// Whether the list holds the text.
     pub fn contains(&self, text: &str) -> bool
-        ensures { IsTrue result ↔ Contains self.now text.now }
+        ensures found { IsTrue result ↔ Contains self.now text.now }
+        ensures value { result ≡ list_any (λ t. bytes_eq t text.now) self.now }
     {
         self.inner.iter().any(|t| t.as_str() == text)
     }

@@ -1,0 +1,4 @@
+pub mod Arithmetic
+pub mod Numerals
+pub mod Reading
+pub mod Spelling

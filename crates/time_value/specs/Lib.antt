@@ -1,0 +1,9 @@
+pub mod Bounds
+pub mod Digits
+pub mod Literal
+pub mod Moment
+pub mod Duration
+pub mod Reference
+pub mod Span
+pub mod Spelling
+pub mod DurationSpelling
