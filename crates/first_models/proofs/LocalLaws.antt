@@ -1,14 +1,9 @@
 -- Of a model whose names all differ and whose groups have members, the words are those that first names, last names and next names tell.
-use Rattle.std.proofs.Common.{◌≡◌, ℕ, ◌+◌, zero, suc, List, [], ◌∷◌, ◌++◌, Bool, true, false, not, ◌&&◌, ◌||◌, ◌⊎◌, inl, inr, refl, sym, ap, ◌∙◌, subst, append-nil, Option, Some, None, bytes_eq}
-use Rattle.std.specs.List.{list_any}
+use Rattle.std.proofs.Common.{◌≡◌, ℕ, zero, suc, List, [], ◌∷◌, ◌++◌, true, not, ◌&&◌, ◌||◌, ◌⊎◌, inl, inr, refl, sym, ap, subst, Option, Some, None}
 use Rattle.std.proofs.lemmas.Bool.{or_cases, and_parts, and_from}
-use Rattle.std.proofs.lemmas.Slice.Eq.{bytes_eq-Decides}
 use Rattle.first_models.specs.declared.occurs.Occurs.{Occurs}
-use Rattle.first_models.specs.declared.occurs.Compositor.{Compositor}
-use Rattle.first_models.specs.declared.occurs.Compositor.TheVariants.{Sequence, Choice}
-use Rattle.first_models.specs.Members.{Members, no_members, element, group, names_of, is_among, all_differ, has_members, groups_filled}
-use Rattle.first_models.specs.Words.{OneThenOther, Copies, allows, Occurring, Grouped, Nothing, IsWord}
-use Rattle.first_models.specs.Local.{Local, one_local, occurring_local, in_order_local, either_local, grouped_local, nothing_local, local, comes, ends, passes, goes_on}
+use Rattle.first_models.specs.Words.{OneThenOther, Copies, allows, Occurring}
+use Rattle.first_models.specs.Local.{Local, occurring_local, in_order_local, either_local, passes}
 use Rattle.first_models.proofs.WordLaws.{or_left, or_right, one_copy}
 
 abbrev Names : Type 0

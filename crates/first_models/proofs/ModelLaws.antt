@@ -1,17 +1,15 @@
 -- A content model whose names all differ and whose groups have members is local.
-use Rattle.std.proofs.Common.{◌≡◌, ℕ, ◌+◌, List, [], ◌∷◌, ◌++◌, Bool, true, false, not, ◌&&◌, ◌||◌, ◌⊎◌, inl, inr, refl, sym, ap, ◌∙◌, subst, Option, Some, None, bytes_eq, Decides, if◌then◌else◌}
-use Rattle.std.specs.List.{list_any}
+use Rattle.std.proofs.Common.{◌≡◌, ℕ, List, [], ◌∷◌, ◌++◌, Bool, true, false, not, ◌&&◌, ◌⊎◌, inl, inr, refl, sym, ap, ◌∙◌, subst, Option, Some, None, bytes_eq, if◌then◌else◌}
 use Rattle.std.proofs.lemmas.Bool.{or_cases, and_parts, and_from}
 use Rattle.std.proofs.lemmas.Bool.Decides.{same_from_decides}
 use Rattle.std.proofs.lemmas.Slice.Eq.{bytes_eq-Decides}
-use Rattle.first_models.specs.declared.occurs.Occurs.{Occurs}
 use Rattle.first_models.specs.declared.occurs.Compositor.{Compositor}
 use Rattle.first_models.specs.declared.occurs.Compositor.TheVariants.{Sequence, Choice}
 use Rattle.first_models.specs.Members.{Members, no_members, element, group, names_of, is_among, all_differ, has_members, groups_filled}
-use Rattle.first_models.specs.Words.{OneThenOther, Occurring, Nothing, IsWord, Begins}
+use Rattle.first_models.specs.Words.{Occurring, Nothing, IsWord, Begins}
 use Rattle.first_models.specs.Language.{Language, language, stuck, stuck_at, after, one_more}
-use Rattle.first_models.specs.Local.{Local, one_local, occurring_local, nothing_local, local, comes, ends, passes, goes_on, stuck_local}
-use Rattle.first_models.proofs.WordLaws.{or_left, or_right, one_copy, Decided, language_decided}
+use Rattle.first_models.specs.Local.{Local, one_local, occurring_local, nothing_local, local, comes, passes, goes_on, stuck_local}
+use Rattle.first_models.proofs.WordLaws.{or_left, or_right, one_copy, language_decided}
 use Rattle.first_models.proofs.LocalLaws.{Describes, occurring_described, in_order_described, either_described}
 
 abbrev Names : Type 0

@@ -1,8 +1,8 @@
 -- Stuck places.
-use Rattle.std.proofs.Common.{◌≡◌, ℕ, ◌+◌, ◌<◌, ◌≤◌, zero, suc, List, [], ◌∷◌, ◌++◌, Bool, true, false, length, take, Option, Some, None, MatchOption, refl, sym, ap, ◌∙◌, arith, subst, if◌then◌else◌}
+use Rattle.std.proofs.Common.{◌≡◌, ℕ, ◌+◌, ◌<◌, ◌≤◌, zero, suc, List, [], ◌∷◌, Bool, true, false, length, take, Option, Some, None, MatchOption, refl, ap, ◌∙◌, arith, if◌then◌else◌}
 use Rattle.first_models.specs.declared.occurs.Compositor.{Compositor}
 use Rattle.first_models.specs.Members.{Members}
-use Rattle.first_models.specs.Words.{IsWord, Begins, IsStuck}
+use Rattle.first_models.specs.Words.{IsWord, IsStuck}
 use Rattle.first_models.specs.Language.{Language, language, stuck, stuck_at, after, one_more}
 use Rattle.first_models.proofs.WordLaws.{Decided, language_decided}
 

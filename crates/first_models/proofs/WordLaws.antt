@@ -1,5 +1,5 @@
 -- The tests of words and fronts are true exactly of the words and of what begins one.
-use Rattle.std.proofs.Common.{◌≡◌, ℕ, ◌+◌, ◌<◌, ◌≤◌, zero, suc, List, [], ◌∷◌, ◌++◌, Bool, true, false, not, ◌&&◌, ◌||◌, ◌⊎◌, inl, inr, length, refl, sym, ap, ◌∙◌, arith, subst, append_assoc, append-nil, length-append, Decides, if◌then◌else◌, bytes_eq}
+use Rattle.std.proofs.Common.{◌≡◌, ℕ, ◌≤◌, zero, suc, List, [], ◌∷◌, ◌++◌, Bool, true, false, not, ◌&&◌, ◌||◌, ◌⊎◌, inl, inr, length, refl, sym, ap, ◌∙◌, arith, subst, append_assoc, append-nil, length-append, Decides, if◌then◌else◌, bytes_eq}
 use Rattle.std.proofs.lemmas.Bool.{or_cases, and_parts, and_from}
 use Rattle.std.proofs.lemmas.Slice.Eq.{bytes_eq-Decides}
 use Rattle.first_models.specs.declared.occurs.Occurs.{Occurs}

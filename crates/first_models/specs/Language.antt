@@ -1,5 +1,5 @@
 -- The tests of words and of their fronts, and the stuck place: Structures 3.8.4, 3.9.4 and 3.4.4.
-use Rattle.std.specs.Prelude.{◌≡◌, ℕ, ◌+◌, zero, suc, List, [], ◌∷◌, ◌++◌, Bool, true, false, not, ◌&&◌, ◌||◌, length, Option, Some, None, if◌then◌else◌, refl}
+use Rattle.std.specs.Prelude.{◌≡◌, ℕ, ◌+◌, zero, suc, List, [], ◌∷◌, Bool, true, false, not, ◌&&◌, ◌||◌, length, Option, Some, None, if◌then◌else◌, refl}
 use Rattle.std.specs.Str.{bytes_eq}
 use Rattle.first_models.specs.declared.occurs.Occurs.{Occurs}
 use Rattle.first_models.specs.declared.occurs.Compositor.{Compositor}

@@ -1,6 +1,6 @@
 pub mod Members
 pub mod MembersCode
-pub mod ModelCode
+pub mod ContentCode
 pub mod Nodes
 pub mod Words
 pub mod Language

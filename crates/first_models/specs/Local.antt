@@ -1,10 +1,10 @@
 -- A model whose names all differ is a local language: its words are known from which names may begin one, end one and follow one another.
-use Rattle.std.specs.Prelude.{◌≡◌, ℕ, ◌+◌, List, [], ◌∷◌, Bool, true, false, not, ◌&&◌, ◌||◌, Option, Some, None, if◌then◌else◌}
+use Rattle.std.specs.Prelude.{ℕ, List, [], ◌∷◌, Bool, true, false, not, ◌&&◌, ◌||◌, Option, Some, None, if◌then◌else◌}
 use Rattle.std.specs.Str.{bytes_eq}
 use Rattle.first_models.specs.declared.occurs.Occurs.{Occurs}
 use Rattle.first_models.specs.declared.occurs.Compositor.{Compositor}
 use Rattle.first_models.specs.declared.occurs.Compositor.TheVariants.{Sequence, Choice}
-use Rattle.first_models.specs.Members.{Members, Model, no_members, element, group}
+use Rattle.first_models.specs.Members.{Members, Content, no_members, element, group}
 use Rattle.first_models.specs.Language.{one_more}
 
 pub record Local : Type 0 where
@@ -82,5 +82,5 @@ stuck_local l before [] = if ends l before then None else Some 0
 stuck_local l before (n ∷ w) = if comes l before n then one_more (stuck_local l (Some n) w) else Some 0
 
 -- how many names may come behind a name, or at the start, before the names are stuck
-abbrev pub stuck_behind : Model → Option (List ℕ) → List (List ℕ) → Option ℕ
+abbrev pub stuck_behind : Content → Option (List ℕ) → List (List ℕ) → Option ℕ
 stuck_behind m before names = stuck_local (local m.members m.compositor) before names

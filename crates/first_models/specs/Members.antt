@@ -1,5 +1,5 @@
 -- Particles of a model group, and what contracts ask of their names: Structures 3.8, 3.9.
-use Rattle.std.specs.Prelude.{◌≡◌, ℕ, ◌+◌, List, [], ◌∷◌, ◌++◌, Bool, true, false, not, ◌&&◌, Option, Some, None, if◌then◌else◌}
+use Rattle.std.specs.Prelude.{ℕ, List, [], ◌∷◌, ◌++◌, Bool, true, false, not, ◌&&◌, Option, Some, None, if◌then◌else◌}
 use Rattle.std.specs.List.{list_any}
 use Rattle.std.specs.Str.{bytes_eq}
 use Rattle.first_models.specs.declared.occurs.Occurs.{Occurs}
@@ -11,8 +11,8 @@ pub data Members : Type 0 where
   element : (name : List ℕ) (declaration : ℕ) (occurs : Occurs) (next : Members) → Members
   group : (compositor : Compositor) (occurs : Occurs) (inner : Members) (next : Members) → Members
 
--- the content model of a complex type: one group, which stands once
-pub record Model : Type 0 where
+-- Structures 3.4.1: the content of a complex type is here one group, which stands once
+pub record Content : Type 0 where
   pub compositor : Compositor
   pub members : Members
 

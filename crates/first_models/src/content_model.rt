@@ -10,20 +10,20 @@ use xs_names::{Text, Texts};
 
 /// The content model of a complex type: one group that stands once, where the names of all local
 /// declarations differ and each group has a member. Structures 3.4.1, 3.8.1.
-#[derive(Drop)]
+#[derive(Debug, Drop)]
 pub struct ContentModel {
     compositor: Compositor,
     particles: Particles,
 }
 
 impl Model for ContentModel {
-    ghost use Rattle.first_models.specs.ModelCode.{model_code};
+    ghost use Rattle.first_models.specs.ContentCode.{content_code};
     ghost use Rattle.std.specs.Prelude.{◌≡◌, true};
-    ghost use Rattle.first_models.specs.Members.{Model as Group, names_of, all_differ, has_members, groups_filled};
+    ghost use Rattle.first_models.specs.Members.{Content, names_of, all_differ, has_members, groups_filled};
 
-    ghost Value = { Group };
+    ghost Value = { Content };
 
-    ghost coded = { model_code };
+    ghost coded = { content_code };
 
     ghost view = { λ m. record { compositor = m.compositor; members = m.particles } };
 
@@ -44,9 +44,9 @@ impl ContentModel {
         }
     }
 
-    /// The stuck place of the names of child elements, where they are no word of the model:
-    /// the first name behind which no word goes on, or the number of names where words go on behind
-    /// all of them. Structures 3.4.4.
+    /// Where the names of child elements are stuck, if they are no word of the model: the place, from 0,
+    /// of the first name with which no word goes on, or the number of names where more are needed.
+    /// Structures 3.4.4.
     #[tactic(auto, using(crate::proofs::ModelLaws::stuck_at_local))]
     pub fn stuck(&self, names: &Texts) -> Option<usize>
         ensures { result ≡ stuck_at self.now.compositor self.now.members names.now }
@@ -79,7 +79,7 @@ impl ContentModel {
         let _ = &self.compositor;
     }
 
-    /// The number of the declaration that accepts a child element of this name.
+    /// The number of the declaration that accepts a child element of this name, `None` where there is none.
     pub fn declaration_of(&self, name: &str) -> Option<u32>
         ensures { result ≡ declared self.now.members name.now }
     {

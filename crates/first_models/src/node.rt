@@ -8,7 +8,7 @@ use crate::{Compositor, Occurs};
 use xs_names::Text;
 
 /// A particle and, behind it, the next ones of its group.
-#[derive(Drop)]
+#[derive(Debug, Drop)]
 pub enum Node {
     End,
     Element {

@@ -13,7 +13,7 @@ use xs_names::Text;
 /// Particles that stand one after another in a model group: Structures 3.8.1, 3.9.1.
 ///
 /// Made from the last to the first. Contracts see the first and the rest.
-#[derive(Drop)]
+#[derive(Debug, Drop)]
 pub struct Particles {
     first: Node,
 }

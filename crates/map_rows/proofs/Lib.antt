@@ -1,0 +1,15 @@
+pub mod Apart
+pub mod Chains
+pub mod Frames
+pub mod Holding
+pub mod Keeping
+pub mod Lists
+pub mod Marking
+pub mod Places
+pub mod Said
+pub mod Sharing
+pub mod Slots
+pub mod Taking
+pub mod Turnover
+pub mod Values
+pub mod Walks

@@ -1,0 +1,9 @@
+pub mod Free
+pub mod Held
+pub mod Kept
+pub mod Marks
+pub mod Memory
+pub mod Piece
+pub mod Places
+pub mod Rows
+pub mod Whole

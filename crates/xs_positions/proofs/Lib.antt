@@ -1,0 +1,15 @@
+pub mod Languages
+pub mod Rounds
+pub mod Rising
+pub mod Describing
+pub mod Growing
+pub mod Measuring
+pub mod Linking
+pub mod Walking
+pub mod Worded
+pub mod Repeating
+pub mod Steps
+pub mod Exchange
+pub mod Spelling
+pub mod Finding
+pub mod Bounds

@@ -1,0 +1,244 @@
+-- One part more in a sequence, a choice or a repeat: what the walk's loops keep.
+use Rattle.std.proofs.Common.{◌≡◌, ℕ, zero, suc, ◌+◌, ◌*◌, ◌^◌, ◌<◌, ◌≤◌, max, ◌⊎◌, ◌↔◌, Bool, true, false, ◌&&◌, ◌||◌, ◌==◌, IsTrue, if◌then◌else◌, List, [], ◌∷◌, ◌++◌, Option, Some, None, length, get_or, take, Contains, sym, refl, ap, ◌∙◌, inl, inr, arith, suc-mul, Result, Ok, Err, IfOk, Vec, Global, eq-eqb, ne_eqb, leb-true}
+use Rattle.std.specs.List.Sorted.{IsStrictlyIncreasing}
+use Rattle.std.proofs.lemmas.Bool.{and_parts, or_left, false≢true}
+use Rattle.std.proofs.lemmas.List.{length-map}
+use Rattle.std.proofs.lemmas.List.Elements.{Contains-get_or}
+use Rattle.xs_positions.specs.Tree.{Tree, repeat, copies, size, sequence_of, choice_of}
+use Rattle.xs_positions.specs.Words.{IsWord, Rounds, place, Ends, Passes}
+use Rattle.xs_positions.specs.Measures.{has_rounds, has_empty, has_word, measure_of}
+use Rattle.xs_positions.specs.Sets.{Describes}
+use Rattle.xs_positions.specs.Parts.{sets_of, unused, beside, IsJoined, IsLooped}
+use Rattle.xs_positions.specs.Walk.{tree_in, trees_in, CopyOf, WithinRounds}
+use Rattle.xs_positions.specs.declared.expr.Node.{Node}
+use Rattle.xs_positions.specs.declared.sets.Part.{Part}
+use Rattle.xs_positions.specs.declared.measures.Measure.{Measure}
+use Rattle.xs_positions.proofs.Languages.{Joins}
+use Rattle.xs_positions.proofs.Rounds.{rounds_last, last_round, some_rounds, Plus, plus_one, empty_plus}
+use Rattle.xs_positions.proofs.Rising.{rises-append, Contains-both}
+use Rattle.xs_positions.proofs.Describing.{Describes-same, Describes-none, Describes-or, Describes-join, Describes-plus, Or, ends_passes}
+use Rattle.xs_positions.proofs.Measuring.{taken_more, size-sequence_of, size-choice_of, has_empty-sequence_of, has_word-sequence_of}
+use Rattle.xs_positions.proofs.Worded.{empty_is, word_is, words_within, passes_at, sequence_words, choice_words}
+use Rattle.xs_positions.proofs.Repeating.{copy_words, rounds_empty, ends_go_on, ends_last, ends_before, ends_more, more_ends, Describes-within, Describes-unbounded}
+
+-- ---- what the sets of a part say of its vectors
+module _ (L : List ℕ → Type 0) (base n : ℕ) (part : Part) (d : Describes L base n (sets_of part)) where
+  pub row_count : length part.follow.items ≡ n
+  row_count = sym (length-map part.follow.items (λ row. row.items)) ∙ d.follow_count
+
+  pub last_within : (k e : ℕ) → k < length part.last.items → (base ≤ get_or part.last.items k e) × (get_or part.last.items k e < base + length part.follow.items)
+  last_within k e l =
+      let p : ℕ = get_or part.last.items k e in
+      let w = d.within p (ends_passes L p ((d.last p).0 (Contains-get_or part.last.items k e l))) in
+      let c = row_count in
+      (w.0, let u : p < base + n = w.1 in omega arith)
+
+-- ---- a front of the parts
+size_front_sequence : (ts : List Tree) (k : ℕ) → size (sequence_of (take k ts)) ≤ size (sequence_of ts)
+size_front_sequence ts zero = omega arith
+size_front_sequence [] (suc k) = omega arith
+size_front_sequence (t ∷ ts) (suc k) = let a = size_front_sequence ts k in omega arith
+
+size_front_choice : (ts : List Tree) (k : ℕ) → size (choice_of (take k ts)) ≤ size (choice_of ts)
+size_front_choice ts zero = omega arith
+size_front_choice [] (suc k) = omega arith
+size_front_choice (t ∷ ts) (suc k) = let a = size_front_choice ts k in omega arith
+
+has_word_front : (ts : List Tree) (k : ℕ) → IsTrue (has_word (sequence_of ts)) → IsTrue (has_word (sequence_of (take k ts)))
+has_word_front ts zero h = refl
+has_word_front [] (suc k) h = refl
+has_word_front (t ∷ ts) (suc k) h =
+    let p = and_parts (has_word t) (has_word (sequence_of ts)) h in
+    let a : has_word t ≡ true = p.0 in
+    rw a (has_word_front ts k p.1)
+
+module _ (ns : List Node) (parts : List ℕ) (i p : ℕ) (more : i < length parts) (is : p ≡ get_or parts i p) where
+  pub taken : take (i + 1) (trees_in ns parts) ≡ take i (trees_in ns parts) ++ tree_in ns p ∷ []
+  taken = taken_more (tree_in ns) parts i p more is
+
+  pub next_choice_fits : size (choice_of (take i (trees_in ns parts))) + size (tree_in ns p) ≤ size (choice_of (trees_in ns parts))
+  next_choice_fits =
+      let a = size_front_choice (trees_in ns parts) (i + 1) in
+      let b = size-choice_of (take i (trees_in ns parts)) (tree_in ns p) in
+      let c = ap (λ ts. size (choice_of ts)) taken in
+      omega arith
+
+  pub next_sequence_fits : size (sequence_of (take i (trees_in ns parts))) + size (tree_in ns p) ≤ size (sequence_of (trees_in ns parts))
+  next_sequence_fits =
+      let a = size_front_sequence (trees_in ns parts) (i + 1) in
+      let b = size-sequence_of (take i (trees_in ns parts)) (tree_in ns p) in
+      let c = ap (λ ts. size (sequence_of ts)) taken in
+      omega arith
+
+  pub next_words : IsTrue (has_word (sequence_of (trees_in ns parts))) → (IsTrue (has_word (sequence_of (take i (trees_in ns parts))))) × (IsTrue (has_word (tree_in ns p)))
+  next_words h =
+      let a = has_word_front (trees_in ns parts) (i + 1) h in
+      let e = ap (λ ts. has_word (sequence_of ts)) taken ∙ has_word-sequence_of (take i (trees_in ns parts)) (tree_in ns p) in
+      and_parts (has_word (sequence_of (take i (trees_in ns parts)))) (has_word (tree_in ns p)) (sym e ∙ a)
+
+  module _ (base len : ℕ) (whole next new : Part) (len_is : len ≡ length whole.follow.items)
+      (dn : Describes (IsWord (tree_in ns p) (base + len)) (base + len) (size (tree_in ns p)) (sets_of next)) where
+    pub choice_next : Describes (IsWord (choice_of (take i (trees_in ns parts))) base) base (size (choice_of (take i (trees_in ns parts)))) (sets_of whole) →
+        sets_of new ≡ beside (sets_of whole) (sets_of next) →
+        Describes (IsWord (choice_of (take (i + 1) (trees_in ns parts))) base) base (size (choice_of (take (i + 1) (trees_in ns parts)))) (sets_of new)
+    choice_next dw made =
+        let S : List Tree = take i (trees_in ns parts) in
+        let t : Tree = tree_in ns p in
+        let c : len ≡ size (choice_of S) = len_is ∙ row_count (IsWord (choice_of S) base) base (size (choice_of S)) whole dw in
+        let both = Describes-or (IsWord (choice_of S) base) (IsWord t (base + size (choice_of S))) base (size (choice_of S)) (size t) (sets_of whole) (sets_of next) dw (rw c at dn) in
+        rw (taken, size-choice_of S t, made)
+        (Describes-same (Or (IsWord (choice_of S) base) (IsWord t (base + size (choice_of S)))) (IsWord (choice_of (S ++ t ∷ [])) base) base (size (choice_of S) + size t) (beside (sets_of whole) (sets_of next))
+        (λ w. (choice_words S t base w).1) (λ w. (choice_words S t base w).0) both)
+
+    pub sequence_next : (x y : Bool) → Describes (IsWord (sequence_of (take i (trees_in ns parts))) base) base (size (sequence_of (take i (trees_in ns parts)))) (sets_of whole) →
+        x ≡ has_empty (sequence_of (take i (trees_in ns parts))) → y ≡ has_empty (tree_in ns p) → IsTrue (has_word (sequence_of (trees_in ns parts))) →
+        IsJoined base (sets_of whole) x (sets_of next) y (sets_of new) →
+        Describes (IsWord (sequence_of (take (i + 1) (trees_in ns parts))) base) base (size (sequence_of (take (i + 1) (trees_in ns parts)))) (sets_of new)
+    sequence_next x y dw ex ey words made =
+        let S : List Tree = take i (trees_in ns parts) in
+        let t : Tree = tree_in ns p in
+        let c : len ≡ size (sequence_of S) = len_is ∙ row_count (IsWord (sequence_of S) base) base (size (sequence_of S)) whole dw in
+        let w2 = next_words words in
+        let both = Describes-join (IsWord (sequence_of S) base) (IsWord t (base + size (sequence_of S))) base (size (sequence_of S)) (size t) (sets_of whole) (sets_of next) dw (rw c at dn)
+        x y (sets_of new) made (rw ex (empty_is (sequence_of S) base)) (rw ey (empty_is t (base + size (sequence_of S))))
+        ((word_is (sequence_of S) base).0 w2.0) ((word_is t (base + size (sequence_of S))).0 w2.1) in
+        rw (taken, size-sequence_of S t)
+        (Describes-same (Joins (IsWord (sequence_of S) base) (IsWord t (base + size (sequence_of S)))) (IsWord (sequence_of (S ++ t ∷ [])) base) base (size (sequence_of S) + size t) (sets_of new)
+        (λ w. (sequence_words S t base w).1) (λ w. (sequence_words S t base w).0) both)
+
+  pub nullable_next : (x y z : Bool) → x ≡ has_empty (sequence_of (take i (trees_in ns parts))) → y ≡ has_empty (tree_in ns p) → z ≡ (x && y) →
+      z ≡ has_empty (sequence_of (take (i + 1) (trees_in ns parts)))
+  nullable_next x y z ex ey ez =
+      ez ∙ (rw (ex, ey, taken) (sym (has_empty-sequence_of (take i (trees_in ns parts)) (tree_in ns p))))
+
+-- ---- no part, no copy
+no_word_passes : (w v : List ℕ) (p : ℕ) → w ++ p ∷ v ≡ [] → ⊥
+no_word_passes [] v p e = cc
+no_word_passes (x ∷ w) v p e = cc
+
+pub nothing_sets : (t : Tree) (base : ℕ) → (size t ≡ 0) ⊎ (has_word t ≡ false) → Describes (IsWord t base) base (size t) (unused (size t))
+nothing_sets t base h = Describes-none (IsWord t base) base (size t) (λ p g. elim h [
+  | inl e ↦ (let w = words_within t base p g in omega arith)
+  | inr e ↦ false≢true (sym e ∙ (word_is t base).1 (g.0 ++ p ∷ g.1, g.2))
+])
+
+-- ---- a copy more
+module _ (t : Tree) (base k len : ℕ) (whole next new : Part) (some : IsTrue (has_word t)) (len_is : len ≡ length whole.follow.items)
+    (dw : Describes (Rounds (CopyOf t base) k 0) base (k * size t) (sets_of whole))
+    (dn : Describes (IsWord t (base + len)) (base + len) (size t) (sets_of next)) where
+  copies_len : len ≡ k * size t
+  copies_len = len_is ∙ row_count (Rounds (CopyOf t base) k 0) base (k * size t) whole dw
+
+  pub copies_next : (x y : Bool) → x ≡ (k == 0 || has_empty t) → y ≡ has_empty t → IsJoined base (sets_of whole) x (sets_of next) y (sets_of new) →
+      Describes (Rounds (CopyOf t base) (k + 1) 0) base ((k + 1) * size t) (sets_of new)
+  copies_next x y ex ey made =
+      let both = Describes-join (Rounds (CopyOf t base) k 0) (CopyOf t base k) base (k * size t) (size t) (sets_of whole) (sets_of next) dw (rw copies_len at dn)
+      x y (sets_of new) made (rw ex (rounds_empty t base k)) (rw ey (empty_is t (base + k * size t)))
+      (some_rounds (CopyOf t base) (copy_words t base some) k 0) (copy_words t base some k) in
+      let e : (k + 1) * size t ≡ k * size t + size t = (let a : k + 1 ≡ suc k = omega arith in rw a (suc-mul k (size t))) in
+      rw e (Describes-same (Joins (Rounds (CopyOf t base) k 0) (CopyOf t base k)) (Rounds (CopyOf t base) (k + 1) 0) base (k * size t + size t) (sets_of new)
+      (last_round (CopyOf t base) k) (rounds_last (CopyOf t base) k) both)
+
+  -- ---- the copies of a repeat with no upper bound, of which the last comes over and over
+  pub unbounded_sets : (n : ℕ) (looped : Part) (x y : Bool) → max n 1 ≡ k + 1 → x ≡ (k == 0 || has_empty t) → y ≡ has_empty t →
+      IsLooped (base + len) (sets_of next) (sets_of looped) → IsJoined base (sets_of whole) x (sets_of looped) y (sets_of new) →
+      Describes (IsWord (repeat t n None) base) base (size (repeat t n None)) (sets_of new)
+  unbounded_sets n looped x y top ex ey round made =
+      let N : List ℕ → Type 0 = CopyOf t base k in
+      let dl = Describes-plus N (base + k * size t) (size t) (sets_of next) (sets_of looped) (rw copies_len at round) (rw copies_len at dn) in
+      let both = Describes-join (Rounds (CopyOf t base) k 0) (Plus N) base (k * size t) (size t) (sets_of whole) (sets_of looped) dw dl
+      x y (sets_of new) made (rw ex (rounds_empty t base k))
+      (rw ey ((λ h. plus_one N [] ((empty_is t (base + k * size t)).0 h)), (λ h. (empty_is t (base + k * size t)).1 (empty_plus N h))))
+      (some_rounds (CopyOf t base) (copy_words t base some) k 0) (let w = copy_words t base some k in (w.0, plus_one N w.0 w.1)) in
+      let e : max n 1 * size t ≡ k * size t + size t = (let a : max n 1 ≡ suc k = omega arith in rw a (suc-mul k (size t))) in
+      rw e (Describes-unbounded t base n k top (k * size t + size t) (sets_of new) both)
+
+-- ---- where words of enough copies may end
+module _ (t : Tree) (base n k : ℕ) (ends lasts new : List ℕ)
+    (before : (p : ℕ) → Contains ends p ↔ Ends (WithinRounds t base n k) p)
+    (latest : (p : ℕ) → Contains lasts p ↔ Ends (Rounds (CopyOf t base) (k + 1) 0) p)
+    (ends_rise : IsStrictlyIncreasing ends) (lasts_rise : IsStrictlyIncreasing lasts) where
+  ends_added : (nullable : Bool) → nullable ≡ has_empty t → n ≤ k + 1 → new ≡ (if nullable then lasts else ends ++ lasts) →
+      ((p : ℕ) → Contains new p ↔ Ends (WithinRounds t base n (k + 1)) p) × IsStrictlyIncreasing new
+  ends_added true e l made = (
+    (λ p. rw made (
+      (λ h. ends_more t base n k p l (inr ((latest p).0 h))),
+      (λ h. elim (more_ends t base n k p h).1 [
+        | inl g ↦ (latest p).1 (further p (ends_go_on t base (sym e) n k p g))
+        | inr g ↦ (latest p).1 g
+      ]),
+    )),
+    rw made lasts_rise,
+  )
+    where
+      further : (p : ℕ) → Ends (Rounds (CopyOf t base) k 0) p → Ends (Rounds (CopyOf t base) (k + 1) 0) p
+      further p g = ends_go_on t base (sym e) k (k + 1) p (g.0, (k, (omega arith, omega arith), g.1))
+  ends_added false e l made = (
+    (λ p. rw made (
+      (λ h. ends_more t base n k p l (elim ((Contains-both ends lasts p).0 h) [ inl g ↦ inl ((before p).0 g) | inr g ↦ inr ((latest p).0 g) ])),
+      (λ h. (Contains-both ends lasts p).1 (elim (more_ends t base n k p h).1 [ inl g ↦ inl ((before p).1 g) | inr g ↦ inr ((latest p).1 g) ])),
+    )),
+    rw made (rises-append ends lasts (base + k * size t) ends_rise lasts_rise
+        (λ p h. ends_before t base n k p ((before p).0 h))
+        (λ p h. ends_last t base (λ z. false≢true (e ∙ z)) k p ((latest p).0 h))),
+  )
+
+  pub ends_next : (nullable : Bool) → nullable ≡ has_empty t → n ≤ k + 1 → new ≡ (if nullable then lasts else ends ++ lasts) →
+      ((p : ℕ) → Contains new p ↔ Ends (WithinRounds t base n (k + 1)) p) × IsStrictlyIncreasing new
+  ends_next nullable e l made = ends_added nullable e l made
+
+-- too few copies yet: no end
+pub no_ends_next : (t : Tree) (base n k : ℕ) (ends : List ℕ) → ((p : ℕ) → Contains ends p ↔ Ends (WithinRounds t base n k) p) → k + 1 < n →
+    (p : ℕ) → Contains ends p ↔ Ends (WithinRounds t base n (k + 1)) p
+no_ends_next t base n k ends before l p = (
+  (λ h. let g = (before p).0 h in let a : n ≤ g.1.0 = g.1.1.0 in let b : g.1.0 ≤ k = g.1.1.1 in absurd (omega arith)),
+  (λ h. let g = more_ends t base n k p h in let a : n ≤ k + 1 = g.0 in absurd (omega arith)),
+)
+
+-- ---- answers that may be no memory
+pub if_ok : {T E : Type 0} (P Q : T → Type 0) (r : Result T E) → ((x : T) → P x → Q x) → IfOk r P → IfOk r Q
+if_ok P Q (Ok x) f h = f x h
+if_ok P Q (Err e) f h = h
+
+-- ---- tests of the walk
+pub flag_zero : (k : ℕ) (f e : Bool) → k ≡ 0 → f ≡ (k == 0) → f ≡ (k == 0 || e)
+flag_zero k f e z t = t ∙ (eq-eqb k 0 z ∙ sym (or_left (k == 0) e (eq-eqb k 0 z)))
+
+pub flag_other : (k : ℕ) (f n e : Bool) → (k ≡ 0 → ⊥) → f ≡ n → n ≡ e → f ≡ (k == 0 || e)
+flag_other k f n e z t s =
+    let o : (k == 0) ≡ false = ne_eqb k 0 z in
+    rw o (t ∙ s)
+
+pub both_flag : (z x y : Bool) → x ≡ true → z ≡ y → z ≡ (x && y)
+both_flag z x y e f = rw e f
+
+pub no_flag : (z x y : Bool) → x ≡ false → z ≡ x → z ≡ (x && y)
+no_flag z x y e f = f ∙ (rw e refl)
+
+-- ---- positions that no word goes through
+pub unused_sets : (t : Tree) (base : ℕ) (m : Measure) (part : Part) → m ≡ measure_of t → size t < 2 ^ 32 → ((p : ℕ) → Passes (IsWord t base) p → ⊥) →
+    sets_of part ≡ unused m.size → Describes (IsWord t base) base (size t) (sets_of part)
+unused_sets t base m part e l none made =
+    let s : m.size ≡ size t = (let a = ap (λ x. x.size) e in omega arith) in
+    rw (made, s) (Describes-none (IsWord t base) base (size t) none)
+
+pub no_size : (t : Tree) (base : ℕ) (m : Measure) → m ≡ measure_of t → m.size ≡ 0 → (p : ℕ) → Passes (IsWord t base) p → ⊥
+no_size t base m e z p g = let a = ap (λ x. x.size) e in let w = words_within t base p g in omega arith
+
+pub no_words : (t : Tree) (base : ℕ) (m : Measure) → m ≡ measure_of t → m.inhabited ≡ false → (p : ℕ) → Passes (IsWord t base) p → ⊥
+no_words t base m e z p g =
+    false≢true (sym z ∙ (ap (λ x. x.inhabited) e ∙ (word_is t base).1 (g.0 ++ p ∷ g.1, g.2)))
+
+pub no_rounds : (t : Tree) (n : ℕ) (m : Option ℕ) (base : ℕ) (k : Measure) → k ≡ measure_of t → k.inhabited ≡ false → (p : ℕ) → Passes (IsWord (repeat t n m) base) p → ⊥
+no_rounds t n m base k e z p g =
+    let r = passes_at (λ j u. IsWord t (place base (copies n m) (size t) j) u) p g.2.0 0 (g.0, g.1, g.2.2) in
+    no_words t (place base (copies n m) (size t) r.0) k e z p r.3
+
+-- ---- a repeat with an upper bound, as the walk builds it
+pub bounded_sets : (t : Tree) (base n most : ℕ) (m : Option ℕ) (whole part : Part) (ends : Vec ℕ Global) → m ≡ Some most → IsTrue (has_rounds n m) → IsTrue (has_word t) →
+    Describes (Rounds (CopyOf t base) most 0) base (most * size t) (sets_of whole) →
+    ((p : ℕ) → Contains ends.items p ↔ Ends (WithinRounds t base n most) p) → IsStrictlyIncreasing ends.items → part ≡ record whole { last = ends } →
+    Describes (IsWord (repeat t n m) base) base (size (repeat t n m)) (sets_of part)
+bounded_sets t base n most m whole part ends e rounds some d last rises made =
+    let l : n ≤ most = leb-true n most (rw e at rounds) in
+    rw (e, made) (Describes-within t base n most l some (sets_of whole) ends.items d last rises)

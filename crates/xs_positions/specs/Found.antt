@@ -1,0 +1,21 @@
+-- The table that the fields of `Positions` hold.
+use Rattle.std.specs.Prelude.{◌≡◌, ◌<◌, ◌^◌, map, length}
+use Rattle.xs_positions.specs.Positions.{Table}
+use Rattle.xs_positions.specs.declared.find.Positions.TheInside.{Inside}
+
+abbrev pub table_of : Inside → Table
+table_of inside = record {
+  symbols = inside.symbols.items;
+  first = inside.sets.first.items;
+  last = inside.sets.last.items;
+  follow = map (λ row. row.items) inside.sets.follow.items;
+  useful = inside.sets.useful.items;
+  nullable = inside.nullable;
+}
+
+-- each position has a symbol, a set and a flag, and each has a number of 32 bits
+abbrev pub AreOneEach : Inside → Type 0
+AreOneEach inside =
+    (length inside.sets.follow.items ≡ length inside.symbols.items) ×
+    (length inside.sets.useful.items ≡ length inside.symbols.items) ×
+    (length inside.symbols.items < 2 ^ 32)

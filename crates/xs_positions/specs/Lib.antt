@@ -1,0 +1,10 @@
+pub mod Tree
+pub mod Words
+pub mod TreeCode
+pub mod Sets
+pub mod Nodes
+pub mod Measures
+pub mod Parts
+pub mod Walk
+pub mod Positions
+pub mod Found

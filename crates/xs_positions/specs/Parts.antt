@@ -1,0 +1,35 @@
+-- The sets that a `Part` holds, and what its calls make of them.
+use Rattle.std.specs.Prelude.{◌≡◌, ℕ, Bool, true, false, List, [], ◌∷◌, ◌++◌, map, replicate, if◌then◌else◌}
+use Rattle.xs_positions.specs.Sets.{Sets, IsLinked}
+use Rattle.xs_positions.specs.declared.sets.Part.{Part}
+
+abbrev pub sets_of : Part → Sets
+sets_of part = record { first = part.first.items; last = part.last.items; follow = map (λ row. row.items) part.follow.items; useful = part.useful.items }
+
+-- the sets of the one word of one position
+abbrev pub one_position : ℕ → Sets
+one_position p = record { first = p ∷ []; last = p ∷ []; follow = [] ∷ []; useful = true ∷ [] }
+
+-- the sets of so many positions that no word goes through
+abbrev pub unused : ℕ → Sets
+unused count = record { first = []; last = []; follow = replicate count []; useful = replicate count false }
+
+-- the sets of the words of the one or of the other
+abbrev pub beside : Sets → Sets → Sets
+beside a b = record { first = a.first ++ b.first; last = a.last ++ b.last; follow = a.follow ++ b.follow; useful = a.useful ++ b.useful }
+
+-- the sets of the words of the one, each with a word of the other behind it
+pub record IsJoined (base : ℕ) (a : Sets) (a_empty : Bool) (b : Sets) (b_empty : Bool) (sets : Sets) : Type 0 where
+  pub first : sets.first ≡ (if a_empty then a.first ++ b.first else a.first)
+  pub last : sets.last ≡ (if b_empty then a.last ++ b.last else b.last)
+  pub rows : List (List ℕ)
+  pub linked : IsLinked base a.last b.first a.follow rows
+  pub follow : sets.follow ≡ rows ++ b.follow
+  pub useful : sets.useful ≡ a.useful ++ b.useful
+
+-- the sets of words in a row: each last position is followed by each first one
+pub record IsLooped (base : ℕ) (a sets : Sets) : Type 0 where
+  pub first : sets.first ≡ a.first
+  pub last : sets.last ≡ a.last
+  pub linked : IsLinked base a.last a.first a.follow sets.follow
+  pub useful : sets.useful ≡ a.useful

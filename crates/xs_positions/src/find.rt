@@ -1,0 +1,130 @@
+//! The positions of an expression.
+
+ghost use Rattle.std.specs.Prelude.{◌≡◌, ℕ, ◌<◌, ◌↔◌, [], length, slice_index, slice_index_or, false, IfOk, IsErr};
+ghost use Rattle.xs_positions.specs.Tree.{size};
+ghost use Rattle.xs_positions.specs.Sets.{row};
+ghost use Rattle.xs_positions.specs.Nodes.{tree_at};
+ghost use Rattle.xs_positions.specs.Positions.{ArePositionsOf};
+
+use crate::expr::{Expr, ExprId};
+use crate::measures::measure_nodes;
+use crate::sets::Part;
+use crate::symbols::push_symbols;
+use crate::walk::find_sets;
+use std::alloc::AllocError;
+use std::marker::Model;
+
+/// Why an expression's positions are not listed.
+#[derive(Clone, Copy, Debug, PartialEq, Eq)]
+pub enum PositionsError {
+    /// There are more positions than the limit allows.
+    TooMany,
+}
+
+/// The positions of an expression, numbered from 0: the copies of its symbols.
+#[derive(Debug, Drop)]
+pub struct Positions {
+    symbols: Vec<u32>,
+    sets: Part,
+    nullable: bool,
+}
+
+impl Model for Positions {
+    ghost use Rattle.std.specs.Prelude.{ℕ, ◌<◌, ◌^◌, List};
+    ghost use Rattle.xs_positions.specs.Positions.{Table};
+
+    ghost Value = { Table };
+
+    ghost use Rattle.xs_positions.specs.Found.{table_of, AreOneEach};
+
+    ghost view = { table_of };
+
+    ghost invariant = { AreOneEach };
+}
+
+impl Positions {
+    /// How many positions there are.
+    pub fn count(&self) -> u32
+        ensures { result ≡ length self.now.symbols }
+    {
+        self.symbols.len() as u32
+    }
+
+    /// The positions that may begin a word, rising.
+    pub fn first(&self) -> &[u32]
+        ensures { result.now ≡ self.now.first }
+    {
+        &self.sets.first
+    }
+
+    /// The positions that may end a word, rising.
+    pub fn last(&self) -> &[u32]
+        ensures { result.now ≡ self.now.last }
+    {
+        &self.sets.last
+    }
+
+    /// The positions that may come right after this one, rising.
+    pub fn follow(&self, p: u32) -> &[u32]
+        requires { p < length self.now.symbols }
+        ensures { result.now ≡ row self.now.follow p }
+    {
+        &self.sets.follow[p as usize]
+    }
+
+    /// Whether the empty word is one.
+    pub fn nullable(&self) -> bool
+        ensures { result ≡ self.now.nullable }
+    {
+        self.nullable
+    }
+
+    /// The symbol of a position.
+    pub fn symbol_of(&self, p: u32) -> u32
+        requires { p < length self.now.symbols }
+        ensures { result ≡ slice_index self.now.symbols p }
+    {
+        self.symbols[p as usize]
+    }
+
+    /// Whether some word goes through the position.
+    pub fn useful(&self, p: u32) -> bool
+        requires { p < length self.now.symbols }
+        ensures { result ≡ slice_index_or self.now.useful p false }
+    {
+        self.sets.useful[p as usize]
+    }
+}
+
+/// The positions of the expression `root`, unless there are more than `limit`.
+///
+/// # Errors
+/// `TooMany` where there are more positions than the limit, found without building them. Else when memory runs out.
+pub fn find_positions(
+    expr: &Expr,
+    root: ExprId,
+    limit: u32,
+) -> Result<Result<Positions, PositionsError>, AllocError>
+    requires { root < length expr.now }
+    ensures found { IfOk result (λ answer. IfOk answer (ArePositionsOf (tree_at expr.now root))) }
+    ensures too_many { IfOk result (λ answer. IsErr answer ↔ (limit < size (tree_at expr.now root))) }
+{
+    let alloc = expr.alloc();
+    let nodes = expr.nodes();
+    let measures = measure_nodes(alloc, nodes)?;
+    let measure = measures[root.index()];
+    if measure.size > u64::from(limit) {
+        return Ok(Err(PositionsError::TooMany));
+    }
+    let mut symbols = Vec::new(alloc);
+    push_symbols(&mut symbols, nodes, &measures, root)?;
+    let sets = find_sets(alloc, nodes, &measures, root, 0)?;
+    Ok(Ok(Positions {
+        symbols,
+        sets,
+        nullable: measure.nullable,
+    }))
+}
+
+#[cfg(test)]
+mod tests;
