@@ -1,7 +1,7 @@
 -- What a schema says of names.
 use Rattle.std.specs.Prelude.{ℕ, List, [], ◌∷◌, ◌==◌, Option, Some, None, option_and_then, if◌then◌else◌}
 use Rattle.std.specs.Str.{bytes_eq}
-use Rattle.first_models.specs.Members.{Model, declared}
+use Rattle.first_models.specs.Members.{Content, declared}
 use Rattle.first_models.specs.Language.{stuck_at}
 use Rattle.assess_model.specs.Tables.{Tables}
 use Rattle.assess_model.specs.declared.tables.Declaration.{Declaration}
@@ -20,7 +20,7 @@ type_of_number [] number = None
 type_of_number (d ∷ more) number = if d.number == number then Some d.of else type_of_number more number
 
 -- the content model of the complex type of a number
-abbrev pub model_of : List ComplexType → ℕ → Option Model
+abbrev pub model_of : List ComplexType → ℕ → Option Content
 model_of [] number = None
 model_of (t ∷ more) number = if t.number == number then Some t.model else model_of more number
 

@@ -8,7 +8,7 @@ use Rattle.plain_tree.specs.declared.row.Content.TheVariants as contents
 use Rattle.first_models.specs.declared.occurs.Occurs.{Occurs}
 use Rattle.first_models.specs.declared.occurs.Compositor.{Compositor}
 use Rattle.first_models.specs.declared.occurs.Compositor.TheVariants.{Sequence, Choice}
-use Rattle.first_models.specs.Members.{Members, Model, no_members, element, group, has_members, groups_filled, all_differ, names_of}
+use Rattle.first_models.specs.Members.{Members, Content as GroupContent, no_members, element, group, has_members, groups_filled, all_differ, names_of}
 use Rattle.assess_model.specs.declared.record.TypeId.{TypeId}
 use Rattle.assess_model.specs.declared.record.TypeId.TheVariants.{StringType, ComplexType}
 use Rattle.first_form.specs.Attributes.{BoundsSaid, has, declared_name, behind_name, bounds}
@@ -100,18 +100,18 @@ members_at depth (row ∷ rows) =
     else (if nat_lt depth row.depth then members_at depth rows else Some no_members)
 
 -- a content model: names differ, and there are at most 64 declarations
-abbrev pub checked_model : Compositor → Option Members → Option Model
+abbrev pub checked_model : Compositor → Option Members → Option GroupContent
 checked_model compositor None = None
 checked_model compositor (Some members) =
     if (has_members members && groups_filled members) && (all_differ (names_of members) && nat_le (length (names_of members)) 64)
     then Some (record { compositor = compositor; members = members }) else None
 
-abbrev pub model_by : Option Compositor → Option Members → Option Model
+abbrev pub model_by : Option Compositor → Option Members → Option GroupContent
 model_by None members = None
 model_by (Some compositor) members = checked_model compositor members
 
 -- the content model of a complex type of this depth, by the rows behind it: its one child is a group without bounds (Structures 3.4.2)
-abbrev pub content_model : ℕ → List Row → Option Model
+abbrev pub content_model : ℕ → List Row → Option GroupContent
 content_model depth [] = None
 content_model depth (row ∷ rows) =
     if (row.depth == depth + 1 && not (has_sibling (depth + 1) rows)) && length row.attributes == 0

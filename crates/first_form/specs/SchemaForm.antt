@@ -3,7 +3,7 @@ use Rattle.std.specs.Prelude.{ℕ, List, [], ◌∷◌, Bool, ◌==◌, ◌&&◌
 use Rattle.std.specs.Option.{option_map}
 use Rattle.plain_tree.specs.declared.row.Row.{Row}
 use Rattle.plain_tree.specs.declared.row.Attribute.{Attribute}
-use Rattle.first_models.specs.Members.{Model, all_differ}
+use Rattle.first_models.specs.Members.{Content as GroupContent, all_differ}
 use Rattle.assess_model.specs.Tables.{Tables}
 use Rattle.assess_model.specs.declared.record.TypeId.{TypeId}
 use Rattle.assess_model.specs.declared.tables.Declaration.{Declaration}
@@ -51,7 +51,7 @@ element_types (row ∷ rows) =
     else element_types rows
 
 -- a complex type, with its number
-abbrev pub numbered_model : ℕ → Option Model → Option ComplexType
+abbrev pub numbered_model : ℕ → Option GroupContent → Option ComplexType
 numbered_model number None = None
 numbered_model number (Some model) = Some (record { number = number; model = model })
 
