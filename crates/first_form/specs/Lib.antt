@@ -3,5 +3,8 @@ pub mod Declaring
 pub mod Regions
 pub mod SchemaForm
 pub mod Sections
+pub mod SectionsSeen
+pub mod Script
+pub mod BlockSeen
 pub mod Stream
 pub mod Said

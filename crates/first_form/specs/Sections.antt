@@ -8,6 +8,10 @@ abbrev pub is_document : Item → Bool
 is_document items.Document = true
 is_document _ = false
 
+abbrev pub is_edits : Item → Bool
+is_edits items.Edits = true
+is_edits _ = false
+
 abbrev pub is_end : Item → Bool
 is_end items.End = true
 is_end _ = false
@@ -32,16 +36,24 @@ abbrev pub starts_schema : Item → Bool
 starts_schema (items.Schema locations) = length locations == 1
 starts_schema _ = false
 
--- the items of the schema section and of the document section
+-- the items of the schema section, of the document section, and of the edits section if there is one
 pub record SectionItems : Type 0 where
   pub schema : List Item
   pub document : List Item
+  pub edits : Option (List Item)
+
+-- the document section, and the edits section if the word edits stands behind it
+abbrev pub body_sections : List Item → List Item → SectionItems
+body_sections before body = record {
+  schema = before;
+  document = before_first is_edits body;
+  edits = if passes is_edits body then Some (after_first is_edits body) else None;
+}
 
 -- what stands behind the word document ends with the word end
 abbrev pub later_sections : List Item → List Item → Option SectionItems
 later_sections before later =
-    if passes is_end later && length (after_first is_end later) == 0
-    then Some (record { schema = before; document = before_first is_end later }) else None
+    if passes is_end later && length (after_first is_end later) == 0 then Some (body_sections before (before_first is_end later)) else None
 
 abbrev pub sections_after : List Item → Option SectionItems
 sections_after its = if passes is_document its then later_sections (before_first is_document its) (after_first is_document its) else None

@@ -20,6 +20,8 @@ use Rattle.plain_tree.specs.declared.row.Content.TheVariants as contents
 use Rattle.assess_model.specs.Tables.{Tables}
 use Rattle.first_form.specs.Sections.{SectionItems, sections, is_tag, is_instruction}
 use Rattle.first_form.specs.SchemaForm.{schema_tables}
+use Rattle.first_form.specs.Script.{read_script}
+use Rattle.first_form.specs.declared.script.ScriptLine.{ScriptLine}
 
 -- an item, and what others give behind it
 abbrev pub taken : Result Item Reason → (Item → Option (List Item)) → Option (List Item)
@@ -59,18 +61,25 @@ tables_by (Ok d) = schema_tables (rows_of 1 d.forest)
 abbrev pub tables_of : List Item → Option Tables
 tables_of its = if list_all is_tag its then tables_by (tree its) else None
 
--- what a stream says: a schema and a document
+-- what a stream says: a schema, a document, and the command lines of an edits section if there is one
 pub record StreamSays : Type 0 where
   pub tables : Tables
   pub document : Document
+  pub script : Option (List ScriptLine)
 
-abbrev pub both_said : Option Tables → Option Document → Option StreamSays
-both_said None d = None
-both_said (Some t) None = None
-both_said (Some t) (Some d) = Some (record { tables = t; document = d })
+-- the script of an edits section; without a section there is none
+abbrev pub script_by : Option (List Item) → Option (Option (List ScriptLine))
+script_by None = Some None
+script_by (Some its) = option_map (λ lines. Some lines) (read_script its).outside
+
+abbrev pub all_said : Option Tables → Option Document → Option (Option (List ScriptLine)) → Option StreamSays
+all_said None d script = None
+all_said (Some t) None script = None
+all_said (Some t) (Some d) None = None
+all_said (Some t) (Some d) (Some script) = Some (record { tables = t; document = d; script = script })
 
 abbrev pub said : SectionItems → Option StreamSays
-said s = both_said (tables_of s.schema) (document_of s.document)
+said s = all_said (tables_of s.schema) (document_of s.document) (script_by s.edits)
 
 -- what bytes say, None where they are not of the first form: at most 65,536 bytes
 abbrev pub reading : List ℕ → Option StreamSays

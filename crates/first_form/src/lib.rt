@@ -9,8 +9,10 @@ mod declare;
 mod items;
 mod members;
 mod schema;
+mod script;
 mod sections;
 mod stream;
 mod tables;
 
+pub use script::ScriptLine;
 pub use stream::{MOST_BYTES, Said, read_stream};

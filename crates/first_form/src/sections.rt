@@ -2,6 +2,7 @@ ghost use Rattle.std.specs.Prelude.{◌≡◌, position};
 ghost use Rattle.std.specs.Option.{option_map};
 ghost use Rattle.std.specs.List.{list_any, list_all};
 ghost use Rattle.first_form.specs.Sections as form;
+ghost use Rattle.first_form.specs.SectionsSeen.{sections_seen};
 
 use item_listing::Item;
 
@@ -15,6 +16,12 @@ fn is_end(item: &Item) -> bool
     ensures { result ≡ form.is_end item.now }
 {
     matches!(item, Item::End)
+}
+
+fn is_edits(item: &Item) -> bool
+    ensures { result ≡ form.is_edits item.now }
+{
+    matches!(item, Item::Edits)
 }
 
 fn is_tag(item: &Item) -> bool
@@ -64,28 +71,50 @@ fn end_place(items: &[Item]) -> Option<usize>
     items.iter().position(is_end)
 }
 
-/// The items of the schema section and those of the document section.
+fn edits_place(items: &[Item]) -> Option<usize>
+    ensures { result ≡ position form.is_edits items.now }
+{
+    items.iter().position(is_edits)
+}
+
+/// The items of the schema section, those of the document section, and those of the edits section if there
+/// is one.
 #[derive(Drop)]
 pub struct Sections<'a> {
     pub schema: &'a [Item],
     pub document: &'a [Item],
+    pub edits: Option<&'a [Item]>,
+}
+
+fn split_edits<'a>(schema: &'a [Item], body: &'a [Item]) -> Sections<'a>
+    ensures { sections_seen result ≡ form.body_sections schema.now body.now }
+{
+    match edits_place(body) {
+        Some(edits) => Sections {
+            schema,
+            document: &body[..edits],
+            edits: Some(&body[edits + 1..]),
+        },
+        None => Sections {
+            schema,
+            document: body,
+            edits: None,
+        },
+    }
 }
 
 fn split_end<'a>(before: &'a [Item], later: &'a [Item]) -> Option<Sections<'a>>
-    ensures { option_map (λ p. record { schema = p.schema.now; document = p.document.now }) result ≡ form.later_sections before.now later.now }
+    ensures { option_map sections_seen result ≡ form.later_sections before.now later.now }
 {
     match end_place(later) {
-        Some(end) if end + 1 == later.len() => Some(Sections {
-            schema: before,
-            document: &later[..end],
-        }),
+        Some(end) if end + 1 == later.len() => Some(split_edits(before, &later[..end])),
         Some(_) => None,
         None => None,
     }
 }
 
 fn split_document(items: &[Item]) -> Option<Sections<'_>>
-    ensures { option_map (λ p. record { schema = p.schema.now; document = p.document.now }) result ≡ form.sections_after items.now }
+    ensures { option_map sections_seen result ≡ form.sections_after items.now }
 {
     match document_place(items) {
         Some(document) => split_end(&items[..document], &items[document + 1..]),
@@ -95,7 +124,7 @@ fn split_document(items: &[Item]) -> Option<Sections<'_>>
 
 /// The sections of a stream of the first form.
 pub fn split_sections(items: &[Item]) -> Option<Sections<'_>>
-    ensures { option_map (λ p. record { schema = p.schema.now; document = p.document.now }) result ≡ form.sections items.now }
+    ensures { option_map sections_seen result ≡ form.sections items.now }
 {
     match items.split_first() {
         Some((first, items)) if starts_schema(first) => split_document(items),

@@ -2,10 +2,12 @@ ghost use Rattle.std.specs.Prelude.{◌≡◌, IfOk};
 ghost use Rattle.std.specs.Option.{option_map};
 ghost use Rattle.std.specs.List.{list_all};
 ghost use Rattle.first_form.specs.Said.{said_of};
+ghost use Rattle.first_form.specs.SectionsSeen.{sections_seen};
 ghost use Rattle.first_form.specs.Stream as form;
 
 use crate::items::read_items;
 use crate::schema::read_schema;
+use crate::script::{ScriptLine, read_script};
 use crate::sections::{Sections, are_tags, have_instruction, split_sections};
 use assess_model::Schema;
 use item_listing::Item;
@@ -16,11 +18,12 @@ use xs_names::is_ncname;
 /// The most bytes that a stream of the first form has.
 pub const MOST_BYTES: usize = 65_536;
 
-/// What a stream says: a schema and a document.
+/// What a stream says: a schema, a document, and the command lines of an edits section if there is one.
 #[derive(Drop)]
 pub struct Said {
     pub schema: Schema,
     pub document: Tree,
+    pub script: Option<Vec<ScriptLine>>,
 }
 
 fn is_plain(row: &Row) -> bool
@@ -71,15 +74,37 @@ fn read_tables(alloc: Global, items: &[Item]) -> Result<Option<Schema>, AllocErr
     }
 }
 
+/// The script of an edits section, or `None` where it is not of the form; no section has no script.
+fn read_edits(
+    alloc: Global,
+    edits: Option<&[Item]>,
+) -> Result<Option<Option<Vec<ScriptLine>>>, AllocError>
+    ensures { IfOk result (λ found. option_map (option_map (λ v. v.items)) found ≡ form.script_by (option_map (λ e. e.now) edits.entry)) }
+{
+    match edits {
+        None => Ok(Some(None)),
+        Some(items) => match read_script(alloc, items)? {
+            None => Ok(None),
+            Some(lines) => Ok(Some(Some(lines))),
+        },
+    }
+}
+
 fn read_sections(alloc: Global, sections: &Sections) -> Result<Option<Said>, AllocError>
-    ensures { IfOk result (λ found. option_map said_of found
-        ≡ form.said (record { schema = sections.now.schema.now; document = sections.now.document.now })) }
+    ensures { IfOk result (λ found. option_map said_of found ≡ form.said (sections_seen sections.now)) }
 {
     let Some(schema) = read_tables(alloc, sections.schema)? else {
         return Ok(None);
     };
-    match read_document(alloc, sections.document)? {
-        Some(document) => Ok(Some(Said { schema, document })),
+    let Some(document) = read_document(alloc, sections.document)? else {
+        return Ok(None);
+    };
+    match read_edits(alloc, sections.edits)? {
+        Some(script) => Ok(Some(Said {
+            schema,
+            document,
+            script,
+        })),
         None => Ok(None),
     }
 }

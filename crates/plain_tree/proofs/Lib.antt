@@ -6,3 +6,4 @@ pub mod Counting
 pub mod Putting
 pub mod Changing
 pub mod Outcomes
+pub mod Spelled

@@ -1,13 +1,13 @@
 -- Rows that come, go and change, and the tree that they are then.
-use Rattle.std.proofs.Common.{◌≡◌, ℕ, ◌+◌, ◌-◌, ◌≤◌, List, [], ◌∷◌, ◌++◌, Bool, true, false, ◌==◌, Option, Some, None, length, take, drop, refl, sym, ap, ◌∙◌, arith, append_assoc, append-nil, max, nat_lt, nat_le}
+use Rattle.std.proofs.Common.{◌≡◌, ℕ, ◌+◌, ◌-◌, ◌≤◌, List, [], ◌∷◌, ◌++◌, Bool, true, false, ◌==◌, length, take, drop, refl, sym, ap, ◌∙◌, arith, append_assoc, append-nil, max, nat_lt, nat_le}
 use Rattle.std.specs.List.{position_or_len}
 use Rattle.std.proofs.lemmas.Bool.Decides.{nat_tests}
 use Rattle.std.proofs.lemmas.Grind.{common_steps}
 use Rattle.plain_tree.specs.Forest.{Forest, none, text, element, count}
 use Rattle.plain_tree.specs.Rows.{rows_of}
-use Rattle.plain_tree.specs.RowLaws.{Ends, Ends-below}
-use Rattle.plain_tree.specs.Edits.{width, deepest_of, append, insert_at, renumbered}
-use Rattle.plain_tree.specs.EditRows.{rows_width, put_rows, ends_at, deepest_with, deepest_row, AreUnder, raised}
+use Rattle.plain_tree.specs.RowLaws.{Ends}
+use Rattle.plain_tree.specs.Edits.{width, deepest_of, insert_at, renumbered}
+use Rattle.plain_tree.specs.EditRows.{rows_width, put_rows, ends_at, deepest_with, deepest_row, raised}
 use Rattle.plain_tree.specs.declared.row.Attribute.{Attribute}
 use Rattle.plain_tree.specs.declared.row.Row.{Row}
 use Rattle.plain_tree.specs.declared.row.Content.{Content}

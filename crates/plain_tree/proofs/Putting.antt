@@ -1,18 +1,16 @@
 -- What is put at a spot, on the rows and on the tree.
-use Rattle.std.proofs.Common.{◌≡◌, ℕ, ◌+◌, ◌≤◌, ◌<◌, List, [], ◌∷◌, ◌++◌, Bool, true, false, ◌||◌, Result, Ok, Err, length, take, drop, refl, sym, ap, ◌∙◌, arith, nat_lt, max, subst}
+use Rattle.std.proofs.Common.{◌≡◌, ℕ, ◌+◌, ◌≤◌, ◌<◌, List, [], ◌∷◌, ◌++◌, true, false, ◌||◌, Ok, Err, length, take, drop, refl, sym, ap, ◌∙◌, arith, nat_lt, max, subst}
 use Rattle.std.proofs.lemmas.Bool.Decides.{nat_tests}
-use Rattle.std.proofs.lemmas.Grind.{common_steps}
-use Rattle.plain_tree.specs.Forest.{Forest, none, text, Document, count}
+use Rattle.plain_tree.specs.Forest.{Forest, none, text, count}
 use Rattle.plain_tree.specs.Rows.{rows_of, siblings}
 use Rattle.plain_tree.specs.RowLaws.{siblings-all}
-use Rattle.plain_tree.specs.Edits.{deepest_of, renumbered, replaced, with_children, too_many_more, put, put_within}
+use Rattle.plain_tree.specs.Edits.{deepest_of, renumbered, replaced, with_children, too_many_more, put}
 use Rattle.plain_tree.specs.EditRows.{AreWhole, AreSound, AreUnder, deepest_with, deepest_row, raised}
 use Rattle.plain_tree.specs.Spots.{tree_of, IsSpot, Puts}
 use Rattle.plain_tree.specs.declared.row.Row.{Row}
 use Rattle.plain_tree.specs.declared.row.Content.{Content}
 use Rattle.plain_tree.specs.declared.row.Content.TheVariants as contents
 use Rattle.plain_tree.specs.declared.places.Spot.{Spot}
-use Rattle.plain_tree.specs.declared.edit.EditError.{EditError}
 use Rattle.plain_tree.specs.declared.edit.EditError.TheVariants.{TooManyNodes, TooDeep}
 use Rattle.plain_tree.proofs.Placing.{count-rows, deepest-rows, deepest-append, deepest-part, raised-rows, raised-deepest}
 

@@ -1,19 +1,17 @@
 -- A node that a search over the rows finds is the one that the tree has.
-use Rattle.std.proofs.Common.{◌≡◌, ℕ, suc, ◌+◌, ◌≤◌, ◌<◌, List, [], ◌∷◌, ◌++◌, Bool, true, false, ◌==◌, Option, Some, None, Result, Ok, Err, length, take, drop, get_or, refl, sym, ap, ◌∙◌, arith, append-nil, nat_lt, max}
+use Rattle.std.proofs.Common.{◌≡◌, ℕ, suc, ◌+◌, ◌≤◌, ◌<◌, List, [], ◌∷◌, ◌++◌, Bool, true, false, Some, None, Err, length, take, drop, get_or, refl, sym, ap, ◌∙◌, arith, append-nil, nat_lt, max}
 use Rattle.std.specs.List.{position_or_len}
 use Rattle.std.proofs.lemmas.Bool.Decides.{nat_tests}
 use Rattle.std.proofs.lemmas.Grind.{common_steps, elements}
 use Rattle.plain_tree.specs.Forest.{Forest, none, text, element, Document}
 use Rattle.plain_tree.specs.Rows.{rows_of, siblings}
 use Rattle.plain_tree.specs.RowLaws.{Ends}
-use Rattle.plain_tree.specs.Edits.{width, insert_at, has, Found, found, replaced, with_children, put, put_at, put_into, put_within}
+use Rattle.plain_tree.specs.Edits.{width, insert_at, has, found, replaced, with_children, put_at, put_into}
 use Rattle.plain_tree.specs.EditRows.{AreWhole, is_numbered, rows_width, put_rows, deepest_row}
 use Rattle.plain_tree.specs.Spots.{tree_of, CannotPut, IsSpot}
 use Rattle.plain_tree.specs.declared.row.Attribute.{Attribute}
 use Rattle.plain_tree.specs.declared.row.Row.{Row}
-use Rattle.plain_tree.specs.declared.row.Content.{Content}
 use Rattle.plain_tree.specs.declared.row.Content.TheVariants as contents
-use Rattle.plain_tree.specs.declared.edit.EditError.{EditError}
 use Rattle.plain_tree.specs.declared.edit.EditError.TheVariants.{UnknownNode, NotElement, BadIndex}
 use Rattle.plain_tree.proofs.Standing.{text_row, element_row, IsNode, Stands, stands, missing, absent, rows-node}
 use Rattle.plain_tree.proofs.Placing.{width-rows, put-rows, deepest-append}

@@ -1,12 +1,12 @@
 -- Where a node stands among the rows of its tree.
-use Rattle.std.proofs.Common.{◌≡◌, ℕ, ◌+◌, ◌≤◌, List, [], ◌∷◌, ◌++◌, Bool, true, false, ◌==◌, ◌||◌, Option, Some, None, length, refl, sym, ap, ◌∙◌, arith, append_assoc, append-nil, max}
+use Rattle.std.proofs.Common.{◌≡◌, ℕ, ◌+◌, ◌≤◌, List, [], ◌∷◌, ◌++◌, Bool, true, false, ◌==◌, ◌||◌, Some, None, length, refl, sym, ap, ◌∙◌, arith, append_assoc, append-nil}
 use Rattle.std.specs.List.{position_or_len}
 use Rattle.std.proofs.lemmas.Bool.Decides.{nat_tests}
 use Rattle.std.proofs.lemmas.Grind.{common_steps}
 use Rattle.plain_tree.specs.Forest.{Forest, none, text, element}
 use Rattle.plain_tree.specs.Rows.{rows_of}
-use Rattle.plain_tree.specs.RowLaws.{Ends, Ends-below}
-use Rattle.plain_tree.specs.Edits.{append, has, Found, found, replaced}
+use Rattle.plain_tree.specs.RowLaws.{Ends}
+use Rattle.plain_tree.specs.Edits.{append, has, found, replaced}
 use Rattle.plain_tree.specs.EditRows.{is_numbered}
 use Rattle.plain_tree.specs.declared.row.Attribute.{Attribute}
 use Rattle.plain_tree.specs.declared.row.Row.{Row}

@@ -1,7 +1,6 @@
 -- What a builder makes of the items to come.
-use Rattle.std.specs.Prelude.{◌≡◌, List, ◌∷◌, Result, Ok, Err, reverse, string_bytes}
+use Rattle.std.specs.Prelude.{◌≡◌, List, ◌∷◌, Result, Err, reverse, string_bytes}
 use Rattle.item_listing.specs.declared.item.Item.{Item}
-use Rattle.plain_tree.specs.declared.row.Row.{Row}
 use Rattle.plain_tree.specs.declared.builder.Builder.{Builder}
 use Rattle.plain_tree.specs.declared.build.TreeReason.{TreeReason}
 use Rattle.plain_tree.specs.declared.builder.TreeError.{TreeError}

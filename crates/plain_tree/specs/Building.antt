@@ -1,5 +1,5 @@
 -- The tree of a list of items.
-use Rattle.std.specs.Prelude.{◌≡◌, ℕ, ◌+◌, List, [], ◌∷◌, ◌++◌, Bool, true, false, ◌==◌, ◌||◌, ◌&&◌, nat_lt, length, Result, Ok, Err, Option, Some, None, is_none, if◌then◌else◌}
+use Rattle.std.specs.Prelude.{ℕ, ◌+◌, List, [], ◌∷◌, ◌++◌, Bool, true, false, ◌==◌, ◌||◌, ◌&&◌, nat_lt, length, Result, Ok, Err, Option, Some, None, is_none, if◌then◌else◌}
 use Rattle.std.specs.List.{list_all}
 use Rattle.std.specs.Result.{is_ok}
 use Rattle.std.specs.Str.{bytes_eq}
@@ -8,7 +8,6 @@ use Rattle.item_listing.specs.declared.item.Item.TheVariants as items
 use Rattle.plain_tree.specs.Forest.{Forest, none, Document}
 use Rattle.plain_tree.specs.Rows.{siblings}
 use Rattle.plain_tree.specs.declared.row.Row.{Row}
-use Rattle.plain_tree.specs.declared.row.Content.{Content}
 use Rattle.plain_tree.specs.declared.row.Content.TheVariants as contents
 use Rattle.plain_tree.specs.declared.build.TreeReason.{TreeReason}
 use Rattle.plain_tree.specs.declared.build.TreeReason.TheVariants.{TwoRoots, TooDeep, TooManyNodes, TextOutside, EndMismatch, Unclosed, NoRoot, NotHere}

@@ -1,5 +1,5 @@
 -- Edits of a tree: what a tree is after an edit, or the least reason why the edit is refused.
-use Rattle.std.specs.Prelude.{ℕ, ◌+◌, ◌-◌, List, [], ◌∷◌, Bool, true, false, ◌==◌, ◌||◌, nat_lt, max, Option, Some, None, Result, Ok, Err, if◌then◌else◌}
+use Rattle.std.specs.Prelude.{ℕ, ◌+◌, ◌-◌, List, Bool, true, false, ◌==◌, ◌||◌, nat_lt, max, Option, Some, None, Result, Ok, Err, if◌then◌else◌}
 use Rattle.plain_tree.specs.Forest.{Forest, none, text, element, Document, count}
 use Rattle.plain_tree.specs.Building.{block, is_one_element}
 use Rattle.plain_tree.specs.declared.edit.Edit.{Edit}

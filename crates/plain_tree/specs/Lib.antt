@@ -11,3 +11,4 @@ pub mod EditRows
 pub mod Refusals
 pub mod Spots
 pub mod Blocks
+pub mod Examples

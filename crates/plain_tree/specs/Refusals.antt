@@ -1,5 +1,5 @@
 -- The refusals of edits.
-use Rattle.std.specs.Prelude.{◌≡◌, ℕ, List, Result, Ok, Err, codes}
+use Rattle.std.specs.Prelude.{◌≡◌, ℕ, List, Result, Err, codes}
 use Rattle.plain_tree.specs.Forest.{Document}
 use Rattle.plain_tree.specs.declared.edit.EditError.{EditError}
 use Rattle.plain_tree.specs.declared.edit.EditError.TheVariants as errors

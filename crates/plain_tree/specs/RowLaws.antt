@@ -3,7 +3,6 @@ use Rattle.std.proofs.Common.{◌≡◌, ℕ, ◌+◌, ◌≤◌, List, [], ◌�
 use Rattle.std.proofs.lemmas.Bool.Decides.{nat_tests}
 use Rattle.plain_tree.specs.Forest.{Forest, none, text, element}
 use Rattle.plain_tree.specs.Rows.{siblings, rows_of}
-use Rattle.plain_tree.specs.declared.row.Attribute.{Attribute}
 use Rattle.plain_tree.specs.declared.row.Row.{Row}
 
 -- rows that are less deep, or none, end the siblings of a depth

@@ -1,5 +1,5 @@
 -- Where an edit changes the rows of a tree.
-use Rattle.std.specs.Prelude.{◌≡◌, ℕ, ◌+◌, ◌≤◌, ◌<◌, false, ◌||◌, nat_lt, slice_index_or, slice_set, List, [], ◌∷◌, ◌++◌, length, take, drop, Result, Ok, Err}
+use Rattle.std.specs.Prelude.{◌≡◌, ℕ, ◌+◌, ◌≤◌, ◌<◌, false, ◌||◌, nat_lt, slice_index_or, slice_set, List, [], ◌∷◌, ◌++◌, length, take, drop, Ok}
 use Rattle.plain_tree.specs.Forest.{Forest, Document}
 use Rattle.plain_tree.specs.Rows.{rows_of, siblings}
 use Rattle.plain_tree.specs.Edits.{put, put_within, reword, remove, found, replaced, with_children}

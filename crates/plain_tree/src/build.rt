@@ -1,6 +1,8 @@
-ghost use Rattle.std.specs.Prelude.{◌≡◌, [], None, Ok, false, IfOk, IfErr};
+ghost use Rattle.std.specs.Prelude.{◌≡◌, ◌+◌, [], None, Ok, false, IfOk, IfErr};
 ghost use Rattle.plain_tree.specs.Building.{limits_of, rows_from, tree};
 ghost use Rattle.plain_tree.specs.Builder.{IsRefusal};
+ghost use Rattle.plain_tree.specs.Forest.{Forest, count};
+ghost use Rattle.plain_tree.specs.Spelling.{IsDocument, spelled};
 
 use crate::builder::{Builder, TreeError};
 use crate::{Row, Tree};
@@ -63,3 +65,8 @@ pub fn read_tree(alloc: Global, items: &[Item]) -> Result<Result<Tree, TreeReaso
         Err(TreeError::Refused(reason)) => Ok(Err(reason)),
     }
 }
+
+/// The items that spell a document, tag by tag, make that document.
+pub fn trees_are_read()
+    ensures { (f : Forest) → IsDocument f → tree (spelled f) ≡ Ok (record { forest = f; next_free = 1 + count f }) }
+{}

@@ -14,7 +14,7 @@ mod tests;
 mod tree;
 
 pub use block::is_one_element;
-pub use build::{TreeReason, read_tree};
+pub use build::{TreeReason, read_tree, trees_are_read};
 pub use builder::is_white_space;
 pub use edit::{Edit, EditError};
 pub use row::{Attribute, Attributes, Content, Row};

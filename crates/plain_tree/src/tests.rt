@@ -45,8 +45,30 @@ fn tree_of(alloc: Global, lines: &[&str]) -> Result<Tree, Fail> {
     Ok(read_tree(alloc, items.as_slice())?.ok().ok_or("no tree")?)
 }
 
-/// What an insertion answers, `None` where the items are no block.
-fn insert_items(
+/// `levels` elements, each but the first below another.
+fn nested(alloc: Global, levels: u32) -> Result<Items, Fail> {
+    let mut items = Items::new(alloc);
+    for _ in 0..levels {
+        items.push(Item::Start(Text::new(alloc, "n")?))?;
+    }
+    for _ in 0..levels {
+        items.push(Item::Close(Text::new(alloc, "n")?))?;
+    }
+    Ok(items)
+}
+
+/// An edit of a test.
+#[derive(Clone, Copy)]
+enum Step<'a> {
+    Insert(u32, u32, &'a [&'a str]),
+    InsertNested(u32, u32, u32),
+    AddText(u32, u32, &'a str),
+    SetText(u32, &'a str),
+    Remove(u32),
+}
+
+/// What an insertion answers, `None` too where the items are no block.
+fn insert(
     alloc: Global,
     tree: &mut Tree,
     parent: u32,
@@ -64,56 +86,30 @@ fn insert_items(
     Ok(tree.apply_edit(alloc, &edit).err())
 }
 
-fn insert(
-    alloc: Global,
-    tree: &mut Tree,
-    parent: u32,
-    index: u32,
-    lines: &[&str],
-) -> Result<Option<EditError>, Fail> {
-    let items = items_of(alloc, lines)?;
-    insert_items(alloc, tree, parent, index, items)
-}
-
-fn add_text(
-    alloc: Global,
-    tree: &mut Tree,
-    parent: u32,
-    index: u32,
-    text: &str,
-) -> Result<Option<EditError>, Fail> {
-    let edit = Edit::AddText {
-        parent,
-        index,
-        text: Text::new(alloc, text)?,
-    };
-    Ok(tree.apply_edit(alloc, &edit).err())
-}
-
-fn set_text(
-    alloc: Global,
-    tree: &mut Tree,
-    node: u32,
-    text: &str,
-) -> Result<Option<EditError>, Fail> {
-    let text = Text::new(alloc, text)?;
-    Ok(tree.apply_edit(alloc, &Edit::SetText { node, text }).err())
-}
-
-fn remove(alloc: Global, tree: &mut Tree, node: u32) -> Option<EditError> {
-    tree.apply_edit(alloc, &Edit::Remove { node }).err()
-}
-
-/// `levels` elements, each but the first below another.
-fn nested(alloc: Global, levels: u32) -> Result<Items, Fail> {
-    let mut items = Items::new(alloc);
-    for _ in 0..levels {
-        items.push(Item::Start(Text::new(alloc, "n")?))?;
+/// What an edit answers.
+fn take_step(alloc: Global, tree: &mut Tree, step: Step) -> Result<Option<EditError>, Fail> {
+    match step {
+        Step::Insert(parent, index, lines) => {
+            insert(alloc, tree, parent, index, items_of(alloc, lines)?)
+        }
+        Step::InsertNested(parent, index, levels) => {
+            insert(alloc, tree, parent, index, nested(alloc, levels)?)
+        }
+        Step::AddText(parent, index, text) => {
+            let text = Text::new(alloc, text)?;
+            let edit = Edit::AddText {
+                parent,
+                index,
+                text,
+            };
+            Ok(tree.apply_edit(alloc, &edit).err())
+        }
+        Step::SetText(node, text) => {
+            let text = Text::new(alloc, text)?;
+            Ok(tree.apply_edit(alloc, &Edit::SetText { node, text }).err())
+        }
+        Step::Remove(node) => Ok(tree.apply_edit(alloc, &Edit::Remove { node }).err()),
     }
-    for _ in 0..levels {
-        items.push(Item::Close(Text::new(alloc, "n")?))?;
-    }
-    Ok(items)
 }
 
 #[test]
@@ -179,31 +175,42 @@ fn knows_one_element(rt: HostRuntime) -> Result<(), Fail> {
 fn makes_edits(rt: HostRuntime) -> Result<(), Fail> {
     let alloc = rt.alloc();
     let mut tree = tree_of(alloc, &["(r", "-x", "(b", "-y", ")b", "-z", ")r"])?;
-    assert!(rt; shown(alloc, &tree)?.as_str() == "1.1 r 2.2 'x' 3.2 b 4.3 'y' 5.2 'z' ");
-    let none = None;
-    assert_eq!(rt;
-        insert(alloc, &mut tree, 1, 0, &["(a", "(c", ")c", "-t", ")a"])?,
-        none
-    );
-    assert!(rt;
-        shown(alloc, &tree)?.as_str() == "1.1 r 6.2 a 7.3 c 8.3 't' 2.2 'x' 3.2 b 4.3 'y' 5.2 'z' "
-    );
-    assert_eq!(rt; remove(alloc, &mut tree, 6), none);
-    assert!(rt; shown(alloc, &tree)?.as_str() == "1.1 r 2.2 'x' 3.2 b 4.3 'y' 5.2 'z' ");
-    assert_eq!(rt; tree.next_free(), 9);
-    assert_eq!(rt; add_text(alloc, &mut tree, 1, 1, "u")?, none);
-    assert!(rt; shown(alloc, &tree)?.as_str() == "1.1 r 2.2 'x' 9.2 'u' 3.2 b 4.3 'y' 5.2 'z' ");
-    assert_eq!(rt; set_text(alloc, &mut tree, 4, "")?, none);
-    assert_eq!(rt; insert(alloc, &mut tree, 1, 4, &["(e", ")e"])?, none);
-    assert_eq!(rt; insert(alloc, &mut tree, 3, 1, &["(f", ")f"])?, none);
-    assert_eq!(rt; add_text(alloc, &mut tree, 10, 0, "")?, none);
-    assert!(rt;
-        shown(alloc, &tree)?.as_str()
-            == "1.1 r 2.2 'x' 9.2 'u' 3.2 b 4.3 '' 11.3 f 5.2 'z' 10.2 e 12.3 '' "
-    );
-    assert_eq!(rt; remove(alloc, &mut tree, 3), none);
-    assert_eq!(rt; remove(alloc, &mut tree, 10), none);
-    assert!(rt; shown(alloc, &tree)?.as_str() == "1.1 r 2.2 'x' 9.2 'u' 5.2 'z' ");
+    let steps = [
+        (
+            Step::Insert(1, 0, &["(a", "(c", ")c", "-t", ")a"]),
+            "1.1 r 6.2 a 7.3 c 8.3 't' 2.2 'x' 3.2 b 4.3 'y' 5.2 'z' ",
+        ),
+        (Step::Remove(6), "1.1 r 2.2 'x' 3.2 b 4.3 'y' 5.2 'z' "),
+        (
+            Step::AddText(1, 1, "u"),
+            "1.1 r 2.2 'x' 9.2 'u' 3.2 b 4.3 'y' 5.2 'z' ",
+        ),
+        (
+            Step::SetText(4, ""),
+            "1.1 r 2.2 'x' 9.2 'u' 3.2 b 4.3 '' 5.2 'z' ",
+        ),
+        (
+            Step::Insert(1, 4, &["(e", ")e"]),
+            "1.1 r 2.2 'x' 9.2 'u' 3.2 b 4.3 '' 5.2 'z' 10.2 e ",
+        ),
+        (
+            Step::Insert(3, 1, &["(f", ")f"]),
+            "1.1 r 2.2 'x' 9.2 'u' 3.2 b 4.3 '' 11.3 f 5.2 'z' 10.2 e ",
+        ),
+        (
+            Step::AddText(10, 0, ""),
+            "1.1 r 2.2 'x' 9.2 'u' 3.2 b 4.3 '' 11.3 f 5.2 'z' 10.2 e 12.3 '' ",
+        ),
+        (
+            Step::Remove(3),
+            "1.1 r 2.2 'x' 9.2 'u' 5.2 'z' 10.2 e 12.3 '' ",
+        ),
+        (Step::Remove(10), "1.1 r 2.2 'x' 9.2 'u' 5.2 'z' "),
+    ];
+    for (step, nodes) in steps {
+        assert_eq!(rt; take_step(alloc, &mut tree, step)?, None);
+        assert!(rt; shown(alloc, &tree)?.as_str() == nodes);
+    }
     Ok(())
 }
 
@@ -211,88 +218,63 @@ fn makes_edits(rt: HostRuntime) -> Result<(), Fail> {
 fn refuses_edits_by_their_least_reason(rt: HostRuntime) -> Result<(), Fail> {
     let alloc = rt.alloc();
     let mut tree = tree_of(alloc, &["(r", "-x", "(b", ")b", ")r"])?;
-    let block = ["(a", ")a"];
-    assert_eq!(rt;
-        insert(alloc, &mut tree, 9, 9, &block)?,
-        Some(EditError::UnknownNode)
-    );
-    assert_eq!(rt;
-        add_text(alloc, &mut tree, 0, 9, "t")?,
-        Some(EditError::UnknownNode)
-    );
-    assert_eq!(rt;
-        set_text(alloc, &mut tree, 4, "t")?,
-        Some(EditError::UnknownNode)
-    );
-    assert_eq!(rt; remove(alloc, &mut tree, 4), Some(EditError::UnknownNode));
-    assert_eq!(rt;
-        insert(alloc, &mut tree, 2, 9, &block)?,
-        Some(EditError::NotElement)
-    );
-    assert_eq!(rt;
-        add_text(alloc, &mut tree, 2, 0, "t")?,
-        Some(EditError::NotElement)
-    );
-    assert_eq!(rt;
-        set_text(alloc, &mut tree, 1, "t")?,
-        Some(EditError::NotText)
-    );
-    assert_eq!(rt; remove(alloc, &mut tree, 1), Some(EditError::RootFixed));
-    assert_eq!(rt;
-        add_text(alloc, &mut tree, 1, 3, "t")?,
-        Some(EditError::BadIndex)
-    );
-    let deep = nested(alloc, 128)?;
-    assert_eq!(rt;
-        insert_items(alloc, &mut tree, 1, 3, deep)?,
-        Some(EditError::BadIndex)
-    );
-    let deep = nested(alloc, 128)?;
-    assert_eq!(rt;
-        insert_items(alloc, &mut tree, 1, 2, deep)?,
-        Some(EditError::TooDeep)
-    );
-    assert!(rt; shown(alloc, &tree)?.as_str() == "1.1 r 2.2 'x' 3.2 b ");
-    let most = nested(alloc, 127)?;
-    assert_eq!(rt; insert_items(alloc, &mut tree, 1, 0, most)?, None);
-    assert_eq!(rt; tree.next_free(), 131);
-    assert_eq!(rt; add_text(alloc, &mut tree, 130, 0, "t")?, None);
+    let steps = [
+        (Step::Insert(9, 9, &["(a", ")a"]), EditError::UnknownNode),
+        (Step::AddText(0, 9, "t"), EditError::UnknownNode),
+        (Step::SetText(4, "t"), EditError::UnknownNode),
+        (Step::Remove(4), EditError::UnknownNode),
+        (Step::Insert(2, 9, &["(a", ")a"]), EditError::NotElement),
+        (Step::AddText(2, 0, "t"), EditError::NotElement),
+        (Step::SetText(1, "t"), EditError::NotText),
+        (Step::Remove(1), EditError::RootFixed),
+        (Step::AddText(1, 3, "t"), EditError::BadIndex),
+        (Step::InsertNested(1, 3, 128), EditError::BadIndex),
+        (Step::InsertNested(1, 2, 128), EditError::TooDeep),
+    ];
+    for (step, refusal) in steps {
+        assert_eq!(rt; take_step(alloc, &mut tree, step)?, Some(refusal));
+        assert!(rt; shown(alloc, &tree)?.as_str() == "1.1 r 2.2 'x' 3.2 b ");
+    }
+    for step in [Step::InsertNested(1, 0, 127), Step::AddText(130, 0, "t")] {
+        assert_eq!(rt; take_step(alloc, &mut tree, step)?, None);
+    }
+    assert_eq!(rt; tree.next_free(), 132);
     Ok(())
+}
+
+/// A tree of so many nodes: a root and its children.
+fn wide(alloc: Global, nodes: u32) -> Result<Items, Fail> {
+    let mut items = Items::new(alloc);
+    items.push(Item::Start(Text::new(alloc, "r")?))?;
+    for _ in 1..nodes {
+        items.push(Item::Start(Text::new(alloc, "b")?))?;
+        items.push(Item::Close(Text::new(alloc, "b")?))?;
+    }
+    items.push(Item::Close(Text::new(alloc, "r")?))?;
+    Ok(items)
 }
 
 #[test]
 fn keeps_the_limit_on_nodes(rt: HostRuntime) -> Result<(), Fail> {
     let alloc = rt.alloc();
-    let mut items = Items::new(alloc);
-    items.push(Item::Start(Text::new(alloc, "r")?))?;
-    for _ in 1..131_072u32 {
-        items.push(Item::Start(Text::new(alloc, "b")?))?;
-        items.push(Item::Close(Text::new(alloc, "b")?))?;
-    }
-    items.push(Item::Close(Text::new(alloc, "r")?))?;
+    let items = wide(alloc, 131_072)?;
     let mut tree = read_tree(alloc, items.as_slice())?.ok().ok_or("no tree")?;
-    let deep = nested(alloc, 200)?;
-    assert_eq!(rt;
-        insert_items(alloc, &mut tree, 1, 0, deep)?,
-        Some(EditError::TooManyNodes)
-    );
-    assert_eq!(rt;
-        add_text(alloc, &mut tree, 1, 0, "")?,
-        Some(EditError::TooManyNodes)
-    );
-    assert_eq!(rt;
-        add_text(alloc, &mut tree, 1, 131_072, "")?,
-        Some(EditError::BadIndex)
-    );
-    assert_eq!(rt; remove(alloc, &mut tree, 2), None);
-    assert_eq!(rt; add_text(alloc, &mut tree, 1, 0, "")?, None);
+    let steps = [
+        (Step::InsertNested(1, 0, 200), Some(EditError::TooManyNodes)),
+        (Step::AddText(1, 0, ""), Some(EditError::TooManyNodes)),
+        (Step::AddText(1, 131_072, ""), Some(EditError::BadIndex)),
+        (Step::Remove(2), None),
+        (Step::AddText(1, 0, ""), None),
+        (Step::Remove(131_073), None),
+        (
+            Step::InsertNested(1, 0, 131_073),
+            Some(EditError::TooManyNodes),
+        ),
+    ];
+    for (step, answer) in steps {
+        assert_eq!(rt; take_step(alloc, &mut tree, step)?, answer);
+    }
     assert_eq!(rt; tree.next_free(), 131_074);
-    let deep = nested(alloc, 131_073)?;
-    assert_eq!(rt; remove(alloc, &mut tree, 131_073), None);
-    assert_eq!(rt;
-        insert_items(alloc, &mut tree, 1, 0, deep)?,
-        Some(EditError::TooManyNodes)
-    );
     Ok(())
 }
 

@@ -7,6 +7,7 @@ mod run;
 mod status;
 #[cfg(test)]
 mod tests;
+mod words;
 
 use run::run as run_stream;
 use status::Status;
@@ -15,6 +16,7 @@ use std::process::ExitCode;
 use std::{env, io};
 use xs_names::Text;
 use xsv_io::{StdSink, StdSource};
+use xsv_steps::{Silent, Steps};
 
 /// The words behind the program's name.
 fn read_words(rt: &HostRuntime) -> io::Result<Result<Vec<Text>, AllocError>> {
@@ -35,7 +37,8 @@ fn main(rt: HostRuntime) -> ExitCode {
         Ok(Ok(words)) => {
             let mut source = StdSource::new(rt.reader());
             let mut sink = StdSink::new(io::writer(&rt));
-            run_stream(rt.alloc(), &words, &mut source, &mut sink)
+            let mut steps = Steps::new(Silent);
+            run_stream(rt.alloc(), &words, &mut source, &mut sink, &mut steps)
         }
         Ok(Err(_)) => Status::Memory,
         Err(_) => Status::Words,

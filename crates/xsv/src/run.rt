@@ -1,26 +1,19 @@
-ghost use Rattle.std.specs.Prelude.{◌≡◌, ◌≢◌, ◌≤◌, false, Some, IfSome};
+ghost use Rattle.std.specs.Prelude.{◌≡◌, ◌≢◌, ◌≤◌, None, IfSome};
 ghost use Rattle.xsv_io.specs.Causes.{Rose};
 ghost use Rattle.xsv.specs.Taking.{TakesAtMost};
-ghost use Rattle.xsv.specs.Output.{Answers, IsFinal, Output, are_words, output};
+ghost use Rattle.xsv.specs.Output.{Answers, IsFinal, Output, asked, output};
 
 use crate::answer::answer_to;
 use crate::read::{ReadError, read_bytes};
 use crate::status::Status;
+use crate::words::read_words;
 use std::alloc::Global;
 use xs_names::Text;
 use xsv_io::{Sink, Source, write_whole};
+use xsv_steps::{Ledger, Steps};
 
 const USAGE: &str =
     "usage: xsv check|assess|session [--max-errors N] | xsv generate|trial NUMBER COUNT\n";
-
-fn accepts(words: &[Text]) -> bool
-    ensures { result ≡ are_words words.now }
-{
-    match words {
-        [word] => word.as_str() == "assess",
-        _ => false,
-    }
-}
 
 /// Writes the text, and answers the status, or that writing failed.
 fn finish<W: Sink>(sink: &mut W, text: &str, status: Status) -> Status
@@ -37,14 +30,15 @@ fn finish<W: Sink>(sink: &mut W, text: &str, status: Status) -> Status
     }
 }
 
-/// Assesses the stream's document by its schema, and reports.
+/// Assesses the stream's document by its schema, and reports, or replies to its edits.
 ///
 /// The status says how the run ended; the last three of its kinds are no answer to the stream.
-pub fn run<S: Source, W: Sink>(
+pub fn run<S: Source, W: Sink, L: Ledger>(
     alloc: Global,
     words: &[Text],
     source: &mut S,
     sink: &mut W,
+    steps: &mut Steps<L>,
 ) -> Status
     // What is written and the status are the definitions' output. Where a read, a write or memory failed,
     // a front of its text was written.
@@ -52,7 +46,7 @@ pub fn run<S: Source, W: Sink>(
         Answers result (W.taken sink.old) (W.taken sink.new) (output words.now bytes)) }
 
     // For other words nothing is read. Else at most one byte more than the longest stream is taken.
-    ensures unread { are_words words.now ≡ false → S.rest source.new ≡ S.rest source.old }
+    ensures unread { asked words.now ≡ None → S.rest source.new ≡ S.rest source.old }
     ensures few { TakesAtMost 65537 (S.rest source.old) (S.rest source.new) }
 
     // A fault is answered only where that side's count rose, or stands at its last value.
@@ -64,16 +58,17 @@ pub fn run<S: Source, W: Sink>(
     ensures writes { W.faults sink.old ≤ W.faults sink.new }
     ensures read_bound { S.fault_bound source.new ≡ S.fault_bound source.old }
     ensures write_bound { W.fault_bound sink.new ≡ W.fault_bound sink.old }
+    ensures steps { steps.old ≤ steps.new }
 {
-    if !accepts(words) {
+    let Some(asked) = read_words(words) else {
         return finish(sink, USAGE, Status::Words);
-    }
+    };
     let bytes = match read_bytes(alloc, source) {
         Ok(bytes) => bytes,
         Err(ReadError::Memory) => return Status::Memory,
         Err(ReadError::Failed) => return Status::ReadFault,
     };
-    match answer_to(alloc, &bytes) {
+    match answer_to(alloc, asked, &bytes, steps) {
         Ok(answer) => finish(sink, answer.text.as_str(), answer.status),
         Err(_) => Status::Memory,
     }

@@ -7,6 +7,7 @@ use std::process::Abort;
 use std::test::Fail;
 use xs_names::Text;
 use xsv_io::{MemSink, MemSource};
+use xsv_steps::{Silent, Steps};
 
 /// The lines of a schema of one global element of type `xs:string`, and the word `document`.
 const ONE_STRING: &str =
@@ -24,16 +25,23 @@ struct Case<'a> {
     status: Status,
 }
 
-fn check(rt: &impl Abort, alloc: Global, case: &Case, piece: usize) -> Result<(), AllocError>
+fn check(
+    rt: &impl Abort,
+    alloc: Global,
+    word: &str,
+    case: &Case,
+    piece: usize,
+) -> Result<(), AllocError>
     requires { 1 ≤ piece }
 {
     let mut words = Vec::new(alloc);
-    words.push(Text::new(alloc, "assess")?)?;
+    words.push(Text::new(alloc, word)?)?;
     let mut bytes = case.head.as_bytes().to_vec(alloc)?;
     bytes.extend_from_slice(case.document.as_bytes())?;
     let mut source = MemSource::new(bytes, piece, Vec::new(alloc));
     let mut sink = MemSink::new(alloc, 4096, Vec::new(alloc))?;
-    let status = run(alloc, &words, &mut source, &mut sink);
+    let mut steps = Steps::new(Silent);
+    let status = run(alloc, &words, &mut source, &mut sink, &mut steps);
     assert!(rt; sink.taken() == case.text.as_bytes());
     assert!(rt; status == case.status);
     Ok(())
@@ -99,8 +107,8 @@ fn reports_on_string_elements(rt: HostRuntime) -> Result<(), Fail> {
         },
     ];
     for case in &cases {
-        check(&rt, alloc, case, 4096)?;
-        check(&rt, alloc, case, 1)?;
+        check(&rt, alloc, "assess", case, 4096)?;
+        check(&rt, alloc, "assess", case, 1)?;
     }
     Ok(())
 }
@@ -145,7 +153,7 @@ fn reports_on_content_models(rt: HostRuntime) -> Result<(), Fail> {
         },
     ];
     for case in &cases {
-        check(&rt, alloc, case, 7)?;
+        check(&rt, alloc, "assess", case, 7)?;
     }
     Ok(())
 }
@@ -153,6 +161,7 @@ fn reports_on_content_models(rt: HostRuntime) -> Result<(), Fail> {
 #[test]
 fn breaks_off_where_a_side_fails(rt: HostRuntime) -> Result<(), Fail> {
     let alloc = rt.alloc();
+    let mut steps = Steps::new(Silent);
     let mut words = Vec::new(alloc);
     words.push(Text::new(alloc, "assess")?)?;
     let mut source = MemSource::new(
@@ -161,18 +170,70 @@ fn breaks_off_where_a_side_fails(rt: HostRuntime) -> Result<(), Fail> {
         vec![in alloc; 3u32]?,
     );
     let mut sink = MemSink::new(alloc, 4096, Vec::new(alloc))?;
-    assert!(rt; run(alloc, &words, &mut source, &mut sink) == Status::ReadFault);
+    assert!(rt; run(alloc, &words, &mut source, &mut sink, &mut steps) == Status::ReadFault);
     assert!(rt; sink.taken().is_empty());
     let mut long = MemSource::new(vec![in alloc; b'\n'; 65_537]?, 4096, Vec::new(alloc));
-    assert!(rt; run(alloc, &words, &mut long, &mut sink) == Status::Unsupported);
+    assert!(rt; run(alloc, &words, &mut long, &mut sink, &mut steps) == Status::Unsupported);
     let mut full = MemSink::new(alloc, 3, Vec::new(alloc))?;
-    assert!(rt; run(alloc, &words, &mut source, &mut full) == Status::WriteFault);
+    assert!(rt; run(alloc, &words, &mut source, &mut full, &mut steps) == Status::WriteFault);
     words.push(Text::new(alloc, "x")?)?;
     let mut other = MemSink::new(alloc, 4096, Vec::new(alloc))?;
-    assert!(rt; run(alloc, &words, &mut source, &mut other) == Status::Words);
+    assert!(rt; run(alloc, &words, &mut source, &mut other, &mut steps) == Status::Words);
     assert!(rt;
         other.taken()
             == b"usage: xsv check|assess|session [--max-errors N] | xsv generate|trial NUMBER COUNT\n".as_slice()
     );
+    Ok(())
+}
+
+/// The lines of a schema of a root with an `a` and then perhaps a `b`, and the word `document`.
+const SEQUENCE: &str =
+    "schema\ts\n(xs:schema\nAxmlns:xs http://www.w3.org/2001/XMLSchema\n(xs:element\nAname r\n(xs:complexType\n(xs:sequence\n(xs:element\nAname a\nAtype xs:string\n)xs:element\n(xs:element\nAname b\nAminOccurs 0\nAtype xs:string\n)xs:element\n)xs:sequence\n)xs:complexType\n)xs:element\n)xs:schema\ndocument\n";
+
+#[test]
+fn replies_to_edits(rt: HostRuntime) -> Result<(), Fail> {
+    let alloc = rt.alloc();
+    let cases = [
+        Case {
+            head: ONE_STRING,
+            document: "(r\n)r\nend\n",
+            text: "schema ok\nok 0 0\nend valid 0\n",
+            status: Status::Valid,
+        },
+        Case {
+            head: SEQUENCE,
+            document: "(r\n(b\n)b\n)r\nedits\ninsert 1 0\n(a\n)a\n.\nremove 2\nremove 2\nremove 1\nend\n",
+            text: "schema ok\nok 0 1\nok 1 0\nok 2 0\nno 1 UnknownNode\nno 4 RootFixed\nend valid 0\n",
+            status: Status::Valid,
+        },
+        Case {
+            head: SEQUENCE,
+            document: "(r\n(b\n)b\n)r\nedits\ninsert 1 9\n(a\n)a\n.\naddtext 1 0 x\ntext 2 y\ninsert 1 0\n(a\n.\ntext x y\nend\n",
+            text: "schema ok\nok 0 1\nno 5 BadIndex\nok 1 2\nno 3 NotText\nno 24 BadBlock\nno 22 BadNumber\nend invalid 2\n",
+            status: Status::NotValid,
+        },
+        Case {
+            head: SEQUENCE,
+            document: "(r\n(a\n)a\n)r\nedits\nassess 1\nassess 2\naddtext 2 0 \\t\nassess 3\nassess 9\ntotal\nrename 1 q\ntext 3 \ninsert 2 1\n(c\n(d\n)d\n)c\n.\ntotal\nassess 5\nremove 4\nremove 5\ninsert 1 1\n(b\n)b\n.\nassess 6\nend\n",
+            text: "schema ok\nok 0 0\ne 1 r #1.3 valid full given -\ne 2 a xs:string valid full given -\nok 1 0\nno 2 NotElement\nno 1 UnknownNode\ntotal 0\nno 20 UnknownCommand\nok 2 0\nok 3 1\ntotal 1\ne 5 d xs:anyType notKnown none given -\nok 4 0\nno 1 UnknownNode\nok 5 0\ne 6 b xs:string valid full given -\nend valid 0\n",
+            status: Status::Valid,
+        },
+        Case {
+            head: SEQUENCE,
+            document: "(r\n(a\n)a\n)r\nedits\ninsert 1 0\n(a\nAx 1\n)a\n.\nend\n",
+            text: NOT_YET,
+            status: Status::Unsupported,
+        },
+    ];
+    for case in &cases {
+        check(&rt, alloc, "session", case, 11)?;
+    }
+    let edits = Case {
+        head: ONE_STRING,
+        document: "(r\n)r\nedits\nend\n",
+        text: NOT_YET,
+        status: Status::Unsupported,
+    };
+    check(&rt, alloc, "assess", &edits, 11)?;
     Ok(())
 }

@@ -1,4 +1,4 @@
-use Rattle.std.proofs.Common.{◌≡◌, ◌++◌, take, drop, refl, sym, ap, ◌∙◌, List}
+use Rattle.std.proofs.Common.{◌++◌, take, drop, refl, ap, ◌∙◌, List}
 use Rattle.plain_tree.specs.declared.row.Row.{Row}
 use Rattle.plain_tree.proofs.Putting.{put_fits, new_under}
 use Rattle.plain_tree.proofs.Outcomes.{err_same}

@@ -1,4 +1,4 @@
-use Rattle.std.proofs.Common.{◌≡◌, ◌+◌, ◌≤◌, length, drop}
+use Rattle.std.proofs.Common.{◌≡◌, ◌+◌, drop}
 use Rattle.std.specs.List.{position_or_len}
 use Rattle.plain_tree.specs.EditRows.{ends_at}
 use Rattle.plain_tree.proofs.places.below_count.Given as goal

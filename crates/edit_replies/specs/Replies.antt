@@ -1,0 +1,83 @@
+-- The replies to the lines of an edit script, as a fold over the tree.
+use Rattle.std.specs.Prelude.{◌≡◌, ℕ, List, [], ◌∷◌, ◌++◌, Bool, false, Option, Some, None, Result, Ok, Err, codes}
+use Rattle.std.specs.Fmt.{decimal}
+use Rattle.plain_tree.specs.Forest.{Document}
+use Rattle.plain_tree.specs.Edits.{after}
+use Rattle.plain_tree.specs.Refusals as refusals
+use Rattle.plain_tree.specs.declared.edit.EditError.{EditError}
+use Rattle.assess_model.specs.Tables.{Tables}
+use Rattle.assess_model.specs.Assessment.{Entry, assessment, code_total}
+use Rattle.report_text.specs.Report.{entry_line}
+use Rattle.session_model.specs.State.{State}
+use Rattle.session_model.specs.Applying.{next_revision}
+use Rattle.session_model.specs.Asking.{kind_of, entry_of}
+use Rattle.session_model.specs.declared.session.NodeKind.{NodeKind}
+use Rattle.session_model.specs.declared.session.NodeKind.TheVariants.{Element, Chars}
+use Rattle.edit_script.specs.Commands.{command}
+use Rattle.edit_script.specs.Faults as faults
+use Rattle.edit_script.specs.declared.command.Command.{Command}
+use Rattle.edit_script.specs.declared.command.Command.TheVariants as commands
+use Rattle.edit_script.specs.declared.command.ScriptFault.{ScriptFault}
+use Rattle.first_form.specs.declared.script.ScriptLine.{ScriptLine}
+
+-- the document as it stands, and its revision
+pub record Standing : Type 0 where
+  pub document : Document
+  pub revision : ℕ
+
+-- what is written, and how the document then stands
+pub record Reply : Type 0 where
+  pub text : List ℕ
+  pub next : Standing
+
+abbrev pub refusal : ℕ → List ℕ → List ℕ
+refusal number name = codes "no " ++ decimal number ++ codes " " ++ name ++ 10 ∷ []
+
+abbrev pub made : ℕ → ℕ → List ℕ
+made revision total = codes "ok " ++ decimal revision ++ codes " " ++ decimal total ++ 10 ∷ []
+
+abbrev pub total_line : ℕ → List ℕ
+total_line total = codes "total " ++ decimal total ++ 10 ∷ []
+
+-- the number of codes of a document
+abbrev pub total_of : Tables → Document → ℕ
+total_of t d = code_total (assessment t d.forest)
+
+-- an edit that is made gives the next revision and the number of codes of the new tree; one that is refused changes nothing
+abbrev pub change_reply : Tables → Standing → Result Document EditError → Reply
+change_reply t s (Ok d) = record {
+  text = made (next_revision s.revision) (total_of t d);
+  next = record { document = d; revision = next_revision s.revision };
+}
+change_reply t s (Err e) = record { text = refusal (refusals.number_of e) (refusals.name_of e); next = s }
+
+-- the record line of an element
+abbrev pub assess_reply : Option NodeKind → Option Entry → List ℕ
+assess_reply None found = refusal 1 (codes "UnknownNode")
+assess_reply (Some Chars) found = refusal 2 (codes "NotElement")
+assess_reply (Some Element) None = []
+assess_reply (Some Element) (Some e) = entry_line e
+
+abbrev pub reply : Tables → Standing → Result Command ScriptFault → Reply
+reply t s (Ok (commands.Change edit)) = change_reply t s (after s.document edit)
+reply t s (Ok (commands.Assess node)) =
+    record { text = assess_reply (kind_of node s.document.forest) (entry_of node (assessment t s.document.forest)); next = s }
+reply t s (Ok commands.Total) = record { text = total_line (total_of t s.document); next = s }
+reply t s (Err fault) = record { text = refusal (faults.number_of fault) (faults.name_of fault); next = s }
+
+-- one reply behind another
+abbrev pub played : Tables → Standing → List ScriptLine → Reply
+played t s [] = record { text = []; next = s }
+played t s (l ∷ lines) =
+    let one = reply t s (command l.line l.block) in
+    record { text = one.text ++ (played t one.next lines).text; next = (played t one.next lines).next }
+
+abbrev pub standing_of : State → Standing
+standing_of s = record { document = s.document; revision = s.revision }
+
+-- the reply was written, and the session stands as it says
+pub record AnswersBy (old new : State) (before now : List ℕ) (said : Reply) : Type 0 where
+  pub text : now ≡ before ++ said.text
+  pub stands : standing_of new ≡ said.next
+  pub open_still : new.closed ≡ false
+  pub tables : new.tables ≡ old.tables

@@ -1,0 +1,91 @@
+-- What a line of a script says.
+use Rattle.std.specs.Prelude.{◌≡◌, ℕ, List, true, Option, Some, None, Result, Ok, Err, codes, if◌then◌else◌}
+use Rattle.std.specs.Str.{bytes_eq}
+use Rattle.item_listing.specs.Escapes.{unescaped}
+use Rattle.item_listing.specs.declared.item.Item.{Item}
+use Rattle.plain_tree.specs.Building.{is_one_element}
+use Rattle.plain_tree.specs.Edits.{can_be_made}
+use Rattle.plain_tree.specs.declared.edit.Edit.TheVariants as edits
+use Rattle.edit_script.specs.Fields.{◌>>=◌, split, needed, last, number}
+use Rattle.edit_script.specs.declared.command.Command.{Command}
+use Rattle.edit_script.specs.declared.command.Command.TheVariants as commands
+use Rattle.edit_script.specs.declared.command.ScriptFault.{ScriptFault}
+use Rattle.edit_script.specs.declared.command.ScriptFault.TheVariants.{UnknownCommand, WrongFields, BadEscape, BadBlock}
+
+-- the first field, and what is behind its space, None where there is none
+abbrev pub word_of : List ℕ → Option (List ℕ × List ℕ) → List ℕ
+word_of line None = line
+word_of line (Some parts) = parts.0
+
+abbrev pub rest_of : Option (List ℕ × List ℕ) → Option (List ℕ)
+rest_of None = None
+rest_of (Some parts) = Some parts.1
+
+-- a text, with its escapes replaced
+abbrev pub escaped : Option (List ℕ) → Result (List ℕ) ScriptFault
+escaped None = Err BadEscape
+escaped (Some text) = Ok text
+
+-- the items of a block, which are one element; no block is that of no items
+abbrev pub whole : Option (List Item) → Result (List Item) ScriptFault
+whole None = Err BadBlock
+whole (Some its) = if is_one_element its then Ok its else Err BadBlock
+
+-- a number, which is the only field
+abbrev pub only_number : Option (List ℕ) → Result ℕ ScriptFault
+only_number rest = needed rest >>= λ field. last field >>= λ only. number only
+
+-- `insert P I`, with its block
+abbrev pub insert : Option (List ℕ) → Option (List Item) → Result Command ScriptFault
+insert rest block =
+    needed rest >>= λ more. needed (split more) >>= λ parts. last parts.1 >>= λ second.
+    number parts.0 >>= λ parent. number second >>= λ place. whole block >>= λ its. Ok (commands.Change (edits.Insert parent place its))
+
+-- `addtext P I TEXT`
+abbrev pub add_text : Option (List ℕ) → Result Command ScriptFault
+add_text rest =
+    needed rest >>= λ more. needed (split more) >>= λ parts. needed (split parts.1) >>= λ others.
+    number parts.0 >>= λ parent. number others.0 >>= λ place. escaped (unescaped others.1) >>= λ text. Ok (commands.Change (edits.AddText parent place text))
+
+-- `text N TEXT`
+abbrev pub set_text : Option (List ℕ) → Result Command ScriptFault
+set_text rest =
+    needed rest >>= λ more. needed (split more) >>= λ parts.
+    number parts.0 >>= λ node. escaped (unescaped parts.1) >>= λ text. Ok (commands.Change (edits.SetText node text))
+
+-- `remove N`
+abbrev pub remove : Option (List ℕ) → Result Command ScriptFault
+remove rest = only_number rest >>= λ node. Ok (commands.Change (edits.Remove node))
+
+-- `assess N`
+abbrev pub assess : Option (List ℕ) → Result Command ScriptFault
+assess rest = only_number rest >>= λ node. Ok (commands.Assess node)
+
+-- `total`
+abbrev pub total : Option (List ℕ) → Result Command ScriptFault
+total None = Ok commands.Total
+total (Some rest) = Err WrongFields
+
+abbrev pub by_word : List ℕ → Option (List ℕ) → Option (List Item) → Result Command ScriptFault
+by_word word rest block =
+    if bytes_eq word (codes "insert") then insert rest block
+    else (if bytes_eq word (codes "addtext") then add_text rest
+    else (if bytes_eq word (codes "text") then set_text rest
+    else (if bytes_eq word (codes "remove") then remove rest
+    else (if bytes_eq word (codes "assess") then assess rest
+    else (if bytes_eq word (codes "total") then total rest
+    else Err UnknownCommand)))))
+
+-- the command of a line and its block, or the first fault by its number
+abbrev pub command : List ℕ → Option (List Item) → Result Command ScriptFault
+command line block = by_word (word_of line (split line)) (rest_of (split line)) block
+
+-- a change can be made where a tree takes it
+abbrev pub IsReady : Command → Type 0
+IsReady (commands.Change edit) = can_be_made edit ≡ true
+IsReady (commands.Assess node) = Unit {0}
+IsReady commands.Total = Unit {0}
+
+abbrev pub IsReadyOr : Result Command ScriptFault → Type 0
+IsReadyOr (Ok read) = IsReady read
+IsReadyOr (Err fault) = Unit {0}

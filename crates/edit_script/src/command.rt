@@ -1,0 +1,58 @@
+ghost use Rattle.std.specs.Prelude.{◌≡◌};
+ghost use Rattle.edit_script.specs.Faults.{number_of, name_of};
+
+use plain_tree::Edit;
+
+/// A command of a script.
+#[derive(Debug, Drop)]
+pub enum Command {
+    /// `insert`, `addtext`, `text` or `remove`: a change of the tree.
+    Change(Edit),
+    /// `assess N`: a question for the record of an element.
+    Assess(u32),
+    /// `total`: a question for the number of codes.
+    Total,
+}
+
+/// Why a line is no command.
+#[derive(Clone, Copy, Debug, PartialEq, Eq)]
+pub enum ScriptFault {
+    /// The first word is that of no command.
+    UnknownCommand,
+    /// There are too few fields, or too many.
+    WrongFields,
+    /// A number is not decimal digits, or it is above 4,294,967,295.
+    BadNumber,
+    /// A backslash in the text begins no escape.
+    BadEscape,
+    /// The block is not one whole element.
+    BadBlock,
+}
+
+impl ScriptFault {
+    /// The number by which refusals are ordered and printed.
+    pub fn number(self) -> u8
+        ensures { result ≡ number_of self }
+    {
+        match self {
+            ScriptFault::UnknownCommand => 20,
+            ScriptFault::WrongFields => 21,
+            ScriptFault::BadNumber => 22,
+            ScriptFault::BadEscape => 23,
+            ScriptFault::BadBlock => 24,
+        }
+    }
+
+    /// The name as it is printed.
+    pub fn name(self) -> &'static str
+        ensures { result.now ≡ name_of self }
+    {
+        match self {
+            ScriptFault::UnknownCommand => "UnknownCommand",
+            ScriptFault::WrongFields => "WrongFields",
+            ScriptFault::BadNumber => "BadNumber",
+            ScriptFault::BadEscape => "BadEscape",
+            ScriptFault::BadBlock => "BadBlock",
+        }
+    }
+}

@@ -1,0 +1,13 @@
+//! The commands of an edit script, from their lines.
+//!
+//! A command's fields are separated by one space. Numbers are decimal digits.
+#![tactic(auto)]
+
+mod command;
+mod fields;
+mod script;
+#[cfg(test)]
+mod tests;
+
+pub use command::{Command, ScriptFault};
+pub use script::read_command;

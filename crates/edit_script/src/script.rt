@@ -1,0 +1,202 @@
+ghost use Rattle.std.specs.Prelude.{◌≡◌, true, IfOk};
+ghost use Rattle.plain_tree.specs.Building as building;
+ghost use Rattle.std.specs.Option.{option_copied};
+ghost use Rattle.item_listing.specs.Escapes.{unescaped};
+ghost use Rattle.edit_script.specs.declared.script.ScriptError.TheVariants as errors;
+ghost use Rattle.edit_script.specs.Fields as fields;
+ghost use Rattle.edit_script.specs.Commands as script;
+ghost use Rattle.edit_script.specs.Faults.{Gives};
+
+use crate::fields::{has_space, number, split};
+use crate::{Command, ScriptFault};
+use item_listing::{Items, unescape};
+use plain_tree::{Edit, is_one_element};
+use std::alloc::{AllocError, Global};
+use xs_names::Text;
+
+/// Why a line gave no command.
+#[derive(Clone, Copy, Debug)]
+pub enum ScriptError {
+    Memory,
+    Refused(ScriptFault),
+}
+
+impl From<AllocError> for ScriptError {
+    ghost from_gives = { λ _ e. e ≡ errors.Memory };
+
+    fn from(_: AllocError) -> Self {
+        ScriptError::Memory
+    }
+}
+
+impl From<ScriptFault> for ScriptError {
+    ghost from_gives = { λ fault e. e ≡ errors.Refused fault };
+
+    fn from(fault: ScriptFault) -> Self {
+        ScriptError::Refused(fault)
+    }
+}
+
+/// A text, with its escapes replaced.
+fn read_text(alloc: Global, text: &str) -> Result<Text, ScriptError>
+    ensures { Gives result (script.escaped (unescaped text.now)) }
+{
+    match unescape(alloc, text)? {
+        Some(text) => Ok(text),
+        None => Err(ScriptError::Refused(ScriptFault::BadEscape)),
+    }
+}
+
+/// The items of a block that is one element.
+fn read_block(alloc: Global, block: Option<Items>) -> Result<Items, ScriptError>
+    ensures gives { Gives result (script.whole block) }
+    ensures one { IfOk result (λ items. building.is_one_element items ≡ true) }
+{
+    let Some(items) = block else {
+        return Err(ScriptError::Refused(ScriptFault::BadBlock));
+    };
+    if !is_one_element(alloc, items.as_slice())? {
+        return Err(ScriptError::Refused(ScriptFault::BadBlock));
+    }
+    Ok(items)
+}
+
+/// A number that is the only field.
+fn only_number(rest: Option<&str>) -> Result<u32, ScriptFault>
+    ensures { result ≡ script.only_number (option_copied rest.entry) }
+{
+    let Some(field) = rest else {
+        return Err(ScriptFault::WrongFields);
+    };
+    if has_space(field) {
+        return Err(ScriptFault::WrongFields);
+    }
+    number(field)
+}
+
+fn read_insert(
+    alloc: Global,
+    rest: Option<&str>,
+    block: Option<Items>,
+) -> Result<Command, ScriptError>
+    ensures gives { Gives result (script.insert (option_copied rest.entry) block) }
+    ensures ready { IfOk result script.IsReady }
+{
+    let Some(rest) = rest else {
+        return Err(ScriptError::Refused(ScriptFault::WrongFields));
+    };
+    let Some((parent, index)) = split(rest) else {
+        return Err(ScriptError::Refused(ScriptFault::WrongFields));
+    };
+    if has_space(index) {
+        return Err(ScriptError::Refused(ScriptFault::WrongFields));
+    }
+    let parent = number(parent)?;
+    let index = number(index)?;
+    let items = read_block(alloc, block)?;
+    Ok(Command::Change(Edit::Insert {
+        parent,
+        index,
+        items,
+    }))
+}
+
+fn read_add_text(alloc: Global, rest: Option<&str>) -> Result<Command, ScriptError>
+    ensures gives { Gives result (script.add_text (option_copied rest.entry)) }
+    ensures ready { IfOk result script.IsReady }
+{
+    let Some(rest) = rest else {
+        return Err(ScriptError::Refused(ScriptFault::WrongFields));
+    };
+    let Some((parent, rest)) = split(rest) else {
+        return Err(ScriptError::Refused(ScriptFault::WrongFields));
+    };
+    let Some((index, text)) = split(rest) else {
+        return Err(ScriptError::Refused(ScriptFault::WrongFields));
+    };
+    let parent = number(parent)?;
+    let index = number(index)?;
+    let text = read_text(alloc, text)?;
+    Ok(Command::Change(Edit::AddText {
+        parent,
+        index,
+        text,
+    }))
+}
+
+fn read_set_text(alloc: Global, rest: Option<&str>) -> Result<Command, ScriptError>
+    ensures gives { Gives result (script.set_text (option_copied rest.entry)) }
+    ensures ready { IfOk result script.IsReady }
+{
+    let Some(rest) = rest else {
+        return Err(ScriptError::Refused(ScriptFault::WrongFields));
+    };
+    let Some((node, text)) = split(rest) else {
+        return Err(ScriptError::Refused(ScriptFault::WrongFields));
+    };
+    let node = number(node)?;
+    let text = read_text(alloc, text)?;
+    Ok(Command::Change(Edit::SetText { node, text }))
+}
+
+fn read_by_word(
+    alloc: Global,
+    word: &str,
+    rest: Option<&str>,
+    block: Option<Items>,
+) -> Result<Command, ScriptError>
+    ensures gives { Gives result (script.by_word word.now (option_copied rest.entry) block) }
+    ensures ready { IfOk result script.IsReady }
+{
+    if word == "insert" {
+        read_insert(alloc, rest, block)
+    } else if word == "addtext" {
+        read_add_text(alloc, rest)
+    } else if word == "text" {
+        read_set_text(alloc, rest)
+    } else if word == "remove" {
+        let node = only_number(rest)?;
+        Ok(Command::Change(Edit::Remove { node }))
+    } else if word == "assess" {
+        Ok(Command::Assess(only_number(rest)?))
+    } else if word == "total" {
+        if rest.is_some() {
+            return Err(ScriptError::Refused(ScriptFault::WrongFields));
+        }
+        Ok(Command::Total)
+    } else {
+        Err(ScriptError::Refused(ScriptFault::UnknownCommand))
+    }
+}
+
+fn read_line(alloc: Global, line: &str, block: Option<Items>) -> Result<Command, ScriptError>
+    ensures gives { Gives result (script.command line.now block) }
+    ensures ready { IfOk result script.IsReady }
+{
+    match split(line) {
+        Some((word, rest)) => read_by_word(alloc, word, Some(rest), block),
+        None => read_by_word(alloc, line, None, block),
+    }
+}
+
+/// What a line of a script says, without its line feed, or its first fault. `block` has the items of the
+/// block that follows an `insert` line; other commands drop it. A change that is answered can be made,
+/// where the tree takes it.
+///
+/// # Errors
+///
+/// `AllocError` is want of memory; a `ScriptFault` is the line's or the block's.
+pub fn read_command(
+    alloc: Global,
+    line: &Text,
+    block: Option<Items>,
+) -> Result<Result<Command, ScriptFault>, AllocError>
+    ensures command { IfOk result (λ read. read ≡ script.command line.now block) }
+    ensures ready { IfOk result script.IsReadyOr }
+{
+    match read_line(alloc, line.as_str(), block) {
+        Ok(command) => Ok(Ok(command)),
+        Err(ScriptError::Memory) => Err(AllocError),
+        Err(ScriptError::Refused(fault)) => Ok(Err(fault)),
+    }
+}

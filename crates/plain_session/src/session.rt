@@ -1,0 +1,124 @@
+ghost use Rattle.std.specs.Prelude.{◌≡◌, false, IfOk};
+ghost use Rattle.plain_tree.specs.Rows.{rows_of};
+
+use crate::count::count_codes;
+use crate::find::{find_element, find_kind};
+use assess_model::{ElementRecord, Schema, Validity};
+use first_assess::{Records, assess};
+use plain_tree::{Edit, EditError, Tree};
+use report_text::find_root_validity;
+use session_model::{NodeKind, Session, SessionError};
+use std::alloc::{AllocError, Global};
+use std::marker::Model;
+use xs_names::Text;
+use xsv_steps::{Ledger, Steps};
+
+/// A session that assesses the whole tree again after each edit.
+#[derive(Drop)]
+pub struct PlainSession {
+    alloc: Global,
+    schema: Schema,
+    tree: Tree,
+    records: Records,
+    total: u64,
+    revision: u64,
+    closed: bool,
+}
+
+impl Model for PlainSession {
+    ghost use Rattle.session_model.specs.State.{State};
+    ghost use Rattle.session_model.specs.StateCode.{state_code};
+
+    ghost Value = { State };
+
+    ghost coded = { state_code };
+
+    ghost use Rattle.plain_session.specs.Held.{state_of, IsUpToDate};
+
+    ghost view = { state_of };
+
+    ghost invariant = { IsUpToDate };
+}
+
+impl PlainSession {
+    /// Opens a session over a document: its revision is 0.
+    ///
+    /// # Errors
+    ///
+    /// `AllocError` is want of memory.
+    pub fn open(alloc: Global, schema: Schema, tree: Tree) -> Result<Self, AllocError>
+        ensures { IfOk result (λ s. s ≡ record { tables = schema; document = tree; revision = 0; closed = false }) }
+    {
+        let records = assess(alloc, &schema, &tree)?;
+        let total = count_codes(tree.rows(), records.as_slice());
+        Ok(PlainSession {
+            alloc,
+            schema,
+            tree,
+            records,
+            total,
+            revision: 0,
+            closed: false,
+        })
+    }
+}
+
+impl Session for PlainSession {
+    ghost state = { λ s. s };
+
+    fn apply<L: Ledger>(&mut self, edit: &Edit, _steps: &mut Steps<L>) -> Result<(), SessionError> {
+        if self.closed {
+            return Err(SessionError::Closed);
+        }
+        match self.tree.apply_edit(self.alloc, edit) {
+            Ok(()) => {}
+            Err(EditError::Memory) => {
+                self.closed = true;
+                return Err(SessionError::Memory);
+            }
+            Err(refusal) => return Err(SessionError::Refused(refusal)),
+        }
+        match assess(self.alloc, &self.schema, &self.tree) {
+            Ok(records) => {
+                self.total = count_codes(self.tree.rows(), records.as_slice());
+                self.records = records;
+                self.revision = self.revision.saturating_add(1);
+                Ok(())
+            }
+            Err(_) => {
+                self.closed = true;
+                Err(SessionError::Memory)
+            }
+        }
+    }
+
+    fn element_record(&self, node: u32) -> Option<&ElementRecord> {
+        match find_element(self.tree.rows(), self.records.as_slice(), node) {
+            Some(found) => Some(found.known),
+            None => None,
+        }
+    }
+
+    fn element_name(&self, node: u32) -> Option<&Text> {
+        match find_element(self.tree.rows(), self.records.as_slice(), node) {
+            Some(found) => Some(found.name),
+            None => None,
+        }
+    }
+
+    fn code_total(&self) -> u64 {
+        self.total
+    }
+
+    fn root_validity(&self) -> Validity {
+        find_root_validity(self.tree.rows(), self.records.as_slice())
+    }
+
+    fn live(&self, node: u32) -> Option<NodeKind> {
+        find_kind(self.tree.rows(), node)
+    }
+
+    fn revision(&self) -> u64 {
+        self.revision
+    }
+}

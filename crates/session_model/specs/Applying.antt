@@ -1,0 +1,23 @@
+-- What an edit does to a session.
+use Rattle.std.specs.Prelude.{◌≡◌, ◌≢◌, ℕ, ◌+◌, ◌-◌, ◌^◌, min, Bool, true, false, Result, Ok, Err}
+use Rattle.plain_tree.specs.Edits.{after}
+use Rattle.plain_tree.specs.declared.edit.Edit.{Edit}
+use Rattle.plain_tree.specs.declared.edit.EditError.{EditError}
+use Rattle.plain_tree.specs.declared.edit.EditError.TheVariants as edit_errors
+use Rattle.session_model.specs.State.{State}
+use Rattle.session_model.specs.declared.session.SessionError.{SessionError}
+use Rattle.session_model.specs.declared.session.SessionError.TheVariants as errors
+
+-- the next revision, which stays at its last value
+abbrev pub next_revision : ℕ → ℕ
+next_revision revision = min (revision + 1) (2 ^ 64 - 1)
+
+-- the edit was made: the tree is the one after it, and the revision is the next; or it was refused, and nothing has changed; or the
+-- session was closed, and nothing has changed; or memory was wanting, and the session is closed
+abbrev pub Applies : State → Edit → Result (Unit {0}) SessionError → State → Type 0
+Applies old edit (Ok done) new =
+    (old.closed ≡ false) × (after old.document edit ≡ Ok new.document) × (new.tables ≡ old.tables)
+    × (new.revision ≡ next_revision old.revision) × (new.closed ≡ false)
+Applies old edit (Err (errors.Refused e)) new = (old.closed ≡ false) × (after old.document edit ≡ Err e) × (e ≢ edit_errors.Memory) × (new ≡ old)
+Applies old edit (Err errors.Memory) new = (old.closed ≡ false) × (new.closed ≡ true)
+Applies old edit (Err errors.Closed) new = (old.closed ≡ true) × (new ≡ old)

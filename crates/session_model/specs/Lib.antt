@@ -1,0 +1,4 @@
+pub mod State
+pub mod StateCode
+pub mod Applying
+pub mod Asking

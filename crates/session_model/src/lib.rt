@@ -1,0 +1,6 @@
+//! What a session over one document answers, however it finds its answers.
+#![tactic(auto)]
+
+mod session;
+
+pub use session::{NodeKind, Session, SessionError};
