@@ -90,6 +90,23 @@ fn numbers_names(rt: HostRuntime) -> Result<(), Fail> {
 }
 
 #[test]
+fn numbers_a_hundred_thousand_names(rt: HostRuntime) -> Result<(), Fail> {
+    let mut names = Names::new(rt.alloc())?;
+    for i in 0..100_000_u32 {
+        let ns = names.namespace_id("urn:a")?;
+        let local = format!(in rt.alloc(); "n{i}")?;
+        let name = names.intern(ns, &local)?;
+        assert!(rt; names.lookup(ns, &local) == Some(name));
+    }
+    let ns = names.namespace_id("urn:a")?;
+    for local in ["n0", "n1", "n65535", "n99999"] {
+        assert!(rt; names.lookup(ns, local).is_some());
+    }
+    assert!(rt; names.lookup(ns, "n100000").is_none());
+    Ok(())
+}
+
+#[test]
 fn resolves_the_latest_binding(rt: HostRuntime) -> Result<(), Fail> {
     let mut scope = Scope::new(rt.alloc())?;
     scope.bind("p", NsId { number: 2 })?;
