@@ -1,4 +1,5 @@
 use super::*;
+use std::alloc::{AllocError, Global};
 use std::test::Fail;
 
 // The ends of the ranges of NameStartChar and NameChar, and the neighbours of the ends (XML 1.0 Fifth Edition, 2.3), with a
@@ -86,6 +87,27 @@ fn numbers_names(rt: HostRuntime) -> Result<(), Fail> {
     let name = names.intern(ns, "item")?;
     assert!(rt; names.lookup(ns, "item") == Some(name));
     assert!(rt; names.lookup(NsId::XML, "item").is_none());
+    Ok(())
+}
+
+// Whether each of so many names is found again by the number that it got.
+fn finds_names(alloc: Global, names: &mut Names, count: u32) -> Result<bool, AllocError> {
+    for i in 0..count {
+        let ns = names.namespace_id("urn:a")?;
+        let local = format!(in alloc; "n{i}")?;
+        let name = names.intern(ns, &local)?;
+        if names.lookup(ns, &local) != Some(name) {
+            return Ok(false);
+        }
+    }
+    Ok(true)
+}
+
+#[test]
+fn numbers_a_hundred_thousand_names(rt: HostRuntime) -> Result<(), Fail> {
+    let mut names = Names::new(rt.alloc())?;
+    let found = finds_names(rt.alloc(), &mut names, 100_000)?;
+    assert!(rt; found);
     Ok(())
 }
 
