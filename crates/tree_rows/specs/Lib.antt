@@ -1,0 +1,4 @@
+pub mod Naming
+pub mod Forest
+pub mod Rows
+pub mod RowLaws

@@ -1,0 +1,10 @@
+//! The nodes of a tree, as rows in document order: elements by their expanded names, texts by their characters.
+#![tactic(auto)]
+
+mod lists;
+mod name;
+mod row;
+
+pub use lists::{Attributes, Bindings};
+pub use name::Expanded;
+pub use row::{Attribute, Binding, Content, Row};

@@ -1,0 +1,73 @@
+ghost use Rattle.std.specs.Prelude.{◌≡◌, IfOk};
+ghost use Rattle.tree_rows.specs.Naming.{same_name, clark_name};
+ghost use Rattle.tree_rows.specs.Naming as naming;
+
+use std::alloc::{AllocError, Global};
+use xs_names::Text;
+
+/// An expanded name: the name of a namespace, `None` for the absent one, with a local part
+/// (Namespaces in XML 1.0, 2.1).
+#[derive(Debug, Drop)]
+pub struct Expanded {
+    pub namespace: Option<Text>,
+    pub local: Text,
+}
+
+/// Whether two namespaces are the same.
+fn is_same_space(one: &Option<Text>, other: &Option<Text>) -> bool
+    ensures { result ≡ naming.same_space one.now other.now }
+{
+    match one {
+        None => other.is_none(),
+        Some(space) => match other {
+            None => false,
+            Some(other) => space.as_str() == other.as_str(),
+        },
+    }
+}
+
+/// A copy of the name of a namespace.
+fn clone_space(alloc: Global, space: &Option<Text>) -> Result<Option<Text>, AllocError>
+    ensures { IfOk result (λ copy. copy ≡ space.now) }
+{
+    match space {
+        None => Ok(None),
+        Some(space) => Ok(Some(space.try_clone(alloc)?)),
+    }
+}
+
+impl Expanded {
+    /// Whether the names are the same: their namespaces are, and their local parts.
+    pub fn is_same(&self, other: &Expanded) -> bool
+        ensures { result ≡ same_name self.now other.now }
+    {
+        is_same_space(&self.namespace, &other.namespace)
+            && self.local.as_str() == other.local.as_str()
+    }
+
+    /// A copy with memory of its own.
+    pub fn try_clone(&self, alloc: Global) -> Result<Self, AllocError>
+        ensures { IfOk result (λ copy. copy ≡ self.now) }
+    {
+        Ok(Expanded {
+            namespace: clone_space(alloc, &self.namespace)?,
+            local: self.local.try_clone(alloc)?,
+        })
+    }
+
+    /// The name as one text: `local`, or `{namespace}local` where the namespace is not the absent one.
+    pub fn clark_name(&self, alloc: Global) -> Result<Text, AllocError>
+        ensures { IfOk result (λ text. text ≡ clark_name self.now) }
+    {
+        match &self.namespace {
+            None => self.local.try_clone(alloc),
+            Some(space) => {
+                let mut text = String::from_str(alloc, "{")?;
+                text.push_str(space.as_str())?;
+                text.push_str("}")?;
+                text.push_str(self.local.as_str())?;
+                Ok(Text::from_string(text))
+            }
+        }
+    }
+}

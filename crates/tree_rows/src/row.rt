@@ -1,0 +1,40 @@
+use crate::{Attributes, Bindings, Expanded};
+use xs_names::Text;
+
+/// An attribute that is no binding.
+#[derive(Debug, Drop)]
+pub struct Attribute {
+    pub name: Expanded,
+    pub value: Text,
+}
+
+/// The binding of a prefix to a namespace. The empty prefix stands for the default namespace, and the empty
+/// namespace for the absent one (Namespaces in XML 1.0, 3 and 6.2).
+#[derive(Debug, Drop)]
+pub struct Binding {
+    pub prefix: Text,
+    pub namespace: Text,
+}
+
+/// What a node is.
+#[derive(Debug, Drop)]
+pub enum Content {
+    /// An element, by its name.
+    Element(Expanded),
+    /// A text, by its characters.
+    Chars(Text),
+}
+
+/// A node of a tree, as it stands in document order.
+#[derive(Debug, Drop)]
+pub struct Row {
+    /// The node's number, from 1.
+    pub number: u32,
+    /// How deep the node stands; the root has depth 1.
+    pub depth: u32,
+    pub content: Content,
+    /// The bindings of an element's start tag, in order; a text has none.
+    pub bindings: Bindings,
+    /// The attributes of an element, in order; a text has none.
+    pub attributes: Attributes,
+}
