@@ -1,7 +1,6 @@
 -- The rows of a schema document, each read in its scope.
 use Rattle.std.specs.Prelude.{ℕ, List, [], ◌∷◌, ◌++◌, nat_lt, map, filter, Option, Some, None}
 use Rattle.std.specs.Option.{option_map}
-use Rattle.std.specs.declared.vec.Vec.{Vec}
 use Rattle.tree_rows.specs.declared.row.Row.{Row}
 use Rattle.first_form.specs.declared.scope.Held.{Held}
 use Rattle.first_form.specs.declared.construct.Construct.{Construct}
@@ -26,7 +25,3 @@ abbrev pub schema_rows : List Held → List Row → Option (List SchemaRow)
 schema_rows scope [] = Some []
 schema_rows scope (row ∷ rows) =
     in_front (option_map (schema_row row) (construct_of (entered scope row) row)) (schema_rows (entered scope row) rows)
-
--- the rows that were found
-abbrev pub seen : Option (Vec SchemaRow) → Option (List SchemaRow)
-seen found = option_map (λ v. v.items) found

@@ -1,6 +1,7 @@
-ghost use Rattle.std.specs.Prelude.{◌≡◌, ◌++◌, IfOk, OnOk, map, find, reverse};
+ghost use Rattle.std.specs.Prelude.{◌≡◌, ◌++◌, [], IfOk, OnOk, map, find, reverse};
 ghost use Rattle.std.specs.Str.{bytes_eq};
-ghost use Rattle.std.specs.Option.{option_copied};
+ghost use Rattle.std.specs.Option.{option_copied, option_map};
+ghost use Rattle.first_form.specs.Bound as bound;
 ghost use Rattle.first_form.specs.Scoping as form;
 
 use crate::construct::{SchemaRow, read_construct};
@@ -28,7 +29,7 @@ fn latest<'a>(scope: &'a [Held], prefix: &str) -> Option<&'a Held>
 
 /// Whether the latest binding of a prefix, empty for the default namespace, is to this namespace.
 pub fn is_bound_to(scope: &[Held], prefix: &str, space: &str) -> bool
-    ensures { result ≡ form.is_bound_to scope.now prefix.now space.now }
+    ensures { result ≡ bound.is_bound_to scope.now prefix.now space.now }
 {
     match latest(scope, prefix) {
         None => false,
@@ -43,7 +44,7 @@ fn put_bindings(
     depth: u32,
     bindings: &[Binding],
 ) -> Result<(), AllocError>
-    ensures { OnOk result (scope.new.items ≡ scope.old.items ++ map (form.held_at depth) bindings.now) }
+    ensures { OnOk result (scope.new.items ≡ scope.old.items ++ map (bound.held_at depth) bindings.now) }
 {
     for binding in bindings {
         scope.push(Held {
@@ -65,7 +66,7 @@ fn enter(alloc: Global, scope: &mut Vec<Held>, row: &Row) -> Result<(), AllocErr
 
 /// What the rows of a schema document say, `None` where one is not of the form.
 pub fn read_rows(alloc: Global, rows: &[Row]) -> Result<Option<Vec<SchemaRow>>, AllocError>
-    ensures { IfOk result (λ found. form.seen found ≡ form.schema_rows [] rows.now) }
+    ensures { IfOk result (λ found. option_map (λ v. v.items) found ≡ form.schema_rows [] rows.now) }
 {
     let mut scope = Vec::new(alloc);
     let mut said = Vec::new(alloc);
