@@ -19,7 +19,6 @@ use Rattle.edit_script.specs.Faults as faults
 use Rattle.edit_script.specs.declared.command.Command.{Command}
 use Rattle.edit_script.specs.declared.command.Command.TheVariants as commands
 use Rattle.edit_script.specs.declared.command.ScriptFault.{ScriptFault}
-use Rattle.first_form.specs.declared.script.ScriptLine.{ScriptLine}
 
 -- the document as it stands, and its revision
 pub record Standing : Type 0 where
@@ -65,13 +64,6 @@ reply t s (Ok (commands.Assess node)) =
     record { text = assess_reply (kind_of node s.document.forest) (entry_of node (assessment t s.document.forest)); next = s }
 reply t s (Ok commands.Total) = record { text = total_line (total_of t s.document); next = s }
 reply t s (Err fault) = record { text = refusal (faults.number_of fault) (faults.name_of fault); next = s }
-
--- one reply behind another
-abbrev pub played : Tables → Standing → List ScriptLine → Reply
-played t s [] = record { text = []; next = s }
-played t s (l ∷ lines) =
-    let one = reply t s (command l.line l.block) in
-    record { text = one.text ++ (played t one.next lines).text; next = (played t one.next lines).next }
 
 abbrev pub standing_of : State → Standing
 standing_of s = record { document = s.document; revision = s.revision }

@@ -1,8 +1,8 @@
-//! The replies of a session to the lines of an edit script.
+//! The replies of a session to the commands of an edit script.
 #![tactic(auto)]
 
-mod lines;
+mod line;
 mod reply;
 
-pub use lines::play;
+pub use line::answer_line;
 pub use reply::{write_made, write_total};

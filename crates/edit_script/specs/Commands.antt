@@ -1,16 +1,19 @@
 -- What a line of a script says.
-use Rattle.std.specs.Prelude.{◌≡◌, ℕ, List, true, Option, Some, None, Result, Ok, Err, codes, if◌then◌else◌}
+use Rattle.std.specs.Prelude.{◌≡◌, ℕ, List, Bool, true, false, not, Option, Some, None, Result, Ok, Err, codes, if◌then◌else◌}
+use Rattle.std.specs.List.{list_any}
 use Rattle.std.specs.Str.{bytes_eq}
 use Rattle.item_listing.specs.Escapes.{unescaped}
 use Rattle.item_listing.specs.declared.item.Item.{Item}
-use Rattle.plain_tree.specs.Building.{is_one_element}
-use Rattle.plain_tree.specs.Edits.{can_be_made}
-use Rattle.plain_tree.specs.declared.edit.Edit.TheVariants as edits
+use Rattle.item_listing.specs.declared.item.Item.TheVariants as items
+use Rattle.tag_names.specs.Tags.{is_binding}
+use Rattle.tree_building.specs.Blocks.{is_one_element}
+use Rattle.tree_edits.specs.Edits.{can_be_made}
+use Rattle.tree_edits.specs.declared.edit.Edit.TheVariants as edits
 use Rattle.edit_script.specs.Fields.{◌>>=◌, split, needed, last, number}
 use Rattle.edit_script.specs.declared.command.Command.{Command}
 use Rattle.edit_script.specs.declared.command.Command.TheVariants as commands
 use Rattle.edit_script.specs.declared.command.ScriptFault.{ScriptFault}
-use Rattle.edit_script.specs.declared.command.ScriptFault.TheVariants.{UnknownCommand, WrongFields, BadEscape, BadBlock}
+use Rattle.edit_script.specs.declared.command.ScriptFault.TheVariants.{UnknownCommand, WrongFields, BadEscape, BadBlock, NotYet}
 
 -- the first field, and what is behind its space, None where there is none
 abbrev pub word_of : List ℕ → Option (List ℕ × List ℕ) → List ℕ
@@ -26,10 +29,28 @@ abbrev pub escaped : Option (List ℕ) → Result (List ℕ) ScriptFault
 escaped None = Err BadEscape
 escaped (Some text) = Ok text
 
+-- an attribute line that binds no prefix
+abbrev pub is_plain_attribute : Item → Bool
+is_plain_attribute (items.Start name) = false
+is_plain_attribute (items.Attr name value) = not (is_binding (record { name = name; value = value }))
+is_plain_attribute (items.Chars text) = false
+is_plain_attribute (items.Close name) = false
+is_plain_attribute items.Instruction = false
+is_plain_attribute (items.Schema locations) = false
+is_plain_attribute items.Document = false
+is_plain_attribute items.Edits = false
+is_plain_attribute items.End = false
+is_plain_attribute items.Dot = false
+is_plain_attribute (items.Command line) = false
+
+-- attributes that are no bindings are not accepted yet
+abbrev pub accepted : List Item → Result (List Item) ScriptFault
+accepted its = if list_any is_plain_attribute its then Err NotYet else Ok its
+
 -- the items of a block, which are one element; no block is that of no items
 abbrev pub whole : Option (List Item) → Result (List Item) ScriptFault
 whole None = Err BadBlock
-whole (Some its) = if is_one_element its then Ok its else Err BadBlock
+whole (Some its) = if is_one_element its then accepted its else Err BadBlock
 
 -- a number, which is the only field
 abbrev pub only_number : Option (List ℕ) → Result ℕ ScriptFault

@@ -1,7 +1,7 @@
 -- Lines of a script.
 use Rattle.std.specs.Prelude.{◌≡◌, [], None, Ok, Err, codes}
 use Rattle.std.proofs.Common.{refl}
-use Rattle.plain_tree.specs.declared.edit.Edit.TheVariants as edits
+use Rattle.tree_edits.specs.declared.edit.Edit.TheVariants as edits
 use Rattle.edit_script.specs.Commands.{command}
 use Rattle.edit_script.specs.declared.command.Command.TheVariants as commands
 use Rattle.edit_script.specs.declared.command.ScriptFault.TheVariants.{UnknownCommand, WrongFields, BadNumber}

@@ -1,7 +1,7 @@
 ghost use Rattle.std.specs.Prelude.{◌≡◌};
 ghost use Rattle.edit_script.specs.Faults.{number_of, name_of};
 
-use plain_tree::Edit;
+use tree_edits::Edit;
 
 /// A command of a script.
 #[derive(Debug, Drop)]
@@ -27,6 +27,8 @@ pub enum ScriptFault {
     BadEscape,
     /// The block is not one whole element.
     BadBlock,
+    /// The block has an attribute that is no binding.
+    NotYet,
 }
 
 impl ScriptFault {
@@ -40,6 +42,7 @@ impl ScriptFault {
             ScriptFault::BadNumber => 22,
             ScriptFault::BadEscape => 23,
             ScriptFault::BadBlock => 24,
+            ScriptFault::NotYet => 25,
         }
     }
 
@@ -53,6 +56,7 @@ impl ScriptFault {
             ScriptFault::BadNumber => "BadNumber",
             ScriptFault::BadEscape => "BadEscape",
             ScriptFault::BadBlock => "BadBlock",
+            ScriptFault::NotYet => "NotYet",
         }
     }
 }

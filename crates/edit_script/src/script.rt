@@ -1,5 +1,5 @@
 ghost use Rattle.std.specs.Prelude.{◌≡◌, true, IfOk};
-ghost use Rattle.plain_tree.specs.Building as building;
+ghost use Rattle.tree_building.specs.Blocks as building;
 ghost use Rattle.std.specs.Option.{option_copied};
 ghost use Rattle.item_listing.specs.Escapes.{unescaped};
 ghost use Rattle.edit_script.specs.declared.script.ScriptError.TheVariants as errors;
@@ -7,11 +7,13 @@ ghost use Rattle.edit_script.specs.Fields as fields;
 ghost use Rattle.edit_script.specs.Commands as script;
 ghost use Rattle.edit_script.specs.Faults.{Gives};
 
+use crate::block::has_plain_attribute;
 use crate::fields::{has_space, number, split};
 use crate::{Command, ScriptFault};
 use item_listing::{Items, unescape};
-use plain_tree::{Edit, is_one_element};
 use std::alloc::{AllocError, Global};
+use tree_building::is_one_element;
+use tree_edits::Edit;
 use xs_names::Text;
 
 /// Why a line gave no command.
@@ -57,6 +59,9 @@ fn read_block(alloc: Global, block: Option<Items>) -> Result<Items, ScriptError>
     };
     if !is_one_element(alloc, items.as_slice())? {
         return Err(ScriptError::Refused(ScriptFault::BadBlock));
+    }
+    if has_plain_attribute(items.as_slice()) {
+        return Err(ScriptError::Refused(ScriptFault::NotYet));
     }
     Ok(items)
 }

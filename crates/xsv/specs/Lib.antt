@@ -1,3 +1,3 @@
-pub mod Numbers
 pub mod Taking
 pub mod Output
+pub mod Progress

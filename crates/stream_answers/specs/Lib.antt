@@ -1,0 +1,5 @@
+pub mod Numbers
+pub mod Refusals
+pub mod Turns
+pub mod Output
+pub mod Turning

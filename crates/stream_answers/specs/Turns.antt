@@ -1,0 +1,254 @@
+-- What is written for the items of a stream, one after another.
+use Rattle.std.specs.Prelude.{◌≡◌, ℕ, ◌+◌, List, [], ◌∷◌, ◌++◌, Bool, true, false, ◌==◌, not, length, Option, Some, None, Result, Ok, Err, codes, if◌then◌else◌}
+use Rattle.std.specs.List.{before_first, list_any}
+use Rattle.std.specs.Str.{bytes_eq}
+use Rattle.std.specs.Fmt.{decimal}
+use Rattle.item_listing.specs.declared.item.Item.{Item}
+use Rattle.item_listing.specs.declared.item.Item.TheVariants as items
+use Rattle.tree_rows.specs.Forest.{Forest, Document}
+use Rattle.tree_rows.specs.Rows.{rows_of}
+use Rattle.tree_rows.specs.declared.row.Row.{Row}
+use Rattle.tree_building.specs.Building.{Building, nothing_built, took, tree_of}
+use Rattle.tree_building.specs.declared.reason.TreeFault.{TreeFault}
+use Rattle.assess_model.specs.Tables.{Tables}
+use Rattle.assess_model.specs.Assessment.{Entry, assessment, code_total, root_validity}
+use Rattle.assess_model.specs.declared.record.Validity.{Validity}
+use Rattle.assess_model.specs.declared.record.Validity.TheVariants as validities
+use Rattle.first_form.specs.SchemaForm.{schema_tables}
+use Rattle.report_text.specs.Report.{record_lines}
+use Rattle.report_text.specs.Words.{validity_word}
+use Rattle.session_model.specs.State.{State}
+use Rattle.edit_script.specs.Commands.{command}
+use Rattle.edit_replies.specs.Replies.{Standing, Reply, made, reply, total_line}
+use Rattle.stream_answers.specs.Refusals.{refusal_line, refusal_status}
+use Rattle.stream_answers.specs.declared.place.Asked.{Asked}
+use Rattle.stream_answers.specs.declared.place.Asked.TheVariants.{Check, Assess, Session}
+use Rattle.stream_answers.specs.declared.place.Block.{Block}
+use Rattle.stream_answers.specs.declared.place.DocumentSection.{DocumentSection}
+use Rattle.stream_answers.specs.declared.place.Place.{Place}
+use Rattle.stream_answers.specs.declared.place.Place.TheVariants as places
+use Rattle.stream_answers.specs.declared.place.SchemaSection.{SchemaSection}
+use Rattle.stream_answers.specs.declared.place.Verdict.{Verdict}
+use Rattle.stream_answers.specs.declared.refusal.Refusal.{Refusal}
+use Rattle.stream_answers.specs.declared.refusal.Refusal.TheVariants as refusals
+use Rattle.stream_answers.specs.declared.status.Status.{Status}
+use Rattle.stream_answers.specs.declared.status.Status.TheVariants.{Valid, NotValid, Unsupported}
+
+-- what a line makes of a place: something is written, and the stream stands elsewhere, or the run ends
+pub data Turned : Type 0 where
+  goes : (said : List ℕ) (next : Place) → Turned
+  ends : (said : List ℕ) (status : Status) → Turned
+
+-- the line of this number is refused
+abbrev pub refused : ℕ → Refusal → Turned
+refused line refusal = ends (refusal_line line refusal) (refusal_status refusal)
+
+-- the item cannot stand where it does
+abbrev pub misplaced : ℕ → Turned
+misplaced line = refused line refusals.BadSection
+
+-- a fault of the tree of a section that began at this line: its item names the line
+abbrev pub bad_tree : ℕ → TreeFault → Turned
+bad_tree start fault = refused (start + 1 + fault.item) (refusals.Tree fault.reason)
+
+-- one more item of a tree
+abbrev pub grown : ℕ → Result Building TreeFault → (Building → Place) → Turned
+grown start (Ok b) place = goes [] (place b)
+grown start (Err fault) place = bad_tree start fault
+
+-- the section ends, and its tree is taken
+abbrev pub with_tree : ℕ → Result Document TreeFault → (Document → Turned) → Turned
+with_tree start (Ok d) next = next d
+with_tree start (Err fault) next = bad_tree start fault
+
+abbrev pub unsupported : List ℕ
+unsupported = codes "unsupported NotYet" ++ 10 ∷ []
+
+abbrev pub schema_ok : List ℕ
+schema_ok = codes "schema ok" ++ 10 ∷ []
+
+-- not of the form that is accepted so far
+abbrev pub not_yet : Turned
+not_yet = ends unsupported Unsupported
+
+-- the schema sections have ended: the schema is that of the first
+abbrev pub compiled_by : Option Tables → (Tables → Place) → Turned
+compiled_by None place = not_yet
+compiled_by (Some t) place = goes schema_ok (place t)
+
+abbrev pub compiled : Document → (Tables → Place) → Turned
+compiled d place = compiled_by (schema_tables (rows_of 1 d.forest)) place
+
+-- the tree of the first section, where this one ends
+abbrev pub first_or : Option Document → Document → Document
+first_or None d = d
+first_or (Some first) d = first
+
+-- a document section begins
+abbrev pub document_begun : ℕ → Tables → Place
+document_begun line t = places.Document (record { schema = t; builder = nothing_built; start = line })
+
+-- another schema section begins; a stream has at most 256
+abbrev pub schema_begun : ℕ → ℕ → Option Document → Place
+schema_begun line count first = places.Schema (record { count = count; first = first; builder = nothing_built; start = line })
+
+abbrev pub next_schema : ℕ → SchemaSection → Turned
+next_schema line p =
+    if p.count == 256 then refused line refusals.TooManySchemas
+    else with_tree p.start (tree_of p.builder) (λ d. goes [] (schema_begun line (p.count + 1) (Some (first_or p.first d))))
+
+-- the last schema section ends, and the schema is judged
+abbrev pub schemas_end : SchemaSection → (Tables → Place) → Turned
+schemas_end p place = with_tree p.start (tree_of p.builder) (λ d. compiled (first_or p.first d) place)
+
+-- `check` ends behind the schema sections
+abbrev pub end_in_schema : Asked → ℕ → SchemaSection → Turned
+end_in_schema Check line p = schemas_end p (λ t. places.Ended None)
+end_in_schema Assess line p = misplaced line
+end_in_schema Session line p = misplaced line
+
+-- the others have a document
+abbrev pub document_in_schema : Asked → ℕ → SchemaSection → Turned
+document_in_schema Check line p = misplaced line
+document_in_schema Assess line p = schemas_end p (document_begun line)
+document_in_schema Session line p = schemas_end p (document_begun line)
+
+-- one more item of the section's tree
+abbrev pub schema_grown : SchemaSection → Item → Turned
+schema_grown p it = grown p.start (took p.builder it) (λ b. places.Schema (record p { builder = b }))
+
+-- in a schema section
+abbrev pub in_schema : Asked → ℕ → SchemaSection → Item → Turned
+in_schema a line p (items.Schema locations) = next_schema line p
+in_schema a line p items.End = end_in_schema a line p
+in_schema a line p items.Document = document_in_schema a line p
+in_schema a line p items.Edits = misplaced line
+in_schema a line p items.Dot = misplaced line
+in_schema a line p (items.Command text) = misplaced line
+in_schema a line p it = schema_grown p it
+
+-- an element has an attribute that is no binding
+abbrev pub has_attributes : List Row → Bool
+has_attributes rows = list_any (λ row. not (length row.attributes == 0)) rows
+
+abbrev pub accepted : Document → Turned → Turned
+accepted d next = if has_attributes (rows_of 1 d.forest) then not_yet else next
+
+abbrev pub verdict_of : List Entry → Verdict
+verdict_of known = record { validity = root_validity known; total = code_total known }
+
+-- the report: a line for each element, and how many codes there are
+abbrev pub report : List Entry → List ℕ
+report known = record_lines known ++ total_line (code_total known)
+
+abbrev pub reported : Tables → Document → Turned
+reported t d = goes (report (assessment t d.forest)) (places.Ended (Some (verdict_of (assessment t d.forest))))
+
+-- a session over the document, open
+abbrev pub session_on : Tables → Standing → State
+session_on t s = record { tables = t; document = s.document; revision = s.revision; closed = false }
+
+abbrev pub opened : Document → Standing
+opened d = record { document = d; revision = 0 }
+
+abbrev pub first_reply : Tables → Document → List ℕ
+first_reply t d = made 0 (code_total (assessment t d.forest))
+
+-- a session opens, and its first reply is written; edits follow, or the end
+abbrev pub session_opened : Tables → Document → (State → Place) → Turned
+session_opened t d place = goes (first_reply t d) (place (session_on t (opened d)))
+
+abbrev pub session_verdict : State → Verdict
+session_verdict s = verdict_of (assessment s.tables s.document.forest)
+
+-- the stream has ended with this session
+abbrev pub session_ended : State → Place
+session_ended s = places.Ended (Some (session_verdict s))
+
+-- the document section ends, and its document is taken where no element has an attribute
+abbrev pub document_ends : DocumentSection → (Document → Turned) → Turned
+document_ends p next = with_tree p.start (tree_of p.builder) (λ d. accepted d (next d))
+
+abbrev pub end_in_document : Asked → ℕ → DocumentSection → Turned
+end_in_document Check line p = misplaced line
+end_in_document Assess line p = document_ends p (reported p.schema)
+end_in_document Session line p = document_ends p (λ d. session_opened p.schema d session_ended)
+
+abbrev pub edits_begin : DocumentSection → Turned
+edits_begin p = document_ends p (λ d. session_opened p.schema d (λ s. places.Edits s))
+
+-- a session may have edits
+abbrev pub edits_in_document : Asked → ℕ → DocumentSection → Turned
+edits_in_document Check line p = misplaced line
+edits_in_document Assess line p = misplaced line
+edits_in_document Session line p = edits_begin p
+
+abbrev pub document_grown : DocumentSection → Item → Turned
+document_grown p it = grown p.start (took p.builder it) (λ b. places.Document (record p { builder = b }))
+
+-- in the document section
+abbrev pub in_document : Asked → ℕ → DocumentSection → Item → Turned
+in_document a line p items.End = end_in_document a line p
+in_document a line p items.Edits = edits_in_document a line p
+in_document a line p items.Document = misplaced line
+in_document a line p items.Dot = misplaced line
+in_document a line p (items.Schema locations) = misplaced line
+in_document a line p (items.Command text) = misplaced line
+in_document a line p it = document_grown p it
+
+-- the first word is insert
+abbrev pub begins_block : List ℕ → Bool
+begins_block line = bytes_eq (before_first (λ b. b == 32) line) (codes "insert")
+
+-- a command with its block is answered
+abbrev pub answered_by : Tables → Reply → Turned
+answered_by t r = goes r.text (places.Edits (session_on t r.next))
+
+abbrev pub answered : State → List ℕ → Option (List Item) → Turned
+answered s line block = answered_by s.tables (reply s.tables (record { document = s.document; revision = s.revision }) (command line block))
+
+abbrev pub commanded : State → List ℕ → Turned
+commanded s line =
+    if begins_block line then goes [] (places.Block (record { session = s; line = line; items = [] })) else answered s line None
+
+abbrev pub in_edits : ℕ → State → Item → Turned
+in_edits line s (items.Command text) = commanded s text
+in_edits line s items.End = goes [] (session_ended s)
+in_edits line s it = misplaced line
+
+-- one more item of a block
+abbrev pub block_grown : Block → Item → Turned
+block_grown b it = goes [] (places.Block (record b { items = b.items ++ it ∷ [] }))
+
+-- in a block, which a dot ends
+abbrev pub in_block : ℕ → Block → Item → Turned
+in_block line b items.Dot = answered b.session b.line (Some b.items)
+in_block line b items.Document = misplaced line
+in_block line b items.Edits = misplaced line
+in_block line b items.End = misplaced line
+in_block line b (items.Schema locations) = misplaced line
+in_block line b (items.Command text) = misplaced line
+in_block line b it = block_grown b it
+
+abbrev pub in_fresh : ℕ → Item → Turned
+in_fresh line (items.Schema locations) = goes [] (schema_begun line 1 None)
+in_fresh line it = misplaced line
+
+-- the item of the line of this number, where a stream stands here
+abbrev pub turned : Asked → ℕ → Place → Item → Turned
+turned a line places.Fresh it = in_fresh line it
+turned a line (places.Schema p) it = in_schema a line p it
+turned a line (places.Document p) it = in_document a line p it
+turned a line (places.Edits s) it = in_edits line s it
+turned a line (places.Block b) it = in_block line b it
+turned a line (places.Ended verdict) it = misplaced line
+
+-- the status of a run to its end, by the root's validity
+abbrev pub status_of : Validity → Status
+status_of validities.Valid = Valid
+status_of validities.Invalid = NotValid
+status_of validities.NotKnown = NotValid
+
+-- the last line
+abbrev pub end_line : Verdict → List ℕ
+end_line v = codes "end " ++ validity_word v.validity ++ codes " " ++ decimal v.total ++ 10 ∷ []

@@ -1,0 +1,17 @@
+//! What is written for a stream, line by line: the schema's acceptance, the report, the replies to edits, the
+//! first line that is refused.
+#![tactic(auto)]
+
+mod compile;
+mod document;
+mod edits;
+mod place;
+mod refusal;
+mod schema;
+mod status;
+mod turn;
+
+pub use place::{Asked, Place};
+pub use refusal::{Refusal, write_refusal};
+pub use status::Status;
+pub use turn::{Turn, answer_item, finish};
