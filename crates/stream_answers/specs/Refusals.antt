@@ -3,8 +3,10 @@ use Rattle.std.specs.Prelude.{ℕ, List, [], ◌∷◌, ◌++◌, Bool, true, fa
 use Rattle.std.specs.Fmt.{decimal}
 use Rattle.item_listing.specs.declared.item.Reason.{Reason}
 use Rattle.item_listing.specs.declared.item.Reason.TheVariants as lines
-use Rattle.tree_building.specs.declared.reason.TreeReason.{TreeReason}
-use Rattle.tree_building.specs.declared.reason.TreeReason.TheVariants as trees
+use Rattle.tag_names.specs.declared.fault.NameReason.{NameReason}
+use Rattle.tag_names.specs.declared.fault.NameReason.TheVariants as names
+use Rattle.tree_building.specs.declared.fault.TreeReason.{TreeReason}
+use Rattle.tree_building.specs.declared.fault.TreeReason.TheVariants as trees
 use Rattle.stream_answers.specs.declared.refusal.Refusal.{Refusal}
 use Rattle.stream_answers.specs.declared.refusal.Refusal.TheVariants as refusals
 use Rattle.stream_answers.specs.declared.status.Status.{Status}
@@ -21,6 +23,13 @@ line_name lines.AfterEnd = codes "AfterEnd"
 line_name lines.TooManyBytes = codes "TooManyBytes"
 line_name lines.LineTooLong = codes "LineTooLong"
 
+abbrev pub tag_name : NameReason → List ℕ
+tag_name names.BadName = codes "BadName"
+tag_name names.ReservedName = codes "ReservedName"
+tag_name names.UnboundPrefix = codes "UnboundPrefix"
+tag_name names.DoubleAttribute = codes "DoubleAttribute"
+tag_name names.TooManyAttributes = codes "TooManyAttributes"
+
 abbrev pub tree_name : TreeReason → List ℕ
 tree_name trees.TwoRoots = codes "TwoRoots"
 tree_name trees.TooDeep = codes "TooDeep"
@@ -29,11 +38,7 @@ tree_name trees.TextOutside = codes "TextOutside"
 tree_name trees.EndMismatch = codes "EndMismatch"
 tree_name trees.Unclosed = codes "Unclosed"
 tree_name trees.NoRoot = codes "NoRoot"
-tree_name trees.BadName = codes "BadName"
-tree_name trees.ReservedName = codes "ReservedName"
-tree_name trees.UnboundPrefix = codes "UnboundPrefix"
-tree_name trees.DoubleAttribute = codes "DoubleAttribute"
-tree_name trees.TooManyAttributes = codes "TooManyAttributes"
+tree_name (trees.Name reason) = tag_name reason
 tree_name trees.NotHere = codes "BadSection"
 
 -- a reason's name as it is printed
@@ -48,10 +53,14 @@ is_line_limit lines.TooManyBytes = true
 is_line_limit lines.LineTooLong = true
 is_line_limit _ = false
 
+abbrev pub is_tag_limit : NameReason → Bool
+is_tag_limit names.TooManyAttributes = true
+is_tag_limit _ = false
+
 abbrev pub is_tree_limit : TreeReason → Bool
 is_tree_limit trees.TooDeep = true
 is_tree_limit trees.TooManyNodes = true
-is_tree_limit trees.TooManyAttributes = true
+is_tree_limit (trees.Name reason) = is_tag_limit reason
 is_tree_limit _ = false
 
 -- the reasons that are limits

@@ -8,8 +8,12 @@ use Rattle.item_listing.specs.declared.item.Item.TheVariants as items
 use Rattle.tree_rows.specs.Forest.{Forest, Document}
 use Rattle.tree_rows.specs.Rows.{rows_of}
 use Rattle.tree_rows.specs.declared.row.Row.{Row}
-use Rattle.tree_building.specs.Building.{Building, nothing_built, took, tree_of}
-use Rattle.tree_building.specs.declared.reason.TreeFault.{TreeFault}
+use Rattle.tag_names.specs.Scopes.{first_scope}
+use Rattle.tree_building.specs.Building.{nothing, after, document}
+use Rattle.tree_building.specs.Builder.{end_of}
+use Rattle.tree_building.specs.Rules.{document_rules}
+use Rattle.tree_building.specs.declared.building.Building.{Building}
+use Rattle.tree_building.specs.declared.fault.TreeFault.{TreeFault}
 use Rattle.assess_model.specs.Tables.{Tables}
 use Rattle.assess_model.specs.Assessment.{Entry, assessment, code_total, root_validity}
 use Rattle.assess_model.specs.declared.record.Validity.{Validity}
@@ -51,9 +55,20 @@ misplaced line = refused line refusals.BadSection
 abbrev pub bad_tree : ℕ → TreeFault → Turned
 bad_tree start fault = refused (start + 1 + fault.item) (refusals.Tree fault.reason)
 
+-- what is built of a section's tree, or the fault of the item that was refused
+abbrev pub Built : Type 0
+Built = Result Building TreeFault
+
+abbrev pub nothing_built : Built
+nothing_built = Ok (nothing document_rules first_scope)
+
+-- the tree of a section that ends
+abbrev pub tree_of : Built → Result Document TreeFault
+tree_of b = document (end_of b)
+
 -- one more item of a tree
-abbrev pub grown : ℕ → Result Building TreeFault → (Building → Place) → Turned
-grown start (Ok b) place = goes [] (place b)
+abbrev pub grown : ℕ → Built → (Built → Place) → Turned
+grown start (Ok b) place = goes [] (place (Ok b))
 grown start (Err fault) place = bad_tree start fault
 
 -- the section ends, and its tree is taken
@@ -115,7 +130,7 @@ document_in_schema Session line p = schemas_end p (document_begun line)
 
 -- one more item of the section's tree
 abbrev pub schema_grown : SchemaSection → Item → Turned
-schema_grown p it = grown p.start (took p.builder it) (λ b. places.Schema (record p { builder = b }))
+schema_grown p it = grown p.start (after p.builder it) (λ b. places.Schema (record p { builder = b }))
 
 -- in a schema section
 abbrev pub in_schema : Asked → ℕ → SchemaSection → Item → Turned
@@ -184,7 +199,7 @@ edits_in_document Assess line p = misplaced line
 edits_in_document Session line p = edits_begin p
 
 abbrev pub document_grown : DocumentSection → Item → Turned
-document_grown p it = grown p.start (took p.builder it) (λ b. places.Document (record p { builder = b }))
+document_grown p it = grown p.start (after p.builder it) (λ b. places.Document (record p { builder = b }))
 
 -- in the document section
 abbrev pub in_document : Asked → ℕ → DocumentSection → Item → Turned

@@ -8,6 +8,7 @@ use crate::{Status, Turn};
 use item_listing::Reason;
 use std::alloc::AllocError;
 use std::fmt::Write;
+use tag_names::NameReason;
 use tree_building::{TreeFault, TreeReason};
 
 /// Why a line of a stream is refused.
@@ -39,6 +40,18 @@ fn line_name(reason: Reason) -> &'static str
     }
 }
 
+fn tag_name(reason: NameReason) -> &'static str
+    ensures { result.now ≡ refusals.tag_name reason }
+{
+    match reason {
+        NameReason::BadName => "BadName",
+        NameReason::ReservedName => "ReservedName",
+        NameReason::UnboundPrefix => "UnboundPrefix",
+        NameReason::DoubleAttribute => "DoubleAttribute",
+        NameReason::TooManyAttributes => "TooManyAttributes",
+    }
+}
+
 fn tree_name(reason: TreeReason) -> &'static str
     ensures { result.now ≡ refusals.tree_name reason }
 {
@@ -50,11 +63,7 @@ fn tree_name(reason: TreeReason) -> &'static str
         TreeReason::EndMismatch => "EndMismatch",
         TreeReason::Unclosed => "Unclosed",
         TreeReason::NoRoot => "NoRoot",
-        TreeReason::BadName => "BadName",
-        TreeReason::ReservedName => "ReservedName",
-        TreeReason::UnboundPrefix => "UnboundPrefix",
-        TreeReason::DoubleAttribute => "DoubleAttribute",
-        TreeReason::TooManyAttributes => "TooManyAttributes",
+        TreeReason::Name(reason) => tag_name(reason),
         TreeReason::NotHere => "BadSection",
     }
 }
@@ -84,7 +93,9 @@ impl Refusal {
             Refusal::TooManySchemas => true,
             Refusal::Tree(reason) => matches!(
                 reason,
-                TreeReason::TooDeep | TreeReason::TooManyNodes | TreeReason::TooManyAttributes
+                TreeReason::TooDeep
+                    | TreeReason::TooManyNodes
+                    | TreeReason::Name(NameReason::TooManyAttributes)
             ),
         }
     }

@@ -1,4 +1,4 @@
-ghost use Rattle.std.specs.Prelude.{◌≡◌, None, IfOk, string_bytes};
+ghost use Rattle.std.specs.Prelude.{◌≡◌, ℕ, List, [], None, IfOk, string_bytes};
 ghost use Rattle.stream_answers.specs.Turns as turns;
 ghost use Rattle.stream_answers.specs.Turning.{Turns};
 
@@ -15,15 +15,20 @@ use tree_building::Builder;
 const MOST_SCHEMAS: u32 = 256;
 
 /// Another schema section begins.
-fn begin_schema(alloc: Global, line: u32, count: u32, first: Option<Tree>) -> Place
-    ensures { result ≡ turns.schema_begun line count first }
+fn begin_schema(
+    alloc: Global,
+    line: u32,
+    count: u32,
+    first: Option<Tree>,
+) -> Result<Turn, AllocError>
+    ensures { (text : List ℕ) → IfOk result (Turns (turns.goes [] (turns.schema_begun line count first)) text text) }
 {
-    Place::Schema(SchemaSection {
+    Ok(Turn::Goes(Place::Schema(SchemaSection {
         count,
         first,
-        builder: Builder::new(alloc),
+        builder: Builder::document(alloc)?,
         start: line,
-    })
+    })))
 }
 
 /// Answers an item before the first section.
@@ -36,7 +41,7 @@ pub fn begin_schemas(
     ensures { IfOk result (Turns (turns.in_fresh line item) (string_bytes out.old) (string_bytes out.new)) }
 {
     match item {
-        Item::Schema(_) => Ok(Turn::Goes(begin_schema(alloc, line, 1, None))),
+        Item::Schema(_) => begin_schema(alloc, line, 1, None),
         _ => misplaced(out, line),
     }
 }
@@ -59,10 +64,10 @@ fn next_schema(
     if count == MOST_SCHEMAS {
         return refuse(out, line as u64, Refusal::TooManySchemas);
     }
-    match Tree::of_builder(builder) {
+    match Tree::of_builder(builder)? {
         Ok(tree) => {
             let first = Some(first.unwrap_or(tree));
-            Ok(Turn::Goes(begin_schema(alloc, line, count + 1, first)))
+            begin_schema(alloc, line, count + 1, first)
         }
         Err(fault) => refuse_tree(out, start, fault),
     }
@@ -82,7 +87,7 @@ fn end_schemas(
         start,
         ..
     } = section;
-    match Tree::of_builder(builder) {
+    match Tree::of_builder(builder)? {
         Ok(tree) => match read_first(alloc, &first.unwrap_or(tree), out)? {
             Ok(_) => Ok(Turn::Goes(Place::Ended(None))),
             Err(status) => Ok(Turn::Ends(status)),
@@ -106,11 +111,11 @@ fn begin_document(
         start,
         ..
     } = section;
-    match Tree::of_builder(builder) {
+    match Tree::of_builder(builder)? {
         Ok(tree) => match read_first(alloc, &first.unwrap_or(tree), out)? {
             Ok(schema) => Ok(Turn::Goes(Place::Document(DocumentSection {
                 schema,
-                builder: Builder::new(alloc),
+                builder: Builder::document(alloc)?,
                 start: line,
             }))),
             Err(status) => Ok(Turn::Ends(status)),
