@@ -1,6 +1,5 @@
 pub mod Unescaping
 pub mod Beginnings
 pub mod Cutting
-pub mod Turns
 pub mod Joined
 pub mod Tabs

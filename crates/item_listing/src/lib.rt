@@ -7,9 +7,11 @@
 mod escape;
 mod item;
 mod items;
+mod limits;
 mod line;
 mod listing;
 mod locations;
+mod past;
 #[cfg(test)]
 mod tests;
 
@@ -17,4 +19,5 @@ pub use escape::unescape;
 pub use item::{Item, Locations, Reason};
 pub use items::Items;
 pub use line::read_item;
-pub use listing::{Listing, ListingFault, lines_are_cut};
+pub use listing::{Listing, lines_are_cut};
+pub use past::ListingFault;
