@@ -22,14 +22,14 @@ abbrev pub begun_then : Past → Bool → Option Reason → Listed
 begun_then p closed None = stops closed
 begun_then p closed (Some reason) = refused (at_next p reason)
 
-abbrev pub line_then : Past → Result Item Reason → (Item → Listed) → Listed
-line_then p (Ok it) more = gives it (more it)
-line_then p (Err reason) more = refused (at_next p reason)
+abbrev pub whole_then : Past → Result Item Reason → (Item → Listed) → Listed
+whole_then p (Ok it) more = gives it (more it)
+whole_then p (Err reason) more = refused (at_next p reason)
 
 -- the whole lines, each in its turn, and then the begun line; no byte comes after these if closed
 abbrev pub lines_listed : Past → Bool → List (List ℕ) → List ℕ → Listed
 lines_listed p closed [] begun = begun_then p closed (begun_line p begun closed)
-lines_listed p closed (line ∷ lines) begun = line_then p (whole_line p line) (λ it. lines_listed (and_line p line it) closed lines begun)
+lines_listed p closed (line ∷ lines) begun = whole_then p (whole_line p line) (λ it. lines_listed (and_line p line it) closed lines begun)
 
 -- the bytes that are held and those that are still to come; a source that has ended gives none
 abbrev pub to_come : Reading → List ℕ → List ℕ

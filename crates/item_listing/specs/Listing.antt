@@ -114,3 +114,9 @@ IsDrained r (Err fault) = Unit {0}
 abbrev pub IsFault : Reading → ListError → Type 0
 IsFault r errors.Memory = Unit {0}
 IsFault r (errors.Fault fault) = next r ≡ Err fault
+
+-- nothing was read, or the fault
+abbrev pub GivesBegun : Result (Option Item) ListError → Past → Option Reason → Type 0
+GivesBegun (Ok it) p reason = read_begun p reason ≡ Ok it
+GivesBegun (Err errors.Memory) p reason = ⊥
+GivesBegun (Err (errors.Fault fault)) p reason = read_begun p reason ≡ Err fault

@@ -15,8 +15,12 @@ pub fn begun_limit(before: usize, count: usize) -> Option<Reason>
     ensures { (line : List ℕ) → length line ≡ count → result ≡ past_limit before 0 line }
 {
     let room = MOST_BYTES - before;
-    if room <= MOST_LINE && room < count {
-        Some(Reason::TooManyBytes)
+    if room <= MOST_LINE {
+        if room < count {
+            Some(Reason::TooManyBytes)
+        } else {
+            None
+        }
     } else if MOST_LINE < count {
         Some(Reason::LineTooLong)
     } else {

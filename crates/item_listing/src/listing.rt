@@ -3,7 +3,7 @@ ghost use Rattle.std.specs.List.{list_any};
 ghost use Rattle.item_listing.specs.Items.{Gives};
 ghost use Rattle.item_listing.specs.Limits.{most_bytes};
 ghost use Rattle.item_listing.specs.Lines.{cut, joined, HaveNoFeed, without_return};
-ghost use Rattle.item_listing.specs.Listing.{whole_line, begun_line, next, after, fed, bytes_taken, IsFault, Leaves, IsDrained};
+ghost use Rattle.item_listing.specs.Listing.{whole_line, begun_line, next, after, fed, bytes_taken, IsFault, GivesBegun, Leaves, IsDrained};
 ghost use Rattle.item_listing.specs.Listed.{listed, ReadsOn};
 ghost use Rattle.item_listing.specs.State.{unread};
 
@@ -46,13 +46,20 @@ impl Model for Listing {
     ghost invariant = { λ s. IsWithin s };
 }
 
+/// Where the first line feed is.
+fn first_feed(bytes: &[u8]) -> Option<usize>
+    ensures { result ≡ position (λ b. b == 10) bytes.now }
+{
+    bytes.iter().position(|b| *b == b'\n')
+}
+
 /// Where the first line feed is, which is not among the bytes that were searched.
 fn line_feed(bytes: &[u8], searched: usize) -> Option<usize>
     requires within { searched ≤ length bytes.now }
     requires plain { list_any (λ b. b == 10) (take searched bytes.now) ≡ false }
     ensures { result ≡ position (λ b. b == 10) bytes.now }
 {
-    match bytes[searched..].iter().position(|b| *b == b'\n') {
+    match first_feed(&bytes[searched..]) {
         Some(further) => Some(searched + further),
         None => None,
     }
@@ -107,6 +114,18 @@ fn refuse_begun(past: Past, begun: &[u8], finished: bool) -> Option<Reason>
         Some(reason) => Some(reason),
         None if finished => Some(Reason::EndMissing),
         None => None,
+    }
+}
+
+/// Nothing, unless the bytes of a begun line, or none, are refused.
+fn read_begun(past: Past, begun: &[u8], finished: bool) -> Result<Option<Item>, ListError>
+    requires bytes { past.bytes ≤ most_bytes }
+    requires lines { past.lines ≤ past.bytes }
+    ensures { GivesBegun result past (begun_line past begun.now finished) }
+{
+    match refuse_begun(past, begun, finished) {
+        Some(reason) => Err(ListError::Fault(past.at_next(reason))),
+        None => Ok(None),
     }
 }
 
@@ -173,12 +192,8 @@ impl Listing {
     {
         let rest = &self.bytes[self.at..];
         let Some(count) = line_feed(rest, self.searched) else {
-            let refused = refuse_begun(self.past, rest, self.finished);
             self.searched = rest.len();
-            return match refused {
-                Some(reason) => Err(ListError::Fault(self.past.at_next(reason))),
-                None => Ok(None),
-            };
+            return read_begun(self.past, rest, self.finished);
         };
         match read_whole(self.alloc, self.past, &rest[..count]) {
             Ok(item) => {
