@@ -1,5 +1,5 @@
 -- One call of a listing, and what will be read whatever comes.
-use Rattle.std.proofs.Common.{◌≡◌, ℕ, suc, ◌+◌, ◌-◌, ◌<◌, ◌≤◌, List, [], ◌∷◌, ◌++◌, Option, Some, None, Result, Ok, Err, Bool, true, false, ◌||◌, length, take, drop, refl, sym, ap, ◌∙◌, arith, position, nat_lt, nat_le, length-drop, length-take, append-nil, if◌then◌else◌}
+use Rattle.std.proofs.Common.{◌≡◌, ℕ, suc, ◌+◌, ◌-◌, ◌<◌, ◌≤◌, List, [], ◌∷◌, ◌++◌, Option, Some, None, Result, Ok, Err, Bool, true, false, ◌||◌, length, take, drop, refl, sym, ap, ◌∙◌, arith, position, nat_lt, nat_le, length-drop, length-take, append-nil, if◌then◌else◌, IfOk, IfErr}
 use Rattle.std.specs.Option.{option_or}
 use Rattle.std.specs.List.{position_or_len, before_first, after_first}
 use Rattle.std.proofs.lemmas.Bool.Decides.{nat_tests}
@@ -7,7 +7,7 @@ use Rattle.item_listing.specs.Lines.{Cut, cut, without_return}
 use Rattle.item_listing.specs.Limits.{most_bytes, past_limit, feed_past, whole_past, byte_after_end}
 use Rattle.item_listing.specs.State.{Reading}
 use Rattle.item_listing.specs.Items.{item}
-use Rattle.item_listing.specs.Listing.{and_line, unless, whole_line, after_end, begun_line, at_next, read_whole, read_begun, next_of, next, after, bytes_taken, IsDrained}
+use Rattle.item_listing.specs.Listing.{and_line, unless, whole_line, after_end, begun_line, at_next, read_whole, read_begun, next_of, next, after, bytes_taken, IsDrained, IsFault, GivesBegun}
 use Rattle.item_listing.specs.Listed.{Listed, gives, refused, goes_on, done, stops, begun_then, whole_then, lines_listed, to_come, listed, Waits, ReadsOn}
 use Rattle.item_listing.specs.declared.item.Item.{Item}
 use Rattle.item_listing.specs.declared.item.Item.TheVariants.{Dot}
@@ -17,6 +17,9 @@ use Rattle.item_listing.specs.declared.past.Past.{Past}
 use Rattle.item_listing.specs.declared.past.ListingFault.{ListingFault}
 use Rattle.item_listing.proofs.Cutting.{is_feed, line_then, continued, in_front, cut-at, cut-none, cut-append, cut-plain, cut-position_some, cut-position_none}
 use Rattle.item_listing.proofs.Limiting.{past_limit-more, past_limit-none}
+use Rattle.item_listing.proofs.Searching.{rest_is}
+use Rattle.item_listing.specs.declared.listing.ListError.{ListError}
+use Rattle.item_listing.specs.declared.listing.ListError.TheVariants as errors
 
 -- by where the first line feed is
 pub next-line : (r : Reading) (p : ℕ) → Some p ≡ position is_feed r.held → next r ≡ read_whole r.past (whole_line r.past (take p r.held))
@@ -193,3 +196,34 @@ reads_on old new (Some it) e left = λ more closed. reads-item old it e more clo
 pub drained_if : (r : Reading) (o : Option Item) → next r ≡ Ok o → r.past.bytes ≤ most_bytes → IsDrained r (Ok o)
 drained_if r None e few = drained r e few
 drained_if r (Some it) e few = tt
+
+-- the bytes that are kept, from where the next line begins
+abbrev pub from_line : List ℕ → ℕ → List ℕ
+from_line kept k = take (length kept - k) (drop k kept)
+
+abbrev pub reading : Past → List ℕ → ℕ → Bool → Reading
+reading p kept k closed = record { past = p; held = drop k kept; finished = closed }
+
+pub whole_gives : (kept : List ℕ) (k n : ℕ) (p : Past) (closed : Bool) (res : Result Item Reason) → k ≤ length kept → Some n ≡ position is_feed (from_line kept k)
+    → whole_line p (take n (from_line kept k)) ≡ res → next (reading p kept k closed) ≡ read_whole p res
+whole_gives kept k n p closed res h found e =
+    next-line (reading p kept k closed) n (rw (rest_is k kept h) at found) ∙ ap (read_whole p) (rw (rest_is k kept h) at e)
+
+begun_gives : (kept : List ℕ) (k : ℕ) (p : Past) (closed : Bool) → k ≤ length kept → None ≡ position is_feed (from_line kept k)
+    → next (reading p kept k closed) ≡ read_begun p (begun_line p (from_line kept k) closed)
+begun_gives kept k p closed h none =
+    next-begun (reading p kept k closed) (rw (rest_is k kept h) at none) ∙ ap (λ l. read_begun p (begun_line p l closed)) (sym (rest_is k kept h))
+
+pub begun_item : (kept : List ℕ) (k : ℕ) (p : Past) (closed : Bool) (result : Result (Option Item) ListError) → k ≤ length kept → None ≡ position is_feed (from_line kept k)
+    → GivesBegun result p (begun_line p (from_line kept k) closed) → IfOk result (λ it. next (reading p kept k closed) ≡ Ok it)
+begun_item kept k p closed (Ok it) h none g = begun_gives kept k p closed h none ∙ g
+begun_item kept k p closed (Err e) h none g = tt
+
+pub begun_fault : (kept : List ℕ) (k : ℕ) (p : Past) (closed : Bool) (result : Result (Option Item) ListError) → k ≤ length kept → None ≡ position is_feed (from_line kept k)
+    → GivesBegun result p (begun_line p (from_line kept k) closed) → IfErr result (IsFault (reading p kept k closed))
+begun_fault kept k p closed (Ok it) h none g = tt
+begun_fault kept k p closed (Err errors.Memory) h none g = tt
+begun_fault kept k p closed (Err (errors.Fault fault)) h none g = begun_gives kept k p closed h none ∙ g
+
+pub from_line-length : (kept : List ℕ) (k : ℕ) → k ≤ length kept → k + length (from_line kept k) ≡ length kept
+from_line-length kept k h = omega (arith, ap length (rest_is k kept h), length-drop k kept)

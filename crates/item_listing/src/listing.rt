@@ -188,6 +188,7 @@ impl Listing {
         ensures item { IfOk result (λ it. next self.old ≡ Ok it) }
         ensures after { IfOk result (λ it. self.new ≡ after self.old it) }
         ensures fault { IfErr result (IsFault self.old) }
+        ensures few { self.old.past.bytes ≤ most_bytes }
         ensures err { OnErr result (self.new ≡ self.old) }
     {
         let rest = &self.bytes[self.at..];
