@@ -1,5 +1,5 @@
 -- One call of a listing, and what will be read whatever comes.
-use Rattle.std.proofs.Common.{◌≡◌, ℕ, suc, ◌+◌, ◌-◌, ◌<◌, ◌≤◌, List, [], ◌∷◌, ◌++◌, Option, Some, None, Result, Ok, Err, Bool, true, false, ◌||◌, length, take, drop, refl, sym, ap, ◌∙◌, arith, position, nat_lt, nat_le, length-drop, length-take, append-nil, if◌then◌else◌, IfOk, IfErr}
+use Rattle.std.proofs.Common.{◌≡◌, ℕ, suc, ◌+◌, ◌-◌, ◌<◌, ◌≤◌, List, [], ◌∷◌, ◌++◌, Option, Some, None, Result, Ok, Err, Bool, true, false, ◌||◌, length, take, drop, refl, sym, ap, ◌∙◌, arith, position, nat_lt, nat_le, length-drop, length-take, append-nil, append_assoc, if◌then◌else◌, IfOk, IfErr}
 use Rattle.std.specs.Option.{option_or}
 use Rattle.std.specs.List.{position_or_len, before_first, after_first}
 use Rattle.std.proofs.lemmas.Bool.Decides.{nat_tests}
@@ -7,7 +7,7 @@ use Rattle.item_listing.specs.Lines.{Cut, cut, without_return}
 use Rattle.item_listing.specs.Limits.{most_bytes, past_limit, feed_past, whole_past, byte_after_end}
 use Rattle.item_listing.specs.State.{Reading}
 use Rattle.item_listing.specs.Items.{item}
-use Rattle.item_listing.specs.Listing.{and_line, unless, whole_line, after_end, begun_line, at_next, read_whole, read_begun, next_of, next, after, bytes_taken, IsDrained, IsFault, GivesBegun}
+use Rattle.item_listing.specs.Listing.{and_line, unless, whole_line, after_end, begun_line, at_next, read_whole, read_begun, next_of, next, after, fed, bytes_taken, IsDrained, IsFault, GivesBegun}
 use Rattle.item_listing.specs.Listed.{Listed, gives, refused, goes_on, done, stops, begun_then, whole_then, lines_listed, to_come, listed, Waits, ReadsOn}
 use Rattle.item_listing.specs.declared.item.Item.{Item}
 use Rattle.item_listing.specs.declared.item.Item.TheVariants.{Dot}
@@ -227,3 +227,37 @@ begun_fault kept k p closed (Err (errors.Fault fault)) h none g = begun_gives ke
 
 pub from_line-length : (kept : List ℕ) (k : ℕ) → k ≤ length kept → k + length (from_line kept k) ≡ length kept
 from_line-length kept k h = omega (arith, ap length (rest_is k kept h), length-drop k kept)
+
+-- a piece and then later bytes
+fed_by : (r : Reading) (piece more : List ℕ) (closed : Bool) (f : Bool) → r.finished ≡ f → listed (fed r piece) more closed ≡ listed r (piece ++ more) closed
+fed_by r piece more closed true f = rw f refl
+fed_by r piece more closed false f = rw f (ap (λ xs. lines_listed r.past closed (cut xs).whole (cut xs).begun) (append_assoc r.held piece more))
+
+pub listed-fed : (r : Reading) (piece more : List ℕ) (closed : Bool) → listed (fed r piece) more closed ≡ listed r (piece ++ more) closed
+listed-fed r piece more closed = fed_by r piece more closed r.finished refl
+
+finished_by : (r : Reading) (more : List ℕ) (closed : Bool) (f : Bool) → r.finished ≡ f → listed (record r { finished = true }) more closed ≡ listed r [] true
+finished_by r more closed true f = rw f refl
+finished_by r more closed false f = rw f (ap (λ xs. lines_listed r.past true (cut xs).whole (cut xs).begun) (sym (append-nil r.held)))
+
+pub listed-finished : (r : Reading) (more : List ℕ) (closed : Bool) → listed (record r { finished = true }) more closed ≡ listed r [] true
+listed-finished r more closed = finished_by r more closed r.finished refl
+
+-- where only a fault will be read, it is read next
+fault_then : (r : Reading) (fault : ListingFault) → ((more : List ℕ) (closed : Bool) → listed r more closed ≡ refused fault)
+    → (res : Result (Option Item) ListingFault) → next r ≡ res → next r ≡ Err fault
+fault_then r fault all (Err x) e = let same : refused x ≡ refused fault = sym (reads-fault r x e [] false) ∙ all [] false in let one : x ≡ fault = cc in e ∙ ap Err one
+fault_then r fault all (Ok (Some it)) e = let no : gives it (listed (after r (Some it)) [] false) ≡ refused fault = sym (reads-item r it e [] false) ∙ all [] false in cc
+fault_then r fault all (Ok None) e = waits_not (reads-none r e) r.finished refl
+  where
+    waits_not : Waits r → (f : Bool) → r.finished ≡ f → next r ≡ Err fault
+    waits_not w true f = let no : done ≡ refused fault = sym (w.1 f [] false) ∙ all [] false in cc
+    waits_not w false f = let no : goes_on ≡ refused fault = sym (w.0 f) ∙ all [] false in cc
+
+pub fault-fed : (r : Reading) (fault : ListingFault) (piece : List ℕ) → next r ≡ Err fault → next (fed r piece) ≡ Err fault
+fault-fed r fault piece e =
+    fault_then (fed r piece) fault (λ more closed. listed-fed r piece more closed ∙ reads-fault r fault e (piece ++ more) closed) (next (fed r piece)) refl
+
+pub fault-finished : (r : Reading) (fault : ListingFault) → next r ≡ Err fault → next (record r { finished = true }) ≡ Err fault
+fault-finished r fault e =
+    fault_then (record r { finished = true }) fault (λ more closed. listed-finished r more closed ∙ reads-fault r fault e [] true) (next (record r { finished = true })) refl

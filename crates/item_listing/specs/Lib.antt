@@ -7,3 +7,4 @@ pub mod State
 pub mod Listing
 pub mod Listed
 pub mod Held
+pub mod Examples

@@ -19,5 +19,5 @@ pub use escape::unescape;
 pub use item::{Item, Locations, Reason};
 pub use items::Items;
 pub use line::read_item;
-pub use listing::{Listing, lines_are_cut};
+pub use listing::{Listing, faults_stay, lines_are_cut};
 pub use past::ListingFault;

@@ -5,7 +5,8 @@ ghost use Rattle.item_listing.specs.Limits.{most_bytes};
 ghost use Rattle.item_listing.specs.Lines.{cut, joined, HaveNoFeed, without_return};
 ghost use Rattle.item_listing.specs.Listing.{whole_line, begun_line, next, after, fed, bytes_taken, IsFault, GivesBegun, Leaves, IsDrained};
 ghost use Rattle.item_listing.specs.Listed.{listed, ReadsOn};
-ghost use Rattle.item_listing.specs.State.{unread};
+ghost use Rattle.item_listing.specs.State.{Reading, unread};
+ghost use Rattle.item_listing.specs.declared.past.ListingFault.{ListingFault as Fault};
 
 use crate::limits::{begun_limit, byte_after_end, whole_limit};
 use crate::line::{LineError, read_line};
@@ -235,4 +236,10 @@ pub fn lines_are_cut()
     ensures joined { (bytes : List ℕ) → joined (cut bytes).whole (cut bytes).begun ≡ bytes }
     ensures only { (lines : List (List ℕ)) (begun : List ℕ) → HaveNoFeed lines → list_any (λ b. b == 10) begun ≡ false
         → cut (joined lines begun) ≡ record { whole = lines; begun = begun } }
+{}
+
+/// After a fault the same fault is read, whatever is fed, and where the source ends.
+pub fn faults_stay()
+    ensures fed { (r : Reading) (fault : Fault) (piece : List ℕ) → next r ≡ Err fault → next (fed r piece) ≡ Err fault }
+    ensures finished { (r : Reading) (fault : Fault) → next r ≡ Err fault → next (record r { finished = true }) ≡ Err fault }
 {}
