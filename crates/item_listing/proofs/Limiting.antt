@@ -9,14 +9,8 @@ use Rattle.item_listing.specs.Limits.{most_bytes, most_line, past_limit, feed_pa
 within : (most n : ℕ) → n < most → nat_le most n ≡ false
 within most n h = grind (arith, nat_tests)
 
-beyond : (most n : ℕ) → most ≤ n → nat_le most n ≡ true
-beyond most n h = grind (arith, nat_tests)
-
 is_within : (most n : ℕ) → nat_le most n ≡ false → n < most
 is_within most n e = grind (arith, nat_tests)
-
-is_beyond : (most n : ℕ) → nat_le most n ≡ true → most ≤ n
-is_beyond most n e = grind (arith, nat_tests)
 
 pub fits : (bytes place : ℕ) (line : List ℕ) → bytes + length line ≤ most_bytes → place + length line ≤ most_line → past_limit bytes place line ≡ None
 fits bytes place [] h k = refl
@@ -79,22 +73,3 @@ pub past_limit-none : (bytes place : ℕ) (line : List ℕ) → bytes ≤ most_b
 past_limit-none bytes place [] few h = omega arith
 past_limit-none bytes place (b ∷ more) few h =
     none_first bytes place b more (past_limit-none (bytes + 1) (place + 1) more) (nat_le most_bytes bytes) (nat_le most_line place) refl refl h
-
--- a line feed
-pub feed-past : (bytes : ℕ) → most_bytes ≤ bytes → feed_past bytes ≡ Some TooManyBytes
-feed-past bytes h = rw (beyond most_bytes bytes h) refl
-
-pub feed-within : (bytes : ℕ) → bytes < most_bytes → feed_past bytes ≡ None
-feed-within bytes h = rw (within most_bytes bytes h) refl
-
-or_none : (a b : Option Reason) → option_or a b ≡ None → b ≡ None
-or_none None b e = e
-or_none (Some reason) b e = cc
-
-feed_none : (bytes : ℕ) (t : Bool) → nat_le most_bytes bytes ≡ t → feed_past bytes ≡ None → bytes < most_bytes
-feed_none bytes true e h = let no : Some TooManyBytes ≡ None = rw e at h in cc
-feed_none bytes false e h = is_within most_bytes bytes e
-
--- a whole line that passes no limit
-pub whole-within : (bytes : ℕ) (line : List ℕ) → whole_past bytes line ≡ None → bytes + length line < most_bytes
-whole-within bytes line h = feed_none (bytes + length line) (nat_le most_bytes (bytes + length line)) refl (or_none (past_limit bytes 0 line) (feed_past (bytes + length line)) h)
