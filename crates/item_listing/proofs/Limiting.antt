@@ -1,10 +1,9 @@
 -- The limits of a stream and of a line, by how many bytes there are.
-use Rattle.std.proofs.Common.{◌≡◌, ℕ, ◌+◌, ◌<◌, ◌≤◌, List, [], ◌∷◌, ◌++◌, Option, Some, None, Bool, true, false, length, refl, sym, ap, ◌∙◌, arith, nat_le}
-use Rattle.std.specs.Option.{option_or}
+use Rattle.std.proofs.Common.{◌≡◌, ℕ, ◌+◌, ◌<◌, ◌≤◌, List, [], ◌∷◌, ◌++◌, Some, None, Bool, true, false, length, refl, arith, nat_le}
 use Rattle.std.proofs.lemmas.Bool.Decides.{nat_tests}
 use Rattle.item_listing.specs.declared.item.Reason.{Reason}
 use Rattle.item_listing.specs.declared.item.Reason.TheVariants.{TooManyBytes, LineTooLong}
-use Rattle.item_listing.specs.Limits.{most_bytes, most_line, past_limit, feed_past, whole_past}
+use Rattle.item_listing.specs.Limits.{most_bytes, most_line, past_limit}
 
 within : (most n : ℕ) → n < most → nat_le most n ≡ false
 within most n h = grind (arith, nat_tests)

@@ -1,14 +1,14 @@
 -- One call of a listing, and what will be read whatever comes.
-use Rattle.std.proofs.Common.{◌≡◌, ℕ, suc, ◌+◌, ◌-◌, ◌<◌, ◌≤◌, List, [], ◌∷◌, ◌++◌, Option, Some, None, Result, Ok, Err, Bool, true, false, ◌||◌, length, take, drop, refl, sym, ap, ◌∙◌, arith, position, nat_lt, nat_le, length-drop, length-take, append-nil, append_assoc, if◌then◌else◌, IfOk, IfErr}
+use Rattle.std.proofs.Common.{◌≡◌, ℕ, ◌+◌, ◌-◌, ◌<◌, ◌≤◌, List, [], ◌∷◌, ◌++◌, Option, Some, None, Result, Ok, Err, Bool, true, false, ◌||◌, length, take, drop, refl, sym, ap, ◌∙◌, arith, position, nat_lt, length-drop, length-take, append-nil, append_assoc, if◌then◌else◌, IfOk, IfErr}
 use Rattle.std.specs.Option.{option_or}
 use Rattle.std.specs.List.{position_or_len, before_first, after_first}
 use Rattle.std.proofs.lemmas.Bool.Decides.{nat_tests}
 use Rattle.item_listing.specs.Lines.{Cut, cut, without_return}
-use Rattle.item_listing.specs.Limits.{most_bytes, past_limit, feed_past, whole_past, byte_after_end}
+use Rattle.item_listing.specs.Limits.{most_bytes, past_limit, feed_past, byte_after_end}
 use Rattle.item_listing.specs.State.{Reading}
 use Rattle.item_listing.specs.Items.{item}
 use Rattle.item_listing.specs.Listing.{and_line, unless, whole_line, after_end, begun_line, at_next, read_whole, read_begun, next_of, next, after, fed, bytes_taken, IsDrained, IsFault, GivesBegun}
-use Rattle.item_listing.specs.Listed.{Listed, gives, refused, goes_on, done, stops, begun_then, whole_then, lines_listed, to_come, listed, Waits, ReadsOn}
+use Rattle.item_listing.specs.Listed.{Listed, gives, refused, goes_on, done, begun_then, whole_then, lines_listed, to_come, listed, Waits, ReadsOn}
 use Rattle.item_listing.specs.declared.item.Item.{Item}
 use Rattle.item_listing.specs.declared.item.Item.TheVariants.{Dot}
 use Rattle.item_listing.specs.declared.item.Reason.{Reason}
@@ -103,7 +103,7 @@ whole_more : (p : Past) (xs ys : List ℕ) (reason : Reason) (t : Bool) → p.en
 whole_more p xs ys reason true e h = rw e (ap Err (after_end-reason p xs reason (rw e at h)))
 whole_more p xs ys reason false e h =
     rw e (ap (λ o. unless (option_or o (feed_past (p.bytes + length (xs ++ ys)))) (item p.tag_open (without_return (xs ++ ys))))
-      (past_limit-more p.bytes 0 xs ys reason (or_some (past_limit p.bytes 0 xs) reason (rw e at h))))
+    (past_limit-more p.bytes 0 xs ys reason (or_some (past_limit p.bytes 0 xs) reason (rw e at h))))
 
 then_more : (p : Past) (xs : List ℕ) (whole : List (List ℕ)) (begun : List ℕ) (closed : Bool) (reason : Reason) → begun_line p xs false ≡ Some reason
     → lines_listed p closed (in_front xs (record { whole = whole; begun = begun })).whole (in_front xs (record { whole = whole; begun = begun })).begun ≡ refused (at_next p reason)
@@ -152,10 +152,9 @@ is_begun r e = begun_is r e (nat_lt (position_or_len is_feed r.held) (length r.h
 
 pub reads-none : (r : Reading) → next r ≡ Ok None → Waits r
 reads-none r e =
-    let b = is_begun r e in
-    (
+    let b = is_begun r e in (
       λ f. rw f (ap (λ xs. lines_listed r.past false (cut xs).whole (cut xs).begun) (append-nil r.held)
-      ∙ ap (λ (c : Cut). lines_listed r.past false c.whole c.begun) (cut-none r.held b.absent) ∙ ap (begun_then r.past false) (rw f at b.allowed)),
+          ∙ ap (λ (c : Cut). lines_listed r.past false c.whole c.begun) (cut-none r.held b.absent) ∙ ap (begun_then r.past false) (rw f at b.allowed)),
       λ f more closed. rw f (ap (λ (c : Cut). lines_listed r.past true c.whole c.begun) (cut-none r.held b.absent) ∙ ap (begun_then r.past true) (rw f at b.allowed)),
     )
 

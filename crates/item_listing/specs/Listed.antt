@@ -1,5 +1,5 @@
 -- All that a listing will read, however its bytes come in pieces.
-use Rattle.std.specs.Prelude.{◌≡◌, ℕ, ◌+◌, List, [], ◌∷◌, ◌++◌, Bool, true, false, ◌||◌, Option, Some, None, Result, Ok, Err, if◌then◌else◌}
+use Rattle.std.specs.Prelude.{◌≡◌, ℕ, List, [], ◌∷◌, ◌++◌, Bool, true, false, ◌||◌, Option, Some, None, Result, Ok, Err, if◌then◌else◌}
 use Rattle.item_listing.specs.Lines.{cut}
 use Rattle.item_listing.specs.State.{Reading}
 use Rattle.item_listing.specs.Listing.{and_line, whole_line, begun_line, at_next}

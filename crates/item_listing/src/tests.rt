@@ -131,7 +131,11 @@ fn reads_a_stream_whole_and_byte_by_byte(rt: HostRuntime) -> Result<(), Fail> {
         (b"(a\n\r\n", 1, Some((2, Reason::BadStart))),
         (b"(\n", 0, Some((1, Reason::NoName))),
         (b"?\n-\\\r\n", 1, Some((2, Reason::BadEscape))),
-        (b"(a\nAx 1\n-t\nAx 1\n(b\n", 3, Some((4, Reason::BadAttributePlace))),
+        (
+            b"(a\nAx 1\n-t\nAx 1\n(b\n",
+            3,
+            Some((4, Reason::BadAttributePlace)),
+        ),
         (b"Ax 1\nend\nx", 0, Some((1, Reason::BadAttributePlace))),
     ];
     for (stream, count, fault) in cases {
@@ -147,7 +151,13 @@ fn reads_a_stream_whole_and_byte_by_byte(rt: HostRuntime) -> Result<(), Fail> {
 /// Whether the items are those of the first stream of the table.
 fn is_small_tree(items: &[Item]) -> bool {
     match items {
-        [Item::Start(name), attribute, Item::Chars(text), Item::Close(end), Item::End] => {
+        [
+            Item::Start(name),
+            attribute,
+            Item::Chars(text),
+            Item::Close(end),
+            Item::End,
+        ] => {
             name.as_str() == "a"
                 && is_attribute(attribute, "x", "1")
                 && text.as_str() == "t"

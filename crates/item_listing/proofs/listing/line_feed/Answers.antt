@@ -1,4 +1,3 @@
-use Rattle.std.proofs.Common.{sym}
 use Rattle.item_listing.proofs.Searching.{found_after, none_after, rest_is}
 use Rattle.item_listing.proofs.listing.line_feed.Goals as goal
 

@@ -1,8 +1,5 @@
-use Rattle.std.proofs.Common.{◌≡◌, ◌∙◌, sym, ap, refl, Some, None, Ok, Err, Option}
-use Rattle.item_listing.specs.Listing.{next, after, bytes_taken, IsDrained}
-use Rattle.item_listing.specs.Listed.{ReadsOn}
-use Rattle.item_listing.specs.State.{Reading}
-use Rattle.item_listing.specs.declared.item.Item.{Item}
+use Rattle.std.proofs.Common.{◌∙◌, ap}
+use Rattle.item_listing.specs.Listing.{bytes_taken}
 use Rattle.item_listing.proofs.Reading.{reads_on, reads-fault, taken, drained_if}
 use Rattle.item_listing.proofs.listing.Listing.next_item.Goals as goal
 

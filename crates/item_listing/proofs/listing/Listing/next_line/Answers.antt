@@ -1,4 +1,4 @@
-use Rattle.std.proofs.Common.{◌≡◌, ◌≤◌, ◌∙◌, sym, ap, refl, arith, Ok, Err, Some, None, length}
+use Rattle.std.proofs.Common.{◌≤◌, ◌∙◌, sym, ap, refl, arith, Ok, Err, length}
 use Rattle.item_listing.proofs.Reading.{whole_gives, begun_item, begun_fault, from_line-length}
 use Rattle.item_listing.proofs.Searching.{plain_rest}
 use Rattle.item_listing.proofs.listing.Listing.next_line.Goals as goal
