@@ -1,5 +1,5 @@
 -- Lines joined by line feeds are the bytes, and no line has a line feed.
-use Rattle.std.proofs.Common.{◌≡◌, ℕ, List, [], ◌∷◌, ◌++◌, Bool, true, false, ◌==◌, ◌||◌, refl, sym, ap, ◌∙◌, arith}
+use Rattle.std.proofs.Common.{◌≡◌, ℕ, List, [], ◌∷◌, ◌++◌, Bool, true, false, ◌||◌, refl, ap, ◌∙◌, arith}
 use Rattle.std.specs.List.{list_any}
 use Rattle.std.proofs.lemmas.Bool.Decides.{nat_tests}
 use Rattle.item_listing.specs.Lines.{Cut, cut, longer, joined, HaveNoFeed}
@@ -17,11 +17,11 @@ pub joined-cut : (xs : List ℕ) → joined (cut xs).whole (cut xs).begun ≡ xs
 joined-cut [] = refl
 joined-cut (b ∷ bs) = joined-step b bs (joined-cut bs) (is_feed b) refl
 
-or_first : (a b : Bool) → (a || b) ≡ false → a ≡ false
+pub or_first : (a b : Bool) → (a || b) ≡ false → a ≡ false
 or_first false b e = refl
 or_first true b e = cc
 
-or_second : (a b : Bool) → (a || b) ≡ false → b ≡ false
+pub or_second : (a b : Bool) → (a || b) ≡ false → b ≡ false
 or_second false b e = e
 or_second true b e = cc
 

@@ -1,6 +1,8 @@
 pub mod Unescaping
 pub mod Beginnings
 pub mod Cutting
-pub mod Turns
 pub mod Joined
 pub mod Tabs
+pub mod Limiting
+pub mod Searching
+pub mod Reading

@@ -2,6 +2,9 @@ pub mod Lines
 pub mod Escapes
 pub mod Locations
 pub mod Items
+pub mod Limits
 pub mod State
 pub mod Listing
+pub mod Listed
 pub mod Held
+pub mod Examples

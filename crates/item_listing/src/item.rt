@@ -43,4 +43,12 @@ pub enum Reason {
     BadEscape,
     /// An attribute does not follow the start of an element or another attribute.
     BadAttributePlace,
+    /// The source ended before the line `end`.
+    EndMissing,
+    /// A byte follows the line `end`.
+    AfterEnd,
+    /// The stream has more than 67,108,864 bytes.
+    TooManyBytes,
+    /// The line has more than 1,048,576 bytes before its line feed.
+    LineTooLong,
 }

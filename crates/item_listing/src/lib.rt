@@ -2,14 +2,18 @@
 //!
 //! A stream is lines in UTF-8, each ended by a line feed. A line is one item: the start of an element, an
 //! attribute, characters, the end of an element, a processing instruction, a section word or a command.
+//! Nothing follows the line `end`. A stream has at most 67,108,864 bytes, and a line at most 1,048,576 before
+//! its line feed: the first byte past a limit is refused at its line.
 #![tactic(auto)]
 
 mod escape;
 mod item;
 mod items;
+mod limits;
 mod line;
 mod listing;
 mod locations;
+mod past;
 #[cfg(test)]
 mod tests;
 
@@ -17,4 +21,5 @@ pub use escape::unescape;
 pub use item::{Item, Locations, Reason};
 pub use items::Items;
 pub use line::read_item;
-pub use listing::{Listing, ListingFault, lines_are_cut};
+pub use listing::{Listing, faults_stay, lines_are_cut};
+pub use past::ListingFault;

@@ -1,8 +1,7 @@
-use Rattle.std.proofs.Common.{◌≡◌, ◌++◌, [], ◌∷◌, Some, None, sym, ap, ◌∙◌, arith, lit<, rules, drop}
+use Rattle.std.proofs.Common.{◌≡◌, Some, None, sym, ap, ◌∙◌, lit<}
 use Rattle.std.specs.List.{slice_get}
-use Rattle.item_listing.specs.Escapes.{unescaped}
 use Rattle.item_listing.specs.Escapes.{escaped}
-use Rattle.item_listing.proofs.Unescaping.{after_escape, after_last, onto, onto_nil, onto_onto, after_piece, ends_after, bad_after, good_after, escaped-ascii, unescaped-plain}
+use Rattle.item_listing.proofs.Unescaping.{after_escape, after_last, onto, onto_nil, after_piece, ends_after, bad_after, escaped-ascii}
 use Rattle.item_listing.proofs.escape.unescape.Goals as goal
 
 pub loop-front-init : goal.loop-front-init

@@ -1,5 +1,4 @@
 use Rattle.std.proofs.Common.{refl}
-use Rattle.std.proofs.lemmas.Grind.{common_steps}
 use Rattle.std.proofs.lemmas.Str.{is_utf8-from_IsUtf8}
 use Rattle.item_listing.proofs.Beginnings.{is_utf8-false}
 use Rattle.item_listing.proofs.line.read_line.Goals as goal
