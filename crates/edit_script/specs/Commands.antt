@@ -6,7 +6,7 @@ use Rattle.item_listing.specs.Escapes.{unescaped}
 use Rattle.item_listing.specs.declared.item.Item.{Item}
 use Rattle.item_listing.specs.declared.item.Item.TheVariants as items
 use Rattle.tag_names.specs.Tags.{is_binding}
-use Rattle.tree_building.specs.Blocks.{is_one_element}
+use Rattle.tree_building.specs.Blocks.{one_element}
 use Rattle.tree_edits.specs.Edits.{can_be_made}
 use Rattle.tree_edits.specs.declared.edit.Edit.TheVariants as edits
 use Rattle.edit_script.specs.Fields.{◌>>=◌, split, needed, last, number}
@@ -50,7 +50,7 @@ accepted its = if list_any is_plain_attribute its then Err NotYet else Ok its
 -- the items of a block, which are one element; no block is that of no items
 abbrev pub whole : Option (List Item) → Result (List Item) ScriptFault
 whole None = Err BadBlock
-whole (Some its) = if is_one_element its then accepted its else Err BadBlock
+whole (Some its) = if one_element its then accepted its else Err BadBlock
 
 -- a number, which is the only field
 abbrev pub only_number : Option (List ℕ) → Result ℕ ScriptFault

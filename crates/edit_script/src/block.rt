@@ -1,13 +1,13 @@
-ghost use Rattle.std.specs.Prelude.{◌≡◌, ℕ, List};
+ghost use Rattle.std.specs.Prelude.{◌≡◌};
 ghost use Rattle.std.specs.List.{list_any};
 ghost use Rattle.tag_names.specs.Tags.{is_binding};
 ghost use Rattle.edit_script.specs.Commands.{is_plain_attribute};
 
 use item_listing::Item;
 
-/// Whether a name, as it is written, binds a prefix or the default namespace.
-fn binds(name: &str) -> bool
-    ensures { (value : List ℕ) → result ≡ is_binding (record { name = name.now; value = value }) }
+/// Whether an attribute line binds a prefix or the default namespace.
+fn binds(name: &str, _value: &str) -> bool
+    ensures { result ≡ is_binding (record { name = name.now; value = _value.now }) }
 {
     name == "xmlns" || name.starts_with("xmlns:")
 }
@@ -17,7 +17,7 @@ fn is_plain(item: &Item) -> bool
     ensures { result ≡ is_plain_attribute item.now }
 {
     match item {
-        Item::Attr(name, _) => !binds(name.as_str()),
+        Item::Attr(name, value) => !binds(name.as_str(), value.as_str()),
         _ => false,
     }
 }

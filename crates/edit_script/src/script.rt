@@ -52,7 +52,7 @@ fn read_text(alloc: Global, text: &str) -> Result<Text, ScriptError>
 /// The items of a block that is one element.
 fn read_block(alloc: Global, block: Option<Items>) -> Result<Items, ScriptError>
     ensures gives { Gives result (script.whole block) }
-    ensures one { IfOk result (λ items. building.is_one_element items ≡ true) }
+    ensures one { IfOk result (λ items. building.one_element items ≡ true) }
 {
     let Some(items) = block else {
         return Err(ScriptError::Refused(ScriptFault::BadBlock));

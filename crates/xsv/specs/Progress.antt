@@ -1,5 +1,5 @@
 -- What was told so far, and what is still to be told.
-use Rattle.std.specs.Prelude.{◌≡◌, ℕ, ◌+◌, ◌≤◌, ◌<◌, List, [], ◌++◌, length, Bool, true, false, Option}
+use Rattle.std.specs.Prelude.{◌≡◌, ℕ, ◌+◌, ◌≤◌, ◌<◌, List, [], ◌++◌, length, Bool, true, false, Option, None}
 use Rattle.std.specs.Io.KnownBytes.{Appends, Consumes, IsAtEnd, Keeps}
 use Rattle.xsv_io.specs.Writing.{AppendsFront}
 use Rattle.item_listing.specs.State.{Reading, unread}
@@ -14,7 +14,7 @@ use Rattle.stream_answers.specs.declared.place.Place.{Place}
 use Rattle.stream_answers.specs.declared.place.Place.TheVariants.{Fresh}
 use Rattle.stream_answers.specs.declared.status.Status.{Status}
 use Rattle.stream_answers.specs.declared.status.Status.TheVariants.{ReadFault, WriteFault, Memory}
-use Rattle.xsv.specs.Output.{Answers}
+use Rattle.xsv.specs.Output.{Answers, told_of}
 use Rattle.xsv.specs.declared.next.Next.{Next}
 use Rattle.xsv.specs.declared.next.Next.TheVariants as nexts
 use Rattle.xsv.specs.declared.lines.Progress.{Progress}
@@ -70,19 +70,30 @@ abbrev pub Progresses : Asked → Place → Reading → Option (List ℕ) → Re
 Progresses a place r old s new (progresses.Waits next) = GoesOn a place r old next s new × Waits s × (bytes_taken s ≤ most_bytes)
 Progresses a place r old s new (progresses.Ends status) = HasEnded a place r old new status
 
--- a piece was read and answered, whatever comes behind it
-pub record TakesPiece (a : Asked) (place : Place) (r : Reading) (rest_old old : Option (List ℕ)) (next : Place) (s : Reading) (rest_new new : Option (List ℕ)) : Type 0 where
-  pub bytes : List ℕ
+-- these bytes came and were answered, whatever comes behind them
+pub record Feeds (a : Asked) (place : Place) (r : Reading) (old : Option (List ℕ)) (bytes : List ℕ) (next : Place) (s : Reading) (new : Option (List ℕ)) : Type 0 where
   pub said : List ℕ
-  pub consumed : Consumes rest_old rest_new bytes
   pub written : Appends old new said
   pub told_on : (more : List ℕ) (closed : Bool) → to_tell a place r (bytes ++ more) closed ≡ before said (to_tell a next s more closed)
   pub is_open : IsOpen next
   pub waits : Waits s
   pub counted : bytes_taken s ≡ bytes_taken r + length bytes
-  pub some : 0 < length bytes
   pub few : bytes_taken s ≤ most_bytes
   pub going : s.finished ≡ false
+
+-- these bytes came and were answered, whatever comes behind them, or the run has ended
+abbrev pub FeedsOn : Asked → Place → Reading → Option (List ℕ) → List ℕ → Reading → Option (List ℕ) → Progress → Type 0
+FeedsOn a place r old bytes s new (progresses.Waits next) = Feeds a place r old bytes next s new
+FeedsOn a place r old bytes s new (progresses.Ends status) =
+    (more : List ℕ) (closed : Bool) → Answers status old new (to_tell a place r (bytes ++ more) closed)
+
+-- a piece was read and answered
+pub record TakesPiece (a : Asked) (place : Place) (r : Reading) (rest_old old : Option (List ℕ)) (next : Place) (s : Reading) (rest_new new : Option (List ℕ)) (count : ℕ) : Type 0 where
+  pub bytes : List ℕ
+  pub consumed : Consumes rest_old rest_new bytes
+  pub long : count ≡ length bytes
+  pub feeds : Feeds a place r old bytes next s new
+  pub some : 0 < length bytes
 
 -- a piece was read, or none, and whatever comes behind it, the run has ended as is told
 pub record EndsPiece (a : Asked) (place : Place) (r : Reading) (rest_old old rest_new new : Option (List ℕ)) (status : Status) : Type 0 where
@@ -92,7 +103,7 @@ pub record EndsPiece (a : Asked) (place : Place) (r : Reading) (rest_old old res
   pub few : bytes_taken r + length bytes ≤ most_bytes + 1
 
 abbrev pub Pieces : Asked → Place → Reading → Option (List ℕ) → Option (List ℕ) → Reading → Option (List ℕ) → Option (List ℕ) → Piece → Type 0
-Pieces a place r rest_old old s rest_new new (pieces.Goes next) = TakesPiece a place r rest_old old next s rest_new new
+Pieces a place r rest_old old s rest_new new (pieces.Goes next count) = TakesPiece a place r rest_old old next s rest_new new count
 Pieces a place r rest_old old s rest_new new (pieces.AtEnd next) =
     (next ≡ place) × (s ≡ r) × (new ≡ old) × Consumes rest_old rest_new [] × IsAtEnd rest_new
 Pieces a place r rest_old old s rest_new new pieces.Failed = (s ≡ r) × (new ≡ old) × Keeps rest_old rest_new
@@ -106,3 +117,8 @@ pub record StandsAt (a : Asked) (rest_old rest_new old new : Option (List ℕ)) 
   pub written : Appends old new said
   pub told_on : (more : List ℕ) (closed : Bool) → to_tell a Fresh unread (bytes ++ more) closed ≡ before said (to_tell a place r more closed)
   pub counted : bytes_taken r ≡ length bytes
+
+-- a read failed behind some bytes: what they tell was written, and it does not end the run
+abbrev pub StopsAt : Asked → Option (List ℕ) → Option (List ℕ) → Option (List ℕ) → Option (List ℕ) → Type 0
+StopsAt a rest_old rest_new old new =
+    (bytes : List ℕ) × Consumes rest_old rest_new bytes × Appends old new (told_of a bytes false).text × ((told_of a bytes false).status ≡ None)

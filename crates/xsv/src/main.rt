@@ -1,19 +1,20 @@
 //! Assesses a document by an XML Schema, both given as PYX lines on standard input.
 #![tactic(auto)]
 
-mod answer;
-mod read;
+mod lines;
+mod next;
+mod piece;
 mod run;
-mod status;
+mod stream;
 #[cfg(test)]
 mod tests;
 mod words;
 
 use run::run as run_stream;
-use status::Status;
 use std::alloc::AllocError;
 use std::process::ExitCode;
 use std::{env, io};
+use stream_answers::Status;
 use xs_names::Text;
 use xsv_io::{StdSink, StdSource};
 use xsv_steps::{Silent, Steps};

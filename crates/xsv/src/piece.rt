@@ -1,9 +1,10 @@
-ghost use Rattle.std.specs.Prelude.{◌≡◌, ◌≢◌, ◌≤◌, false};
+ghost use Rattle.std.specs.Prelude.{◌≡◌, ◌≢◌, ◌<◌, ◌≤◌, ◌+◌, false};
 ghost use Rattle.xsv_io.specs.Causes.{Rose};
 ghost use Rattle.item_listing.specs.Limits.{most_bytes};
 ghost use Rattle.item_listing.specs.Listing.{bytes_taken};
 ghost use Rattle.stream_answers.specs.Turning.{IsOpen};
-ghost use Rattle.xsv.specs.Progress.{Pieces};
+ghost use Rattle.xsv.specs.Progress.{FeedsOn, Pieces};
+ghost use Rattle.xsv.specs.declared.lines.Progress.TheVariants as progresses;
 ghost use Rattle.xsv.specs.declared.piece.Piece.TheVariants as pieces;
 
 use crate::lines::{Progress, take_lines};
@@ -19,8 +20,8 @@ pub const ENOUGH: usize = 67_108_865;
 /// What a read has done.
 #[derive(Drop)]
 pub enum Piece {
-    /// A piece came and was answered, and the stream stands here.
-    Goes(Place),
+    /// So many bytes came and were answered, and the stream stands here.
+    Goes(Place, usize),
     /// The source has ended, and the stream stands here.
     AtEnd(Place),
     /// The read failed.
@@ -84,7 +85,7 @@ pub fn take_piece<S: Source, W: Sink, L: Ledger>(
         Ok(0) => Piece::AtEnd(place),
         Ok(count) => {
             match take_bytes(alloc, asked, listing, place, &buf[..count], sink, steps) {
-                Progress::Waits(next) => Piece::Goes(next),
+                Progress::Waits(next) => Piece::Goes(next, count),
                 Progress::Ends(status) => Piece::Ends(status),
             }
         }
