@@ -2,3 +2,6 @@ pub mod Naming
 pub mod Forest
 pub mod Rows
 pub mod RowLaws
+pub mod White
+pub mod Kinds
+pub mod Code
