@@ -1,0 +1,6 @@
+pub mod Outcomes
+pub mod Standing
+pub mod Placing
+pub mod Spotting
+pub mod Putting
+pub mod Changing

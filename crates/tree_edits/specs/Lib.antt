@@ -1,0 +1,4 @@
+pub mod Edits
+pub mod EditRows
+pub mod Refusals
+pub mod Spots
