@@ -2,6 +2,7 @@ ghost use Rattle.std.specs.Prelude.{◌≡◌};
 ghost use Rattle.tree_edits.specs.declared.edit.EditError.TheVariants.{Memory};
 ghost use Rattle.tree_edits.specs.Refusals.{number_of, name_of};
 
+use item_listing::Items;
 use std::alloc::{AllocError, AllocFailed};
 use xs_names::Text;
 
@@ -9,6 +10,13 @@ use xs_names::Text;
 /// counts elements and texts from 0.
 #[derive(Debug, Drop)]
 pub enum Edit {
+    /// Puts the one element that the items are before the child of this place. Its names resolve in the scope of the
+    /// parent and by the bindings of the block.
+    Insert {
+        parent: u32,
+        index: u32,
+        items: Items,
+    },
     /// Puts a text, which may be empty, before the child of this place.
     AddText {
         parent: u32,
@@ -39,12 +47,24 @@ pub enum EditError {
     RootFixed,
     /// The place is greater than the number of children.
     BadIndex,
+    /// A name of the block is no QName (Namespaces in XML 1.0, 4).
+    BadName,
+    /// A prefix other than `xmlns` is not bound (Namespaces in XML 1.0, 5).
+    UnboundPrefix,
+    /// A prefix or a namespace is used or bound that is reserved, or a prefix is bound to no namespace (Namespaces in
+    /// XML 1.0, 3 and 5).
+    ReservedName,
     /// There would be more than 131,072 nodes, or a new node would get the number 4,294,967,295.
     TooManyNodes,
     /// An element would have a depth of more than 128.
     TooDeep,
+    /// An element of the block has more than 256 attributes and bindings.
+    TooManyAttributes,
     /// Memory was wanting.
     Memory,
+    /// Two attributes of an element of the block have one expanded name, or two of its bindings one prefix (Namespaces in
+    /// XML 1.0, 6.3).
+    DoubleAttribute,
 }
 
 impl EditError {
@@ -58,9 +78,14 @@ impl EditError {
             EditError::NotText => 3,
             EditError::RootFixed => 4,
             EditError::BadIndex => 5,
+            EditError::BadName => 6,
+            EditError::UnboundPrefix => 7,
+            EditError::ReservedName => 8,
             EditError::TooManyNodes => 10,
             EditError::TooDeep => 11,
+            EditError::TooManyAttributes => 12,
             EditError::Memory => 13,
+            EditError::DoubleAttribute => 15,
         }
     }
 
@@ -74,9 +99,14 @@ impl EditError {
             EditError::NotText => "NotText",
             EditError::RootFixed => "RootFixed",
             EditError::BadIndex => "BadIndex",
+            EditError::BadName => "BadName",
+            EditError::UnboundPrefix => "UnboundPrefix",
+            EditError::ReservedName => "ReservedName",
             EditError::TooManyNodes => "TooManyNodes",
             EditError::TooDeep => "TooDeep",
+            EditError::TooManyAttributes => "TooManyAttributes",
             EditError::Memory => "Memory",
+            EditError::DoubleAttribute => "DoubleAttribute",
         }
     }
 }
