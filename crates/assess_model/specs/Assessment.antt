@@ -1,7 +1,8 @@
 -- Schema-validity assessment of a tree, by one recursion from its root (Structures 5.2).
 use Rattle.std.specs.Prelude.{ℕ, ◌+◌, List, [], ◌∷◌, ◌++◌, Bool, true, false, ◌==◌, ◌&&◌, ◌||◌, not, length, Option, Some, None, if◌then◌else◌}
-use Rattle.plain_tree.specs.Forest.{Forest, none, text, element}
-use Rattle.plain_tree.specs.Building.{is_white}
+use Rattle.tree_rows.specs.Forest.{Forest, none, text, element}
+use Rattle.tree_rows.specs.White.{is_white}
+use Rattle.tree_rows.specs.Naming.{clark_name}
 use Rattle.assess_model.specs.Tables.{Tables}
 use Rattle.assess_model.specs.Schema.{global_type, local_type, stuck_place}
 use Rattle.assess_model.specs.declared.record.TypeId.{TypeId}
@@ -15,17 +16,17 @@ use Rattle.assess_model.specs.declared.record.Code.TheVariants.{Undeclared, HasE
 use Rattle.assess_model.specs.declared.record.ElementRecord.{ElementRecord}
 use Rattle.assess_model.specs.declared.record.ChildSummary.{ChildSummary}
 
--- the names of the child elements
+-- the names of the child elements, each as one text
 abbrev pub child_names : Forest → List (List ℕ)
 child_names none = []
 child_names (text number chars next) = child_names next
-child_names (element number name attributes children next) = name ∷ child_names next
+child_names (element number name bindings attributes children next) = clark_name name ∷ child_names next
 
 -- some child is characters other than white space
 abbrev pub has_characters : Forest → Bool
 has_characters none = false
 has_characters (text number chars next) = not (is_white chars) || has_characters next
-has_characters (element number name attributes children next) = has_characters next
+has_characters (element number name bindings attributes children next) = has_characters next
 
 -- What governs an element is a declaration's type, or no declaration (Structures 3.3.4). A child takes the declaration of its
 -- parent's content model for its name; where there is none, it is assessed laxly, by the global declaration of its name if
@@ -105,15 +106,15 @@ with_child child others = record {
 abbrev pub summary : Tables → Bool → Option TypeId → Forest → ChildSummary
 summary s root parent none = nothing_below
 summary s root parent (text number chars next) = summary s root parent next
-summary s root parent (element number name attributes children next) =
-    let own = governing s parent name in
+summary s root parent (element number name bindings attributes children next) =
+    let own = governing s parent (clark_name name) in
     with_child (record_from (codes_of s root own children) own (summary s false own children)) (summary s root parent next)
 
 -- the record of an element
 abbrev pub record_of : Tables → Bool → Option TypeId → Forest → ElementRecord
 record_of s root own children = record_from (codes_of s root own children) own (summary s false own children)
 
--- an element's number and name with its record
+-- an element's number, its name as one text, and its record
 pub record Entry : Type 0 where
   pub number : ℕ
   pub name : List ℕ
@@ -123,9 +124,9 @@ pub record Entry : Type 0 where
 abbrev pub entries : Tables → Bool → Option TypeId → Forest → List Entry
 entries s root parent none = []
 entries s root parent (text number chars next) = entries s root parent next
-entries s root parent (element number name attributes children next) =
-    let own = governing s parent name in
-    record { number = number; name = name; known = record_of s root own children }
+entries s root parent (element number name bindings attributes children next) =
+    let own = governing s parent (clark_name name) in
+    record { number = number; name = clark_name name; known = record_of s root own children }
     ∷ (entries s false own children ++ entries s root parent next)
 
 -- the assessment of a document: the root is assessed strictly

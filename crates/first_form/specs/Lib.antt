@@ -1,10 +1,7 @@
-pub mod Attributes
+pub mod Bound
+pub mod Marks
+pub mod Constructs
+pub mod Scoping
 pub mod Declaring
 pub mod Regions
 pub mod SchemaForm
-pub mod Sections
-pub mod SectionsSeen
-pub mod Script
-pub mod BlockSeen
-pub mod Stream
-pub mod Said

@@ -2,36 +2,54 @@ ghost use Rattle.std.specs.Prelude.{◌≡◌, ◌<◌, ◌^◌, ◌-◌};
 ghost use Rattle.std.specs.Option.{option_map, option_copied};
 ghost use Rattle.first_form.specs.Declaring as form;
 
-use crate::attributes::{behind_name, declared_name, has, read_bounds};
+use crate::construct::{Construct, Declared, SchemaRow};
+use crate::marks::{Bounds, Lower, Upper};
 use assess_model::TypeId;
-use first_models::{Compositor, Occurs};
-use plain_tree::{Attribute, Content, Row};
+use first_models::Occurs;
 use xs_names::Text;
 
-/// Whether the content is an element of this name.
-pub fn is_element(name: &str, content: &Content) -> bool
-    ensures { result ≡ form.is_element name.now content.now }
+fn is_required(lower: Option<Lower>) -> bool
+    ensures { result ≡ form.is_required lower }
 {
-    match content {
-        Content::Element(other) => other.as_str() == name,
-        Content::Chars(_) => false,
+    match lower {
+        None | Some(Lower::One) => true,
+        Some(Lower::Zero) => false,
     }
 }
 
-/// The compositor of a group's element.
-pub fn compositor_of(content: &Content) -> Option<Compositor>
-    ensures { result ≡ form.compositor_of content.now }
+fn is_unbounded(upper: Option<Upper>) -> bool
+    ensures { result ≡ form.is_unbounded upper }
 {
-    if is_element("xs:sequence", content) {
-        Some(Compositor::Sequence)
-    } else if is_element("xs:choice", content) {
-        Some(Compositor::Choice)
-    } else {
-        None
+    match upper {
+        None | Some(Upper::One) => false,
+        Some(Upper::Unbounded) => true,
     }
 }
 
-fn is_leaf(depth: u32, later: &[Row]) -> bool
+/// How often a particle of these bounds may stand.
+pub fn occurs_of(bounds: Bounds) -> Occurs
+    ensures { result ≡ form.occurs_of bounds }
+{
+    Occurs {
+        required: is_required(bounds.lower),
+        unbounded: is_unbounded(bounds.upper),
+    }
+}
+
+/// Whether no bound stands.
+pub fn are_unbound(bounds: Bounds) -> bool
+    ensures { result ≡ form.are_unbound bounds }
+{
+    bounds.lower.is_none() && bounds.upper.is_none()
+}
+
+pub fn is_complex_type(construct: &Construct) -> bool
+    ensures { result ≡ form.is_complex_type construct.now }
+{
+    matches!(construct, Construct::ComplexType)
+}
+
+fn is_leaf(depth: u32, later: &[SchemaRow]) -> bool
     ensures { result ≡ form.is_leaf depth later.now }
 {
     match later.split_first() {
@@ -41,7 +59,7 @@ fn is_leaf(depth: u32, later: &[Row]) -> bool
 }
 
 /// Whether another node of this depth comes before one that is less deep.
-pub fn has_sibling(depth: u32, later: &[Row]) -> bool
+pub fn has_sibling(depth: u32, later: &[SchemaRow]) -> bool
     ensures { result ≡ form.has_sibling depth later.now }
 {
     for row in later {
@@ -56,7 +74,7 @@ pub fn has_sibling(depth: u32, later: &[Row]) -> bool
 }
 
 /// The one child of a row of this depth, by the rows behind it.
-fn only_child(depth: u32, later: &[Row]) -> Option<&Row>
+fn only_child(depth: u32, later: &[SchemaRow]) -> Option<&SchemaRow>
     ensures { option_map (λ r. r.now) result ≡ form.only_child depth later.now }
 {
     match later.split_first() {
@@ -71,15 +89,13 @@ fn only_child(depth: u32, later: &[Row]) -> Option<&Row>
     }
 }
 
-fn complex_child(depth: u32, later: &[Row]) -> Option<TypeId>
+fn complex_child(depth: u32, later: &[SchemaRow]) -> Option<TypeId>
     ensures { result ≡ form.complex_by (form.only_child depth later.now) }
 {
     match only_child(depth, later) {
         None => None,
         Some(child) => {
-            if is_element("xs:complexType", &child.content)
-                && child.attributes.as_slice().is_empty()
-            {
+            if is_complex_type(&child.construct) {
                 Some(TypeId::ComplexType(child.number))
             } else {
                 None
@@ -88,21 +104,17 @@ fn complex_child(depth: u32, later: &[Row]) -> Option<TypeId>
     }
 }
 
-/// The type of a declaration of this depth, by the attributes behind its name and bounds and by the rows
-/// behind it.
-pub fn declared_type(depth: u32, attributes: &[Attribute], later: &[Row]) -> Option<TypeId>
-    ensures { result ≡ form.declared_type depth attributes.now later.now }
+/// The type of a declaration of this depth, by the rows behind it.
+pub fn declared_type(depth: u32, is_string: bool, later: &[SchemaRow]) -> Option<TypeId>
+    ensures { result ≡ form.declared_type depth is_string later.now }
 {
-    match attributes {
-        [] => complex_child(depth, later),
-        [a] => {
-            if has("type", "xs:string", a) && is_leaf(depth, later) {
-                Some(TypeId::StringType)
-            } else {
-                None
-            }
-        }
-        _ => None,
+    if !is_string {
+        return complex_child(depth, later);
+    }
+    if is_leaf(depth, later) {
+        Some(TypeId::StringType)
+    } else {
+        None
     }
 }
 
@@ -114,23 +126,32 @@ pub struct LocalDeclaration<'a> {
     pub of: TypeId,
 }
 
+fn declared_as<'a>(
+    depth: u32,
+    later: &[SchemaRow],
+    declared: &'a Declared,
+) -> Option<LocalDeclaration<'a>>
+    ensures { option_map (λ d. record { name = d.name.now; occurs = d.occurs; of = d.of }) result ≡ form.declared_as depth later.now declared.now }
+{
+    match declared_type(depth, declared.is_string, later) {
+        None => None,
+        Some(of) => Some(LocalDeclaration {
+            name: &declared.name,
+            occurs: occurs_of(declared.bounds),
+            of,
+        }),
+    }
+}
+
 /// The local declaration of a row, by the rows behind it.
-pub fn local_declaration<'a>(row: &'a Row, later: &[Row]) -> Option<LocalDeclaration<'a>>
+pub fn local_declaration<'a>(
+    row: &'a SchemaRow,
+    later: &[SchemaRow],
+) -> Option<LocalDeclaration<'a>>
     ensures { option_map (λ d. record { name = d.name.now; occurs = d.occurs; of = d.of }) result ≡ form.local_declaration row.now later.now }
 {
-    let attributes = row.attributes.as_slice();
-    match declared_name(attributes) {
-        None => None,
-        Some(name) => match read_bounds(behind_name(attributes)) {
-            None => None,
-            Some(bounds) => match declared_type(row.depth, bounds.more, later) {
-                None => None,
-                Some(of) => Some(LocalDeclaration {
-                    name,
-                    occurs: bounds.occurs,
-                    of,
-                }),
-            },
-        },
+    match &row.construct {
+        Construct::Element(declared) => declared_as(row.depth, later, declared),
+        _ => None,
     }
 }

@@ -1,18 +1,15 @@
-//! Which streams are accepted so far, and the schema and the document that they say.
+//! The schema that the tree of a schema document says, where it is of the first form.
 //!
-//! The first form: one schema of elements, sequences and choices, written in one way, and one document of
-//! elements without attributes.
+//! The first form: elements, sequences and choices of the namespace of schemas, by expanded names, with
+//! attributes in any order and any prefixes; local declarations have bounds 0 or 1 and 1 or unbounded.
 #![tactic(auto)]
 
-mod attributes;
+mod construct;
 mod declare;
-mod items;
+mod marks;
 mod members;
 mod schema;
-mod script;
-mod sections;
-mod stream;
+mod scope;
 mod tables;
 
-pub use script::ScriptLine;
-pub use stream::{MOST_BYTES, Said, read_stream};
+pub use schema::read_schema;

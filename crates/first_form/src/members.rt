@@ -1,17 +1,16 @@
 ghost use Rattle.std.specs.Prelude.{◌≡◌, ◌≤◌, ◌<◌, ◌+◌, ◌^◌, IfOk, None, Some, drop, length};
 ghost use Rattle.std.specs.Option.{option_map};
 ghost use Rattle.first_form.specs.Declaring as form;
-ghost use Rattle.first_form.specs.Attributes.{bounds};
 ghost use Rattle.first_form.specs.Regions.{EndsSiblings};
 
-use crate::attributes::read_bounds;
-use crate::declare::{compositor_of, has_sibling, is_element, local_declaration};
+use crate::construct::{Construct, SchemaRow};
+use crate::declare::{are_unbound, has_sibling, local_declaration, occurs_of};
+use crate::marks::Bounds;
 use first_models::{Compositor, ContentModel, Particles};
-use plain_tree::Row;
 use std::alloc::{AllocError, Global};
 
 /// The place of the first row that is less deep, or the number of rows.
-fn siblings_end(depth: u64, rows: &[Row]) -> usize
+fn siblings_end(depth: u64, rows: &[SchemaRow]) -> usize
     ensures within { result ≤ length rows.now }
     ensures end { EndsSiblings depth (drop result rows.now) }
 {
@@ -25,8 +24,8 @@ fn siblings_end(depth: u64, rows: &[Row]) -> usize
 /// A local declaration in front of the other members of its group.
 fn put_element(
     alloc: Global,
-    row: &Row,
-    later: &[Row],
+    row: &SchemaRow,
+    later: &[SchemaRow],
     next: Option<Particles>,
 ) -> Result<Option<Particles>, AllocError>
     ensures { IfOk result (λ found. found ≡ form.put_element (form.local_declaration row.now later.now) row.now.number next) }
@@ -54,32 +53,24 @@ fn put_element(
 fn put_group(
     alloc: Global,
     compositor: Compositor,
-    row: &Row,
+    bounds: Bounds,
     inner: Option<Particles>,
     next: Option<Particles>,
 ) -> Result<Option<Particles>, AllocError>
-    ensures { IfOk result (λ found. found ≡ form.put_group compositor (bounds row.now.attributes) inner next) }
+    ensures { IfOk result (λ found. found ≡ form.put_group compositor bounds inner next) }
 {
-    match read_bounds(row.attributes.as_slice()) {
+    match inner {
         None => Ok(None),
-        Some(bounds) => match inner {
+        Some(inner) => match next {
             None => Ok(None),
-            Some(inner) => match next {
-                None => Ok(None),
-                Some(members) => {
-                    if bounds.more.is_empty() && inner.has_members() {
-                        Ok(Some(Particles::group(
-                            alloc,
-                            compositor,
-                            bounds.occurs,
-                            inner,
-                            members,
-                        )?))
-                    } else {
-                        Ok(None)
-                    }
+            Some(members) => {
+                if !inner.has_members() {
+                    return Ok(None);
                 }
-            },
+                let occurs = occurs_of(bounds);
+                let found = Particles::group(alloc, compositor, occurs, inner, members)?;
+                Ok(Some(found))
+            }
         },
     }
 }
@@ -89,31 +80,26 @@ fn put_group(
 fn put_row(
     alloc: Global,
     depth: u64,
-    row: &Row,
-    later: &[Row],
+    row: &SchemaRow,
+    later: &[SchemaRow],
     next: Option<Particles>,
 ) -> Result<Option<Particles>, AllocError>
     requires { depth + 1 + length later.now < 2 ^ 64 }
-    ensures { IfOk result (λ found. found ≡ form.put_member (form.compositor_of row.now.content) row.now later.now (form.members_at (depth + 1) later.now) next) }
+    ensures { IfOk result (λ found. found ≡ form.put_member row.now.construct row.now later.now (form.members_at (depth + 1) later.now) next) }
 {
-    match compositor_of(&row.content) {
-        Some(compositor) => {
+    match &row.construct {
+        Construct::Group(compositor, bounds) => {
             let inner = read_members(alloc, depth + 1, later)?;
-            put_group(alloc, compositor, row, inner, next)
+            put_group(alloc, *compositor, *bounds, inner, next)
         }
-        None => {
-            if is_element("xs:element", &row.content) {
-                put_element(alloc, row, later, next)
-            } else {
-                Ok(None)
-            }
-        }
+        Construct::Element(_) => put_element(alloc, row, later, next),
+        _ => Ok(None),
     }
 }
 
 /// The members of a group, where they have this depth, from the rows behind it.
 #[cycle(members)]
-fn read_members(alloc: Global, depth: u64, rows: &[Row]) -> Result<Option<Particles>, AllocError>
+fn read_members(alloc: Global, depth: u64, rows: &[SchemaRow]) -> Result<Option<Particles>, AllocError>
     requires { depth + length rows.now < 2 ^ 64 }
     ensures { IfOk result (λ found. found ≡ form.members_at depth rows.now) }
 {
@@ -152,22 +138,21 @@ fn check_model(compositor: Compositor, members: Option<Particles>) -> Option<Con
 pub fn read_content_model(
     alloc: Global,
     depth: u32,
-    later: &[Row],
+    later: &[SchemaRow],
 ) -> Result<Option<ContentModel>, AllocError>
     ensures { IfOk result (λ found. found ≡ form.content_model depth later.now) }
 {
     let Some((row, more)) = later.split_first() else {
         return Ok(None);
     };
-    let alone = row.depth > depth && row.depth - 1 == depth && !has_sibling(row.depth, more);
-    if !alone || !row.attributes.as_slice().is_empty() {
+    if !(row.depth > depth && row.depth - 1 == depth && !has_sibling(row.depth, more)) {
         return Ok(None);
     }
-    match compositor_of(&row.content) {
-        None => Ok(None),
-        Some(compositor) => {
+    match &row.construct {
+        Construct::Group(compositor, bounds) if are_unbound(*bounds) => {
             let members = read_members(alloc, depth as u64 + 2, more)?;
-            Ok(check_model(compositor, members))
+            Ok(check_model(*compositor, members))
         }
+        _ => Ok(None),
     }
 }

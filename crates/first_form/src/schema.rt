@@ -3,12 +3,12 @@ ghost use Rattle.std.specs.Option.{option_map};
 ghost use Rattle.first_models.specs.Members.{all_differ, is_among};
 ghost use Rattle.first_form.specs.SchemaForm as form;
 
-use crate::attributes::binds_xs;
-use crate::declare::is_element;
+use crate::construct::{Construct, SchemaRow};
+use crate::scope::read_rows;
 use crate::tables::{read_complex_types, read_globals, read_types};
 use assess_model::{ComplexType, Declaration, DeclaredType, Schema};
-use plain_tree::Row;
 use std::alloc::{AllocError, Global};
+use tree_rows::Row;
 
 /// Whether some declaration has the name.
 fn declares(globals: &[Declaration], name: &str) -> bool
@@ -36,10 +36,10 @@ fn names_differ(globals: &[Declaration]) -> bool
     true
 }
 
-fn is_schema_root(row: &Row) -> bool
+fn is_schema_root(row: &SchemaRow) -> bool
     ensures { result ≡ form.is_schema_root row.now }
 {
-    is_element("xs:schema", &row.content) && row.depth == 1 && binds_xs(row.attributes.as_slice())
+    matches!(&row.construct, Construct::Schema) && row.depth == 1
 }
 
 /// The schema of these tables, if they are within the form's bounds.
@@ -68,9 +68,9 @@ fn check_tables(
     }
 }
 
-/// The schema of a tree's rows, or `None` where it is not of the form.
-pub fn read_schema(alloc: Global, rows: &[Row]) -> Result<Option<Schema>, AllocError>
-    ensures { IfOk result (λ found. found ≡ form.schema_tables rows.now) }
+/// The schema of these rows.
+fn read_tables(alloc: Global, rows: &[SchemaRow]) -> Result<Option<Schema>, AllocError>
+    ensures { IfOk result (λ found. found ≡ form.tables_by rows.now) }
 {
     let Some((root, rows)) = rows.split_first() else {
         return Ok(None);
@@ -82,4 +82,14 @@ pub fn read_schema(alloc: Global, rows: &[Row]) -> Result<Option<Schema>, AllocE
     let declared = read_types(alloc, rows)?;
     let types = read_complex_types(alloc, rows)?;
     Ok(check_tables(globals, declared, types))
+}
+
+/// The schema that the rows of a schema document's tree say, or `None` where it is not of the first form.
+pub fn read_schema(alloc: Global, rows: &[Row]) -> Result<Option<Schema>, AllocError>
+    ensures { IfOk result (λ found. found ≡ form.schema_tables rows.now) }
+{
+    match read_rows(alloc, rows)? {
+        None => Ok(None),
+        Some(rows) => read_tables(alloc, &rows),
+    }
 }

@@ -2,3 +2,4 @@ pub mod Naming
 pub mod Forest
 pub mod Rows
 pub mod RowLaws
+pub mod White

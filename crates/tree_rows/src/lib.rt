@@ -4,7 +4,9 @@
 mod lists;
 mod name;
 mod row;
+mod white;
 
 pub use lists::{Attributes, Bindings};
 pub use name::Expanded;
 pub use row::{Attribute, Binding, Content, Row};
+pub use white::is_white_space;
