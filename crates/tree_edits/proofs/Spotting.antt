@@ -1,13 +1,16 @@
 -- A node that a search over the rows finds is the one that the tree has.
-use Rattle.std.proofs.Common.{◌≡◌, ℕ, suc, ◌+◌, ◌≤◌, ◌<◌, List, [], ◌∷◌, ◌++◌, Bool, true, false, Some, None, Result, Err, length, take, drop, get_or, refl, sym, ap, ◌∙◌, arith, append-nil, nat_lt, max}
+use Rattle.std.proofs.Common.{◌≡◌, ℕ, suc, ◌+◌, ◌≤◌, ◌<◌, List, [], ◌∷◌, ◌++◌, Bool, true, false, Some, None, Result, Err, length, take, drop, get_or, refl, sym, ap, ◌∙◌, arith, append-nil, nat_lt, max, reverse}
 use Rattle.std.specs.List.{position_or_len}
 use Rattle.std.proofs.lemmas.Bool.Decides.{nat_tests}
 use Rattle.std.proofs.lemmas.Grind.{common_steps, elements}
+use Rattle.std.proofs.lemmas.List.{reverse-append}
+use Rattle.std.proofs.Math.Seq.{take-append-add}
 use Rattle.tree_rows.specs.Forest.{Forest, none, text, element, Document}
 use Rattle.tree_rows.specs.Rows.{rows_of, siblings}
 use Rattle.tree_rows.specs.RowLaws.{Ends}
 use Rattle.tree_edits.specs.Edits.{width, insert_at, has, found, replaced, with_children, put_at, put_into}
 use Rattle.tree_edits.specs.EditRows.{AreWhole, is_numbered, rows_width, put_rows, deepest_row}
+use Rattle.tree_edits.specs.Places.{scope_in, scope_above}
 use Rattle.tree_edits.specs.Spots.{CannotPut, IsSpot}
 use Rattle.tree_edits.specs.declared.edit.EditError.{EditError}
 use Rattle.tree_rows.specs.declared.name.Expanded.{Expanded}
@@ -16,7 +19,7 @@ use Rattle.tree_rows.specs.declared.row.Binding.{Binding}
 use Rattle.tree_rows.specs.declared.row.Row.{Row}
 use Rattle.tree_rows.specs.declared.row.Content.TheVariants as contents
 use Rattle.tree_edits.specs.declared.edit.EditError.TheVariants.{UnknownNode, NotElement, BadIndex}
-use Rattle.tree_edits.proofs.Standing.{text_row, element_row, IsNode, Stands, stands, missing, absent, rows-node}
+use Rattle.tree_edits.proofs.Standing.{text_row, element_row, own, IsNode, Stands, stands, missing, absent, rows-node}
 use Rattle.tree_edits.proofs.Placing.{width-rows, put-rows, deepest-append}
 
 unknown_if : (rows : List Row) (key : ℕ) → AreWhole rows → length rows ≤ position_or_len (is_numbered key) rows
@@ -101,18 +104,20 @@ pub record ElementAt (rows : List Row) (key k : ℕ) (row : Row) : Type 0 where
   pub rows_are : rows ≡ before ++ (row ∷ (rows_of (row.depth + 1) children ++ after))
   pub ends : Ends (row.depth + 1) after
   pub has_content : row.content ≡ contents.Element name
+  pub scoped : (scope : List Binding) → scope_in key scope (siblings rows 1) ≡ row.bindings ++ scope_above row.depth scope (reverse before)
   pub becomes : (place : ℕ) (new : Forest) → rows_of 1 (replaced key (with_children place new) (siblings rows 1))
       ≡ before ++ (row ∷ (rows_of (row.depth + 1) (insert_at place new children) ++ after))
 
 element_is : (rows : List Row) (key k : ℕ) (row : Row) (name : Expanded) (whole : AreWhole rows) (before after : List Row) (depth : ℕ) (node : Forest) → IsNode key node
     → found key 1 (siblings rows 1) ≡ Some (record { depth = depth; node = node }) → k ≡ length before → rows ≡ before ++ (rows_of depth node ++ after)
     → Ends (depth + 1) after
+    → ((scope : List Binding) (more : List Row) → scope_in key (scope_above 1 scope more) (siblings rows 1) ≡ own node ++ scope_above depth scope (reverse before ++ more))
     → ((change : Forest → Forest) → rows_of 1 (replaced key change (siblings rows 1)) ≡ before ++ (rows_of depth (change node) ++ after))
     → row ≡ top depth node row → row.content ≡ contents.Element name → ElementAt rows key k row
-element_is rows key k row name whole before after depth none i f p e ends b is c = absurd i
-element_is rows key k row name whole before after depth (text n chars next) i f p e ends b is c =
+element_is rows key k row name whole before after depth none i f p e ends sc b is c = absurd i
+element_is rows key k row name whole before after depth (text n chars next) i f p e ends sc b is c =
     let d : row.content ≡ contents.Chars chars = ap (λ (r : Row). r.content) is in absurd (cc)
-element_is rows key k row name whole before after depth (element n other bindings attributes children next) i f p e ends b is c =
+element_is rows key k row name whole before after depth (element n other bindings attributes children next) i f p e ends sc b is c =
     let deep : row.depth ≡ depth = ap (λ (r : Row). r.depth) is in
     record {
       number = n;
@@ -131,6 +136,9 @@ element_is rows key k row name whole before after depth (element n other binding
           ∙ ap (λ r. before ++ (r ∷ (rows_of (row.depth + 1) children ++ after))) (sym is);
       ends = rw deep ends;
       has_content = ap (λ (r : Row). r.content) is;
+      scoped = λ scope. sc scope [] ∙ ap (λ l. bindings ++ scope_above depth scope l) (append-nil (reverse before))
+          ∙ ap (λ l. l ++ scope_above depth scope (reverse before)) (sym (ap (λ (r : Row). r.bindings) is))
+          ∙ ap (λ j. row.bindings ++ scope_above j scope (reverse before)) (sym deep);
       becomes = λ place new. b (with_children place new)
           ∙ ap (λ g. before ++ (element_row n depth other bindings attributes ∷ ((rows_of (depth + 1) (insert_at place new children) ++ rows_of depth g) ++ after))) i.1
           ∙ ap (λ l. before ++ (element_row n depth other bindings attributes ∷ (l ++ after))) (append-nil (rows_of (depth + 1) (insert_at place new children)))
@@ -143,7 +151,7 @@ pub element_at : (rows : List Row) (key k : ℕ) (row : Row) (name : Expanded) �
 element_at rows key k row name whole at_k within read c =
     let s = standing rows key whole (omega (arith, at_k, within)) in
     element_is rows key k row name whole s.before s.after s.depth s.node s.is_node s.is_found (at_k ∙ ap (position_or_len (is_numbered key)) whole ∙ s.first)
-    (whole ∙ s.rows_are) s.ends s.becomes (row_is rows key k row whole s at_k read) c
+    (whole ∙ s.rows_are) s.ends s.scoped s.becomes (row_is rows key k row whole s at_k read) c
 
 pub behind_is : (before : List Row) (x : Row) (more : List Row) → drop (length before + 1) (before ++ (x ∷ more)) ≡ more
 behind_is [] x more = refl
@@ -159,6 +167,10 @@ cut_in [] x more new p =
 cut_in (y ∷ ys) x more new p =
     let up : length (y ∷ ys) + 1 + p ≡ suc (length ys + 1 + p) = omega arith in
     ap (λ l. y ∷ l) (cut_in ys x more new p) ∙ sym (ap (λ k. take k (y ∷ (ys ++ (x ∷ more))) ++ (new ++ drop k (y ∷ (ys ++ (x ∷ more))))) up)
+
+-- the rows up to an element's own
+up_to : (before : List Row) (x : Row) (more : List Row) → take (length before + 1) (before ++ (x ∷ more)) ≡ before ++ (x ∷ [])
+up_to before x more = take-append-add before (x ∷ more) 1
 
 module _ (rows : List Row) (key k : ℕ) (row : Row) (e : ElementAt rows key k row) where
   -- the rows behind an element's
@@ -176,6 +188,16 @@ module _ (rows : List Row) (key k : ℕ) (row : Row) (e : ElementAt rows key k r
       rw e.has_content refl in
       omega (arith, all, own, shallow)
 
+  -- the scope of what the element holds
+  scope_is : (scope : List Binding) → scope_in key scope (siblings rows 1) ≡ scope_above (row.depth + 1) scope (reverse (take (k + 1) rows))
+  scope_is scope =
+      let yes : nat_lt row.depth (row.depth + 1) ≡ true = grind (arith, nat_tests) in
+      let front : reverse (take (k + 1) rows) ≡ row ∷ reverse e.before =
+      ap (λ j. reverse (take (j + 1) rows)) e.place ∙ ap (λ l. reverse (take (length e.before + 1) l)) e.rows_are
+      ∙ ap reverse (up_to e.before row (rows_of (row.depth + 1) e.children ++ e.after)) ∙ reverse-append e.before (row ∷ []) in
+      let deeper : scope_above (row.depth + 1) scope (row ∷ reverse e.before) ≡ row.bindings ++ scope_above row.depth scope (reverse e.before) = rw yes refl in
+      e.scoped scope ∙ sym deeper ∙ ap (scope_above (row.depth + 1) scope) (sym front)
+
   pub cannot_count : (place count : ℕ) → count ≡ rows_width (row.depth + 1) (drop (k + 1) rows) → count < place → CannotPut rows key place BadIndex
   cannot_count place count is less =
       let yes : nat_lt (width e.children) place ≡ true = grind (arith, nat_tests, is, children_counted, less) in
@@ -184,7 +206,7 @@ module _ (rows : List Row) (key k : ℕ) (row : Row) (e : ElementAt rows key k r
   pub spot_is : (place count p : ℕ) → deepest_row 0 rows ≤ 128 → count ≡ rows_width (row.depth + 1) (drop (k + 1) rows) → place ≤ count
       → p ≤ length (drop (k + 1) rows)
       → ((new : List Row) → put_rows place (row.depth + 1) new (drop (k + 1) rows) ≡ take p (drop (k + 1) rows) ++ (new ++ drop p (drop (k + 1) rows)))
-      → IsSpot rows key place (record { place = k + 1 + p; depth = row.depth })
+      → IsSpot rows key place (record { parent = k; place = k + 1 + p; depth = row.depth })
   spot_is place count p shallow is most within puts =
       let few : place ≤ width e.children = omega (arith, is, children_counted, most) in
       let no : nat_lt (width e.children) place ≡ false = grind (arith, nat_tests, few) in
@@ -193,6 +215,8 @@ module _ (rows : List Row) (key k : ℕ) (row : Row) (e : ElementAt rows key k r
       record {
         within = grind (arith, common_steps, within, behind_element, e.place, long);
         shallow = depth_is shallow;
+        inside = grind (arith, common_steps, e.place, long);
+        scoped = scope_is;
         puts = λ change. ap (put_at place change) e.is_found ∙ rw no refl;
         becomes = λ new. e.becomes place new
             ∙ ap (λ l. e.before ++ (row ∷ l)) (sym (put-rows place (row.depth + 1) new e.children e.after few e.ends)

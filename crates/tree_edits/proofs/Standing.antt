@@ -1,13 +1,15 @@
 -- Where a node stands among the rows of its tree.
-use Rattle.std.proofs.Common.{◌≡◌, ℕ, ◌+◌, ◌≤◌, List, [], ◌∷◌, ◌++◌, Bool, true, false, ◌==◌, ◌||◌, Some, None, length, refl, sym, ap, ◌∙◌, arith, append_assoc, append-nil}
+use Rattle.std.proofs.Common.{◌≡◌, ℕ, ◌+◌, ◌≤◌, List, [], ◌∷◌, ◌++◌, Bool, true, false, ◌==◌, ◌||◌, Some, None, length, refl, sym, ap, ◌∙◌, arith, append_assoc, append-nil, nat_lt, reverse}
 use Rattle.std.specs.List.{position_or_len}
 use Rattle.std.proofs.lemmas.Bool.Decides.{nat_tests}
 use Rattle.std.proofs.lemmas.Grind.{common_steps}
+use Rattle.std.proofs.lemmas.List.{reverse-append}
 use Rattle.tree_rows.specs.Forest.{Forest, none, text, element}
 use Rattle.tree_rows.specs.Rows.{rows_of}
 use Rattle.tree_rows.specs.RowLaws.{Ends}
 use Rattle.tree_edits.specs.Edits.{append, has, found, replaced}
 use Rattle.tree_edits.specs.EditRows.{is_numbered}
+use Rattle.tree_edits.specs.Places.{scope_in, scope_above}
 use Rattle.tree_rows.specs.declared.name.Expanded.{Expanded}
 use Rattle.tree_rows.specs.declared.row.Attribute.{Attribute}
 use Rattle.tree_rows.specs.declared.row.Binding.{Binding}
@@ -44,6 +46,38 @@ IsNode key none = ⊥
 IsNode key (text number chars next) = (number ≡ key) × (next ≡ none)
 IsNode key (element number name bindings attributes children next) = (number ≡ key) × (next ≡ none)
 
+-- the scope above a depth is that of the elements that are less deep
+not_above : (d : ℕ) → nat_lt d d ≡ false
+not_above d = grind (arith, nat_tests)
+
+reverse_onto : (x : Row) (xs more : List Row) → reverse (x ∷ xs) ++ more ≡ reverse xs ++ (x ∷ more)
+reverse_onto x xs more = ap (λ l. l ++ more) (reverse-append (x ∷ []) xs) ∙ append_assoc (reverse xs) (x ∷ []) more
+
+reverse_both : (x : Row) (xs ys more : List Row) → reverse (x ∷ (xs ++ ys)) ++ more ≡ reverse ys ++ (reverse xs ++ (x ∷ more))
+reverse_both x xs ys more =
+    reverse_onto x (xs ++ ys) more ∙ ap (λ l. l ++ (x ∷ more)) (reverse-append xs ys) ∙ append_assoc (reverse ys) (reverse xs) (x ∷ more)
+
+above_other : (low : ℕ) (scope : List Binding) (row : Row) (more : List Row) → low ≤ row.depth → scope_above low scope (row ∷ more) ≡ scope_above low scope more
+above_other low scope row more h = let no : nat_lt row.depth low ≡ false = grind (arith, nat_tests) in rw no refl
+
+above_skip : (low depth : ℕ) (scope : List Binding) (f : Forest) (more : List Row) → low ≤ depth
+    → scope_above low scope (reverse (rows_of depth f) ++ more) ≡ scope_above low scope more
+above_skip low depth scope none more h = refl
+above_skip low depth scope (text n chars next) more h =
+    ap (scope_above low scope) (reverse_onto (text_row n depth chars) (rows_of depth next) more)
+    ∙ above_skip low depth scope next (text_row n depth chars ∷ more) h ∙ above_other low scope (text_row n depth chars) more h
+above_skip low depth scope (element n name bindings attributes children next) more h =
+    let row = element_row n depth name bindings attributes in
+    ap (scope_above low scope) (reverse_both row (rows_of (depth + 1) children) (rows_of depth next) more)
+    ∙ above_skip low depth scope next (reverse (rows_of (depth + 1) children) ++ (row ∷ more)) h
+    ∙ above_skip low (depth + 1) scope children (row ∷ more) (omega (arith, h)) ∙ above_other low scope row more h
+
+-- the bindings of a node
+abbrev pub own : Forest → List Binding
+own none = []
+own (text number chars next) = []
+own (element number name bindings attributes children next) = bindings
+
 -- the node, the rows before it and those after it
 pub record Stands (key low : ℕ) (f : Forest) : Type 0 where
   pub before : List Row
@@ -56,6 +90,7 @@ pub record Stands (key low : ℕ) (f : Forest) : Type 0 where
   pub first : position_or_len (is_numbered key) (rows_of low f) ≡ length before
   pub deep : low ≤ depth
   pub ends : Ends (depth + 1) after
+  pub scoped : (scope : List Binding) (more : List Row) → scope_in key (scope_above low scope more) f ≡ own node ++ scope_above depth scope (reverse before ++ more)
   pub becomes : (change : Forest → Forest) → rows_of low (replaced key change f) ≡ before ++ (rows_of depth (change node) ++ after)
 
 or_first : (a b : Bool) → (a || b) ≡ false → a ≡ false
@@ -107,6 +142,7 @@ here_text key low n chars next is = record {
   first = rw is refl;
   deep = omega arith;
   ends = Ends-rows low next;
+  scoped = λ scope more. rw is refl;
   becomes = λ change. rw is (rows-append low (change (text n chars none)) next);
 }
 
@@ -123,6 +159,7 @@ here_element key low n name bindings attributes children next is = record {
   first = rw is refl;
   deep = omega arith;
   ends = Ends-rows low next;
+  scoped = λ scope more. rw is refl;
   becomes = λ change. rw is (rows-append low (change (element n name bindings attributes children none)) next);
 }
 
@@ -138,6 +175,10 @@ later_text key low n chars next is s = record {
   first = rw is (ap (λ k. 1 + k) s.first ∙ omega arith);
   deep = s.deep;
   ends = s.ends;
+  scoped = λ scope more.
+      let row = text_row n low chars in
+      rw is (ap (λ x. scope_in key x next) (sym (above_other low scope row more (omega arith))) ∙ s.scoped scope (row ∷ more)
+      ∙ ap (λ l. own s.node ++ scope_above s.depth scope l) (sym (reverse_onto row s.before more)));
   becomes = λ change. rw is (ap (λ l. text_row n low chars ∷ l) (s.becomes change));
 }
 
@@ -155,6 +196,11 @@ later_element key low n name bindings attributes children next is not_below s = 
   first = rw is (grind (arith, common_steps, passes key (rows_of (low + 1) children) (rows_of low next) (absent key (low + 1) children not_below), s.first));
   deep = s.deep;
   ends = s.ends;
+  scoped = λ scope more.
+      let row = element_row n low name bindings attributes in
+      rw (is, not_below) (ap (λ x. scope_in key x next) (sym (above_skip low (low + 1) scope children (row ∷ more) (omega arith) ∙ above_other low scope row more (omega arith)))
+      ∙ s.scoped scope (reverse (rows_of (low + 1) children) ++ (row ∷ more))
+      ∙ ap (λ l. own s.node ++ scope_above s.depth scope l) (sym (reverse_both row (rows_of (low + 1) children) s.before more)));
   becomes = λ change. rw (is, not_below) (ap (λ l. element_row n low name bindings attributes ∷ l) (ap (λ l. rows_of (low + 1) children ++ l) (s.becomes change)
       ∙ sym (append_assoc (rows_of (low + 1) children) s.before (rows_of s.depth (change s.node) ++ s.after))));
 }
@@ -196,6 +242,12 @@ below key low n name bindings attributes children next is is_below s =
       first = rw is (ap (λ k. 1 + k) (first_inner key (rows_of (low + 1) children) (rows_of low next) (length s.before) s.first long) ∙ omega arith);
       deep = omega (arith, s.deep);
       ends = Ends-more low s.depth s.after next (omega (arith, s.deep)) s.ends;
+      scoped = λ scope more.
+          let row = element_row n low name bindings attributes in
+          let yes : nat_lt low (low + 1) ≡ true = grind (arith, nat_tests) in
+          let deeper : scope_above (low + 1) scope (row ∷ more) ≡ bindings ++ scope_above low scope more = rw yes refl in
+          rw (is, is_below) (ap (λ x. scope_in key x children) (sym deeper) ∙ s.scoped scope (row ∷ more)
+          ∙ ap (λ l. own s.node ++ scope_above s.depth scope l) (sym (reverse_onto row s.before more)));
       becomes = λ change. rw (is, is_below) (ap (λ l. element_row n low name bindings attributes ∷ l) (ap (λ l. l ++ rows_of low next) (s.becomes change)
           ∙ inner s.before (rows_of s.depth (change s.node)) s.after (rows_of low next)));
     }

@@ -1,10 +1,12 @@
 -- Where an edit changes the rows of a tree.
-use Rattle.std.specs.Prelude.{◌≡◌, ℕ, ◌+◌, ◌≤◌, ◌<◌, false, ◌||◌, nat_lt, slice_index_or, slice_set, List, [], ◌∷◌, ◌++◌, length, take, drop, Result, Ok}
+use Rattle.std.specs.Prelude.{◌≡◌, ℕ, ◌+◌, ◌≤◌, ◌<◌, false, ◌||◌, nat_lt, slice_index_or, slice_set, List, [], ◌∷◌, ◌++◌, length, take, drop, reverse, Result, Ok}
 use Rattle.tree_rows.specs.Forest.{Forest, Document}
 use Rattle.tree_rows.specs.Rows.{rows_of, siblings}
 use Rattle.tree_edits.specs.Edits.{put, put_within, reword, remove, found, replaced, with_children}
+use Rattle.tree_edits.specs.Places.{scope_in, scope_above}
 use Rattle.tree_edits.specs.Refusals.{IsWhy}
 use Rattle.tree_edits.specs.EditRows.{AreSound, deepest_row}
+use Rattle.tree_rows.specs.declared.row.Binding.{Binding}
 use Rattle.tree_rows.specs.declared.row.Row.{Row}
 use Rattle.tree_rows.specs.declared.row.Content.TheVariants as contents
 use Rattle.tree_edits.specs.declared.places.Spot.{Spot}
@@ -23,6 +25,8 @@ CannotPut rows parent place error = (change : ℕ → Result Document EditError)
 pub record IsSpot (rows : List Row) (parent place : ℕ) (s : Spot) : Type 0 where
   pub within : s.place ≤ length rows
   pub shallow : s.depth ≤ 128
+  pub inside : s.parent < length rows
+  pub scoped : (scope : List Binding) → scope_in parent scope (siblings rows 1) ≡ scope_above (s.depth + 1) scope (reverse (take (s.parent + 1) rows))
   pub puts : (change : ℕ → Result Document EditError) → put (siblings rows 1) parent place change ≡ change s.depth
   pub becomes : (new : Forest) → rows_of 1 (replaced parent (with_children place new) (siblings rows 1))
       ≡ take s.place rows ++ (rows_of (s.depth + 1) new ++ drop s.place rows)

@@ -3,9 +3,7 @@
 
 mod apply;
 mod edit;
-mod names;
 mod places;
-mod scope;
 mod shifts;
 
 pub use apply::edit_rows;

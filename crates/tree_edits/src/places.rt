@@ -7,9 +7,10 @@ ghost use Rattle.tree_edits.specs.Spots.{CannotPut, IsSpot, CannotReword, IsText
 use crate::EditError;
 use tree_rows::{Content, Row};
 
-/// Where new siblings stand among the rows of a tree, and how deep their parent stands.
+/// Where new siblings stand among the rows of a tree, and where and how deep their parent stands.
 #[derive(Clone, Copy)]
 pub struct Spot {
+    pub parent: usize,
     pub place: usize,
     pub depth: u32,
 }
@@ -110,6 +111,7 @@ pub fn spot_of(rows: &[Row], parent: u32, index: u32) -> Result<Spot, EditError>
         return Err(EditError::BadIndex);
     }
     Ok(Spot {
+        parent: place,
         place: place + 1 + child_place(behind, below, index),
         depth,
     })
