@@ -2,4 +2,6 @@ pub mod Edits
 pub mod EditRows
 pub mod Refusals
 pub mod Places
+pub mod Blocks
+pub mod Walks
 pub mod Spots

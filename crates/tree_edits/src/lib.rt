@@ -3,7 +3,9 @@
 
 mod apply;
 mod edit;
+mod names;
 mod places;
+mod scope;
 mod shifts;
 
 pub use apply::edit_rows;
