@@ -6,7 +6,7 @@ use Rattle.assess_model.specs.Assessment.{Entry}
 use Rattle.assess_model.specs.declared.record.ElementRecord.{ElementRecord}
 use Rattle.report_text.specs.Report.{record_line}
 use Rattle.session_model.specs.Asking.{entry_of}
-use Rattle.session_model.specs.declared.session.NodeKind.TheVariants.{Element}
+use Rattle.tree_rows.specs.declared.row.NodeKind.TheVariants.{Element}
 use Rattle.edit_replies.specs.Replies.{assess_reply}
 
 number_step : (key : ℕ) (e : Entry) (more : List Entry) (found : Entry) → (entry_of key more ≡ Some found → found.number ≡ key) → (t : Bool) → (e.number == key) ≡ t

@@ -1,18 +1,19 @@
 -- The replies to the lines of an edit script, as a fold over the tree.
 use Rattle.std.specs.Prelude.{◌≡◌, ℕ, List, [], ◌∷◌, ◌++◌, Bool, false, Option, Some, None, Result, Ok, Err, codes}
 use Rattle.std.specs.Fmt.{decimal}
-use Rattle.plain_tree.specs.Forest.{Document}
-use Rattle.plain_tree.specs.Edits.{after}
-use Rattle.plain_tree.specs.Refusals as refusals
-use Rattle.plain_tree.specs.declared.edit.EditError.{EditError}
+use Rattle.tree_rows.specs.Forest.{Document}
+use Rattle.tree_edits.specs.Edits.{after}
+use Rattle.tree_edits.specs.Refusals as refusals
+use Rattle.tree_edits.specs.declared.edit.EditError.{EditError}
 use Rattle.assess_model.specs.Tables.{Tables}
 use Rattle.assess_model.specs.Assessment.{Entry, assessment, code_total}
 use Rattle.report_text.specs.Report.{entry_line}
 use Rattle.session_model.specs.State.{State}
 use Rattle.session_model.specs.Applying.{next_revision}
-use Rattle.session_model.specs.Asking.{kind_of, entry_of}
-use Rattle.session_model.specs.declared.session.NodeKind.{NodeKind}
-use Rattle.session_model.specs.declared.session.NodeKind.TheVariants.{Element, Chars}
+use Rattle.session_model.specs.Asking.{entry_of}
+use Rattle.tree_rows.specs.Kinds.{kind_of}
+use Rattle.tree_rows.specs.declared.row.NodeKind.{NodeKind}
+use Rattle.tree_rows.specs.declared.row.NodeKind.TheVariants.{Element, Chars}
 use Rattle.edit_script.specs.Commands.{command}
 use Rattle.edit_script.specs.Faults as faults
 use Rattle.edit_script.specs.declared.command.Command.{Command}

@@ -1,11 +1,12 @@
 ghost use Rattle.std.specs.Prelude.{◌≡◌, ◌++◌, ◌≤◌, true, false, OnOk, string_bytes};
-ghost use Rattle.plain_tree.specs.Edits.{after, can_be_made};
+ghost use Rattle.tree_edits.specs.Edits.{after, can_be_made};
 ghost use Rattle.session_model.specs.State.{known};
-ghost use Rattle.session_model.specs.Asking.{kind_of, entry_of};
+ghost use Rattle.session_model.specs.Asking.{entry_of};
+ghost use Rattle.tree_rows.specs.Kinds.{kind_of};
 ghost use Rattle.assess_model.specs.Assessment.{code_total};
 ghost use Rattle.edit_replies.specs.Replies.{made, total_line, refusal, assess_reply, change_reply, standing_of, AnswersBy};
 
-use plain_tree::Edit;
+use tree_edits::Edit;
 use report_text::write_record;
 use session_model::{NodeKind, Session, SessionError};
 use std::alloc::AllocError;

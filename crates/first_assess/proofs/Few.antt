@@ -1,7 +1,8 @@
 -- An element has two codes at most.
 use Rattle.std.proofs.Common.{◌≡◌, ℕ, ◌+◌, ◌*◌, ◌≤◌, List, [], ◌∷◌, ◌++◌, Bool, true, false, ◌==◌, Option, Some, None, if◌then◌else◌, length, refl, sym, ap, ◌∙◌, arith, add_assoc, zero-add, length-append}
-use Rattle.plain_tree.specs.Forest.{Forest, none, text, element}
-use Rattle.plain_tree.specs.Rows.{rows_of}
+use Rattle.tree_rows.specs.Forest.{Forest, none, text, element}
+use Rattle.tree_rows.specs.Rows.{rows_of}
+use Rattle.tree_rows.specs.Naming.{clark_name}
 use Rattle.assess_model.specs.Tables.{Tables}
 use Rattle.assess_model.specs.Schema.{stuck_place}
 use Rattle.assess_model.specs.Assessment.{Entry, governing, entries, codes_of, stuck_codes, child_names, has_characters, code_total}
@@ -36,8 +37,8 @@ code_total-append (e ∷ xs) ys = ap (λ n. length e.known.codes + n) (code_tota
 pub entries_few : (s : Tables) (root : Bool) (parent : Option TypeId) (depth : ℕ) (f : Forest) → code_total (entries s root parent f) ≤ 2 * length (rows_of depth f)
 entries_few s root parent depth none = omega arith
 entries_few s root parent depth (text number chars next) = omega (arith, entries_few s root parent depth next)
-entries_few s root parent depth (element number name attributes children next) =
-    let own = governing s parent name in
+entries_few s root parent depth (element number name bindings attributes children next) =
+    let own = governing s parent (clark_name name) in
     omega (
       arith,
       codes_few s root own children,

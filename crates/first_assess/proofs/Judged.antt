@@ -1,9 +1,9 @@
 -- One turn from the last row to the first.
 use Rattle.std.proofs.Common.{◌≡◌, ℕ, ◌+◌, ◌-◌, ◌<◌, ◌≤◌, zero, suc, List, [], ◌∷◌, ◌++◌, Option, None, length, take, drop, get_or, reverse, slice_index_or, refl, sym, ap, ◌∙◌, arith, subst, add-one, drop-cons, length-drop, append_assoc}
 use Rattle.std.proofs.lemmas.List.{take_all, reverse-append}
-use Rattle.plain_tree.specs.Forest.{Forest, none, text, element}
-use Rattle.plain_tree.specs.Rows.{rows_of}
-use Rattle.plain_tree.specs.declared.row.Row.{Row}
+use Rattle.tree_rows.specs.Forest.{Forest, none, text, element}
+use Rattle.tree_rows.specs.Rows.{rows_of}
+use Rattle.tree_rows.specs.declared.row.Row.{Row}
 use Rattle.assess_model.specs.Tables.{Tables}
 use Rattle.assess_model.specs.Assessment.{nothing_below}
 use Rattle.assess_model.specs.declared.record.TypeId.{TypeId}
@@ -22,7 +22,7 @@ AreBelow-at (first ∷ rows) (suc i) row b h e = AreBelow-at rows i row b.1 (ome
 pub AreBelow-rows_of : (depth : ℕ) (f : Forest) (rows : List Row) → 1 ≤ depth → AreBelow rows → AreBelow (rows_of depth f ++ rows)
 AreBelow-rows_of depth none rows h b = b
 AreBelow-rows_of depth (text n chars next) rows h b = (h, AreBelow-rows_of depth next rows h b)
-AreBelow-rows_of depth (element n name attributes children next) rows h b =
+AreBelow-rows_of depth (element n name bindings attributes children next) rows h b =
     (h, rw (append_assoc (rows_of (depth + 1) children) (rows_of depth next) rows) (AreBelow-rows_of (depth + 1) children (rows_of depth next ++ rows) (omega arith) (AreBelow-rows_of depth next rows h b)))
 
 module _ (s : Tables) (rows : List Row) (types : List (Option TypeId)) (i : ℕ) (row : Row) (governed : types ≡ row_types s none_open rows)

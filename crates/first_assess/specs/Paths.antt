@@ -1,8 +1,9 @@
 -- What governs the elements that are open at a row, by depth.
 use Rattle.std.specs.Prelude.{◌≡◌, slice_index_or, ℕ, ◌-◌, List, [], ◌∷◌, ◌==◌, Option, None, if◌then◌else◌}
-use Rattle.plain_tree.specs.declared.row.Row.{Row}
-use Rattle.plain_tree.specs.declared.row.Content.{Content}
-use Rattle.plain_tree.specs.declared.row.Content.TheVariants as contents
+use Rattle.tree_rows.specs.declared.row.Row.{Row}
+use Rattle.tree_rows.specs.declared.row.Content.{Content}
+use Rattle.tree_rows.specs.declared.row.Content.TheVariants as contents
+use Rattle.tree_rows.specs.Naming.{clark_name}
 use Rattle.assess_model.specs.Tables.{Tables}
 use Rattle.assess_model.specs.Assessment.{governing}
 use Rattle.assess_model.specs.declared.record.TypeId.{TypeId}
@@ -21,12 +22,12 @@ IsKept kept path = (depth : ℕ) → slice_index_or kept depth None ≡ path dep
 
 -- what governs a row, by the path to it; nothing governs a text
 abbrev pub row_type : Tables → Path → ℕ → Content → Option TypeId
-row_type s path depth (contents.Element name) = governing s (path (depth - 1)) name
+row_type s path depth (contents.Element name) = governing s (path (depth - 1)) (clark_name name)
 row_type s path depth (contents.Chars chars) = None
 
 -- an element is open at its depth from its row on
 abbrev pub opened : Tables → Path → ℕ → Content → Path
-opened s path depth (contents.Element name) = λ d. if d == depth then governing s (path (depth - 1)) name else path d
+opened s path depth (contents.Element name) = λ d. if d == depth then governing s (path (depth - 1)) (clark_name name) else path d
 opened s path depth (contents.Chars chars) = path
 
 -- the path behind rows

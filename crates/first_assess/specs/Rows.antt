@@ -1,9 +1,10 @@
 -- The records of a tree's rows.
 use Rattle.std.specs.Prelude.{ℕ, ◌+◌, ◌-◌, ◌≤◌, List, [], ◌∷◌, ◌==◌, Option, Some, None}
-use Rattle.plain_tree.specs.Rows.{siblings}
-use Rattle.plain_tree.specs.declared.row.Row.{Row}
-use Rattle.plain_tree.specs.declared.row.Content.{Content}
-use Rattle.plain_tree.specs.declared.row.Content.TheVariants as contents
+use Rattle.tree_rows.specs.Rows.{siblings}
+use Rattle.tree_rows.specs.declared.row.Row.{Row}
+use Rattle.tree_rows.specs.declared.row.Content.{Content}
+use Rattle.tree_rows.specs.declared.row.Content.TheVariants as contents
+use Rattle.tree_rows.specs.Naming.{clark_name}
 use Rattle.assess_model.specs.Tables.{Tables}
 use Rattle.assess_model.specs.Assessment.{Entry, governing, record_of, record_from, codes_of, with_child}
 use Rattle.assess_model.specs.declared.record.TypeId.{TypeId}
@@ -14,7 +15,7 @@ use Rattle.first_assess.specs.Paths.{Path, opened}
 -- the record of a row, None for a text; the rows behind it hold what is below it
 abbrev pub row_record : Tables → Path → ℕ → Content → List Row → Option ElementRecord
 row_record s path depth (contents.Element name) later =
-    Some (record_of s (depth == 1) (governing s (path (depth - 1)) name) (siblings later (depth + 1)))
+    Some (record_of s (depth == 1) (governing s (path (depth - 1)) (clark_name name)) (siblings later (depth + 1)))
 row_record s path depth (contents.Chars chars) later = None
 
 -- the records of rows
@@ -39,10 +40,14 @@ abbrev pub AreBelow : List Row → Type 0
 AreBelow [] = Unit {0}
 AreBelow (row ∷ rows) = (1 ≤ row.depth) × AreBelow rows
 
+-- the name of a row as one text; a text has none
+abbrev pub row_name : Content → List ℕ
+row_name (contents.Element name) = clark_name name
+row_name (contents.Chars chars) = []
+
 -- the entries of rows with their records
 abbrev pub entry_of : ℕ → Content → ElementRecord → Entry
-entry_of number (contents.Element name) known = record { number = number; name = name; known = known }
-entry_of number (contents.Chars chars) known = record { number = number; name = chars; known = known }
+entry_of number content known = record { number = number; name = row_name content; known = known }
 
 abbrev pub row_entries : List Row → List (Option ElementRecord) → List Entry
 row_entries [] records = []

@@ -1,10 +1,10 @@
 ghost use Rattle.std.specs.Prelude.{◌≡◌, ◌+◌, IfOk};
-ghost use Rattle.plain_tree.specs.Rows.{siblings};
+ghost use Rattle.tree_rows.specs.Rows.{siblings};
 ghost use Rattle.assess_model.specs.Assessment.{child_names, has_characters};
 
-use plain_tree::{Content, Row, is_white_space};
+use tree_rows::{Content, Row, is_white_space};
 use std::alloc::{AllocError, Global};
-use xs_names::{Text, Texts};
+use xs_names::Texts;
 
 /// The names of the child elements of an element of this depth, by the rows behind it.
 pub fn read_child_names(alloc: Global, depth: u32, later: &[Row]) -> Result<Texts, AllocError>
@@ -17,7 +17,7 @@ pub fn read_child_names(alloc: Global, depth: u32, later: &[Row]) -> Result<Text
         }
         if row.depth - 1 == depth {
             match &row.content {
-                Content::Element(name) => names.push(Text::new(alloc, name.as_str())?)?,
+                Content::Element(name) => names.push(name.clark_name(alloc)?)?,
                 Content::Chars(_) => {}
             }
         }

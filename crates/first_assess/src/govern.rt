@@ -3,7 +3,7 @@ ghost use Rattle.assess_model.specs.Assessment.{governing};
 ghost use Rattle.first_assess.specs.Paths.{Path, IsKept, none_open, opened, row_type, row_types};
 
 use assess_model::{Schema, TypeId};
-use plain_tree::{Content, Row};
+use tree_rows::{Content, Row};
 use std::alloc::{AllocError, Global};
 
 /// What governs a child of this name, by what governs its parent.
@@ -49,6 +49,7 @@ fn open_element(
 
 /// What governs a row, which is opened if it is an element.
 fn govern_row(
+    alloc: Global,
     schema: &Schema,
     path: &mut Vec<Option<TypeId>>,
     row: &Row,
@@ -60,6 +61,7 @@ fn govern_row(
         Content::Chars(_) => Ok(None),
         Content::Element(name) => {
             let parent = open_at(path, row.depth.saturating_sub(1));
+            let name = name.clark_name(alloc)?;
             let of = govern(schema, parent, name.as_str());
             open_element(path, row.depth, of)?;
             Ok(of)
@@ -78,7 +80,7 @@ pub fn govern_rows(
     let mut types = Vec::new(alloc);
     let mut path: Vec<Option<TypeId>> = Vec::new(alloc);
     for row in rows {
-        types.push(govern_row(schema, &mut path, row)?)?;
+        types.push(govern_row(alloc, schema, &mut path, row)?)?;
     }
     Ok(types)
 }

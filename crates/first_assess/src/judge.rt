@@ -1,11 +1,11 @@
 ghost use Rattle.std.specs.Prelude.{◌≡◌, ◌==◌, ◌+◌, ◌++◌, IfOk, OnOk, if◌then◌else◌, [], ◌∷◌};
-ghost use Rattle.plain_tree.specs.Rows.{siblings};
+ghost use Rattle.tree_rows.specs.Rows.{siblings};
 ghost use Rattle.assess_model.specs.Schema.{stuck_place};
 ghost use Rattle.assess_model.specs.Assessment.{codes_of, stuck_codes, has_characters, child_names, validity_of, attempted_of, record_from, with_child, type_of, is_invalid, is_full, is_none_attempted};
 
 use crate::below::{find_characters, read_child_names};
 use assess_model::{Attempted, ChildSummary, Code, Codes, ElementRecord, Schema, TypeId, Validity};
-use plain_tree::Row;
+use tree_rows::Row;
 use std::alloc::{AllocError, Global};
 use xs_names::Texts;
 

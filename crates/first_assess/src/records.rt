@@ -1,5 +1,6 @@
 ghost use Rattle.std.specs.Prelude.{◌≡◌, ◌==◌, ◌+◌, ◌*◌, ◌<◌, ◌≤◌, ℕ, List, IfOk, OnOk, None, reverse, nat_lt, length, slice_index_or, if◌then◌else◌};
-ghost use Rattle.plain_tree.specs.Rows.{rows_of, siblings};
+ghost use Rattle.tree_rows.specs.Forest.{Forest};
+ghost use Rattle.tree_rows.specs.Rows.{rows_of, siblings};
 ghost use Rattle.assess_model.specs.Assessment.{assessment, code_total, nothing_below};
 ghost use Rattle.first_assess.specs.Paths.{none_open, row_types};
 ghost use Rattle.first_assess.specs.Rows.{AreBelow, record_by, row_entries, row_records, with_node};
@@ -7,7 +8,7 @@ ghost use Rattle.first_assess.specs.Rows.{AreBelow, record_by, row_entries, row_
 use crate::govern::govern_rows;
 use crate::judge::{judge, judge_codes, put_child};
 use assess_model::{ChildSummary, ElementRecord, Schema, TypeId};
-use plain_tree::{Content, Row, Tree};
+use tree_rows::{Content, Row};
 use std::alloc::{AllocError, Global};
 use std::marker::Model;
 
@@ -135,12 +136,13 @@ fn judge_rows(
     Ok(records)
 }
 
-/// The records of a tree's elements, by the schema.
-pub fn assess(alloc: Global, schema: &Schema, tree: &Tree) -> Result<Records, AllocError>
-    ensures entries { IfOk result (λ records. row_entries (rows_of 1 tree.now.forest) records ≡ assessment schema.now tree.now.forest) }
-    ensures few { OnOk result (code_total (assessment schema.now tree.now.forest) ≤ 2 * length (rows_of 1 tree.now.forest)) }
+/// The records of the elements of a tree, by the schema and the tree's rows in document order.
+pub fn assess(alloc: Global, schema: &Schema, rows: &[Row]) -> Result<Records, AllocError>
+    requires { (f : Forest) × (rows.now ≡ rows_of 1 f) }
+    ensures entries { IfOk result (λ records. (f : Forest) → rows.now ≡ rows_of 1 f
+        → row_entries rows.now records ≡ assessment schema.now f) }
+    ensures few { OnOk result ((f : Forest) → rows.now ≡ rows_of 1 f → code_total (assessment schema.now f) ≤ 2 * length rows.now) }
 {
-    let rows = tree.rows();
     let types = govern_rows(alloc, schema, rows)?;
     let mut records = judge_rows(alloc, schema, &types, rows)?;
     records.reverse();

@@ -1,18 +1,19 @@
 -- The rows of nodes.
 use Rattle.std.specs.Prelude.{ℕ, List, [], ◌∷◌, ◌==◌, Option, Some, None, if◌then◌else◌}
-use Rattle.plain_tree.specs.declared.row.Row.{Row}
-use Rattle.plain_tree.specs.declared.row.Content.{Content}
-use Rattle.plain_tree.specs.declared.row.Content.TheVariants as contents
-use Rattle.session_model.specs.declared.session.NodeKind.{NodeKind}
-use Rattle.session_model.specs.declared.session.NodeKind.TheVariants.{Element, Chars}
+use Rattle.tree_rows.specs.declared.row.Row.{Row}
+use Rattle.tree_rows.specs.declared.row.Content.{Content}
+use Rattle.tree_rows.specs.declared.row.Content.TheVariants as contents
+use Rattle.first_assess.specs.Rows.{row_name}
+use Rattle.tree_rows.specs.declared.row.NodeKind.{NodeKind}
+use Rattle.tree_rows.specs.declared.row.NodeKind.TheVariants.{Element, Chars}
 
 abbrev pub content_kind : Content → NodeKind
 content_kind (contents.Element name) = Element
 content_kind (contents.Chars chars) = Chars
 
-abbrev pub content_name : Content → List ℕ
-content_name (contents.Element name) = name
-content_name (contents.Chars chars) = chars
+-- the name of a row
+abbrev pub name_of : Row → List ℕ
+name_of row = row_name row.content
 
 -- what the row of a number is
 abbrev pub row_kind : ℕ → List Row → Option NodeKind

@@ -3,7 +3,7 @@ ghost use Rattle.assess_model.specs.Assessment.{code_total};
 ghost use Rattle.first_assess.specs.Rows.{row_entries};
 
 use assess_model::ElementRecord;
-use plain_tree::Row;
+use tree_rows::Row;
 
 /// The number of codes of the records of rows.
 pub fn count_codes(rows: &[Row], records: &[Option<ElementRecord>]) -> u64

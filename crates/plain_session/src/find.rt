@@ -1,13 +1,12 @@
-ghost use Rattle.std.specs.Prelude.{◌≡◌};
+ghost use Rattle.std.specs.Prelude.{◌≡◌, map};
 ghost use Rattle.std.specs.Option.{option_map};
 ghost use Rattle.assess_model.specs.Assessment.{Entry};
 ghost use Rattle.first_assess.specs.Rows.{row_entries};
 ghost use Rattle.session_model.specs.Asking.{entry_of};
-ghost use Rattle.plain_session.specs.Finding.{content_name, row_kind};
+ghost use Rattle.plain_session.specs.Finding.{name_of, row_kind};
 
 use assess_model::ElementRecord;
-use plain_tree::{Content, Row};
-use session_model::NodeKind;
+use tree_rows::{Content, NodeKind, Row};
 use xs_names::Text;
 
 /// An element's name and its record.
@@ -17,34 +16,27 @@ pub struct Found<'a> {
     pub known: &'a ElementRecord,
 }
 
-fn name_of(content: &Content) -> &Text
-    ensures { result.now ≡ content_name content.now }
-{
-    match content {
-        Content::Element(name) => name,
-        Content::Chars(chars) => chars,
-    }
-}
-
 /// The name and the record of the element of a number.
 pub fn find_element<'a>(
-    rows: &'a [Row],
+    rows: &[Row],
+    names: &'a [Text],
     records: &'a [Option<ElementRecord>],
     node: u32,
 ) -> Option<Found<'a>>
-    ensures known { option_map (λ f. f.known.now) result ≡ option_map (λ e. e.known) (entry_of node (row_entries rows.now records.now)) }
-    ensures name { option_map (λ f. f.name.now) result ≡ option_map (λ e. e.name) (entry_of node (row_entries rows.now records.now)) }
+    ensures known { names.now ≡ map name_of rows.now → option_map (λ f. f.known.now) result ≡ option_map (λ e. e.known) (entry_of node (row_entries rows.now records.now)) }
+    ensures name { names.now ≡ map name_of rows.now → option_map (λ f. f.name.now) result ≡ option_map (λ e. e.name) (entry_of node (row_entries rows.now records.now)) }
 {
     let mut rest = rows;
+    let mut called = names;
     let mut left = records;
     'rows: while let Some((row, later)) = rest.split_first() {
+        let Some((name, more_names)) = called.split_first() else {
+            return None;
+        };
         match left.split_first() {
             Some((Some(known), more)) => {
                 if row.number == node {
-                    return Some(Found {
-                        name: name_of(&row.content),
-                        known,
-                    });
+                    return Some(Found { name, known });
                 }
                 left = more;
             }
@@ -52,6 +44,7 @@ pub fn find_element<'a>(
             None => return None,
         }
         rest = later;
+        called = more_names;
     }
     None
 }

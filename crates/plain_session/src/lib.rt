@@ -3,6 +3,8 @@
 
 mod count;
 mod find;
+mod names;
 mod session;
+mod stock;
 
 pub use session::PlainSession;

@@ -1,15 +1,15 @@
 ghost use Rattle.std.specs.Prelude.{◌≡◌, false, IfOk};
-ghost use Rattle.plain_tree.specs.Rows.{rows_of};
 
-use crate::count::count_codes;
 use crate::find::{find_element, find_kind};
+use crate::stock::{Stock, take_stock};
 use assess_model::{ElementRecord, Schema, Validity};
-use first_assess::{Records, assess};
-use plain_tree::{Edit, EditError, Tree};
+use plain_tree::Tree;
 use report_text::find_root_validity;
-use session_model::{NodeKind, Session, SessionError};
+use session_model::{Session, SessionError};
 use std::alloc::{AllocError, Global};
 use std::marker::Model;
+use tree_edits::{Edit, EditError};
+use tree_rows::NodeKind;
 use xs_names::Text;
 use xsv_steps::{Ledger, Steps};
 
@@ -19,8 +19,7 @@ pub struct PlainSession {
     alloc: Global,
     schema: Schema,
     tree: Tree,
-    records: Records,
-    total: u64,
+    stock: Stock,
     revision: u64,
     closed: bool,
 }
@@ -49,14 +48,12 @@ impl PlainSession {
     pub fn open(alloc: Global, schema: Schema, tree: Tree) -> Result<Self, AllocError>
         ensures { IfOk result (λ s. s ≡ record { tables = schema; document = tree; revision = 0; closed = false }) }
     {
-        let records = assess(alloc, &schema, &tree)?;
-        let total = count_codes(tree.rows(), records.as_slice());
+        let stock = take_stock(alloc, &schema, &tree)?;
         Ok(PlainSession {
             alloc,
             schema,
             tree,
-            records,
-            total,
+            stock,
             revision: 0,
             closed: false,
         })
@@ -78,10 +75,9 @@ impl Session for PlainSession {
             }
             Err(refusal) => return Err(SessionError::Refused(refusal)),
         }
-        match assess(self.alloc, &self.schema, &self.tree) {
-            Ok(records) => {
-                self.total = count_codes(self.tree.rows(), records.as_slice());
-                self.records = records;
+        match take_stock(self.alloc, &self.schema, &self.tree) {
+            Ok(stock) => {
+                self.stock = stock;
                 self.revision = self.revision.saturating_add(1);
                 Ok(())
             }
@@ -93,25 +89,35 @@ impl Session for PlainSession {
     }
 
     fn element_record(&self, node: u32) -> Option<&ElementRecord> {
-        match find_element(self.tree.rows(), self.records.as_slice(), node) {
+        match find_element(
+            self.tree.rows(),
+            &self.stock.names,
+            self.stock.records.as_slice(),
+            node,
+        ) {
             Some(found) => Some(found.known),
             None => None,
         }
     }
 
     fn element_name(&self, node: u32) -> Option<&Text> {
-        match find_element(self.tree.rows(), self.records.as_slice(), node) {
+        match find_element(
+            self.tree.rows(),
+            &self.stock.names,
+            self.stock.records.as_slice(),
+            node,
+        ) {
             Some(found) => Some(found.name),
             None => None,
         }
     }
 
     fn code_total(&self) -> u64 {
-        self.total
+        self.stock.total
     }
 
     fn root_validity(&self) -> Validity {
-        find_root_validity(self.tree.rows(), self.records.as_slice())
+        find_root_validity(self.tree.rows(), self.stock.records.as_slice())
     }
 
     fn live(&self, node: u32) -> Option<NodeKind> {

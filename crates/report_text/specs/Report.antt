@@ -3,12 +3,13 @@ use Rattle.std.specs.Prelude.{ℕ, List, [], ◌∷◌, ◌++◌, codes}
 use Rattle.std.specs.Fmt.{decimal}
 use Rattle.assess_model.specs.Assessment.{Entry}
 use Rattle.assess_model.specs.declared.record.ElementRecord.{ElementRecord}
+use Rattle.report_text.specs.Escaping.{escaped}
 use Rattle.report_text.specs.Words.{validity_word, attempted_word, codes_text, type_text}
 
--- number, name, type, validity, how far assessed, where the value comes from, codes
+-- number, name with escapes, type, validity, how far assessed, where the value comes from, codes
 abbrev pub record_line : ℕ → List ℕ → ElementRecord → List ℕ
 record_line number name known =
-    codes "e " ++ decimal number ++ codes " " ++ name ++ codes " " ++ type_text known.of ++ codes " " ++ validity_word known.validity
+    codes "e " ++ decimal number ++ codes " " ++ escaped name ++ codes " " ++ type_text known.of ++ codes " " ++ validity_word known.validity
     ++ codes " " ++ attempted_word known.attempted ++ codes " given " ++ codes_text known.codes ++ 10 ∷ []
 
 abbrev pub entry_line : Entry → List ℕ

@@ -2,6 +2,7 @@
 #![tactic(auto)]
 
 mod codes;
+mod escape;
 mod record;
 mod report;
 mod words;

@@ -2,12 +2,13 @@ ghost use Rattle.std.specs.Prelude.{◌≡◌, ◌++◌, OnOk, string_bytes};
 ghost use Rattle.report_text.specs.Report.{record_line};
 
 use crate::codes::{write_codes, write_type};
+use crate::escape::write_escaped;
 use crate::words::{attempted_word, validity_word};
 use assess_model::ElementRecord;
 use std::alloc::AllocError;
 use std::fmt::Write;
 
-/// Writes the record line of an element, by its number and its name.
+/// Writes the record line of an element, by its number and its name as one text.
 pub fn write_record(
     out: &mut String,
     number: u32,
@@ -18,7 +19,9 @@ pub fn write_record(
 {
     let validity = validity_word(known.validity);
     let attempted = attempted_word(known.attempted);
-    write!(out, "e {number} {name} ")?;
+    write!(out, "e {number} ")?;
+    write_escaped(out, name)?;
+    out.push_str(" ")?;
     write_type(out, known.of)?;
     write!(out, " {validity} {attempted} given ")?;
     write_codes(out, known.codes.as_slice())?;

@@ -5,21 +5,30 @@ ghost use Rattle.report_text.specs.Report.{entry_line, record_lines};
 
 use crate::record::write_record;
 use assess_model::{ElementRecord, Validity};
-use plain_tree::{Content, Row};
-use std::alloc::AllocError;
+use tree_rows::{Content, Row};
+use std::alloc::{AllocError, Global};
 
 /// Writes the line of a row with its record.
-fn write_row(out: &mut String, row: &Row, known: &ElementRecord) -> Result<(), AllocError>
+fn write_row(
+    alloc: Global,
+    out: &mut String,
+    row: &Row,
+    known: &ElementRecord,
+) -> Result<(), AllocError>
     ensures { OnOk result (string_bytes out.new ≡ string_bytes out.old ++ entry_line (entry_of row.now.number row.now.content known.now)) }
 {
     match &row.content {
-        Content::Element(name) => write_record(out, row.number, name.as_str(), known),
-        Content::Chars(chars) => write_record(out, row.number, chars.as_str(), known),
+        Content::Element(name) => {
+            let name = name.clark_name(alloc)?;
+            write_record(out, row.number, name.as_str(), known)
+        }
+        Content::Chars(_) => write_record(out, row.number, "", known),
     }
 }
 
 /// Writes the record lines of all rows that have a record, and answers how many codes they have.
 pub fn write_report(
+    alloc: Global,
     out: &mut String,
     rows: &[Row],
     records: &[Option<ElementRecord>],
@@ -34,7 +43,7 @@ pub fn write_report(
     'rows: while let Some((row, later)) = rest.split_first() {
         match left.split_first() {
             Some((Some(known), more)) => {
-                write_row(out, row, known)?;
+                write_row(alloc, out, row, known)?;
                 total += known.codes.as_slice().len() as u64;
                 left = more;
             }

@@ -1,9 +1,9 @@
 -- What an edit does to a session.
 use Rattle.std.specs.Prelude.{◌≡◌, ◌≢◌, ℕ, ◌+◌, ◌-◌, ◌^◌, min, Bool, true, false, Result, Ok, Err}
-use Rattle.plain_tree.specs.Edits.{after}
-use Rattle.plain_tree.specs.declared.edit.Edit.{Edit}
-use Rattle.plain_tree.specs.declared.edit.EditError.{EditError}
-use Rattle.plain_tree.specs.declared.edit.EditError.TheVariants as edit_errors
+use Rattle.tree_edits.specs.Edits.{after}
+use Rattle.tree_edits.specs.declared.edit.Edit.{Edit}
+use Rattle.tree_edits.specs.declared.edit.EditError.{EditError}
+use Rattle.tree_edits.specs.declared.edit.EditError.TheVariants as edit_errors
 use Rattle.session_model.specs.State.{State}
 use Rattle.session_model.specs.declared.session.SessionError.{SessionError}
 use Rattle.session_model.specs.declared.session.SessionError.TheVariants as errors

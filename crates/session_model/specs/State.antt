@@ -1,6 +1,6 @@
 -- What contracts see of a session.
 use Rattle.std.specs.Prelude.{ℕ, List, Bool}
-use Rattle.plain_tree.specs.Forest.{Document}
+use Rattle.tree_rows.specs.Forest.{Document}
 use Rattle.assess_model.specs.Tables.{Tables}
 use Rattle.assess_model.specs.Assessment.{Entry, assessment}
 

@@ -1,8 +1,8 @@
 -- A session's state is stored as its parts.
 use Rattle.std.specs.Prelude.{ℕ, Bool, refl}
 use Rattle.std.specs.Coded.{Coded, code_by, coded×, coded_ℕ, coded_bool}
-use Rattle.plain_tree.specs.Forest.{Document}
-use Rattle.plain_tree.specs.Code.{document_code}
+use Rattle.tree_rows.specs.Forest.{Document}
+use Rattle.tree_rows.specs.Code.{document_code}
 use Rattle.assess_model.specs.Tables.{Tables}
 use Rattle.assess_model.specs.TablesCode.{tables_code}
 use Rattle.session_model.specs.State.{State}

@@ -3,4 +3,4 @@
 
 mod session;
 
-pub use session::{NodeKind, Session, SessionError};
+pub use session::{Session, SessionError};

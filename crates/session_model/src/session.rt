@@ -1,22 +1,17 @@
 ghost use Rattle.std.specs.Prelude.{◌≡◌, ◌≤◌, true, false, Option};
 ghost use Rattle.std.specs.Option.{option_map};
-ghost use Rattle.plain_tree.specs.Edits.{can_be_made};
+ghost use Rattle.tree_edits.specs.Edits.{can_be_made};
 ghost use Rattle.assess_model.specs.Assessment.{code_total, root_validity};
 ghost use Rattle.session_model.specs.State.{State, known};
 ghost use Rattle.session_model.specs.Applying.{Applies};
-ghost use Rattle.session_model.specs.Asking.{kind_of, entry_of};
+ghost use Rattle.session_model.specs.Asking.{entry_of};
+ghost use Rattle.tree_rows.specs.Kinds.{kind_of};
 
 use assess_model::{ElementRecord, Validity};
-use plain_tree::{Edit, EditError};
+use tree_edits::{Edit, EditError};
+use tree_rows::NodeKind;
 use xs_names::Text;
 use xsv_steps::{Ledger, Steps};
-
-/// What a node is.
-#[derive(Clone, Copy, Debug, PartialEq, Eq)]
-pub enum NodeKind {
-    Element,
-    Chars,
-}
 
 /// Why a session did not make an edit.
 #[derive(Clone, Copy, Debug, PartialEq, Eq)]
@@ -51,7 +46,7 @@ pub trait Session {
         ensures { (state self.now).closed ≡ false
             → option_map (λ r. r.now) result ≡ option_map (λ e. e.known) (entry_of node (known (state self.now))) };
 
-    /// The name of an element as it is written, `None` where the number is of no element of the tree.
+    /// The name of an element as one text, `local` or `{namespace}local`, `None` where the number is of no element of the tree.
     fn element_name(&self, node: u32) -> Option<&Text>
         ensures { (state self.now).closed ≡ false
             → option_map (λ t. t.now) result ≡ option_map (λ e. e.name) (entry_of node (known (state self.now))) };

@@ -8,7 +8,7 @@ use Rattle.tree_rows.specs.Naming.{same_name}
 use Rattle.tree_rows.specs.declared.row.Attribute.{Attribute}
 use Rattle.tree_rows.specs.declared.row.Binding.{Binding}
 use Rattle.tag_names.specs.Scopes.{of_prefix}
-use Rattle.tag_names.specs.Tags.{is_binding, bindings_in, scope_within, prefix_of, attributes_in}
+use Rattle.tag_names.specs.Tags.{is_binding, binding_of, bindings_in, scope_within, prefix_of, attributes_in}
 use Rattle.tag_names.specs.declared.lines.AttributeLine.{AttributeLine}
 use Rattle.tag_names.specs.declared.lines.Tag.{Tag}
 use Rattle.tag_names.specs.declared.fault.NameReason.{NameReason}
@@ -37,6 +37,10 @@ abbrev pub is_xmlns : Option (List ℕ) → Bool
 is_xmlns None = false
 is_xmlns (Some prefix) = bytes_eq prefix (codes "xmlns")
 
+-- a binding that is reserved
+abbrev pub binds_reserved : AttributeLine → Bool
+binds_reserved line = is_binding line && is_reserved (binding_of line)
+
 -- a binding is reserved, or the element's name has the prefix xmlns
 abbrev pub uses_reserved : Tag → Bool
 uses_reserved tag = is_xmlns (prefix_of tag.name) || list_any is_reserved (bindings_in tag.attributes)
@@ -46,11 +50,15 @@ abbrev pub is_unbound : List Binding → Option (List ℕ) → Bool
 is_unbound scope None = false
 is_unbound scope (Some prefix) = not (bytes_eq prefix (codes "xmlns")) && is_none (of_prefix scope prefix)
 
+-- the prefix of an attribute that is no binding is not bound
+abbrev pub line_is_unbound : List Binding → AttributeLine → Bool
+line_is_unbound scope line = not (is_binding line) && is_unbound scope (prefix_of line.name)
+
 -- of the element's name, or of an attribute's that is no binding (Namespaces in XML 1.0, 5)
 abbrev pub has_unbound : List Binding → Tag → Bool
 has_unbound scope tag =
     is_unbound (scope_within scope tag) (prefix_of tag.name)
-    || list_any (λ line. not (is_binding line) && is_unbound (scope_within scope tag) (prefix_of line.name)) tag.attributes
+    || list_any (line_is_unbound (scope_within scope tag)) tag.attributes
 
 -- two bindings have one prefix
 abbrev pub repeats_prefix : List Binding → Bool

@@ -1,3 +1,4 @@
 pub mod Scopes
 pub mod Tags
 pub mod Faults
+pub mod Blocks

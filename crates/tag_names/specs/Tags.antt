@@ -9,6 +9,7 @@ use Rattle.tree_rows.specs.declared.row.Binding.{Binding}
 use Rattle.tag_names.specs.Scopes.{element_space, attribute_space}
 use Rattle.tag_names.specs.declared.lines.AttributeLine.{AttributeLine}
 use Rattle.tag_names.specs.declared.lines.Tag.{Tag}
+use Rattle.tag_names.specs.declared.named.Named.{Named}
 
 -- xmlns, or xmlns: and a prefix: the attribute binds the default namespace or the prefix (Namespaces in XML 1.0, 3)
 abbrev pub is_binding : AttributeLine → Bool
@@ -17,6 +18,10 @@ is_binding line = bytes_eq line.name (codes "xmlns") || starts_with nat_eq line.
 -- the prefix that is bound, empty for the default namespace, and the namespace's name
 abbrev pub binding_of : AttributeLine → Binding
 binding_of line = record { prefix = drop 6 line.name; namespace = line.value }
+
+-- the prefix that an attribute binds, if it is a binding
+abbrev pub bound_prefix : AttributeLine → Option (List ℕ)
+bound_prefix line = if is_binding line then Some (drop 6 line.name) else None
 
 -- the bindings of a tag, in order
 abbrev pub bindings_in : List AttributeLine → List Binding
@@ -54,11 +59,6 @@ attributes_in scope (line ∷ lines) =
     else record { name = attribute_name scope line.name; value = line.value } ∷ attributes_in scope lines
 
 -- what a tag says of its element, where it stands in this scope
-pub record Named : Type 0 where
-  pub name : Expanded
-  pub bindings : List Binding
-  pub attributes : List Attribute
-
 abbrev pub named : List Binding → Tag → Named
 named scope tag = record {
   name = element_name (scope_within scope tag) tag.name;

@@ -2,7 +2,13 @@
 #![tactic(auto)]
 
 mod fault;
+mod judge;
 mod lines;
+mod named;
+mod parts;
+mod prefixes;
 
 pub use fault::NameReason;
 pub use lines::{AttributeLine, AttributeLines, Tag};
+pub use named::Named;
+pub use prefixes::Prefixes;

@@ -3,3 +3,5 @@ pub mod Forest
 pub mod Rows
 pub mod RowLaws
 pub mod White
+pub mod Kinds
+pub mod Code

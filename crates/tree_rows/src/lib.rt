@@ -8,5 +8,5 @@ mod white;
 
 pub use lists::{Attributes, Bindings};
 pub use name::Expanded;
-pub use row::{Attribute, Binding, Content, Row};
+pub use row::{Attribute, Binding, Content, NodeKind, Row};
 pub use white::is_white_space;

@@ -25,6 +25,13 @@ pub enum Content {
     Chars(Text),
 }
 
+/// Whether a node is an element or a text.
+#[derive(Clone, Copy, Debug, PartialEq, Eq)]
+pub enum NodeKind {
+    Element,
+    Chars,
+}
+
 /// A node of a tree, as it stands in document order.
 #[derive(Debug, Drop)]
 pub struct Row {

@@ -1,5 +1,5 @@
 use Rattle.std.proofs.Common.{◌≡◌, ◌+◌, drop}
-use Rattle.plain_tree.specs.Rows.{siblings}
+use Rattle.tree_rows.specs.Rows.{siblings}
 use Rattle.assess_model.specs.Assessment.{has_characters}
 use Rattle.first_assess.proofs.below.find_characters.Given as goal
 

@@ -1,5 +1,5 @@
 use Rattle.std.proofs.Common.{◌≡◌, ◌+◌, ◌++◌, drop}
-use Rattle.plain_tree.specs.Rows.{siblings}
+use Rattle.tree_rows.specs.Rows.{siblings}
 use Rattle.assess_model.specs.Assessment.{child_names}
 use Rattle.first_assess.proofs.below.read_child_names.Given as goal
 

@@ -1,5 +1,5 @@
 use Rattle.std.proofs.Common.{◌≡◌, ◌≤◌, ◌==◌, ◌-◌, ℕ, drop, take, length, reverse, slice_index_or}
-use Rattle.plain_tree.specs.Rows.{siblings}
+use Rattle.tree_rows.specs.Rows.{siblings}
 use Rattle.assess_model.specs.Assessment.{summary, nothing_below}
 use Rattle.first_assess.specs.Paths.{none_open, path_after}
 use Rattle.first_assess.specs.Rows.{row_records}

@@ -1,6 +1,6 @@
 use Rattle.std.proofs.Common.{ap, ◌∙◌}
 use Rattle.session_model.specs.State.{State}
-use Rattle.session_model.specs.Asking.{kind_of}
+use Rattle.tree_rows.specs.Kinds.{kind_of}
 use Rattle.plain_session.specs.Finding.{row_kind}
 use Rattle.plain_session.proofs.RowKinds.{row_kind-rows_of}
 use Rattle.plain_session.proofs.session.PlainSessionSession.live.Goals as goal
