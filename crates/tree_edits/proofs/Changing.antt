@@ -6,7 +6,8 @@ use Rattle.tree_rows.specs.Forest.{Forest, none, text, element}
 use Rattle.tree_rows.specs.Rows.{rows_of, siblings}
 use Rattle.tree_rows.specs.RowLaws.{Ends}
 use Rattle.tree_edits.specs.Edits.{found, replaced, with_chars, is_root, reword, remove}
-use Rattle.tree_edits.specs.EditRows.{AreWhole, AreSound, is_numbered, ends_at, deepest_with, deepest_row}
+use Rattle.tree_building.specs.Shape.{AreWhole, AreSound, deepest_with, deepest_row}
+use Rattle.tree_edits.specs.EditRows.{is_numbered, ends_at}
 use Rattle.tree_edits.specs.Spots.{tree_of, Rewords, Removes}
 use Rattle.tree_rows.specs.declared.name.Expanded.{Expanded}
 use Rattle.tree_rows.specs.declared.row.Row.{Row}

@@ -7,7 +7,8 @@ use Rattle.tree_rows.specs.Forest.{Forest, none, text, element, count}
 use Rattle.tree_rows.specs.Rows.{rows_of}
 use Rattle.tree_rows.specs.RowLaws.{Ends}
 use Rattle.tree_edits.specs.Edits.{width, deepest_of, insert_at, renumbered}
-use Rattle.tree_edits.specs.EditRows.{rows_width, put_rows, ends_at, deepest_with, deepest_row, raised}
+use Rattle.tree_building.specs.Shape.{deepest_with, deepest_row}
+use Rattle.tree_edits.specs.EditRows.{rows_width, put_rows, ends_at, raised}
 use Rattle.tree_rows.specs.declared.name.Expanded.{Expanded}
 use Rattle.tree_rows.specs.declared.row.Attribute.{Attribute}
 use Rattle.tree_rows.specs.declared.row.Binding.{Binding}

@@ -5,8 +5,9 @@ use Rattle.tree_rows.specs.Forest.{Forest, none, text, count, Document}
 use Rattle.tree_rows.specs.Rows.{rows_of, siblings}
 use Rattle.tree_rows.specs.RowLaws.{siblings-all}
 use Rattle.tree_edits.specs.Edits.{deepest_of, renumbered, replaced, with_children, too_many_more, put_within}
-use Rattle.tree_edits.specs.EditRows.{AreWhole, AreSound, AreUnder, deepest_with, deepest_row, raised}
-use Rattle.tree_edits.specs.Spots.{tree_of, IsSpot, Puts}
+use Rattle.tree_building.specs.Shape.{AreWhole, AreSound, AreUnder, deepest_with, deepest_row}
+use Rattle.tree_edits.specs.EditRows.{raised}
+use Rattle.tree_edits.specs.Spots.{tree_of, IsSpot, Puts, Fits}
 use Rattle.tree_rows.specs.declared.row.Row.{Row}
 use Rattle.tree_rows.specs.declared.row.Content.{Content}
 use Rattle.tree_rows.specs.declared.row.Content.TheVariants as contents
@@ -49,6 +50,18 @@ put_deep rows new next parent place depth whole new_whole e h =
     let deep : nat_lt 128 (deepest_of (depth + 1) (siblings new 1)) ≡ true = grind (arith, nat_tests, deep-whole depth new new_whole, h) in
     rw (many, deep) refl
 
+-- rows that fit are put
+pub put_ok : (rows new : List Row) (next parent place depth : ℕ) → AreWhole rows → AreWhole new → Fits rows new next depth
+    → (d : Document) × (put_within (tree_of rows next) parent place (siblings new 1) depth ≡ Ok d)
+put_ok rows new next parent place depth whole new_whole fits =
+    let g : Forest = siblings new 1 in
+    let many = are_many rows new next whole new_whole ∙ fits.few in
+    let deep : nat_lt 128 (deepest_of (depth + 1) g) ≡ false = grind (arith, nat_tests, deep-whole depth new new_whole, fits.shallow) in
+    (record {
+      forest = replaced parent (with_children place (renumbered next g)) (siblings rows 1);
+      next_free = next + count g;
+    }, rw (many, deep) refl)
+
 pub put_fits : (rows new changed : List Row) (next free parent place : ℕ) (s : Spot) → AreSound rows → AreWhole new → IsSpot rows parent place s
     → (nat_lt 131072 (length rows + length new) || nat_lt 4294967295 (next + length new)) ≡ false → deepest_row s.depth new ≤ 128
     → changed ≡ take s.place rows ++ (raised next s.depth new ++ drop s.place rows) → free ≡ next + length new
@@ -89,12 +102,6 @@ deepest-levels levels (row ∷ rows) = deepest-low row.content row.depth levels 
 
 pub new_under : (levels : ℕ) (new : List Row) → AreUnder (deepest_row 0 new + 1) new → deepest_row levels new ≤ 128 → AreUnder 129 new
 new_under levels new u h = under-weaker (deepest_row 0 new + 1) 129 new (omega (arith, deepest-levels levels new, h)) u
-
--- new nodes that are too many wherever they come
-pub put_large : (d : Document) (parent place depth : ℕ) (g : Forest) → 131072 < count g → put_within d parent place g depth ≡ Err TooManyNodes
-put_large d parent place depth g h =
-    let large : nat_lt 131072 (count d.forest + count g) ≡ true = grind (arith, nat_tests, h) in
-    rw large refl
 
 -- the row of a text alone is that of a tree
 pub text_whole : (chars : List ℕ) (rows : List Row) → rows ≡ record { number = 0; depth = 1; content = contents.Chars chars; bindings = []; attributes = [] } ∷ []

@@ -8,9 +8,10 @@ use Rattle.std.proofs.Math.Seq.{take-append-add}
 use Rattle.tree_rows.specs.Forest.{Forest, none, text, element, Document}
 use Rattle.tree_rows.specs.Rows.{rows_of, siblings}
 use Rattle.tree_rows.specs.RowLaws.{Ends}
-use Rattle.tree_edits.specs.Edits.{width, insert_at, has, found, replaced, with_children, put_at, put_into}
-use Rattle.tree_edits.specs.EditRows.{AreWhole, is_numbered, rows_width, put_rows, deepest_row}
-use Rattle.tree_edits.specs.Places.{scope_in, scope_above}
+use Rattle.tree_edits.specs.Edits.{width, insert_at, has, scope_in, found, replaced, with_children, put_at, put_into}
+use Rattle.tree_building.specs.Shape.{AreWhole, deepest_row}
+use Rattle.tree_edits.specs.EditRows.{is_numbered, rows_width, put_rows}
+use Rattle.tree_edits.specs.Places.{scope_above}
 use Rattle.tree_edits.specs.Spots.{CannotPut, IsSpot}
 use Rattle.tree_edits.specs.declared.edit.EditError.{EditError}
 use Rattle.tree_rows.specs.declared.name.Expanded.{Expanded}

@@ -7,9 +7,9 @@ use Rattle.std.proofs.lemmas.List.{reverse-append}
 use Rattle.tree_rows.specs.Forest.{Forest, none, text, element}
 use Rattle.tree_rows.specs.Rows.{rows_of}
 use Rattle.tree_rows.specs.RowLaws.{Ends}
-use Rattle.tree_edits.specs.Edits.{append, has, found, replaced}
+use Rattle.tree_edits.specs.Edits.{append, has, scope_in, found, replaced}
 use Rattle.tree_edits.specs.EditRows.{is_numbered}
-use Rattle.tree_edits.specs.Places.{scope_in, scope_above}
+use Rattle.tree_edits.specs.Places.{scope_above}
 use Rattle.tree_rows.specs.declared.name.Expanded.{Expanded}
 use Rattle.tree_rows.specs.declared.row.Attribute.{Attribute}
 use Rattle.tree_rows.specs.declared.row.Binding.{Binding}

@@ -26,11 +26,11 @@ lines_of (item ∷ more) = []
 -- the scope behind an end, and those around it; an end where no element is open ends none
 abbrev pub inner : List Binding → List (List Binding) → List Binding
 inner scope [] = scope
-inner scope (around ∷ outer) = around
+inner scope (around ∷ more) = around
 
 abbrev pub outer : List (List Binding) → List (List Binding)
 outer [] = []
-outer (around ∷ outer) = outer
+outer (around ∷ more) = more
 
 -- the start tags of the items that come next in this scope, inside elements around which these scopes are, the innermost first
 abbrev pub tags_in : List Binding → List (List Binding) → List Item → List Placed

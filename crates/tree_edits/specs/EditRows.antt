@@ -1,9 +1,6 @@
 -- Edits on the rows of a tree.
-use Rattle.std.specs.Prelude.{◌≡◌, ℕ, ◌+◌, ◌-◌, ◌≤◌, List, [], ◌∷◌, ◌++◌, Bool, ◌==◌, nat_lt, nat_le, max, if◌then◌else◌}
-use Rattle.tree_rows.specs.Rows.{rows_of, siblings}
+use Rattle.std.specs.Prelude.{ℕ, ◌+◌, ◌-◌, List, [], ◌∷◌, ◌++◌, Bool, ◌==◌, nat_lt, nat_le, if◌then◌else◌}
 use Rattle.tree_rows.specs.declared.row.Row.{Row}
-use Rattle.tree_rows.specs.declared.row.Content.{Content}
-use Rattle.tree_rows.specs.declared.row.Content.TheVariants as contents
 
 -- the row has the number
 abbrev pub is_numbered : ℕ → Row → Bool
@@ -27,30 +24,7 @@ put_rows place depth new (row ∷ rows) =
 abbrev pub ends_at : ℕ → Row → Bool
 ends_at depth row = nat_le row.depth depth
 
--- the depth of the deepest element, where the rows stand so many levels deeper; 0 where there is none
-abbrev pub deepest_with : Content → ℕ → ℕ → ℕ
-deepest_with (contents.Element name) depth later = max depth later
-deepest_with (contents.Chars chars) depth later = later
-
-abbrev pub deepest_row : ℕ → List Row → ℕ
-deepest_row levels [] = 0
-deepest_row levels (row ∷ rows) = deepest_with row.content (row.depth + levels) (deepest_row levels rows)
-
--- no row stands deeper
-abbrev pub AreUnder : ℕ → List Row → Type 0
-AreUnder most [] = Unit {0}
-AreUnder most (row ∷ rows) = (row.depth ≤ most) × AreUnder most rows
-
 -- the rows with numbers from this one on, and so many levels deeper
 abbrev pub raised : ℕ → ℕ → List Row → List Row
 raised free levels [] = []
 raised free levels (row ∷ rows) = record row { number = free; depth = row.depth + levels } ∷ raised (free + 1) levels rows
-
--- the rows are those of a tree
-abbrev pub AreWhole : List Row → Type 0
-AreWhole rows = rows ≡ rows_of 1 (siblings rows 1)
-
--- rows of a tree that has no element of a depth of more than 128
-pub record AreSound (rows : List Row) : Type 0 where
-  pub whole : AreWhole rows
-  pub shallow : deepest_row 0 rows ≤ 128

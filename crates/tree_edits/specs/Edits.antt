@@ -1,6 +1,11 @@
 -- Edits of a tree: what a tree is after an edit, or the least reason why the edit is refused.
-use Rattle.std.specs.Prelude.{ℕ, ◌+◌, ◌-◌, List, Bool, true, false, ◌==◌, ◌||◌, nat_lt, max, Option, Some, None, Result, Ok, Err, if◌then◌else◌}
+use Rattle.std.specs.Prelude.{ℕ, ◌+◌, ◌-◌, List, [], ◌++◌, Bool, true, false, ◌==◌, ◌||◌, nat_lt, max, Option, Some, None, Result, Ok, Err, if◌then◌else◌}
 use Rattle.tree_rows.specs.Forest.{Forest, none, text, element, Document, count}
+use Rattle.tree_rows.specs.declared.row.Binding.{Binding}
+use Rattle.item_listing.specs.declared.item.Item.{Item}
+use Rattle.tag_names.specs.Scopes.{first_scope}
+use Rattle.tree_building.specs.Blocks.{block, is_one_element}
+use Rattle.tree_edits.specs.Blocks.{tags_in, judged, early, late}
 use Rattle.tree_edits.specs.declared.edit.Edit.{Edit}
 use Rattle.tree_edits.specs.declared.edit.Edit.TheVariants as edits
 use Rattle.tree_edits.specs.declared.edit.EditError.{EditError}
@@ -45,6 +50,14 @@ abbrev pub has : ℕ → Forest → Bool
 has key none = false
 has key (text number chars next) = number == key || has key next
 has key (element number name bindings attributes children next) = number == key || (has key children || has key next)
+
+-- the bindings of the elements around a place are in scope there, the innermost first (Namespaces in XML 1.0, 6.1): the scope inside the node of this number, where the siblings stand in this scope
+abbrev pub scope_in : ℕ → List Binding → Forest → List Binding
+scope_in key scope none = scope
+scope_in key scope (text number chars next) = if number == key then scope else scope_in key scope next
+scope_in key scope (element number name bindings attributes children next) =
+    if number == key then bindings ++ scope
+    else (if has key children then scope_in key (bindings ++ scope) children else scope_in key scope next)
 
 -- a node apart from its next siblings, and its depth
 pub record Found : Type 0 where
@@ -117,6 +130,23 @@ put_at place change (Some it) = put_into place change it.depth it.node
 abbrev pub put : Forest → ℕ → ℕ → (ℕ → Result Document EditError) → Result Document EditError
 put forest parent place change = put_at place change (found parent 1 forest)
 
+-- a refusal, or what comes where there is none
+abbrev pub unless : Option EditError → Result Document EditError → Result Document EditError
+unless None end = end
+unless (Some error) end = Err error
+
+-- what was refused, or a refusal that comes later
+abbrev pub then_unless : Result Document EditError → Option EditError → Result Document EditError
+then_unless (Ok d) refusal = unless refusal (Ok d)
+then_unless (Err error) refusal = Err error
+
+-- the element of a block is put into the children of an element of this depth, where the names of its tags resolve in the
+-- scope of the element's content
+abbrev pub insert_within : Document → ℕ → ℕ → List Binding → List Item → ℕ → Result Document EditError
+insert_within d parent place scope its depth =
+    unless (early (judged (tags_in scope [] its)))
+    (then_unless (put_within d parent place (block scope its) depth) (late (judged (tags_in scope [] its))))
+
 abbrev pub reword_at : Document → ℕ → List ℕ → Forest → Result Document EditError
 reword_at d key chars none = Err UnknownNode
 reword_at d key chars (text number old next) = Ok (record d { forest = replaced key (with_chars chars) d.forest })
@@ -135,6 +165,15 @@ remove d key (Some it) =
 
 -- the document after an edit, or the least refusal by its number
 abbrev pub after : Document → Edit → Result Document EditError
+after d (edits.Insert parent place its) =
+    put d.forest parent place (insert_within d parent place (scope_in parent first_scope d.forest) its)
 after d (edits.AddText parent place chars) = put d.forest parent place (put_within d parent place (text 0 chars none))
 after d (edits.SetText key chars) = reword d key chars (found key 1 d.forest)
 after d (edits.Remove key) = remove d key (found key 1 d.forest)
+
+-- a block is one element
+abbrev pub can_be_made : Edit → Bool
+can_be_made (edits.Insert parent place its) = is_one_element its
+can_be_made (edits.AddText parent place chars) = true
+can_be_made (edits.SetText key chars) = true
+can_be_made (edits.Remove key) = true

@@ -2,10 +2,12 @@
 use Rattle.std.specs.Prelude.{◌≡◌, ℕ, ◌+◌, ◌≤◌, ◌<◌, false, ◌||◌, nat_lt, slice_index_or, slice_set, List, [], ◌∷◌, ◌++◌, length, take, drop, reverse, Result, Ok}
 use Rattle.tree_rows.specs.Forest.{Forest, Document}
 use Rattle.tree_rows.specs.Rows.{rows_of, siblings}
-use Rattle.tree_edits.specs.Edits.{put, put_within, reword, remove, found, replaced, with_children}
-use Rattle.tree_edits.specs.Places.{scope_in, scope_above}
+use Rattle.tag_names.specs.Scopes.{first_scope}
+use Rattle.tree_edits.specs.Edits.{put, put_within, insert_within, scope_in, reword, remove, found, replaced, with_children}
+use Rattle.tree_edits.specs.Places.{scope_above}
 use Rattle.tree_edits.specs.Refusals.{IsWhy}
-use Rattle.tree_edits.specs.EditRows.{AreSound, deepest_row}
+use Rattle.tree_building.specs.Shape.{AreSound, deepest_row}
+use Rattle.item_listing.specs.declared.item.Item.{Item}
 use Rattle.tree_rows.specs.declared.row.Binding.{Binding}
 use Rattle.tree_rows.specs.declared.row.Row.{Row}
 use Rattle.tree_rows.specs.declared.row.Content.TheVariants as contents
@@ -16,6 +18,10 @@ use Rattle.tree_edits.specs.declared.edit.EditError.{EditError}
 -- the document of these rows
 abbrev pub tree_of : List Row → ℕ → Document
 tree_of rows next = record { forest = siblings rows 1; next_free = next }
+
+-- the element of the block is put into the children of the node, by the node's depth
+abbrev pub inserting : List Row → ℕ → ℕ → ℕ → List Item → ℕ → Result Document EditError
+inserting rows next parent place its = insert_within (tree_of rows next) parent place (scope_in parent first_scope (siblings rows 1)) its
 
 -- nothing can be changed at this place among the children of this node
 abbrev pub CannotPut : List Row → ℕ → ℕ → EditError → Type 0
@@ -36,15 +42,19 @@ pub record Puts (old new : List Row) (next free parent place depth : ℕ) (added
   pub puts : put_within (tree_of old next) parent place (siblings added 1) depth ≡ Ok (tree_of new free)
   pub sound : AreSound new
 
+-- the element of the block was put at the spot of this place, and the tree is sound
+pub record Inserts (old new : List Row) (next free parent place depth : ℕ) (scope : List Binding) (its : List Item) : Type 0 where
+  pub inserts : insert_within (tree_of old next) parent place scope its depth ≡ Ok (tree_of new free)
+  pub sound : AreSound new
+
 -- the row of a text alone
 abbrev pub IsText : List ℕ → List Row → Type 0
 IsText chars rows = rows ≡ record { number = 0; depth = 1; content = contents.Chars chars; bindings = []; attributes = [] } ∷ []
 
--- new rows fit below an element of this depth, and this is the next free number
-pub record Fits (rows new : List Row) (next depth free : ℕ) : Type 0 where
+-- new rows fit below an element of this depth
+pub record Fits (rows new : List Row) (next depth : ℕ) : Type 0 where
   pub few : (nat_lt 131072 (length rows + length new) || nat_lt 4294967295 (next + length new)) ≡ false
   pub shallow : deepest_row depth new ≤ 128
-  pub free_is : free ≡ next + length new
 
 -- new rows do not fit there
 abbrev pub CannotFit : List Row → List Row → ℕ → ℕ → EditError → Type 0

@@ -2,16 +2,22 @@ ghost use Rattle.std.specs.Prelude.{◌≡◌, ℕ, ◌+◌, ◌≤◌, ◌<◌,
 ghost use Rattle.tree_rows.specs.declared.row.Row.{Row};
 ghost use Rattle.tree_rows.specs.declared.row.Content.TheVariants as contents;
 ghost use Rattle.tree_rows.specs.Rows.{siblings};
+ghost use Rattle.tree_building.specs.Blocks.{is_one_element};
 ghost use Rattle.tree_rows.specs.Forest.{none, text as text_node};
-ghost use Rattle.tree_edits.specs.Edits.{after, put, put_within, reword, found};
-ghost use Rattle.tree_edits.specs.EditRows.{AreSound, AreWhole, AreUnder, deepest_row};
+ghost use Rattle.tree_edits.specs.Edits.{after, put, put_within, insert_within, reword, found, can_be_made};
+ghost use Rattle.tree_building.specs.Shape.{AreSound, AreWhole, AreUnder, deepest_row};
 ghost use Rattle.tree_edits.specs.Refusals.{IsWhy};
-ghost use Rattle.tree_edits.specs.Spots.{tree_of, IsSpot, Puts, IsText, Fits, CannotFit, Rewords, Removes, CannotRemove};
+ghost use Rattle.tree_edits.specs.Spots.{tree_of, inserting, IsSpot, Puts, Inserts, IsText, Fits, CannotFit, Rewords, Removes, CannotRemove};
 
+use crate::names::judge_block;
 use crate::places::{Spot, span_of, spot_of, text_place};
+use crate::scope::scope_at;
 use crate::shifts::{deepest, insert_rows, raise, remove_rows};
 use crate::{Edit, EditError};
+use item_listing::Item;
 use std::alloc::{AllocError, Global};
+use tag_names::Prefixes;
+use tree_building::build_block;
 use tree_rows::{Attributes, Bindings, Content, Row};
 use xs_names::Text;
 
@@ -21,12 +27,11 @@ const MAX_NUMBER: usize = 4_294_967_295;
 
 const MAX_DEPTH: u64 = 128;
 
-/// The next free number when new rows are put below an element of this depth, or the limit that is
-/// passed.
-fn fit(rows: &[Row], next_free: u32, new: &[Row], depth: u32) -> Result<u32, EditError>
+/// Refuses new rows that pass a limit when they are put below an element of this depth.
+fn fit(rows: &[Row], next_free: u32, new: &[Row], depth: u32) -> Result<(), EditError>
     requires rows { AreWhole rows.now }
     requires new { AreWhole new.now }
-    ensures ok { IfOk result (λ free. Fits rows.now new.now next_free depth free) }
+    ensures ok { OnOk result (Fits rows.now new.now next_free depth) }
     ensures err { IfErr result (CannotFit rows.now new.now next_free depth) }
 {
     if are_too_many(rows.len(), next_free, new.len()) {
@@ -35,7 +40,7 @@ fn fit(rows: &[Row], next_free: u32, new: &[Row], depth: u32) -> Result<u32, Edi
     if deepest(new, depth) > MAX_DEPTH {
         return Err(EditError::TooDeep);
     }
-    Ok(next_free + new.len() as u32)
+    Ok(())
 }
 
 /// Whether so many more nodes would be too many, or would use the last number.
@@ -47,26 +52,73 @@ fn are_too_many(live: usize, next_free: u32, more: usize) -> bool
     live + more > MAX_NODES || next_free as usize + more > MAX_NUMBER
 }
 
-/// Puts new rows at a spot, and answers the next free number.
-fn put_rows(
+/// Puts new rows that fit at a spot, and answers the next free number.
+fn put_fitting(
     rows: &mut Vec<Row>,
     next_free: u32,
     spot: Spot,
     mut new: Vec<Row>,
-) -> Result<u32, EditError>
+) -> Result<u32, AllocError>
     requires sound { AreSound rows.old.items }
     requires within { spot.place ≤ length rows.old.items }
     requires shallow { spot.depth ≤ 128 }
     requires whole { AreWhole new.items }
     requires under { AreUnder (deepest_row 0 new.items + 1) new.items }
+    requires fits { Fits rows.old.items new.items next_free spot.depth }
     ensures ok { IfOk result (λ free. (parent index : ℕ) → IsSpot rows.old.items parent index spot → Puts rows.old.items rows.new.items next_free free parent index spot.depth new.items) }
-    ensures err { IfErr result (λ e. (parent index : ℕ) → IsWhy (put_within (tree_of rows.old.items next_free) parent index (siblings new.items 1) spot.depth) e) }
     ensures kept { OnErr result (rows.new.items ≡ rows.old.items) }
 {
-    let free = fit(rows, next_free, &new, spot.depth)?;
+    let free = next_free + new.len() as u32;
     raise(&mut new, next_free, spot.depth);
     insert_rows(rows, spot.place, new)?;
     Ok(free)
+}
+
+/// Puts the element of a block at a spot, where its names resolve in this scope, and answers the next free number.
+fn put_block(
+    alloc: Global,
+    rows: &mut Vec<Row>,
+    next_free: u32,
+    spot: Spot,
+    scope: &Prefixes,
+    items: &[Item],
+) -> Result<u32, EditError>
+    requires sound { AreSound rows.old.items }
+    requires within { spot.place ≤ length rows.old.items }
+    requires shallow { spot.depth ≤ 128 }
+    requires one { is_one_element items.now ≡ true }
+    ensures ok { IfOk result (λ free. (parent index : ℕ) → IsSpot rows.old.items parent index spot → Inserts rows.old.items rows.new.items next_free free parent index spot.depth scope.now items.now) }
+    ensures err { IfErr result (λ e. (parent index : ℕ) → IsWhy (insert_within (tree_of rows.old.items next_free) parent index scope.now items.now spot.depth) e) }
+    ensures kept { OnErr result (rows.new.items ≡ rows.old.items) }
+{
+    let names = judge_block(alloc, scope, items)?;
+    names.early()?;
+    let new = build_block(alloc, scope, items)?;
+    fit(rows, next_free, &new, spot.depth)?;
+    names.late()?;
+    let free = put_fitting(rows, next_free, spot, new)?;
+    Ok(free)
+}
+
+/// Puts the element of a block, and answers the next free number.
+fn insert_block(
+    alloc: Global,
+    rows: &mut Vec<Row>,
+    next_free: u32,
+    parent: u32,
+    index: u32,
+    items: &[Item],
+) -> Result<u32, EditError>
+    requires sound { AreSound rows.old.items }
+    requires one { is_one_element items.now ≡ true }
+    ensures ok { IfOk result (λ free. put (siblings rows.old.items 1) parent index (inserting rows.old.items next_free parent index items.now) ≡ Ok (tree_of rows.new.items free)) }
+    ensures sound { OnOk result (AreSound rows.new.items) }
+    ensures err { IfErr result (IsWhy (put (siblings rows.old.items 1) parent index (inserting rows.old.items next_free parent index items.now))) }
+    ensures kept { OnErr result (rows.new.items ≡ rows.old.items) }
+{
+    let spot = spot_of(rows, parent, index)?;
+    let scope = scope_at(alloc, rows, spot)?;
+    put_block(alloc, rows, next_free, spot, &scope, items)
 }
 
 /// The row of a text alone.
@@ -101,7 +153,9 @@ fn add_text(
 {
     let spot = spot_of(rows, parent, index)?;
     let new = text_row(alloc, text)?;
-    put_rows(rows, next_free, spot, new)
+    fit(rows, next_free, &new, spot.depth)?;
+    let free = put_fitting(rows, next_free, spot, new)?;
+    Ok(free)
 }
 
 /// Writes the characters of a text into its row.
@@ -145,12 +199,18 @@ pub fn edit_rows(
     edit: &Edit,
 ) -> Result<u32, EditError>
     requires sound { AreSound rows.old.items }
+    requires block { can_be_made edit.now ≡ true }
     ensures ok { IfOk result (λ free. after (tree_of rows.old.items next_free) edit.now ≡ Ok (tree_of rows.new.items free)) }
     ensures sound { OnOk result (AreSound rows.new.items) }
     ensures err { IfErr result (IsWhy (after (tree_of rows.old.items next_free) edit.now)) }
     ensures kept { OnErr result (rows.new.items ≡ rows.old.items) }
 {
     match edit {
+        Edit::Insert {
+            parent,
+            index,
+            items,
+        } => insert_block(alloc, rows, next_free, *parent, *index, items.as_slice()),
         Edit::AddText {
             parent,
             index,

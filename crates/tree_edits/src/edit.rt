@@ -2,6 +2,7 @@ ghost use Rattle.std.specs.Prelude.{◌≡◌};
 ghost use Rattle.tree_edits.specs.declared.edit.EditError.TheVariants.{Memory};
 ghost use Rattle.tree_edits.specs.Refusals.{number_of, name_of};
 
+use item_listing::Items;
 use std::alloc::{AllocError, AllocFailed};
 use xs_names::Text;
 
@@ -9,6 +10,13 @@ use xs_names::Text;
 /// counts elements and texts from 0.
 #[derive(Debug, Drop)]
 pub enum Edit {
+    /// Puts the one element that the items are before the child of this place. Its names resolve in the scope of the
+    /// parent and by the bindings of the block.
+    Insert {
+        parent: u32,
+        index: u32,
+        items: Items,
+    },
     /// Puts a text, which may be empty, before the child of this place.
     AddText {
         parent: u32,

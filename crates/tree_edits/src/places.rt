@@ -1,7 +1,8 @@
 ghost use Rattle.std.specs.Prelude.{◌≡◌, List, ◌++◌, ◌+◌, ◌<◌, ◌≤◌, IfOk, IfErr, length, take, drop};
 ghost use Rattle.std.specs.List.{position_or_len};
 ghost use Rattle.tree_rows.specs.declared.row.Row.{Row};
-ghost use Rattle.tree_edits.specs.EditRows.{is_numbered, rows_width, put_rows, ends_at, AreSound};
+ghost use Rattle.tree_building.specs.Shape.{AreSound};
+ghost use Rattle.tree_edits.specs.EditRows.{is_numbered, rows_width, put_rows, ends_at};
 ghost use Rattle.tree_edits.specs.Spots.{CannotPut, IsSpot, CannotReword, IsTextPlace, CannotRemove, IsSpan};
 
 use crate::EditError;

@@ -1,4 +1,4 @@
-ghost use Rattle.std.specs.Prelude.{◌≡◌, ◌+◌, ◌<◌, ◌≤◌, ◌^◌, List, IfOk, MatchOption, length, reverse, take};
+ghost use Rattle.std.specs.Prelude.{◌≡◌, ◌+◌, ◌<◌, ◌≤◌, ◌^◌, List, IfOk, IfSome, MatchOption, length, reverse, take};
 ghost use Rattle.tree_rows.specs.declared.row.Binding.{Binding};
 ghost use Rattle.tag_names.specs.Scopes.{first_scope};
 ghost use Rattle.tree_edits.specs.Places.{scope_above};
@@ -11,7 +11,7 @@ use tree_rows::Row;
 
 /// The last row that is less deep than this, and the rows before it.
 fn last_above(rows: &[Row], depth: u32) -> Option<(&Row, &[Row])>
-    ensures shorter { MatchOption result (◌≡◌ 0 0) (λ found. length found.1.now < length rows.now) }
+    ensures shorter { IfSome result (λ found. length found.1.now < length rows.now) }
     ensures above { MatchOption result ((scope : List Binding) → scope_above depth scope (reverse rows.now) ≡ scope)
         (λ found. IsLastAbove depth rows.now found.1.now found.0.now) }
 {

@@ -1,5 +1,6 @@
 ghost use Rattle.std.specs.Prelude.{◌≡◌, List, ◌++◌, ◌+◌, ◌^◌, ◌<◌, ◌≤◌, OnOk, OnErr, length, take, drop};
-ghost use Rattle.tree_edits.specs.EditRows.{deepest_row, AreUnder, raised};
+ghost use Rattle.tree_building.specs.Shape.{deepest_row, AreUnder};
+ghost use Rattle.tree_edits.specs.EditRows.{raised};
 
 use std::alloc::AllocError;
 use tree_rows::{Content, Row};

@@ -1,5 +1,5 @@
-use Rattle.std.proofs.Common.{◌≡◌, ◌<◌, arith, refl, sym, ap, ◌∙◌}
-use Rattle.tree_edits.specs.EditRows.{deepest_row}
+use Rattle.std.proofs.Common.{◌≡◌, ◌<◌, arith, sym, ap, ◌∙◌}
+use Rattle.tree_building.specs.Shape.{deepest_row}
 use Rattle.tree_edits.proofs.Putting.{put_many, put_deep}
 use Rattle.tree_edits.proofs.apply.fit.Goals as goal
 
@@ -18,5 +18,4 @@ pub returns-clause-ok : goal.returns-clause-ok
 returns-clause-ok c = record {
   few = sym c.are_too_many.ensures ∙ c.if-are_too_many.false;
   shallow = omega (arith, c.deepest.ensures, c.if-deepest-gt-MAX_DEPTH.false);
-  free_is = refl;
 }

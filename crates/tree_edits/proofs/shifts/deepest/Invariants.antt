@@ -1,5 +1,5 @@
 use Rattle.std.proofs.Common.{◌≡◌, drop, max}
-use Rattle.tree_edits.specs.EditRows.{deepest_row}
+use Rattle.tree_building.specs.Shape.{deepest_row}
 use Rattle.tree_edits.proofs.shifts.deepest.Given as goal
 
 abbrev pub invariant-loop-row : goal.invariant-loop-row

@@ -1,5 +1,6 @@
 use Rattle.std.proofs.Common.{◌≡◌, ◌+◌, ◌-◌, ◌≤◌, ◌++◌, length, take, drop}
-use Rattle.tree_edits.specs.EditRows.{AreUnder, raised}
+use Rattle.tree_building.specs.Shape.{AreUnder}
+use Rattle.tree_edits.specs.EditRows.{raised}
 use Rattle.tree_edits.proofs.shifts.raise_slice.Given as goal
 
 abbrev pub invariant-rows : goal.invariant-rows
