@@ -1,5 +1,5 @@
 -- The names of a start tag, and its bindings and attributes.
-use Rattle.std.specs.Prelude.{◌≡◌, ℕ, List, [], ◌∷◌, ◌++◌, Bool, true, false, nat_eq, length, drop, Option, Some, None, ◌||◌, codes, if◌then◌else◌}
+use Rattle.std.specs.Prelude.{ℕ, List, [], ◌∷◌, ◌++◌, Bool, nat_eq, drop, Option, Some, None, ◌||◌, codes, if◌then◌else◌}
 use Rattle.std.specs.List.{starts_with}
 use Rattle.std.specs.Str.{bytes_eq}
 use Rattle.xs_names.specs.QName.{qname}

@@ -12,7 +12,9 @@ use std::alloc::{AllocError, Global};
 use tree_rows::{Attribute, Binding, Expanded};
 
 const MAX_ATTRIBUTES: usize = 256;
+
 const XML_NAMESPACE: &str = "http://www.w3.org/XML/1998/namespace";
+
 const XMLNS_NAMESPACE: &str = "http://www.w3.org/2000/xmlns/";
 
 /// Whether a binding of this prefix to this namespace is reserved.
@@ -76,11 +78,17 @@ fn any_bad(lines: &[AttributeLine]) -> bool
     lines.iter().any(|line| is_no_qname(line.name.as_str()))
 }
 
-/// Whether an attribute is a reserved binding.
+fn any_binds_reserved(lines: &[AttributeLine]) -> bool
+    ensures { result ≡ list_any faults.binds_reserved lines.now }
+{
+    lines.iter().any(|line| binds_reserved(line))
+}
+
+/// Whether a binding is reserved.
 fn any_reserved(lines: &[AttributeLine]) -> bool
     ensures { result ≡ list_any faults.is_reserved (tags.bindings_in lines.now) }
 {
-    lines.iter().any(binds_reserved)
+    any_binds_reserved(lines)
 }
 
 /// Whether the prefix of an attribute that is no binding is not bound.
@@ -137,8 +145,7 @@ impl Tag {
     pub fn has_bad_name(&self) -> bool
         ensures { result ≡ faults.has_bad_name self.now }
     {
-        is_no_qname(self.name.as_str())
-            || any_bad(self.attributes.as_slice())
+        is_no_qname(self.name.as_str()) || any_bad(self.attributes.as_slice())
     }
 
     /// Whether a reserved prefix or namespace is used or bound, or a prefix is bound to no namespace
@@ -156,8 +163,7 @@ impl Tag {
         let lines = self.attributes.as_slice();
         let bindings = bindings_in(alloc, lines)?;
         let own = bindings.as_slice();
-        Ok(is_unbound(own, scope, prefix_of(self.name.as_str()))
-            || any_unbound(own, scope, lines))
+        Ok(is_unbound(own, scope, prefix_of(self.name.as_str())) || any_unbound(own, scope, lines))
     }
 
     /// Whether two attributes have one expanded name, or two bindings one prefix, where the tag stands in this scope

@@ -25,11 +25,17 @@ pub struct Named {
 fn find_binding<'a>(bindings: &'a [Binding], prefix: &str) -> Option<&'a Binding>
     ensures { option_copied result ≡ find (λ b. bytes_eq b.prefix prefix.now) bindings.now }
 {
-    bindings.iter().find(|binding| binding.prefix.as_str() == prefix)
+    bindings
+        .iter()
+        .find(|binding| binding.prefix.as_str() == prefix)
 }
 
 /// The name of the namespace that a prefix is bound to, where these bindings come before a scope.
-pub(crate) fn of_prefix<'a>(own: &'a [Binding], scope: &'a Prefixes, prefix: &str) -> Option<&'a Text>
+pub(crate) fn of_prefix<'a>(
+    own: &'a [Binding],
+    scope: &'a Prefixes,
+    prefix: &str,
+) -> Option<&'a Text>
     ensures { option_copied result ≡ scopes.of_prefix (own.now ++ scope.now) prefix.now }
 {
     match find_binding(own, prefix) {
@@ -157,6 +163,13 @@ pub(crate) fn attributes_in(
 }
 
 impl Tag {
+    /// The bindings of the tag, in order.
+    pub fn bindings(&self, alloc: Global) -> Result<Bindings, AllocError>
+        ensures { IfOk result (λ bindings. bindings ≡ tags.bindings_in self.now.attributes) }
+    {
+        bindings_in(alloc, self.attributes.as_slice())
+    }
+
     /// What the tag says of its element, where it stands in this scope.
     pub fn named(&self, alloc: Global, scope: &Prefixes) -> Result<Named, AllocError>
         ensures { IfOk result (λ named. named ≡ tags.named scope.now self.now) }

@@ -1,4 +1,4 @@
-use Rattle.std.proofs.Common.{◌∙◌, ◌-◌, ap, reverse, drop, length}
+use Rattle.std.proofs.Common.{◌∙◌, ap, reverse}
 use Rattle.tag_names.proofs.ScopeLaws.{reverse-take}
 use Rattle.tag_names.proofs.prefixes.Prefixes.truncate.Goals as goal
 

@@ -1,0 +1,9 @@
+pub mod Rules
+pub mod Nest
+pub mod Marks
+pub mod Building
+pub mod Steps
+pub mod Builder
+pub mod Shape
+pub mod Blocks
+pub mod Tags

@@ -1,0 +1,363 @@
+ghost use Rattle.std.specs.Prelude.{◌≡◌, ◌+◌, ◌∷◌, [], ◌<◌, ◌^◌, Ok, length, IfOk, OnOk};
+ghost use Rattle.tree_building.specs.Building as steps;
+ghost use Rattle.tree_building.specs.Steps.{Steps, Judged, Ends, Finished, HoldsNoChars};
+ghost use Rattle.item_listing.specs.declared.item.Item.TheVariants as items;
+
+use crate::build::Built;
+use crate::fault::Stop;
+use crate::rules::is_past;
+use crate::{Joined, Nest, Pending, Rows, Rules, TreeFault, TreeReason};
+use item_listing::Item;
+use std::alloc::{AllocError, Global};
+use tag_names::{AttributeLine, AttributeLines, Prefixes, Tag};
+use tree_rows::{Attributes, Bindings, Content, Row, is_white_space};
+use xs_names::Text;
+
+/// What was built of the items that came so far.
+#[derive(Debug, Drop)]
+pub struct Building {
+    pub(crate) rules: Rules,
+    pub(crate) rows: Rows,
+    pub(crate) nest: Nest,
+    pub(crate) pending: Pending,
+    /// Whether the root came.
+    pub(crate) rooted: bool,
+    /// The number that the next node gets.
+    pub(crate) next: u32,
+    /// How many items were taken.
+    pub(crate) taken: u32,
+}
+
+/// The number after this one. Numbers go up to 4,294,967,295.
+fn after(number: u32) -> Result<u32, AllocError>
+    ensures { IfOk result (λ next. next ≡ number + 1) }
+{
+    match number.checked_add(1) {
+        Some(next) => Ok(next),
+        None => Err(AllocError),
+    }
+}
+
+/// The depth below so many elements.
+fn depth_below(elements: usize) -> Result<u32, AllocError>
+    ensures { IfOk result (λ depth. depth ≡ elements + 1) }
+{
+    if elements >= u32::MAX as usize {
+        return Err(AllocError);
+    }
+    Ok(elements as u32 + 1)
+}
+
+/// Judges the names of a start tag, if they are to be judged.
+fn judge(
+    alloc: Global,
+    rules: Rules,
+    scope: &Prefixes,
+    tag: &Tag,
+    item: u32,
+) -> Result<(), Stop>
+    ensures { Judged result item (steps.fault_of rules scope.now tag.now) }
+{
+    if rules.names && let Some(reason) = tag.name_fault(alloc, scope)? {
+        return Err(Stop::Refused(TreeFault {
+            item,
+            reason: TreeReason::Name(reason),
+        }));
+    }
+    Ok(())
+}
+
+impl Building {
+    /// Nothing is built yet.
+    pub(crate) fn new(alloc: Global, rules: Rules, scope: Prefixes) -> Self
+        ensures { result ≡ steps.nothing rules scope }
+    {
+        Building {
+            rules,
+            rows: Rows::new(alloc),
+            nest: Nest::new(alloc, scope),
+            pending: Pending::Nothing,
+            rooted: false,
+            next: 1,
+            taken: 0,
+        }
+    }
+
+    /// Refuses the next item.
+    fn refusal(&self, reason: TreeReason) -> TreeFault
+        ensures { result ≡ record { item = self.now.taken; reason = reason } }
+    {
+        TreeFault {
+            item: self.taken,
+            reason,
+        }
+    }
+
+    /// The node of a text.
+    fn text_row(&self, alloc: Global, chars: &Joined) -> Result<Row, AllocError>
+        ensures { IfOk result (λ row. row ≡ steps.text_row self.now chars.now) }
+    {
+        Ok(Row {
+            number: self.next,
+            depth: depth_below(self.nest.depth())?,
+            content: Content::Chars(chars.to_text(alloc)?),
+            bindings: Bindings::new(alloc),
+            attributes: Attributes::new(alloc),
+        })
+    }
+
+    /// The node of an element.
+    fn element_row(&self, alloc: Global, tag: &Tag) -> Result<Row, AllocError>
+        ensures { IfOk result (λ row. row ≡ steps.element_row self.now tag.now) }
+    {
+        let depth = depth_below(self.nest.depth())?;
+        let named = tag.named(alloc, self.nest.scope())?;
+        Ok(Row {
+            number: self.next,
+            depth,
+            content: Content::Element(named.name),
+            bindings: named.bindings,
+            attributes: named.attributes,
+        })
+    }
+
+    /// Puts the node of a text behind the others.
+    fn put_text(&mut self, row: Row) -> Result<(), Stop>
+        ensures { Steps self.old self.new result (Ok (steps.with_row self.old row)) }
+    {
+        let next = after(self.next)?;
+        self.rows.push(row)?;
+        self.next = next;
+        self.pending = Pending::Nothing;
+        Ok(())
+    }
+
+    /// Puts the node of an element behind the others, and opens it under this name.
+    fn put_element(&mut self, name: Text, row: Row) -> Result<(), Stop>
+        ensures { Steps self.old self.new result (Ok (steps.with_element self.old name row)) }
+    {
+        let next = after(self.next)?;
+        self.nest.open(name, row.bindings.as_slice())?;
+        if self.rows.push(row).is_err() {
+            self.nest.close();
+            return Err(Stop::Memory);
+        }
+        self.next = next;
+        self.pending = Pending::Nothing;
+        Ok(())
+    }
+
+    /// Judges the start tag whose attribute lines have all come, if there is one, and opens its element.
+    fn close_tag(&mut self, alloc: Global) -> Result<(), Stop>
+        ensures step { Steps self.old self.new result (steps.tag_closed self.old) }
+        ensures taken { OnOk result (self.new.taken ≡ self.old.taken) }
+    {
+        let (name, row) = match &self.pending {
+            Pending::Nothing => return Ok(()),
+            Pending::Chars(_) => return Ok(()),
+            Pending::Start(tag, item) => {
+                judge(alloc, self.rules, self.nest.scope(), tag, *item)?;
+                let name = tag.name.try_clone(alloc)?;
+                let row = self.element_row(alloc, tag)?;
+                (name, row)
+            }
+        };
+        self.put_element(name, row)
+    }
+
+    /// Makes a node of what came last.
+    fn settle(&mut self, alloc: Global) -> Result<(), Stop>
+        ensures step { Steps self.old self.new result (steps.settled self.old) }
+        ensures taken { OnOk result (self.new.taken ≡ self.old.taken) }
+    {
+        let row = match &self.pending {
+            Pending::Nothing => return Ok(()),
+            Pending::Start(..) => return self.close_tag(alloc),
+            Pending::Chars(chars) => self.text_row(alloc, chars)?,
+        };
+        self.put_text(row)
+    }
+
+    /// Begins an element, where what came before is settled.
+    fn begin(&mut self, tag: Tag) -> Result<(), TreeFault>
+        requires few { self.old.taken + 1 < 2 ^ 32 }
+        requires plain { tag.attributes ≡ [] }
+        ensures { Ends self.old self.new result (steps.started tag.name self.old) }
+    {
+        let depth = self.nest.depth();
+        if depth == 0 && self.rooted {
+            return Err(self.refusal(TreeReason::TwoRoots));
+        }
+        if is_past(self.rules.levels, depth + 1) {
+            return Err(self.refusal(TreeReason::TooDeep));
+        }
+        if is_past(self.rules.nodes, self.next as usize) {
+            return Err(self.refusal(TreeReason::TooManyNodes));
+        }
+        self.pending = Pending::Start(tag, self.taken);
+        self.rooted = true;
+        self.taken += 1;
+        Ok(())
+    }
+
+    /// Begins a text, where no text is begun.
+    fn begin_text(&mut self, text: Joined, is_empty: bool, is_white: bool) -> Result<(), TreeFault>
+        requires few { self.old.taken + 1 < 2 ^ 32 }
+        requires empty { is_empty ≡ steps.is_empty text }
+        requires white { is_white ≡ steps.is_white text }
+        ensures { Ends self.old self.new result (steps.text_begun text self.old) }
+    {
+        if self.nest.depth() == 0 {
+            if !is_white {
+                return Err(self.refusal(TreeReason::TextOutside));
+            }
+        } else if !is_empty {
+            if is_past(self.rules.nodes, self.next as usize) {
+                return Err(self.refusal(TreeReason::TooManyNodes));
+            }
+            self.pending = Pending::Chars(text);
+        }
+        self.taken += 1;
+        Ok(())
+    }
+
+    /// Ends an element, where what came before is settled.
+    fn end(&mut self, name: &str) -> Result<(), TreeFault>
+        requires { self.old.taken + 1 < 2 ^ 32 }
+        ensures { Ends self.old self.new result (steps.ended name.now self.old) }
+    {
+        if !self.nest.closes(name) {
+            return Err(self.refusal(TreeReason::EndMismatch));
+        }
+        self.nest.close();
+        self.taken += 1;
+        Ok(())
+    }
+
+    /// The start of an element.
+    fn start(&mut self, alloc: Global, name: &Text) -> Result<(), Stop>
+        ensures { Steps self.old self.new result (steps.took self.old (items.Start name.now)) }
+    {
+        after(self.taken)?;
+        let tag = Tag {
+            name: name.try_clone(alloc)?,
+            attributes: AttributeLines::new(alloc),
+        };
+        self.settle(alloc)?;
+        match self.begin(tag) {
+            Ok(()) => Ok(()),
+            Err(fault) => Err(Stop::Refused(fault)),
+        }
+    }
+
+    /// An attribute line.
+    fn line(&mut self, alloc: Global, name: &Text, value: &Text) -> Result<(), Stop>
+        ensures { Steps self.old self.new result (steps.took self.old (items.Attr name.now value.now)) }
+    {
+        let taken = after(self.taken)?;
+        let refusal = self.refusal(TreeReason::NotHere);
+        match &mut self.pending {
+            Pending::Nothing => Err(Stop::Refused(refusal)),
+            Pending::Chars(_) => Err(Stop::Refused(refusal)),
+            Pending::Start(tag, _) => {
+                let name = name.try_clone(alloc)?;
+                let value = value.try_clone(alloc)?;
+                tag.attributes.push(AttributeLine { name, value })?;
+                self.taken = taken;
+                Ok(())
+            }
+        }
+    }
+
+    /// Characters, where no text is begun.
+    fn first_chars(&mut self, alloc: Global, text: &Text) -> Result<(), Stop>
+        requires few { self.old.taken + 1 < 2 ^ 32 }
+        requires first { HoldsNoChars self.old.pending }
+        ensures { Steps self.old self.new result (steps.text_by text.now self.old self.old.pending) }
+    {
+        let text = text.as_str();
+        let joined = Joined::new(alloc, text)?;
+        self.close_tag(alloc)?;
+        match self.begin_text(joined, text.is_empty(), is_white_space(text)) {
+            Ok(()) => Ok(()),
+            Err(fault) => Err(Stop::Refused(fault)),
+        }
+    }
+
+    /// Characters.
+    fn chars(&mut self, alloc: Global, text: &Text) -> Result<(), Stop>
+        ensures { Steps self.old self.new result (steps.took self.old (items.Chars text.now)) }
+    {
+        let taken = after(self.taken)?;
+        match &mut self.pending {
+            Pending::Chars(joined) => {
+                joined.push_str(text.as_str())?;
+                self.taken = taken;
+                Ok(())
+            }
+            Pending::Nothing => self.first_chars(alloc, text),
+            Pending::Start(..) => self.first_chars(alloc, text),
+        }
+    }
+
+    /// The end of an element.
+    fn close(&mut self, alloc: Global, name: &Text) -> Result<(), Stop>
+        ensures { Steps self.old self.new result (steps.took self.old (items.Close name.now)) }
+    {
+        after(self.taken)?;
+        self.settle(alloc)?;
+        match self.end(name.as_str()) {
+            Ok(()) => Ok(()),
+            Err(fault) => Err(Stop::Refused(fault)),
+        }
+    }
+
+    /// A processing instruction.
+    fn instruction(&mut self, alloc: Global) -> Result<(), Stop>
+        ensures { Steps self.old self.new result (steps.took self.old items.Instruction) }
+    {
+        let taken = after(self.taken)?;
+        self.close_tag(alloc)?;
+        self.taken = taken;
+        Ok(())
+    }
+
+    /// Takes the next item.
+    pub(crate) fn item(&mut self, alloc: Global, item: &Item) -> Result<(), Stop>
+        ensures { Steps self.old self.new result (steps.took self.old item.now) }
+    {
+        match item {
+            Item::Start(name) => self.start(alloc, name),
+            Item::Attr(name, value) => self.line(alloc, name, value),
+            Item::Chars(text) => self.chars(alloc, text),
+            Item::Close(name) => self.close(alloc, name),
+            Item::Instruction => self.instruction(alloc),
+            _ => Err(Stop::Refused(self.refusal(TreeReason::NotHere))),
+        }
+    }
+
+    /// The whole tree, where what came last is settled.
+    fn whole(self) -> Result<Built, TreeFault>
+        ensures { result ≡ steps.finished self }
+    {
+        if self.nest.depth() != 0 {
+            return Err(self.refusal(TreeReason::Unclosed));
+        }
+        if !self.rooted {
+            return Err(self.refusal(TreeReason::NoRoot));
+        }
+        let Building { rows, next, .. } = self;
+        Ok(Built { rows, next })
+    }
+
+    /// The whole tree.
+    pub(crate) fn finish(mut self, alloc: Global) -> Result<Built, Stop>
+        ensures { Finished result (steps.ended_all self) }
+    {
+        self.settle(alloc)?;
+        match self.whole() {
+            Ok(built) => Ok(built),
+            Err(fault) => Err(Stop::Refused(fault)),
+        }
+    }
+}

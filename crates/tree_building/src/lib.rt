@@ -1,0 +1,22 @@
+//! Trees from the items of a listing: item by item, with the first reason why items are no tree.
+#![tactic(auto)]
+
+mod block;
+mod build;
+mod builder;
+mod building;
+mod fault;
+mod nest;
+mod pending;
+mod rows;
+mod rules;
+
+pub use block::is_one_element;
+pub use build::{Built, build_block, build_document};
+pub use builder::Builder;
+pub use building::Building;
+pub use fault::{TreeFault, TreeReason};
+pub use nest::Nest;
+pub use pending::{Joined, Pending};
+pub use rows::Rows;
+pub use rules::Rules;

@@ -1,0 +1,47 @@
+ghost use Rattle.std.specs.Prelude.{◌≡◌};
+ghost use Rattle.tree_building.specs.Rules as rules;
+
+/// What is asked of items that are to be a tree.
+#[derive(Clone, Copy, Debug, PartialEq, Eq)]
+pub struct Rules {
+    /// The greatest depth of an element, where there is a limit; the root has depth 1.
+    pub levels: Option<u32>,
+    /// How many nodes there may be, where there is a limit.
+    pub nodes: Option<u32>,
+    /// Whether the names of start tags are judged.
+    pub names: bool,
+}
+
+impl Rules {
+    /// The rules of a document: depth 128, 131,072 nodes, and names are judged.
+    pub fn document() -> Self
+        ensures { result ≡ rules.document_rules }
+    {
+        Rules {
+            levels: Some(128),
+            nodes: Some(131_072),
+            names: true,
+        }
+    }
+
+    /// The rules of a block: no limits, and names are not judged.
+    pub fn block() -> Self
+        ensures { result ≡ rules.block_rules }
+    {
+        Rules {
+            levels: None,
+            nodes: None,
+            names: false,
+        }
+    }
+}
+
+/// Whether a number passes a limit, if there is one.
+pub(crate) fn is_past(limit: Option<u32>, number: usize) -> bool
+    ensures { result ≡ rules.past limit number }
+{
+    match limit {
+        Some(most) => (most as usize) < number,
+        None => false,
+    }
+}
