@@ -1,17 +1,20 @@
 -- What a block comes to, by what stands against its names and by the limits.
-use Rattle.std.proofs.Common.{◌≡◌, ℕ, ◌+◌, ◌≤◌, List, [], false, ◌||◌, Option, Some, None, Result, Ok, Err, length, refl, sym, ap, ◌∙◌, arith, nat_lt, subst}
+use Rattle.std.proofs.Common.{◌≡◌, ℕ, ◌+◌, ◌≤◌, List, [], false, ◌||◌, Option, Some, None, Result, Ok, Err, length, refl, sym, ap, ◌∙◌, arith, nat_lt, subst, take, reverse}
 use Rattle.std.proofs.lemmas.Bool.Decides.{nat_tests}
 use Rattle.item_listing.specs.declared.item.Item.{Item}
-use Rattle.tree_rows.specs.Forest.{Forest, Document}
+use Rattle.tree_rows.specs.Forest.{Forest, Document, text, none}
 use Rattle.tree_rows.specs.Rows.{siblings}
 use Rattle.tree_rows.specs.declared.row.Binding.{Binding}
 use Rattle.tree_rows.specs.declared.row.Row.{Row}
-use Rattle.tree_building.specs.Blocks.{block}
+use Rattle.tree_building.specs.Building.{block}
 use Rattle.tree_edits.specs.Blocks.{tags_in, judged, early, late}
-use Rattle.tree_edits.specs.Edits.{put_within, insert_within, unless, then_unless}
+use Rattle.tag_names.specs.Scopes.{first_scope}
+use Rattle.tree_edits.specs.Places.{scope_above}
+use Rattle.tree_edits.specs.declared.places.Spot.{Spot}
+use Rattle.tree_edits.specs.Edits.{put, put_within, insert_within, unless, then_unless}
 use Rattle.tree_building.specs.Shape.{AreWhole, AreSound}
 use Rattle.tree_edits.specs.Refusals.{IsWhy}
-use Rattle.tree_edits.specs.Spots.{tree_of, IsSpot, Puts, Inserts, Fits}
+use Rattle.tree_edits.specs.Spots.{tree_of, inserting, IsSpot, Puts, Inserts, Fits}
 use Rattle.tree_edits.specs.declared.names.BlockNames.{BlockNames}
 use Rattle.tree_edits.specs.declared.edit.EditError.{EditError}
 use Rattle.tree_edits.specs.declared.edit.EditError.TheVariants as errors
@@ -89,3 +92,21 @@ inserted rows new changed next free parent place scope its depth names is first 
       (ap (λ x. put_within (tree_of rows next) parent place x depth) (sym g_is) ∙ puts.puts);
   sound = puts.sound;
 }
+
+-- what is put at the spot of a place
+pub block_at : (rows : List Row) (next parent place : ℕ) (s : Spot) (scope : List Binding) (its : List Item) → IsSpot rows parent place s
+    → scope ≡ scope_above (s.depth + 1) first_scope (reverse (take (s.parent + 1) rows))
+    → insert_within (tree_of rows next) parent place scope its s.depth ≡ put (siblings rows 1) parent place (inserting rows next parent place its)
+block_at rows next parent place s scope its spot is =
+    ap (λ x. insert_within (tree_of rows next) parent place x its s.depth) (is ∙ sym (spot.scoped first_scope))
+    ∙ sym (spot.puts (inserting rows next parent place its))
+
+pub text_at : (rows new : List Row) (next parent place : ℕ) (s : Spot) (chars : List ℕ) → IsSpot rows parent place s → siblings new 1 ≡ text 0 chars none
+    → put_within (tree_of rows next) parent place (siblings new 1) s.depth ≡ put (siblings rows 1) parent place (put_within (tree_of rows next) parent place (text 0 chars none))
+text_at rows new next parent place s chars spot is =
+    ap (λ g. put_within (tree_of rows next) parent place g s.depth) is
+    ∙ sym (spot.puts (put_within (tree_of rows next) parent place (text 0 chars none)))
+
+-- a refusal of what is the same
+pub why_of : (end other : Result Document EditError) (e : EditError) → end ≡ other → IsWhy end e → IsWhy other e
+why_of end other e is why = subst (λ (r : Result Document EditError). IsWhy r e) is why

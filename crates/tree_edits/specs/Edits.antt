@@ -4,7 +4,8 @@ use Rattle.tree_rows.specs.Forest.{Forest, none, text, element, Document, count}
 use Rattle.tree_rows.specs.declared.row.Binding.{Binding}
 use Rattle.item_listing.specs.declared.item.Item.{Item}
 use Rattle.tag_names.specs.Scopes.{first_scope}
-use Rattle.tree_building.specs.Blocks.{block, is_one_element}
+use Rattle.tree_building.specs.Blocks.{one_element}
+use Rattle.tree_building.specs.Building.{block}
 use Rattle.tree_edits.specs.Blocks.{tags_in, judged, early, late}
 use Rattle.tree_edits.specs.declared.edit.Edit.{Edit}
 use Rattle.tree_edits.specs.declared.edit.Edit.TheVariants as edits
@@ -173,7 +174,7 @@ after d (edits.Remove key) = remove d key (found key 1 d.forest)
 
 -- a block is one element
 abbrev pub can_be_made : Edit → Bool
-can_be_made (edits.Insert parent place its) = is_one_element its
+can_be_made (edits.Insert parent place its) = one_element its
 can_be_made (edits.AddText parent place chars) = true
 can_be_made (edits.SetText key chars) = true
 can_be_made (edits.Remove key) = true

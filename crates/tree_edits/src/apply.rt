@@ -2,7 +2,7 @@ ghost use Rattle.std.specs.Prelude.{◌≡◌, ℕ, ◌+◌, ◌≤◌, ◌<◌,
 ghost use Rattle.tree_rows.specs.declared.row.Row.{Row};
 ghost use Rattle.tree_rows.specs.declared.row.Content.TheVariants as contents;
 ghost use Rattle.tree_rows.specs.Rows.{siblings};
-ghost use Rattle.tree_building.specs.Blocks.{is_one_element};
+ghost use Rattle.tree_building.specs.Blocks.{one_element};
 ghost use Rattle.tree_rows.specs.Forest.{none, text as text_node};
 ghost use Rattle.tree_edits.specs.Edits.{after, put, put_within, insert_within, reword, found, can_be_made};
 ghost use Rattle.tree_building.specs.Shape.{AreSound, AreWhole, AreUnder, deepest_row};
@@ -86,7 +86,7 @@ fn put_block(
     requires sound { AreSound rows.old.items }
     requires within { spot.place ≤ length rows.old.items }
     requires shallow { spot.depth ≤ 128 }
-    requires one { is_one_element items.now ≡ true }
+    requires one { one_element items.now ≡ true }
     ensures ok { IfOk result (λ free. (parent index : ℕ) → IsSpot rows.old.items parent index spot → Inserts rows.old.items rows.new.items next_free free parent index spot.depth scope.now items.now) }
     ensures err { IfErr result (λ e. (parent index : ℕ) → IsWhy (insert_within (tree_of rows.old.items next_free) parent index scope.now items.now spot.depth) e) }
     ensures kept { OnErr result (rows.new.items ≡ rows.old.items) }
@@ -110,7 +110,7 @@ fn insert_block(
     items: &[Item],
 ) -> Result<u32, EditError>
     requires sound { AreSound rows.old.items }
-    requires one { is_one_element items.now ≡ true }
+    requires one { one_element items.now ≡ true }
     ensures ok { IfOk result (λ free. put (siblings rows.old.items 1) parent index (inserting rows.old.items next_free parent index items.now) ≡ Ok (tree_of rows.new.items free)) }
     ensures sound { OnOk result (AreSound rows.new.items) }
     ensures err { IfErr result (IsWhy (put (siblings rows.old.items 1) parent index (inserting rows.old.items next_free parent index items.now))) }

@@ -128,9 +128,9 @@ impl Walk {
             attributes: lines_of(self.alloc, rest)?,
         };
         self.names = self.judge(&tag)?;
-        let named = tag.named(self.alloc, &self.scope)?;
+        let bindings = tag.bindings(self.alloc)?;
         self.sizes.push(self.scope.len())?;
-        self.scope.bind_all(named.bindings.as_slice())?;
+        self.scope.bind_all(bindings.as_slice())?;
         Ok(())
     }
 

@@ -1,28 +1,32 @@
-use Rattle.std.proofs.Common.{rules, ◌≡◌, ℕ, ◌+◌, ◌≤◌, ◌<◌, ◌^◌, ◌||◌, nat_lt, true, Ok, OnOk, OnErr, IfOk, IfErr, length, slice_index_or, slice_set, ◌-◌, ◌*◌, ◌/◌, ◌%◌, Bool, false, nat_eq, List, [], ◌∷◌, ◌++◌, bit_and, bit_or, w8, w32, w64, Bor, MutBor}
-use Rattle.tree_rows.specs.declared.row.Row.{Row}
-use Rattle.tree_rows.specs.declared.row.Content.TheVariants as contents
-use Rattle.tree_rows.specs.Rows.{siblings}
-use Rattle.tree_building.specs.Blocks.{is_one_element}
-use Rattle.tree_rows.specs.Forest.{none}
-use Rattle.tree_rows.specs.Forest.{text as text_node}
-use Rattle.tree_edits.specs.Edits.{after, put, put_within, insert_within, reword, found, can_be_made}
-use Rattle.tree_building.specs.Shape.{AreSound, AreWhole, AreUnder, deepest_row}
-use Rattle.tree_edits.specs.Refusals.{IsWhy}
-use Rattle.tree_edits.specs.Spots.{tree_of, inserting, IsSpot, Puts, Inserts, IsText, Fits, CannotFit, Rewords, Removes, CannotRemove}
+use Rattle.std.proofs.Common.{sym, ◌∙◌}
+use Rattle.tree_edits.specs.Spots.{inserting}
+use Rattle.tree_edits.proofs.Outcomes.{ok_map, on_ok, err_map, err_same}
+use Rattle.tree_edits.proofs.Inserting.{block_at, why_of}
 use Rattle.tree_edits.proofs.apply.insert_block.Goals as goal
 
--- src/apply.rt:119:16
 pub returns-in_err-spot-clause-err : goal.returns-in_err-spot-clause-err
-returns-in_err-spot-clause-err c = ?
+returns-in_err-spot-clause-err c =
+    let refuses = rw c.deref.ensures.value at c.in_err-spot.ensures.err in
+    err_same c.from_residual.result c.in_err-spot.field-0.0 _ c.from_residual.ensures.1
+    (refuses (inserting c.args.rows.now.items c.args.next_free c.args.parent c.args.index c.args.items.now))
 
--- src/apply.rt:104:1
 pub returns-clause-ok : goal.returns-clause-ok
-returns-clause-ok c = ?
+returns-clause-ok c =
+    let spot = rw c.deref.ensures.value at c.in_ok-spot.ensures.ok in
+    let scope = rw c.deref-2.ensures.value at c.in_ok-scope.ensures in
+    ok_map c.put_block.result _ _ c.put_block.ensures.ok
+    (λ free p. sym (block_at c.args.rows.now.items c.args.next_free c.args.parent c.args.index c.in_ok-spot.spot c.in_ok-scope.scope c.args.items.now spot scope)
+    ∙ (p c.args.parent c.args.index spot).inserts)
 
--- src/apply.rt:104:1
 pub returns-clause-sound : goal.returns-clause-sound
-returns-clause-sound c = ?
+returns-clause-sound c =
+    let spot = rw c.deref.ensures.value at c.in_ok-spot.ensures.ok in
+    on_ok c.put_block.result _ _ c.put_block.ensures.ok (λ free p. (p c.args.parent c.args.index spot).sound)
 
--- src/apply.rt:104:1
 pub returns-clause-err : goal.returns-clause-err
-returns-clause-err c = ?
+returns-clause-err c =
+    let spot = rw c.deref.ensures.value at c.in_ok-spot.ensures.ok in
+    let scope = rw c.deref-2.ensures.value at c.in_ok-scope.ensures in
+    err_map c.put_block.result _ _ c.put_block.ensures.err
+    (λ e p. why_of _ _ e (block_at c.args.rows.now.items c.args.next_free c.args.parent c.args.index c.in_ok-spot.spot c.in_ok-scope.scope c.args.items.now spot scope)
+    (p c.args.parent c.args.index))

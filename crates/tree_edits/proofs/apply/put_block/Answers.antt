@@ -1,24 +1,26 @@
-use Rattle.std.proofs.Common.{rules, ◌≡◌, ℕ, ◌+◌, ◌≤◌, ◌<◌, ◌^◌, ◌||◌, nat_lt, true, Ok, OnOk, OnErr, IfOk, IfErr, length, slice_index_or, slice_set, ◌-◌, ◌*◌, ◌/◌, ◌%◌, Bool, false, nat_eq, List, [], ◌∷◌, ◌++◌, bit_and, bit_or, w8, w32, w64, Bor, MutBor}
-use Rattle.tree_rows.specs.declared.row.Row.{Row}
-use Rattle.tree_rows.specs.declared.row.Content.TheVariants as contents
 use Rattle.tree_rows.specs.Rows.{siblings}
-use Rattle.tree_building.specs.Blocks.{is_one_element}
-use Rattle.tree_rows.specs.Forest.{none}
-use Rattle.tree_rows.specs.Forest.{text as text_node}
-use Rattle.tree_edits.specs.Edits.{after, put, put_within, insert_within, reword, found, can_be_made}
-use Rattle.tree_building.specs.Shape.{AreSound, AreWhole, AreUnder, deepest_row}
-use Rattle.tree_edits.specs.Refusals.{IsWhy}
-use Rattle.tree_edits.specs.Spots.{tree_of, inserting, IsSpot, Puts, Inserts, IsText, Fits, CannotFit, Rewords, Removes, CannotRemove}
+use Rattle.tree_edits.specs.Spots.{tree_of}
+use Rattle.tree_edits.proofs.Outcomes.{err_same}
+use Rattle.tree_edits.proofs.Inserting.{limit_is, late_is, inserted}
 use Rattle.tree_edits.proofs.apply.put_block.Goals as goal
 
--- src/apply.rt:97:5
 pub returns-in_err-fit-clause-err : goal.returns-in_err-fit-clause-err
-returns-in_err-fit-clause-err c = ?
+returns-in_err-fit-clause-err c =
+    let refuses = rw (c.deref.ensures.value, c.deref-2.ensures.value) at c.in_err-fit.ensures.err in
+    err_same c.from_residual-in_err-fit.result c.in_err-fit.field-0.0 _ c.from_residual-in_err-fit.ensures.1
+    (λ parent index. limit_is (tree_of c.args.rows.now.items c.args.next_free) parent index c.args.scope.now c.args.items.now c.args.spot.depth c.in_ok-names.names
+    (siblings c.in_ok-new.new.items 1) c.in_err-fit.field-0.0 c.in_ok-names.ensures c.in_ok-early.ensures.ok c.in_ok-new.ensures.is_block (refuses parent index))
 
--- src/apply.rt:98:5
 pub returns-in_err-late-clause-err : goal.returns-in_err-late-clause-err
-returns-in_err-late-clause-err c = ?
+returns-in_err-late-clause-err c =
+    let fits = rw (c.deref.ensures.value, c.deref-2.ensures.value) at c.in_ok-fit.ensures.ok in
+    err_same c.from_residual-in_err-late.result c.in_err-late.field-0.0 _ c.from_residual-in_err-late.ensures.1
+    (λ parent index. late_is c.args.rows.now.items c.in_ok-new.new.items c.args.next_free parent index c.args.scope.now c.args.items.now c.args.spot.depth
+    c.in_ok-names.names c.in_err-late.field-0.0 c.requires.sound.whole c.in_ok-new.ensures.whole fits c.in_ok-names.ensures c.in_ok-early.ensures.ok
+    c.in_err-late.ensures.err c.in_ok-new.ensures.is_block)
 
--- src/apply.rt:78:1
 pub returns-clause-ok : goal.returns-clause-ok
-returns-clause-ok c = ?
+returns-clause-ok c =
+    λ parent index spot. inserted c.args.rows.now.items c.in_ok-new.new.items c.put_fitting.new.rows.items c.args.next_free c.in_ok-free.free parent index
+    c.args.scope.now c.args.items.now c.args.spot.depth c.in_ok-names.names c.in_ok-names.ensures c.in_ok-early.ensures.ok c.in_ok-late.ensures.ok
+    c.in_ok-new.ensures.is_block (c.in_ok-free.ensures.ok parent index spot)

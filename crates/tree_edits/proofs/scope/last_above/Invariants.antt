@@ -8,3 +8,6 @@ invariant-left l = record {
   shorter : length l.left ≤ length l.rows;
   same : (scope : List Binding) → scope_above l.depth scope (reverse l.rows) ≡ scope_above l.depth scope (reverse l.left);
 }
+
+abbrev pub decreases-left : goal.decreases-left
+decreases-left l = length l.left

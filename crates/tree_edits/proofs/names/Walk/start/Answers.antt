@@ -1,10 +1,10 @@
-use Rattle.std.proofs.Common.{rules, ◌≡◌, ◌∷◌, [], ◌||◌, List, None, Some, IfOk, OnOk, IfErr, ℕ, ◌+◌, ◌-◌, ◌*◌, ◌<◌, ◌≤◌, length, ◌/◌, ◌%◌, Bool, true, false, nat_eq, nat_lt, ◌++◌, slice_index_or, slice_set, bit_and, bit_or, Fits, w8, w32, w64, Bor, MutBor}
-use Rattle.tree_edits.specs.Blocks as blocks
-use Rattle.item_listing.specs.declared.item.Item.{Item}
-use Rattle.item_listing.specs.declared.item.Item.TheVariants as items
-use Rattle.tree_edits.specs.Walks.{outcome, joined}
+use Rattle.std.proofs.Common.{ap, ◌++◌, ◌∙◌}
+use Rattle.tree_edits.proofs.Scoping.{started}
 use Rattle.tree_edits.proofs.names.Walk.start.Goals as goal
 
--- src/names.rt:123:5
 pub returns : goal.returns
-returns c = ?
+returns c =
+    started c.args.self.now.names c.in_ok-self.field-0 c.args.self.now.scope c.bind_all.new.self c.in_ok-bindings.bindings c.args.self.now.sizes.items
+    c.push.new.self.items c.len.result (record { name = c.in_ok-try_clone.field-0; attributes = c.in_ok-lines_of.field-0 }) c.args.name.now c.args.rest.now
+    c.in_ok-try_clone.ensures c.in_ok-lines_of.ensures c.in_ok-self.ensures c.in_ok-bindings.ensures
+    (c.in_ok-bind_all.ensures.ok ∙ ap (λ b. b ++ c.args.self.now.scope) c.as_slice.ensures) c.len.ensures c.in_ok-push.ensures.items
