@@ -130,7 +130,7 @@ text_begun text b =
 -- characters: neighbours make one text
 abbrev pub text_by : List ℕ → Building → Pending → Result Building TreeFault
 text_by text b pending.Nothing = text_begun text b
-text_by text b (pending.Start tag item) = tag_closed b >>= text_begun text
+text_by text b (pending.Start tag item) = tag_closed_by b (pending.Start tag item) >>= text_begun text
 text_by text b (pending.Chars chars) = Ok (record (counted b) { pending = pending.Chars (chars ++ text) })
 
 -- the end of an element: its name is as the start has it

@@ -7,3 +7,4 @@ pub mod Builder
 pub mod Shape
 pub mod Blocks
 pub mod Tags
+pub mod Spelling

@@ -1,6 +1,8 @@
 -- What a step answers.
-use Rattle.std.specs.Prelude.{◌≡◌, ℕ, Result, Ok, Err, Option, Some, None}
+use Rattle.std.specs.Prelude.{◌≡◌, ℕ, List, Bool, true, false, Result, Ok, Err, Option, Some, None}
 use Rattle.tag_names.specs.declared.fault.NameReason.{NameReason}
+use Rattle.tree_rows.specs.declared.row.Row.{Row}
+use Rattle.tree_building.specs.Building.{text_row, with_element}
 use Rattle.tree_building.specs.declared.building.Building.{Building}
 use Rattle.tree_building.specs.declared.build.Built.{Built}
 use Rattle.tree_building.specs.declared.pending.Pending.{Pending}
@@ -43,8 +45,21 @@ abbrev pub Finished : Result Built Stop → Result Built TreeFault → Type 0
 Finished (Ok b) end = end ≡ Ok b
 Finished (Err stop) end = FinishedStop stop end
 
--- no text is begun
-abbrev pub HoldsNoChars : Pending → Type 0
-HoldsNoChars pending.Nothing = Unit {0}
-HoldsNoChars (pending.Start tag item) = Unit {0}
-HoldsNoChars (pending.Chars chars) = ⊥
+-- a text is begun
+abbrev pub holds_chars : Pending → Bool
+holds_chars pending.Nothing = false
+holds_chars (pending.Start tag item) = false
+holds_chars (pending.Chars chars) = true
+
+-- the node of the characters that came last
+abbrev pub text_come : Building → Pending → Option Row
+text_come b pending.Nothing = None
+text_come b (pending.Start tag item) = None
+text_come b (pending.Chars chars) = Some (text_row b chars)
+
+-- the start tag that came last was judged: there is none, or its element can be opened
+abbrev pub GivesTag : Result (Option (List ℕ × Row)) Stop → Building → Result Building TreeFault → Type 0
+GivesTag (Ok None) b end = end ≡ Ok b
+GivesTag (Ok (Some found)) b end = end ≡ Ok (with_element b found.0 found.1)
+GivesTag (Err Memory) b end = Unit {0}
+GivesTag (Err (Refused fault)) b end = end ≡ Err fault

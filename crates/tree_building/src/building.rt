@@ -1,11 +1,11 @@
-ghost use Rattle.std.specs.Prelude.{◌≡◌, ◌+◌, ◌∷◌, [], ◌<◌, ◌^◌, Ok, length, IfOk, OnOk};
+ghost use Rattle.std.specs.Prelude.{◌≡◌, ◌+◌, [], ◌<◌, ◌^◌, true, false, Ok, IfOk, OnOk};
 ghost use Rattle.tree_building.specs.Building as steps;
-ghost use Rattle.tree_building.specs.Steps.{Steps, Judged, Ends, Finished, HoldsNoChars};
+ghost use Rattle.tree_building.specs.Steps.{Steps, Judged, Ends, Finished, GivesTag, holds_chars, text_come};
 ghost use Rattle.item_listing.specs.declared.item.Item.TheVariants as items;
 
 use crate::build::Built;
 use crate::fault::Stop;
-use crate::rules::is_past;
+use crate::rules::{is_past, is_past_below};
 use crate::{Joined, Nest, Pending, Rows, Rules, TreeFault, TreeReason};
 use item_listing::Item;
 use std::alloc::{AllocError, Global};
@@ -123,7 +123,8 @@ impl Building {
 
     /// Puts the node of a text behind the others.
     fn put_text(&mut self, row: Row) -> Result<(), Stop>
-        ensures { Steps self.old self.new result (Ok (steps.with_row self.old row)) }
+        ensures step { Steps self.old self.new result (Ok (steps.with_row self.old row)) }
+        ensures taken { OnOk result (self.new.taken ≡ self.old.taken) }
     {
         let next = after(self.next)?;
         self.rows.push(row)?;
@@ -134,7 +135,8 @@ impl Building {
 
     /// Puts the node of an element behind the others, and opens it under this name.
     fn put_element(&mut self, name: Text, row: Row) -> Result<(), Stop>
-        ensures { Steps self.old self.new result (Ok (steps.with_element self.old name row)) }
+        ensures step { Steps self.old self.new result (Ok (steps.with_element self.old name row)) }
+        ensures taken { OnOk result (self.new.taken ≡ self.old.taken) }
     {
         let next = after(self.next)?;
         self.nest.open(name, row.bindings.as_slice())?;
@@ -147,22 +149,42 @@ impl Building {
         Ok(())
     }
 
+    /// The name and the node of the start tag whose attribute lines have all come, if there is one and its names are well.
+    fn judged(&self, alloc: Global) -> Result<Option<(Text, Row)>, Stop>
+        ensures { GivesTag result self.now (steps.tag_closed self.now) }
+    {
+        match &self.pending {
+            Pending::Nothing => Ok(None),
+            Pending::Chars(_) => Ok(None),
+            Pending::Start(tag, item) => {
+                judge(alloc, self.rules, self.nest.scope(), tag, *item)?;
+                let name = tag.name.try_clone(alloc)?;
+                let row = self.element_row(alloc, tag)?;
+                Ok(Some((name, row)))
+            }
+        }
+    }
+
     /// Judges the start tag whose attribute lines have all come, if there is one, and opens its element.
     fn close_tag(&mut self, alloc: Global) -> Result<(), Stop>
         ensures step { Steps self.old self.new result (steps.tag_closed self.old) }
         ensures taken { OnOk result (self.new.taken ≡ self.old.taken) }
     {
-        let (name, row) = match &self.pending {
-            Pending::Nothing => return Ok(()),
-            Pending::Chars(_) => return Ok(()),
-            Pending::Start(tag, item) => {
-                judge(alloc, self.rules, self.nest.scope(), tag, *item)?;
-                let name = tag.name.try_clone(alloc)?;
-                let row = self.element_row(alloc, tag)?;
-                (name, row)
-            }
-        };
-        self.put_element(name, row)
+        match self.judged(alloc)? {
+            None => Ok(()),
+            Some((name, row)) => self.put_element(name, row),
+        }
+    }
+
+    /// The node of the characters that came last, if there are any.
+    fn text_come(&self, alloc: Global) -> Result<Option<Row>, AllocError>
+        ensures { IfOk result (λ row. row ≡ text_come self.now self.now.pending) }
+    {
+        match &self.pending {
+            Pending::Nothing => Ok(None),
+            Pending::Start(..) => Ok(None),
+            Pending::Chars(chars) => Ok(Some(self.text_row(alloc, chars)?)),
+        }
     }
 
     /// Makes a node of what came last.
@@ -170,12 +192,10 @@ impl Building {
         ensures step { Steps self.old self.new result (steps.settled self.old) }
         ensures taken { OnOk result (self.new.taken ≡ self.old.taken) }
     {
-        let row = match &self.pending {
-            Pending::Nothing => return Ok(()),
-            Pending::Start(..) => return self.close_tag(alloc),
-            Pending::Chars(chars) => self.text_row(alloc, chars)?,
-        };
-        self.put_text(row)
+        match self.text_come(alloc)? {
+            None => self.close_tag(alloc),
+            Some(row) => self.put_text(row),
+        }
     }
 
     /// Begins an element, where what came before is settled.
@@ -188,10 +208,10 @@ impl Building {
         if depth == 0 && self.rooted {
             return Err(self.refusal(TreeReason::TwoRoots));
         }
-        if is_past(self.rules.levels, depth + 1) {
+        if is_past_below(self.rules.levels, depth) {
             return Err(self.refusal(TreeReason::TooDeep));
         }
-        if is_past(self.rules.nodes, self.next as usize) {
+        if is_past(self.rules.nodes, self.next) {
             return Err(self.refusal(TreeReason::TooManyNodes));
         }
         self.pending = Pending::Start(tag, self.taken);
@@ -212,7 +232,8 @@ impl Building {
                 return Err(self.refusal(TreeReason::TextOutside));
             }
         } else if !is_empty {
-            if is_past(self.rules.nodes, self.next as usize) {
+            let number = self.next;
+            if is_past(self.rules.nodes, number) {
                 return Err(self.refusal(TreeReason::TooManyNodes));
             }
             self.pending = Pending::Chars(text);
@@ -272,7 +293,7 @@ impl Building {
     /// Characters, where no text is begun.
     fn first_chars(&mut self, alloc: Global, text: &Text) -> Result<(), Stop>
         requires few { self.old.taken + 1 < 2 ^ 32 }
-        requires first { HoldsNoChars self.old.pending }
+        requires first { holds_chars self.old.pending ≡ false }
         ensures { Steps self.old self.new result (steps.text_by text.now self.old self.old.pending) }
     {
         let text = text.as_str();
@@ -284,19 +305,42 @@ impl Building {
         }
     }
 
+    /// Characters behind those of a text.
+    fn more_chars(&mut self, text: &Text) -> Result<(), Stop>
+        requires few { self.old.taken + 1 < 2 ^ 32 }
+        requires more { holds_chars self.old.pending ≡ true }
+        ensures { Steps self.old self.new result (steps.text_by text.now self.old self.old.pending) }
+    {
+        match &mut self.pending {
+            Pending::Chars(joined) => {
+                joined.push_str(text.as_str())?;
+                self.taken += 1;
+                Ok(())
+            }
+            _ => unreachable!(),
+        }
+    }
+
+    /// Whether a text is begun.
+    fn holds_chars(&self) -> bool
+        ensures { result ≡ holds_chars self.now.pending }
+    {
+        match &self.pending {
+            Pending::Nothing => false,
+            Pending::Start(..) => false,
+            Pending::Chars(_) => true,
+        }
+    }
+
     /// Characters.
     fn chars(&mut self, alloc: Global, text: &Text) -> Result<(), Stop>
         ensures { Steps self.old self.new result (steps.took self.old (items.Chars text.now)) }
     {
-        let taken = after(self.taken)?;
-        match &mut self.pending {
-            Pending::Chars(joined) => {
-                joined.push_str(text.as_str())?;
-                self.taken = taken;
-                Ok(())
-            }
-            Pending::Nothing => self.first_chars(alloc, text),
-            Pending::Start(..) => self.first_chars(alloc, text),
+        after(self.taken)?;
+        if self.holds_chars() {
+            self.more_chars(text)
+        } else {
+            self.first_chars(alloc, text)
         }
     }
 
@@ -316,9 +360,9 @@ impl Building {
     fn instruction(&mut self, alloc: Global) -> Result<(), Stop>
         ensures { Steps self.old self.new result (steps.took self.old items.Instruction) }
     {
-        let taken = after(self.taken)?;
+        let count = after(self.taken)?;
         self.close_tag(alloc)?;
-        self.taken = taken;
+        self.taken = count;
         Ok(())
     }
 

@@ -6,16 +6,20 @@ mod build;
 mod builder;
 mod building;
 mod fault;
+mod laws;
 mod nest;
 mod pending;
 mod rows;
 mod rules;
+#[cfg(test)]
+mod tests;
 
 pub use block::is_one_element;
 pub use build::{Built, build_block, build_document};
 pub use builder::Builder;
 pub use building::Building;
 pub use fault::{TreeFault, TreeReason};
+pub use laws::trees_are_read;
 pub use nest::Nest;
 pub use pending::{Joined, Pending};
 pub use rows::Rows;

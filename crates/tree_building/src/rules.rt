@@ -1,4 +1,4 @@
-ghost use Rattle.std.specs.Prelude.{◌≡◌};
+ghost use Rattle.std.specs.Prelude.{◌≡◌, ◌+◌};
 ghost use Rattle.tree_building.specs.Rules as rules;
 
 /// What is asked of items that are to be a tree.
@@ -37,11 +37,21 @@ impl Rules {
 }
 
 /// Whether a number passes a limit, if there is one.
-pub(crate) fn is_past(limit: Option<u32>, number: usize) -> bool
+pub(crate) fn is_past(limit: Option<u32>, number: u32) -> bool
     ensures { result ≡ rules.past limit number }
 {
     match limit {
-        Some(most) => (most as usize) < number,
+        Some(most) => most < number,
+        None => false,
+    }
+}
+
+/// Whether the depth below so many elements passes a limit, if there is one.
+pub(crate) fn is_past_below(limit: Option<u32>, elements: usize) -> bool
+    ensures { result ≡ rules.past limit (elements + 1) }
+{
+    match limit {
+        Some(most) => most as usize <= elements,
         None => false,
     }
 }
