@@ -7,8 +7,9 @@ ghost use Rattle.assess_model.specs.Assessment.{code_total};
 ghost use Rattle.edit_replies.specs.Replies.{made, total_line, refusal, assess_reply, change_reply, standing_of, AnswersBy};
 
 use tree_edits::Edit;
+use tree_rows::NodeKind;
 use report_text::write_record;
-use session_model::{NodeKind, Session, SessionError};
+use session_model::{Session, SessionError};
 use std::alloc::AllocError;
 use std::fmt::Write;
 use xsv_steps::{Ledger, Steps};

@@ -1,9 +1,10 @@
-ghost use Rattle.std.specs.Prelude.{◌≡◌, true, Ok, OnOk, OnErr, IfErr};
+ghost use Rattle.std.specs.Prelude.{◌≡◌, true, Ok, OnOk, OnErr, IfOk, IfErr};
 
-use crate::apply::edit_rows;
-use crate::{Edit, EditError, Row};
-use std::alloc::Global;
+use std::alloc::{AllocError, Global};
 use std::marker::Model;
+use tree_building::{Builder, TreeFault};
+use tree_edits::{Edit, EditError, edit_rows};
+use tree_rows::Row;
 
 /// A tree of elements and texts. Contracts see it as a forest of one root, with the next free number.
 #[derive(Debug, Drop)]
@@ -13,8 +14,8 @@ pub struct Tree {
 }
 
 impl Model for Tree {
-    ghost use Rattle.plain_tree.specs.Forest.{Document};
-    ghost use Rattle.plain_tree.specs.Code.{document_code};
+    ghost use Rattle.tree_rows.specs.Forest.{Document};
+    ghost use Rattle.tree_rows.specs.Code.{document_code};
 
     ghost Value = { Document };
 
@@ -28,17 +29,21 @@ impl Model for Tree {
 }
 
 impl Tree {
-    ghost use Rattle.plain_tree.specs.Rows.{rows_of, siblings};
-    ghost use Rattle.plain_tree.specs.EditRows.{AreSound};
-    ghost use Rattle.plain_tree.specs.Edits.{after, can_be_made};
-    ghost use Rattle.plain_tree.specs.Refusals.{IsWhy};
+    ghost use Rattle.tree_rows.specs.Rows.{rows_of};
+    ghost use Rattle.tree_building.specs.Building.{document};
+    ghost use Rattle.tree_building.specs.Builder.{end_of};
+    ghost use Rattle.tree_edits.specs.Edits.{after, can_be_made};
+    ghost use Rattle.tree_edits.specs.Refusals.{IsWhy};
 
-    /// The tree of rows in document order.
-    pub(crate) fn from_rows(rows: Vec<Row>, next_free: u32) -> Self
-        requires { AreSound rows.items }
-        ensures { result ≡ record { forest = siblings rows.items 1; next_free = next_free } }
+    /// The tree that a builder has made, at the end of its items.
+    ///
+    /// # Errors
+    ///
+    /// `AllocError` is want of memory; a `TreeFault` is the items'.
+    pub fn of_builder(_builder: Builder) -> Result<Result<Self, TreeFault>, AllocError>
+        ensures { IfOk result (λ end. end ≡ document (end_of _builder)) }
     {
-        Tree { rows, next_free }
+        Err(AllocError)
     }
 
     /// The nodes in document order, each with its depth.

@@ -105,7 +105,7 @@ impl Refusal {
 pub fn write_refusal(out: &mut String, line: u64, refusal: Refusal) -> Result<Status, AllocError>
     ensures text { OnOk result (string_bytes out.new ≡ string_bytes out.old ++ refusals.refusal_line line refusal) }
     ensures status { IfOk result (λ status. status ≡ refusals.refusal_status refusal) }
-    ensures final { IfOk result IsFinal }
+    ensures complete { IfOk result IsFinal }
 {
     let name = refusal.name();
     if refusal.is_limit() {

@@ -9,10 +9,19 @@ use crate::{Asked, Place, Turn};
 use item_listing::Item;
 use plain_tree::Tree;
 use std::alloc::{AllocError, Global};
-use tree_building::Builder;
+use tag_names::Prefixes;
+use tree_building::{Builder, Rules};
 
 /// The most schema sections that a stream has.
 const MOST_SCHEMAS: u32 = 256;
+
+/// A builder of the tree of a section.
+fn begin_tree(alloc: Global) -> Result<Builder, AllocError>
+    ensures { IfOk result (λ b. b ≡ turns.nothing_built) }
+{
+    let scope = Prefixes::new(alloc)?;
+    Ok(Builder::new(alloc, Rules::document(), scope))
+}
 
 /// Another schema section begins.
 fn begin_schema(
@@ -26,7 +35,7 @@ fn begin_schema(
     Ok(Turn::Goes(Place::Schema(SchemaSection {
         count,
         first,
-        builder: Builder::document(alloc)?,
+        builder: begin_tree(alloc)?,
         start: line,
     })))
 }
@@ -115,7 +124,7 @@ fn begin_document(
         Ok(tree) => match read_first(alloc, &first.unwrap_or(tree), out)? {
             Ok(schema) => Ok(Turn::Goes(Place::Document(DocumentSection {
                 schema,
-                builder: Builder::document(alloc)?,
+                builder: begin_tree(alloc)?,
                 start: line,
             }))),
             Err(status) => Ok(Turn::Ends(status)),

@@ -60,7 +60,7 @@ pub fn answer_item<L: Ledger>(
 pub fn finish(place: &Place, out: &mut String) -> Result<Status, AllocError>
     ensures text { OnOk result (string_bytes out.new ≡ string_bytes out.old ++ (output.finished place.now).text) }
     ensures status { IfOk result (λ status. (output.finished place.now).status ≡ Some status) }
-    ensures final { IfOk result IsFinal }
+    ensures complete { IfOk result IsFinal }
 {
     match place {
         Place::Ended(None) => Ok(Status::Valid),
