@@ -1,9 +1,1 @@
-pub mod Nested
-pub mod Standing
-pub mod Placing
-pub mod Spotting
-pub mod Counting
-pub mod Putting
-pub mod Changing
-pub mod Outcomes
-pub mod Spelled
+pub mod Finding

@@ -1,7 +1,7 @@
 -- A tree over the rows that it holds.
-use Rattle.plain_tree.specs.Forest.{Document}
-use Rattle.plain_tree.specs.Rows.{siblings}
-use Rattle.plain_tree.specs.EditRows.{AreSound}
+use Rattle.tree_rows.specs.Forest.{Document}
+use Rattle.tree_rows.specs.Rows.{siblings}
+use Rattle.tree_building.specs.Shape.{AreSound}
 use Rattle.plain_tree.specs.declared.tree.Tree.TheInside.{Inside}
 
 abbrev pub document_of : Inside → Document

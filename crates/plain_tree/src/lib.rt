@@ -1,21 +1,14 @@
-//! Trees of elements and texts, from the items of a listing.
+//! Trees of elements and texts: built of the items of a listing, changed by edits, read by the numbers of nodes.
 #![tactic(auto)]
 
-mod apply;
-mod block;
-mod build;
 mod builder;
-mod edit;
-mod places;
-mod row;
-mod shifts;
+mod nodes;
 #[cfg(test)]
 mod tests;
 mod tree;
 
-pub use block::is_one_element;
-pub use build::{TreeReason, read_tree, trees_are_read};
-pub use builder::is_white_space;
-pub use edit::{Edit, EditError};
-pub use row::{Attribute, Attributes, Content, Row};
+pub use builder::{Builder, read_tree};
 pub use tree::Tree;
+pub use tree_building::{TreeFault, TreeReason, is_one_element};
+pub use tree_edits::{Edit, EditError};
+pub use tree_rows::{Attribute, Attributes, Binding, Bindings, Content, Expanded, NodeKind, Row};

@@ -3,6 +3,7 @@ ghost use Rattle.tag_names.specs.Scopes.{first_scope};
 ghost use Rattle.tree_building.specs.Blocks.{one_element, IsBlock};
 ghost use Rattle.tree_building.specs.Building as steps;
 ghost use Rattle.tree_building.specs.Rules.{document_rules};
+ghost use Rattle.tree_building.specs.Shape.{AreSound};
 
 use crate::{Builder, Rows, Rules, TreeFault};
 use item_listing::Item;
@@ -44,9 +45,11 @@ pub fn build_document(
     alloc: Global,
     items: &[Item],
 ) -> Result<Result<Built, TreeFault>, AllocError>
-    ensures { IfOk result (λ built. built ≡ steps.built document_rules first_scope items.now) }
+    ensures built { IfOk result (λ built. built ≡ steps.built document_rules first_scope items.now) }
+    ensures sound { IfOk result (λ built. IfOk built (λ end. AreSound end.rows)) }
 {
-    build(alloc, Rules::document(), Prefixes::new(alloc)?, items)
+    let built = build(alloc, Rules::document(), Prefixes::new(alloc)?, items)?;
+    Ok(built)
 }
 
 /// The nodes of the element that the items of a block are, with numbers and depths from 1. Names resolve in the scope

@@ -1,7 +1,0 @@
-use Rattle.std.proofs.Common.{◌≡◌, ◌+◌, drop}
-use Rattle.std.specs.List.{position_or_len}
-use Rattle.plain_tree.specs.EditRows.{is_numbered}
-use Rattle.plain_tree.proofs.places.place_of.Given as goal
-
-abbrev pub invariant-loop-place : goal.invariant-loop-place
-invariant-loop-place l = l.place + position_or_len (is_numbered l.number) (drop l.place l.rows) ≡ position_or_len (is_numbered l.number) l.rows

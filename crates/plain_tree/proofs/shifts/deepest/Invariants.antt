@@ -1,6 +1,0 @@
-use Rattle.std.proofs.Common.{◌≡◌, drop, max}
-use Rattle.plain_tree.specs.EditRows.{deepest_row}
-use Rattle.plain_tree.proofs.shifts.deepest.Given as goal
-
-abbrev pub invariant-loop-row : goal.invariant-loop-row
-invariant-loop-row l = max l.deepest (deepest_row l.levels (drop l.row-index l.rows)) ≡ deepest_row l.levels l.rows
