@@ -1,0 +1,26 @@
+use Rattle.tree_rows.specs.Rows.{siblings}
+use Rattle.tree_edits.specs.Spots.{tree_of}
+use Rattle.tree_edits.proofs.Outcomes.{err_same}
+use Rattle.tree_edits.proofs.Inserting.{limit_is, late_is, inserted}
+use Rattle.tree_edits.proofs.apply.put_block.Goals as goal
+
+pub returns-in_err-fit-clause-err : goal.returns-in_err-fit-clause-err
+returns-in_err-fit-clause-err c =
+    let refuses = rw (c.deref.ensures.value, c.deref-2.ensures.value) at c.in_err-fit.ensures.err in
+    err_same c.from_residual-in_err-fit.result c.in_err-fit.field-0.0 _ c.from_residual-in_err-fit.ensures.1
+    (λ parent index. limit_is (tree_of c.args.rows.now.items c.args.next_free) parent index c.args.scope.now c.args.items.now c.args.spot.depth c.in_ok-names.names
+    (siblings c.in_ok-new.new.items 1) c.in_err-fit.field-0.0 c.in_ok-names.ensures c.in_ok-early.ensures.ok c.in_ok-new.ensures.is_block (refuses parent index))
+
+pub returns-in_err-late-clause-err : goal.returns-in_err-late-clause-err
+returns-in_err-late-clause-err c =
+    let fits = rw (c.deref.ensures.value, c.deref-2.ensures.value) at c.in_ok-fit.ensures.ok in
+    err_same c.from_residual-in_err-late.result c.in_err-late.field-0.0 _ c.from_residual-in_err-late.ensures.1
+    (λ parent index. late_is c.args.rows.now.items c.in_ok-new.new.items c.args.next_free parent index c.args.scope.now c.args.items.now c.args.spot.depth
+    c.in_ok-names.names c.in_err-late.field-0.0 c.requires.sound.whole c.in_ok-new.ensures.whole fits c.in_ok-names.ensures c.in_ok-early.ensures.ok
+    c.in_err-late.ensures.err c.in_ok-new.ensures.is_block)
+
+pub returns-clause-ok : goal.returns-clause-ok
+returns-clause-ok c =
+    λ parent index spot. inserted c.args.rows.now.items c.in_ok-new.new.items c.put_fitting.new.rows.items c.args.next_free c.in_ok-free.free parent index
+    c.args.scope.now c.args.items.now c.args.spot.depth c.in_ok-names.names c.in_ok-names.ensures c.in_ok-early.ensures.ok c.in_ok-late.ensures.ok
+    c.in_ok-new.ensures.is_block (c.in_ok-free.ensures.ok parent index spot)

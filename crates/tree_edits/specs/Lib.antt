@@ -1,0 +1,7 @@
+pub mod Edits
+pub mod EditRows
+pub mod Refusals
+pub mod Places
+pub mod Blocks
+pub mod Walks
+pub mod Spots

@@ -1,0 +1,12 @@
+//! Edits of the rows of a tree: blocks that are put, texts that are put and changed, nodes that are removed.
+#![tactic(auto)]
+
+mod apply;
+mod edit;
+mod names;
+mod places;
+mod scope;
+mod shifts;
+
+pub use apply::edit_rows;
+pub use edit::{Edit, EditError};

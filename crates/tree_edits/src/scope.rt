@@ -1,0 +1,49 @@
+ghost use Rattle.std.specs.Prelude.{◌≡◌, ◌+◌, ◌<◌, ◌≤◌, ◌^◌, List, IfOk, IfSome, MatchOption, length, reverse, take};
+ghost use Rattle.tree_rows.specs.declared.row.Binding.{Binding};
+ghost use Rattle.tag_names.specs.Scopes.{first_scope};
+ghost use Rattle.tree_edits.specs.Places.{scope_above};
+ghost use Rattle.tree_edits.specs.Walks.{IsLastAbove};
+
+use crate::places::Spot;
+use std::alloc::{AllocError, Global};
+use tag_names::Prefixes;
+use tree_rows::Row;
+
+/// The last row that is less deep than this, and the rows before it.
+fn last_above(rows: &[Row], depth: u32) -> Option<(&Row, &[Row])>
+    ensures shorter { IfSome result (λ found. length found.1.now < length rows.now) }
+    ensures above { MatchOption result ((scope : List Binding) → scope_above depth scope (reverse rows.now) ≡ scope)
+        (λ found. IsLastAbove depth rows.now found.1.now found.0.now) }
+{
+    let mut left = rows;
+    'left: while let Some((row, earlier)) = left.split_last() {
+        if row.depth < depth {
+            return Some((row, earlier));
+        }
+        left = earlier;
+    }
+    None
+}
+
+/// The scope above a depth, where these rows come before.
+fn scope_of(alloc: Global, rows: &[Row], depth: u32) -> Result<Prefixes, AllocError>
+    ensures { IfOk result (λ scope. scope ≡ scope_above depth first_scope (reverse rows.now)) }
+{
+    match last_above(rows, depth) {
+        None => Prefixes::new(alloc),
+        Some((row, earlier)) => {
+            let mut scope = scope_of(alloc, earlier, row.depth)?;
+            scope.bind_all(row.bindings.as_slice())?;
+            Ok(scope)
+        }
+    }
+}
+
+/// The scope of what is put at a spot.
+pub fn scope_at(alloc: Global, rows: &[Row], spot: Spot) -> Result<Prefixes, AllocError>
+    requires within { spot.parent < length rows.now }
+    requires shallow { spot.depth ≤ 128 }
+    ensures { IfOk result (λ scope. scope ≡ scope_above (spot.depth + 1) first_scope (reverse (take (spot.parent + 1) rows.now))) }
+{
+    scope_of(alloc, &rows[..spot.parent + 1], spot.depth + 1)
+}
