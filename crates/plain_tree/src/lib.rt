@@ -3,8 +3,6 @@
 
 mod builder;
 mod nodes;
-#[cfg(test)]
-mod tests;
 mod tree;
 
 pub use builder::{Builder, read_tree};

@@ -67,8 +67,12 @@ tag_nested : (levels : Option ℕ) (b : Building) (tag : Tag) → IsNested level
     → IsNested levels (with_element b tag.name (element_row b tag))
 tag_nested levels b tag n shallow = record {
   rules = n.rules;
-  joins = λ more h. row_joins levels b (element_row b tag) n more (omega arith, omega arith, shallow,
-      weaker levels (length (with_element b tag.name (element_row b tag)).nest.elements + 1) (length b.nest.elements + 1 + 1) more (omega arith) h);
+  joins = λ more h. row_joins levels b (element_row b tag) n more (
+    omega arith,
+    omega arith,
+    shallow,
+    weaker levels (length (with_element b tag.name (element_row b tag)).nest.elements + 1) (length b.nest.elements + 1 + 1) more (omega arith) h,
+  );
   room = tt;
 }
 

@@ -41,10 +41,7 @@ fn build(
 /// # Errors
 ///
 /// `AllocError` is want of memory; a `TreeFault` is the items'.
-pub fn build_document(
-    alloc: Global,
-    items: &[Item],
-) -> Result<Result<Built, TreeFault>, AllocError>
+pub fn build_document(alloc: Global, items: &[Item]) -> Result<Result<Built, TreeFault>, AllocError>
     ensures built { IfOk result (λ built. built ≡ steps.built document_rules first_scope items.now) }
     ensures sound { IfOk result (λ built. IfOk built (λ end. AreSound end.rows)) }
 {
@@ -54,11 +51,7 @@ pub fn build_document(
 
 /// The nodes of the element that the items of a block are, with numbers and depths from 1. Names resolve in the scope
 /// and the block's bindings, and are not judged.
-pub fn build_block(
-    alloc: Global,
-    scope: &Prefixes,
-    items: &[Item],
-) -> Result<Vec<Row>, AllocError>
+pub fn build_block(alloc: Global, scope: &Prefixes, items: &[Item]) -> Result<Vec<Row>, AllocError>
     requires { one_element items.now ≡ true }
     ensures { IfOk result (λ rows. IsBlock scope.now items.now rows.items) }
 {
