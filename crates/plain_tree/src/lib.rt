@@ -3,6 +3,8 @@
 
 mod builder;
 mod nodes;
+#[cfg(test)]
+mod tests;
 mod tree;
 
 pub use builder::{Builder, read_tree};
