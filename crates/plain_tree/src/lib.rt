@@ -1,6 +1,14 @@
-//! Trees of elements and texts: made of the items of a listing, edited, and read.
+//! Trees of elements and texts: built of the items of a listing, changed by edits, read by the numbers of nodes.
 #![tactic(auto)]
 
+mod builder;
+mod nodes;
+#[cfg(test)]
+mod tests;
 mod tree;
 
+pub use builder::{Builder, read_tree};
 pub use tree::Tree;
+pub use tree_building::{TreeFault, TreeReason, is_one_element};
+pub use tree_edits::{Edit, EditError};
+pub use tree_rows::{Attribute, Attributes, Binding, Bindings, Content, Expanded, NodeKind, Row};

@@ -1,10 +1,12 @@
-ghost use Rattle.std.specs.Prelude.{◌≡◌, true, Ok, OnOk, OnErr, IfOk, IfErr};
+ghost use Rattle.std.specs.Prelude.{◌≡◌, true, Ok, OnOk, OnErr, IfErr};
+ghost use Rattle.std.specs.Option.{option_copied};
 
-use std::alloc::{AllocError, Global};
+use crate::nodes::{attribute_in, binding_in, chars_by, find_row, kind_by, name_by, number_in};
+use std::alloc::Global;
 use std::marker::Model;
-use tree_building::{Builder, TreeFault};
 use tree_edits::{Edit, EditError, edit_rows};
-use tree_rows::Row;
+use tree_rows::{Attribute, Binding, Expanded, NodeKind, Row};
+use xs_names::Text;
 
 /// A tree of elements and texts. Contracts see it as a forest of one root, with the next free number.
 #[derive(Debug, Drop)]
@@ -29,21 +31,19 @@ impl Model for Tree {
 }
 
 impl Tree {
-    ghost use Rattle.tree_rows.specs.Rows.{rows_of};
-    ghost use Rattle.tree_building.specs.Building.{document};
-    ghost use Rattle.tree_building.specs.Builder.{end_of};
+    ghost use Rattle.tree_rows.specs.Rows.{rows_of, siblings};
+    ghost use Rattle.tree_building.specs.Shape.{AreSound};
     ghost use Rattle.tree_edits.specs.Edits.{after, can_be_made};
     ghost use Rattle.tree_edits.specs.Refusals.{IsWhy};
+    ghost use Rattle.plain_tree.specs.Behind.{IsNode, found_by};
+    ghost use Rattle.plain_tree.specs.Nodes.{node_at, kind_at, name_at, chars_at, attribute_at, binding_at, child_at};
 
-    /// The tree that a builder has made, at the end of its items.
-    ///
-    /// # Errors
-    ///
-    /// `AllocError` is want of memory; a `TreeFault` is the items'.
-    pub fn of_builder(_builder: Builder) -> Result<Result<Self, TreeFault>, AllocError>
-        ensures { IfOk result (λ end. end ≡ document (end_of _builder)) }
+    /// The tree of rows in document order.
+    pub(crate) fn from_rows(rows: Vec<Row>, next_free: u32) -> Self
+        requires { AreSound rows.items }
+        ensures { result ≡ record { forest = siblings rows.items 1; next_free = next_free } }
     {
-        Err(AllocError)
+        Tree { rows, next_free }
     }
 
     /// The nodes in document order, each with its depth.
@@ -74,5 +74,74 @@ impl Tree {
         ensures { result ≡ self.now.next_free }
     {
         self.next_free
+    }
+
+    /// The row of a node, and the rows behind it.
+    fn find(&self, node: u32) -> Option<(&Row, &[Row])>
+        ensures { IsNode (found_by result) (node_at node self.now.forest) }
+    {
+        find_row(&self.rows, node)
+    }
+
+    /// Whether the node is an element or a text; `None` where there is no such node.
+    pub fn kind(&self, node: u32) -> Option<NodeKind>
+        ensures { result ≡ kind_at node self.now.forest }
+    {
+        match self.find(node) {
+            None => None,
+            Some((row, _)) => Some(kind_by(&row.content)),
+        }
+    }
+
+    /// The name of an element; `None` where there is no such element.
+    pub fn name(&self, node: u32) -> Option<&Expanded>
+        ensures { option_copied result ≡ name_at node self.now.forest }
+    {
+        match self.find(node) {
+            None => None,
+            Some((row, _)) => name_by(&row.content),
+        }
+    }
+
+    /// The characters of a text; `None` where there is no such text.
+    pub fn chars(&self, node: u32) -> Option<&Text>
+        ensures { option_copied result ≡ chars_at node self.now.forest }
+    {
+        match self.find(node) {
+            None => None,
+            Some((row, _)) => chars_by(&row.content),
+        }
+    }
+
+    /// The attribute that has this place among those of an element, counted from 0; `None` where there is none.
+    pub fn attr_at(&self, node: u32, place: u32) -> Option<&Attribute>
+        ensures { option_copied result ≡ attribute_at node place self.now.forest }
+    {
+        match self.find(node) {
+            None => None,
+            Some((row, _)) => attribute_in(row.attributes.as_slice(), place),
+        }
+    }
+
+    /// The binding that has this place among those of an element's start tag, counted from 0; `None` where there is
+    /// none.
+    pub fn binding_at(&self, node: u32, place: u32) -> Option<&Binding>
+        ensures { option_copied result ≡ binding_at node place self.now.forest }
+    {
+        match self.find(node) {
+            None => None,
+            Some((row, _)) => binding_in(row.bindings.as_slice(), place),
+        }
+    }
+
+    /// The number of the child that has this place among the elements and texts of an element, counted from 0; `None`
+    /// where there is none.
+    pub fn child_at(&self, node: u32, place: u32) -> Option<u32>
+        ensures { result ≡ child_at node place self.now.forest }
+    {
+        match self.find(node) {
+            None => None,
+            Some((row, behind)) => number_in(behind, u64::from(row.depth) + 1, place),
+        }
     }
 }

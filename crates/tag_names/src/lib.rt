@@ -7,6 +7,8 @@ mod lines;
 mod named;
 mod parts;
 mod prefixes;
+#[cfg(test)]
+mod tests;
 
 pub use fault::NameReason;
 pub use lines::{AttributeLine, AttributeLines, Tag};

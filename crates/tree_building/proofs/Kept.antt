@@ -1,5 +1,5 @@
 -- Whatever items come, the rows that are built are nested.
-use Rattle.std.proofs.Common.{◌≡◌, ℕ, ◌+◌, ◌≤◌, List, [], ◌∷◌, ◌++◌, Bool, true, false, ◌==◌, ◌&&◌, Option, Some, None, Result, Ok, Err, length, refl, sym, ap, ◌∙◌, arith, append_assoc, append-nil, subst}
+use Rattle.std.proofs.Common.{◌≡◌, ℕ, ◌+◌, ◌≤◌, List, [], ◌∷◌, ◌++◌, Bool, true, false, ◌==◌, ◌&&◌, Option, Some, None, Result, Ok, Err, IfOk, length, refl, sym, ap, ◌∙◌, arith, append_assoc, append-nil, subst}
 use Rattle.std.specs.Prelude.{if◌then◌else◌}
 use Rattle.item_listing.specs.declared.item.Item.{Item}
 use Rattle.item_listing.specs.declared.item.Item.TheVariants as items
@@ -67,8 +67,12 @@ tag_nested : (levels : Option ℕ) (b : Building) (tag : Tag) → IsNested level
     → IsNested levels (with_element b tag.name (element_row b tag))
 tag_nested levels b tag n shallow = record {
   rules = n.rules;
-  joins = λ more h. row_joins levels b (element_row b tag) n more (omega arith, omega arith, shallow,
-      weaker levels (length (with_element b tag.name (element_row b tag)).nest.elements + 1) (length b.nest.elements + 1 + 1) more (omega arith) h);
+  joins = λ more h. row_joins levels b (element_row b tag) n more (
+    omega arith,
+    omega arith,
+    shallow,
+    weaker levels (length (with_element b tag.name (element_row b tag)).nest.elements + 1) (length b.nest.elements + 1 + 1) more (omega arith) h,
+  );
   room = tt;
 }
 
@@ -217,3 +221,7 @@ built_sound scope its end e = record {
 
 pub built_under : (rules : Rules) (scope : List Binding) (its : List Item) (end : Built) → built rules scope its ≡ Ok end → AreUnder (deepest_row 0 end.rows + 1) end.rows
 built_under rules scope its end e = under_from rules.levels 1 (deepest_row 0 end.rows + 1) end.rows (built_nested rules scope its end e) (omega arith) (omega arith)
+
+pub sound_if : (scope : List Binding) (its : List Item) (r : Result Built TreeFault) → r ≡ built document_rules scope its → IfOk r (λ end. AreSound end.rows)
+sound_if scope its (Ok end) e = built_sound scope its end (sym e)
+sound_if scope its (Err fault) e = tt

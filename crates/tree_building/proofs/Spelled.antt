@@ -87,29 +87,33 @@ end_read : (b : Building) (rows : List Row) (outer : List Binding) (e : OpenElem
 end_read b rows outer e elements next taken depth rest s =
     let same : bytes_eq e.name e.name ≡ true = same_bytes e.name in
     let closed : ended e.name (At rows outer (e ∷ elements) pending.Nothing next taken) ≡ Ok (At rows outer elements pending.Nothing next (taken + 1)) = rw same refl in
-    let zero_is : next ≡ next + 0 = omega arith in
-    (taken + 1, ap (λ r. after_all (r >>= ended e.name) rest) s ∙ ap (λ r. after_all r rest) closed
-    ∙ ap (λ l. after_all (Ok (At l outer elements pending.Nothing next (taken + 1))) rest) (sym (append-nil rows))
-    ∙ ap (λ k. after_all (Ok (At (rows ++ []) outer elements pending.Nothing k (taken + 1))) rest) zero_is)
+    let zero_is : next ≡ next + 0 = omega arith in (
+      taken + 1,
+      ap (λ r. after_all (r >>= ended e.name) rest) s ∙ ap (λ r. after_all r rest) closed
+          ∙ ap (λ l. after_all (Ok (At l outer elements pending.Nothing next (taken + 1))) rest) (sym (append-nil rows))
+          ∙ ap (λ k. after_all (Ok (At (rows ++ []) outer elements pending.Nothing k (taken + 1))) rest) zero_is,
+    )
 
 -- a text and what comes next
 text_read : (own : List ℕ) (more : List Item) (b : Building) (rows : List Row) (outer : List Binding) (e : OpenElement) (elements : List OpenElement) (n next taken depth : ℕ) (later : Forest) (rest : List Item)
     → settled_by b b.pending ≡ Ok (At rows outer (e ∷ elements) pending.Nothing next taken) → holds_chars b.pending ≡ false
     → (own ≡ [] → ⊥) → n ≡ next → next ≤ 131072 → length (e ∷ elements) + 1 ≡ depth
     → Reads more (At rows outer (e ∷ elements) (pending.Chars own) next (taken + 1))
-      (rows ++ record { number = next; depth = length (e ∷ elements) + 1; content = contents.Chars own; bindings = []; attributes = [] } ∷ []) outer e elements (next + 1) depth later rest
+    (rows ++ record { number = next; depth = length (e ∷ elements) + 1; content = contents.Chars own; bindings = []; attributes = [] } ∷ []) outer e elements (next + 1) depth later rest
     → Reads (items.Chars own ∷ more) b rows outer e elements next depth (text n own later) rest
 text_read own more b rows outer e elements n next taken depth later rest s fresh some same few d read =
     let row : ℕ → ℕ → Row = λ k d. record { number = k; depth = d; content = contents.Chars own; bindings = []; attributes = [] } in
     let one : next + 1 + count later ≡ next + (1 + count later) = omega arith in
     let came : took b (items.Chars own) ≡ Ok (At rows outer (e ∷ elements) (pending.Chars own) next (taken + 1)) =
-    text_first own b b.pending fresh ∙ ap (λ r. r >>= text_begun own) s ∙ text_starts own rows outer e elements next taken some few in
-    (read.0, ap (λ r. after_all r (more ++ (items.Close e.name ∷ rest))) came ∙ read.1
-    ∙ ap (λ l. after_all (Ok (At l outer elements pending.Nothing (next + 1 + count later) read.0)) rest)
-    (append_assoc rows (row next (length (e ∷ elements) + 1) ∷ []) (rows_of depth later)
-    ∙ ap (λ k. rows ++ (row k (length (e ∷ elements) + 1) ∷ rows_of depth later)) (sym same)
-    ∙ ap (λ k. rows ++ (row n k ∷ rows_of depth later)) d)
-    ∙ ap (λ k. after_all (Ok (At (rows ++ (row n depth ∷ rows_of depth later)) outer elements pending.Nothing k read.0)) rest) one)
+    text_first own b b.pending fresh ∙ ap (λ r. r >>= text_begun own) s ∙ text_starts own rows outer e elements next taken some few in (
+      read.0,
+      ap (λ r. after_all r (more ++ (items.Close e.name ∷ rest))) came ∙ read.1
+          ∙ ap (λ l. after_all (Ok (At l outer elements pending.Nothing (next + 1 + count later) read.0)) rest)
+          (append_assoc rows (row next (length (e ∷ elements) + 1) ∷ []) (rows_of depth later)
+          ∙ ap (λ k. rows ++ (row k (length (e ∷ elements) + 1) ∷ rows_of depth later)) (sym same)
+          ∙ ap (λ k. rows ++ (row n k ∷ rows_of depth later)) d)
+          ∙ ap (λ k. after_all (Ok (At (rows ++ (row n depth ∷ rows_of depth later)) outer elements pending.Nothing k read.0)) rest) one,
+    )
 
 spread : (n : List ℕ) (lines inner more rest : List Item)
     → (lines ++ (inner ++ (items.Close n ∷ more))) ++ rest ≡ lines ++ (inner ++ (items.Close n ∷ (more ++ rest)))
@@ -131,9 +135,9 @@ element_read : (tag : Tag) (inner more : List Item) (b : Building) (rows : List 
     → length (e ∷ elements) + 1 ≡ depth → n ≡ next → depth ≤ 128 → next ≤ 131072
     → named e.scope tag ≡ record { name = name; bindings = bindings; attributes = attributes }
     → ((t : ℕ) → Reads inner (At rows outer (e ∷ elements) (pending.Start tag taken) next t) (rows ++ tag_row next (length (e ∷ elements) + 1) (named e.scope tag) ∷ [])
-      outer (opened_by e tag) (e ∷ elements) (next + 1) (depth + 1) children (more ++ (items.Close e.name ∷ rest)))
+    outer (opened_by e tag) (e ∷ elements) (next + 1) (depth + 1) children (more ++ (items.Close e.name ∷ rest)))
     → ((t : ℕ) → Reads more (At ((rows ++ tag_row next (length (e ∷ elements) + 1) (named e.scope tag) ∷ []) ++ rows_of (depth + 1) children) outer (e ∷ elements) pending.Nothing (next + 1 + count children) t)
-      ((rows ++ tag_row next (length (e ∷ elements) + 1) (named e.scope tag) ∷ []) ++ rows_of (depth + 1) children) outer e elements (next + 1 + count children) depth later rest)
+    ((rows ++ tag_row next (length (e ∷ elements) + 1) (named e.scope tag) ∷ []) ++ rows_of (depth + 1) children) outer e elements (next + 1 + count children) depth later rest)
     → Reads (items.Start tag.name ∷ (map line_item tag.attributes ++ (inner ++ (items.Close tag.name ∷ more)))) b rows outer e elements next depth (element n name bindings attributes children later) rest
 element_read tag inner more b rows outer e elements n next taken depth name bindings attributes children later rest s d same deep few says below behind =
     let own : Row = tag_row next (length (e ∷ elements) + 1) (named e.scope tag) in
@@ -143,18 +147,19 @@ element_read tag inner more b rows outer e elements n next taken depth name bind
     let rest1 : List Item = more ++ (items.Close e.name ∷ rest) in
     let lines = lines_read rows outer (e ∷ elements) tag.name taken next (taken + 1) [] tag.attributes (inner ++ (items.Close tag.name ∷ rest1)) in
     let inside = below lines.0 in
-    let after = behind inside.0 in
-    (after.0,
-    ap (λ l. after_all (took b (items.Start tag.name)) l) (spread tag.name (map line_item tag.attributes) inner more (items.Close e.name ∷ rest))
-    ∙ ap (λ r. after_all r (map line_item tag.attributes ++ (inner ++ (items.Close tag.name ∷ rest1)))) came
-    ∙ lines.1 ∙ inside.1 ∙ after.1
-    ∙ ap (λ l. after_all (Ok (At l outer elements pending.Nothing (next + 1 + count children + count later) after.0)) rest)
-    (ap (λ l. l ++ rows_of depth later) (append_assoc rows (own ∷ []) (rows_of (depth + 1) children))
-    ∙ append_assoc rows (own ∷ rows_of (depth + 1) children) (rows_of depth later)
-    ∙ ap (λ k. rows ++ (tag_row k (length (e ∷ elements) + 1) (named e.scope tag) ∷ (rows_of (depth + 1) children ++ rows_of depth later))) (sym same)
-    ∙ ap (λ k. rows ++ (tag_row n k (named e.scope tag) ∷ (rows_of (depth + 1) children ++ rows_of depth later))) d
-    ∙ ap (λ says. rows ++ (tag_row n depth says ∷ (rows_of (depth + 1) children ++ rows_of depth later))) says)
-    ∙ ap (λ k. after_all (Ok (At (rows ++ rows_of depth (element n name bindings attributes children later)) outer elements pending.Nothing k after.0)) rest) total)
+    let after = behind inside.0 in (
+      after.0,
+      ap (λ l. after_all (took b (items.Start tag.name)) l) (spread tag.name (map line_item tag.attributes) inner more (items.Close e.name ∷ rest))
+          ∙ ap (λ r. after_all r (map line_item tag.attributes ++ (inner ++ (items.Close tag.name ∷ rest1)))) came
+          ∙ lines.1 ∙ inside.1 ∙ after.1
+          ∙ ap (λ l. after_all (Ok (At l outer elements pending.Nothing (next + 1 + count children + count later) after.0)) rest)
+          (ap (λ l. l ++ rows_of depth later) (append_assoc rows (own ∷ []) (rows_of (depth + 1) children))
+          ∙ append_assoc rows (own ∷ rows_of (depth + 1) children) (rows_of depth later)
+          ∙ ap (λ k. rows ++ (tag_row k (length (e ∷ elements) + 1) (named e.scope tag) ∷ (rows_of (depth + 1) children ++ rows_of depth later))) (sym same)
+          ∙ ap (λ k. rows ++ (tag_row n k (named e.scope tag) ∷ (rows_of (depth + 1) children ++ rows_of depth later))) d
+          ∙ ap (λ says. rows ++ (tag_row n depth says ∷ (rows_of (depth + 1) children ++ rows_of depth later))) says)
+          ∙ ap (λ k. after_all (Ok (At (rows ++ rows_of depth (element n name bindings attributes children later)) outer elements pending.Nothing k after.0)) rest) total,
+    )
 
 -- a text does not follow characters that came just before
 abbrev Fresh : Pending → Forest → Type 0

@@ -5,6 +5,7 @@ pub mod Building
 pub mod Steps
 pub mod Builder
 pub mod Shape
+pub mod Sound
 pub mod Blocks
 pub mod Tags
 pub mod Spelling

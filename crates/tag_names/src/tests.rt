@@ -1,0 +1,144 @@
+use crate::{AttributeLine, AttributeLines, NameReason, Prefixes, Tag};
+use std::alloc::Global;
+use std::test::Fail;
+use tree_rows::{Binding, Expanded};
+use xs_names::Text;
+
+/// A tag of this name with these attribute lines.
+fn tag_of(alloc: Global, name: &str, lines: &[(&str, &str)]) -> Result<Tag, Fail> {
+    let mut attributes = AttributeLines::new(alloc);
+    for (name, value) in lines {
+        attributes.push(AttributeLine {
+            name: Text::new(alloc, name)?,
+            value: Text::new(alloc, value)?,
+        })?;
+    }
+    Ok(Tag {
+        name: Text::new(alloc, name)?,
+        attributes,
+    })
+}
+
+fn binding(alloc: Global, prefix: &str, namespace: &str) -> Result<Binding, Fail> {
+    Ok(Binding {
+        prefix: Text::new(alloc, prefix)?,
+        namespace: Text::new(alloc, namespace)?,
+    })
+}
+
+/// Whether a name is written so.
+fn is_named(alloc: Global, name: &Expanded, text: &str) -> Result<bool, Fail> {
+    Ok(name.clark_name(alloc)?.as_str() == text)
+}
+
+#[test]
+fn looks_up_the_latest_binding(rt: HostRuntime) -> Result<(), Fail> {
+    let alloc = rt.alloc();
+    let mut scope = Prefixes::new(alloc)?;
+    scope.bind(binding(alloc, "p", "u")?)?;
+    let copy = scope.try_clone(alloc)?;
+    let mark = scope.len();
+    let tag = tag_of(alloc, "a", &[("xmlns:p", "v"), ("xmlns", "w")])?;
+    scope.bind_all(tag.bindings(alloc)?.as_slice())?;
+    assert!(rt;
+        scope
+            .of_prefix("p")
+            .is_some_and(|space| space.as_str() == "v")
+    );
+    assert!(rt;
+        scope
+            .of_prefix("")
+            .is_some_and(|space| space.as_str() == "w")
+    );
+    scope.truncate(mark);
+    assert!(rt;
+        scope
+            .of_prefix("p")
+            .is_some_and(|space| space.as_str() == "u")
+    );
+    assert!(rt; scope.of_prefix("").is_none() && copy.len() == 2);
+    Ok(())
+}
+
+#[test]
+fn names_an_element(rt: HostRuntime) -> Result<(), Fail> {
+    let alloc = rt.alloc();
+    let scope = Prefixes::new(alloc)?;
+    let lines = [
+        ("xmlns", "d"),
+        ("a", "1"),
+        ("p:b", "2"),
+        ("xmlns:p", "u"),
+        ("xml:lang", "en"),
+    ];
+    let tag = tag_of(alloc, "r", &lines)?;
+    assert_eq!(rt; tag.name_fault(alloc, &scope)?, None);
+    let named = tag.named(alloc, &scope)?;
+    assert!(rt; is_named(alloc, &named.name, "{d}r")?);
+    assert_eq!(rt; named.bindings.as_slice().len(), 2);
+    assert_eq!(rt; named.attributes.as_slice().len(), 3);
+    for (attribute, text) in named.attributes.as_slice().iter().zip([
+        "a",
+        "{u}b",
+        "{http://www.w3.org/XML/1998/namespace}lang",
+    ]) {
+        assert!(rt; is_named(alloc, &attribute.name, text)?);
+    }
+    Ok(())
+}
+
+#[test]
+fn refuses_names_by_their_first_reason(rt: HostRuntime) -> Result<(), Fail> {
+    let alloc = rt.alloc();
+    let scope = Prefixes::new(alloc)?;
+    let cases: [(&str, &[(&str, &str)], Option<NameReason>); 14] = [
+        (
+            "xml:a",
+            &[("xmlns:xml", "http://www.w3.org/XML/1998/namespace")],
+            None,
+        ),
+        ("a:b:c", &[], Some(NameReason::BadName)),
+        ("a", &[("xmlns:", "u")], Some(NameReason::BadName)),
+        ("xmlns:a", &[], Some(NameReason::ReservedName)),
+        ("a", &[("xmlns:xmlns", "u")], Some(NameReason::ReservedName)),
+        ("a", &[("xmlns:xml", "u")], Some(NameReason::ReservedName)),
+        (
+            "a",
+            &[("xmlns", "http://www.w3.org/2000/xmlns/")],
+            Some(NameReason::ReservedName),
+        ),
+        (
+            "a",
+            &[("xmlns:p", "http://www.w3.org/XML/1998/namespace")],
+            Some(NameReason::ReservedName),
+        ),
+        ("p:a", &[("xmlns:p", "")], Some(NameReason::ReservedName)),
+        ("a", &[("xmlns", "")], None),
+        ("a", &[("p:b", "1")], Some(NameReason::UnboundPrefix)),
+        (
+            "a",
+            &[("xmlns", "u"), ("xmlns:p", "u"), ("b", "1"), ("p:b", "1")],
+            None,
+        ),
+        (
+            "a",
+            &[
+                ("xmlns:q", "u"),
+                ("xmlns:p", "u"),
+                ("q:b", "1"),
+                ("p:b", "1"),
+            ],
+            Some(NameReason::DoubleAttribute),
+        ),
+        (
+            "a",
+            &[("xmlns:p", "u"), ("xmlns:p", "v")],
+            Some(NameReason::DoubleAttribute),
+        ),
+    ];
+    for (name, lines, reason) in cases {
+        let tag = tag_of(alloc, name, lines)?;
+        assert_eq!(rt; tag.name_fault(alloc, &scope)?, reason);
+    }
+    Ok(())
+}
