@@ -1,5 +1,5 @@
 -- What is written for the items of a stream, one after another.
-use Rattle.std.specs.Prelude.{◌≡◌, ℕ, ◌+◌, List, [], ◌∷◌, ◌++◌, Bool, true, false, ◌==◌, not, length, Option, Some, None, Result, Ok, Err, codes, if◌then◌else◌}
+use Rattle.std.specs.Prelude.{◌≡◌, ℕ, ◌+◌, List, [], ◌∷◌, ◌++◌, Bool, true, false, ◌==◌, nat_le, not, length, Option, Some, None, Result, Ok, Err, codes, if◌then◌else◌}
 use Rattle.std.specs.List.{before_first, list_any}
 use Rattle.std.specs.Str.{bytes_eq}
 use Rattle.std.specs.Fmt.{decimal}
@@ -109,7 +109,7 @@ schema_begun line count first = places.Schema (record { count = count; first = f
 
 abbrev pub next_schema : ℕ → SchemaSection → Turned
 next_schema line p =
-    if p.count == 256 then refused line refusals.TooManySchemas
+    if nat_le 256 p.count then refused line refusals.TooManySchemas
     else with_tree p.start (tree_of p.builder) (λ d. goes [] (schema_begun line (p.count + 1) (Some (first_or p.first d))))
 
 -- the last schema section ends, and the schema is judged

@@ -85,7 +85,7 @@ fn end_document(
     if matches!(asked, Asked::Check) {
         return misplaced(out, line);
     }
-    let tree = match Tree::of_builder(builder)? {
+    let tree = match builder.finish()? {
         Ok(tree) => tree,
         Err(fault) => return refuse_tree(out, start, fault),
     };
@@ -112,7 +112,7 @@ fn begin_edits(
         builder,
         start,
     } = section;
-    let tree = match Tree::of_builder(builder)? {
+    let tree = match builder.finish()? {
         Ok(tree) => tree,
         Err(fault) => return refuse_tree(out, start, fault),
     };

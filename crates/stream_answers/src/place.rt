@@ -1,8 +1,7 @@
 use assess_model::{Schema, Validity};
 use item_listing::Items;
 use plain_session::PlainSession;
-use plain_tree::Tree;
-use tree_building::Builder;
+use plain_tree::{Builder, Tree};
 use xs_names::Text;
 
 /// What is asked for.

@@ -7,21 +7,11 @@ use crate::place::{DocumentSection, SchemaSection};
 use crate::refusal::{Refusal, misplaced, refuse, refuse_tree};
 use crate::{Asked, Place, Turn};
 use item_listing::Item;
-use plain_tree::Tree;
+use plain_tree::{Builder, Tree};
 use std::alloc::{AllocError, Global};
-use tag_names::Prefixes;
-use tree_building::{Builder, Rules};
 
 /// The most schema sections that a stream has.
 const MOST_SCHEMAS: u32 = 256;
-
-/// A builder of the tree of a section.
-fn begin_tree(alloc: Global) -> Result<Builder, AllocError>
-    ensures { IfOk result (λ b. b ≡ turns.nothing_built) }
-{
-    let scope = Prefixes::new(alloc)?;
-    Ok(Builder::new(alloc, Rules::document(), scope))
-}
 
 /// Another schema section begins.
 fn begin_schema(
@@ -35,7 +25,7 @@ fn begin_schema(
     Ok(Turn::Goes(Place::Schema(SchemaSection {
         count,
         first,
-        builder: begin_tree(alloc)?,
+        builder: Builder::new(alloc)?,
         start: line,
     })))
 }
@@ -70,10 +60,10 @@ fn next_schema(
         builder,
         start,
     } = section;
-    if count == MOST_SCHEMAS {
+    if count >= MOST_SCHEMAS {
         return refuse(out, line as u64, Refusal::TooManySchemas);
     }
-    match Tree::of_builder(builder)? {
+    match builder.finish()? {
         Ok(tree) => {
             let first = Some(first.unwrap_or(tree));
             begin_schema(alloc, line, count + 1, first)
@@ -96,7 +86,7 @@ fn end_schemas(
         start,
         ..
     } = section;
-    match Tree::of_builder(builder)? {
+    match builder.finish()? {
         Ok(tree) => match read_first(alloc, &first.unwrap_or(tree), out)? {
             Ok(_) => Ok(Turn::Goes(Place::Ended(None))),
             Err(status) => Ok(Turn::Ends(status)),
@@ -120,11 +110,11 @@ fn begin_document(
         start,
         ..
     } = section;
-    match Tree::of_builder(builder)? {
+    match builder.finish()? {
         Ok(tree) => match read_first(alloc, &first.unwrap_or(tree), out)? {
             Ok(schema) => Ok(Turn::Goes(Place::Document(DocumentSection {
                 schema,
-                builder: begin_tree(alloc)?,
+                builder: Builder::new(alloc)?,
                 start: line,
             }))),
             Err(status) => Ok(Turn::Ends(status)),
