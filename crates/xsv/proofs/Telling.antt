@@ -1,11 +1,12 @@
 -- What was told, and what is still to be told.
-use Rattle.std.proofs.Common.{◌≡◌, ℕ, ◌+◌, ◌≤◌, List, [], ◌∷◌, ◌++◌, length, take, nat_le, Bool, true, false, Option, Some, None, refl, sym, ap, ◌∙◌, arith, subst, append_assoc}
+use Rattle.std.proofs.Common.{◌≡◌, ◌≢◌, ℕ, ◌+◌, ◌≤◌, List, [], ◌∷◌, ◌++◌, length, take, nat_le, Bool, true, false, Option, Some, None, refl, sym, ap, ◌∙◌, arith, subst, append_assoc}
 use Rattle.std.specs.Io.KnownBytes.{Appends}
 use Rattle.std.proofs.KnownBytes.{Appends-nil, Appends-trans}
 use Rattle.std.proofs.lemmas.Bool.Decides.{nat_tests}
 use Rattle.std.proofs.lemmas.List.{take_all, take-append-le}
 use lib.Seq.{take-append-add}
 use Rattle.xsv_io.specs.Writing.{AppendsFront}
+use Rattle.stream_answers.specs.Numbers.{IsFinal}
 use Rattle.stream_answers.specs.Output.{Told, before, over}
 use Rattle.stream_answers.specs.declared.status.Status.{Status}
 use Rattle.stream_answers.specs.declared.status.Status.TheVariants as statuses
@@ -64,3 +65,25 @@ answers_behind statuses.Words a b c said t h answers = (Appends-trans a b c said
 answers_behind statuses.ReadFault a b c said t h front = front_behind a b c said t.text h front
 answers_behind statuses.WriteFault a b c said t h front = front_behind a b c said t.text h front
 answers_behind statuses.Memory a b c said t h front = front_behind a b c said t.text h front
+
+pub final_answers : (s : Status) (a b : Option (List ℕ)) (text : List ℕ) → IsFinal s → Appends a b text → Answers s a b (over text s)
+final_answers statuses.Valid a b text final h = (h, refl)
+final_answers statuses.NotValid a b text final h = (h, refl)
+final_answers statuses.ListingRefused a b text final h = (h, refl)
+final_answers statuses.Limit a b text final h = (h, refl)
+final_answers statuses.Unsupported a b text final h = (h, refl)
+final_answers statuses.Words a b text final h = (h, refl)
+final_answers statuses.ReadFault a b text final h = absurd final
+final_answers statuses.WriteFault a b text final h = absurd final
+final_answers statuses.Memory a b text final h = absurd final
+
+pub not_broken : (s : Status) → IsFinal s → (s ≢ statuses.ReadFault) × (s ≢ statuses.WriteFault)
+not_broken statuses.Valid final = (λ e. cc, λ e. cc)
+not_broken statuses.NotValid final = (λ e. cc, λ e. cc)
+not_broken statuses.ListingRefused final = (λ e. cc, λ e. cc)
+not_broken statuses.Limit final = (λ e. cc, λ e. cc)
+not_broken statuses.Unsupported final = (λ e. cc, λ e. cc)
+not_broken statuses.Words final = (λ e. cc, λ e. cc)
+not_broken statuses.ReadFault final = absurd final
+not_broken statuses.WriteFault final = absurd final
+not_broken statuses.Memory final = absurd final
