@@ -1,6 +1,5 @@
 ghost use Rattle.std.specs.Prelude.{◌≡◌, ◌≤◌, false, OnOk, string_bytes};
 ghost use Rattle.edit_script.specs.Commands.{command};
-
 ghost use Rattle.item_listing.specs.declared.item.Item.{Item};
 ghost use Rattle.edit_replies.specs.Replies.{reply, standing_of, AnswersBy};
 

@@ -6,12 +6,12 @@ ghost use Rattle.tree_rows.specs.Kinds.{kind_of};
 ghost use Rattle.assess_model.specs.Assessment.{code_total};
 ghost use Rattle.edit_replies.specs.Replies.{made, total_line, refusal, assess_reply, change_reply, standing_of, AnswersBy};
 
-use tree_edits::Edit;
-use tree_rows::NodeKind;
 use report_text::write_record;
 use session_model::{Session, SessionError};
 use std::alloc::AllocError;
 use std::fmt::Write;
+use tree_edits::Edit;
+use tree_rows::NodeKind;
 use xsv_steps::{Ledger, Steps};
 
 /// Writes that an edit was made: the revision and the number of codes.

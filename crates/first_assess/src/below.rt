@@ -2,8 +2,8 @@ ghost use Rattle.std.specs.Prelude.{◌≡◌, ◌+◌, IfOk};
 ghost use Rattle.tree_rows.specs.Rows.{siblings};
 ghost use Rattle.assess_model.specs.Assessment.{child_names, has_characters};
 
-use tree_rows::{Content, Row, is_white_space};
 use std::alloc::{AllocError, Global};
+use tree_rows::{Content, Row, is_white_space};
 use xs_names::Texts;
 
 /// The names of the child elements of an element of this depth, by the rows behind it.

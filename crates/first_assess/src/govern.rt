@@ -3,8 +3,8 @@ ghost use Rattle.assess_model.specs.Assessment.{governing};
 ghost use Rattle.first_assess.specs.Paths.{Path, IsKept, none_open, opened, row_type, row_types};
 
 use assess_model::{Schema, TypeId};
-use tree_rows::{Content, Row};
 use std::alloc::{AllocError, Global};
+use tree_rows::{Content, Row};
 
 /// What governs a child of this name, by what governs its parent.
 fn govern(schema: &Schema, parent: Option<TypeId>, name: &str) -> Option<TypeId>

@@ -5,8 +5,8 @@ ghost use Rattle.assess_model.specs.Assessment.{codes_of, stuck_codes, has_chara
 
 use crate::below::{find_characters, read_child_names};
 use assess_model::{Attempted, ChildSummary, Code, Codes, ElementRecord, Schema, TypeId, Validity};
-use tree_rows::Row;
 use std::alloc::{AllocError, Global};
+use tree_rows::Row;
 use xs_names::Texts;
 
 /// Puts the place where the names of child elements get stuck, if they do.

@@ -8,9 +8,9 @@ ghost use Rattle.first_assess.specs.Rows.{AreBelow, record_by, row_entries, row_
 use crate::govern::govern_rows;
 use crate::judge::{judge, judge_codes, put_child};
 use assess_model::{ChildSummary, ElementRecord, Schema, TypeId};
-use tree_rows::{Content, Row};
 use std::alloc::{AllocError, Global};
 use std::marker::Model;
+use tree_rows::{Content, Row};
 
 const NOTHING_BELOW: ChildSummary = ChildSummary {
     any_invalid: false,

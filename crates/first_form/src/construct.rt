@@ -52,7 +52,11 @@ fn are_bare(marks: &Marks) -> bool
 fn bare(marks: &Marks, construct: Construct) -> Option<Construct>
     ensures { result ≡ form.bare marks.now construct }
 {
-    if are_bare(marks) { Some(construct) } else { None }
+    if are_bare(marks) {
+        Some(construct)
+    } else {
+        None
+    }
 }
 
 fn declaration(marks: Marks) -> Option<Construct>

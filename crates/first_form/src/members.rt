@@ -99,7 +99,11 @@ fn put_row(
 
 /// The members of a group, where they have this depth, from the rows behind it.
 #[cycle(members)]
-fn read_members(alloc: Global, depth: u64, rows: &[SchemaRow]) -> Result<Option<Particles>, AllocError>
+fn read_members(
+    alloc: Global,
+    depth: u64,
+    rows: &[SchemaRow],
+) -> Result<Option<Particles>, AllocError>
     requires { depth + length rows.now < 2 ^ 64 }
     ensures { IfOk result (λ found. found ≡ form.members_at depth rows.now) }
 {

@@ -45,7 +45,10 @@ fn read_global(
 }
 
 /// The global declarations of a schema's rows, or `None` where a child of the root is none.
-pub fn read_globals(alloc: Global, rows: &[SchemaRow]) -> Result<Option<Vec<Declaration>>, AllocError>
+pub fn read_globals(
+    alloc: Global,
+    rows: &[SchemaRow],
+) -> Result<Option<Vec<Declaration>>, AllocError>
     ensures { IfOk result (λ found. option_map (λ v. v.items) found ≡ form.global_declarations rows.now) }
 {
     let mut globals = Vec::new(alloc);
@@ -76,7 +79,10 @@ fn read_type(row: &SchemaRow, later: &[SchemaRow]) -> Option<DeclaredType>
 }
 
 /// The types of all element declarations of a schema's rows, or `None` where one is not of the form.
-pub fn read_types(alloc: Global, rows: &[SchemaRow]) -> Result<Option<Vec<DeclaredType>>, AllocError>
+pub fn read_types(
+    alloc: Global,
+    rows: &[SchemaRow],
+) -> Result<Option<Vec<DeclaredType>>, AllocError>
     ensures { IfOk result (λ found. option_map (λ v. v.items) found ≡ form.element_types rows.now) }
 {
     let mut types = Vec::new(alloc);
@@ -94,7 +100,11 @@ pub fn read_types(alloc: Global, rows: &[SchemaRow]) -> Result<Option<Vec<Declar
 }
 
 /// The complex type of a row, by the rows behind it.
-fn read_complex(alloc: Global, row: &SchemaRow, later: &[SchemaRow]) -> Result<Option<ComplexType>, AllocError>
+fn read_complex(
+    alloc: Global,
+    row: &SchemaRow,
+    later: &[SchemaRow],
+) -> Result<Option<ComplexType>, AllocError>
     ensures { IfOk result (λ found. found ≡ form.numbered_model row.now.number (content_model row.now.depth later.now)) }
 {
     match read_content_model(alloc, row.depth, later)? {

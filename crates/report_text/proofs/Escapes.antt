@@ -18,9 +18,12 @@ pub one_less : (rest next out more whole : List ℕ) (c : ℕ) → rest ≡ enco
     → IsLeft rest out whole → IsLeft next more whole
 one_less rest next out more whole c begins grown left =
     let cut = cons_from_encodes left.0 next c (left.1 ∙ begins) in
-    let es = cut.0 in
-    (es, cut.2, ap (λ l. l ++ encodes (escapes es)) grown ∙ append_assoc out (encodes (escape c)) (encodes (escapes es))
-    ∙ ap (λ l. out ++ l) (sym (encodes-append (escape c) (escapes es))) ∙ ap (λ cs. out ++ encodes (escapes cs)) (sym cut.1) ∙ left.2)
+    let es = cut.0 in (
+      es,
+      cut.2,
+      ap (λ l. l ++ encodes (escapes es)) grown ∙ append_assoc out (encodes (escape c)) (encodes (escapes es))
+          ∙ ap (λ l. out ++ l) (sym (encodes-append (escape c) (escapes es))) ∙ ap (λ cs. out ++ encodes (escapes cs)) (sym cut.1) ∙ left.2,
+    )
 
 no_length : (cs : List ℕ) → length cs ≤ 0 → cs ≡ []
 no_length [] h = refl

@@ -5,8 +5,8 @@ ghost use Rattle.report_text.specs.Report.{entry_line, record_lines};
 
 use crate::record::write_record;
 use assess_model::{ElementRecord, Validity};
-use tree_rows::{Content, Row};
 use std::alloc::{AllocError, Global};
+use tree_rows::{Content, Row};
 
 /// Writes the line of a row with its record.
 fn write_row(

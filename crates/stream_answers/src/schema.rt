@@ -73,11 +73,7 @@ fn next_schema(
 }
 
 /// The last schema section ends, for `check`.
-fn end_schemas(
-    alloc: Global,
-    section: SchemaSection,
-    out: &mut String,
-) -> Result<Turn, AllocError>
+fn end_schemas(alloc: Global, section: SchemaSection, out: &mut String) -> Result<Turn, AllocError>
     ensures { IfOk result (Turns (turns.schemas_end section (λ t. Place.Ended None)) (string_bytes out.old) (string_bytes out.new)) }
 {
     let SchemaSection {
@@ -124,11 +120,7 @@ fn begin_document(
 }
 
 /// One more item of a section's tree.
-fn grow(
-    section: SchemaSection,
-    item: &Item,
-    out: &mut String,
-) -> Result<Turn, AllocError>
+fn grow(section: SchemaSection, item: &Item, out: &mut String) -> Result<Turn, AllocError>
     ensures { IfOk result (Turns (turns.schema_grown section item.now) (string_bytes out.old) (string_bytes out.new)) }
 {
     let SchemaSection {
