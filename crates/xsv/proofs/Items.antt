@@ -1,9 +1,10 @@
 -- An item that was answered.
-use Rattle.std.proofs.Common.{◌≡◌, ℕ, ◌+◌, List, [], ◌∷◌, ◌++◌, Bool, Option, Some, None, refl, sym, ap, ◌∙◌, subst}
+use Rattle.std.proofs.Common.{◌≡◌, ℕ, ◌+◌, List, [], ◌∷◌, ◌++◌, Bool, Option, Some, None, Result, Ok, Err, refl, sym, ap, ◌∙◌, subst}
 use Rattle.std.specs.Io.KnownBytes.{Appends}
 use Rattle.xsv_io.specs.Writing.{AppendsFront}
 use Rattle.item_listing.specs.State.{Reading}
-use Rattle.item_listing.specs.Listed.{Listed, gives, refused, listed}
+use Rattle.item_listing.specs.Listing.{after, Leaves}
+use Rattle.item_listing.specs.Listed.{Listed, gives, refused, listed, ReadsOn}
 use Rattle.item_listing.specs.declared.item.Item.{Item}
 use Rattle.item_listing.specs.declared.past.ListingFault.{ListingFault}
 use Rattle.stream_answers.specs.Turns.{Turned, goes, ends, turned}
@@ -15,6 +16,8 @@ use Rattle.stream_answers.specs.declared.place.Place.{Place}
 use Rattle.stream_answers.specs.declared.refusal.Refusal.TheVariants as refusals
 use Rattle.stream_answers.specs.declared.status.Status.{Status}
 use Rattle.stream_answers.specs.declared.status.Status.TheVariants.{WriteFault, Memory}
+use Rattle.stream_answers.specs.Numbers.{IsFinal}
+use Rattle.stream_answers.specs.declared.turn.Turn.{Turn}
 use Rattle.stream_answers.specs.declared.turn.Turn.TheVariants as turns
 use Rattle.xsv.specs.Output.{Answers}
 use Rattle.xsv.specs.Progress.{IsBroken, TakesItem, TakesNext, HasEnded, to_tell}
@@ -78,3 +81,32 @@ fault_ends a place r fault old new status reads answers = λ more closed.
 
 pub memory_ends : (a : Asked) (place : Place) (r : Reading) (old : Option (List ℕ)) → HasEnded a place r old old Memory
 memory_ends a place r old = λ more closed. front_none old _
+
+-- how a turn of the code ends
+pub final_by : (t : Turned) (old text : List ℕ) (turn : Turn) (status : Status) → Turns t old text turn → turn ≡ turns.Ends status → IsFinal status
+final_by (goes said next) old text turn status h is = absurd (subst (λ u. Turns (goes said next) old text u) is h)
+final_by (ends said was) old text turn status h is = (subst (λ u. Turns (ends said was) old text u) is h).2
+
+pub ends_by : (t : Turned) (a b : Option (List ℕ)) (old text said : List ℕ) (turn : Turn) (status given : Status) → Turns t old text turn → old ≡ [] → turn ≡ turns.Ends status
+    → said ≡ text → Answers given a b (over said status) → TakesItem t a b (nexts.Ends given)
+ends_by t a b old text said turn status given h none is same answers =
+    ends_taken t a b text status given (subst (λ u. Turns t [] text u) is (subst (λ o. Turns t o text turn) none h))
+    (subst (λ l. Answers given a b (over l status)) same answers)
+
+pub goes_by : (t : Turned) (a b : Option (List ℕ)) (old text said : List ℕ) (turn : Turn) (place : Place) → Turns t old text turn → old ≡ [] → turn ≡ turns.Goes place
+    → said ≡ text → Appends a b said → TakesItem t a b (nexts.Goes place)
+goes_by t a b old text said turn place h none is same written =
+    goes_taken t a b text place (subst (λ u. Turns t [] text u) is (subst (λ o. Turns t o text turn) none h)) (subst (Appends a b) same written)
+
+pub broken_by : (t : Turned) (a b : Option (List ℕ)) (old text said : List ℕ) (turn : Turn) (place : Place) → Turns t old text turn → old ≡ [] → turn ≡ turns.Goes place
+    → said ≡ text → AppendsFront a b said → TakesItem t a b (nexts.Ends WriteFault)
+broken_by t a b old text said turn place h none is same front =
+    broken_taken t a b text place (subst (λ u. Turns t [] text u) is (subst (λ o. Turns t o text turn) none h)) (subst (AppendsFront a b) same front)
+
+-- the next item was read and answered
+pub item_read : (a : Asked) (place : Place) (r s : Reading) (read : Result (Option Item) ListingFault) (it : Item) (line : ℕ) (old new : Option (List ℕ)) (n : Next)
+    → read ≡ Ok (Some it) → ReadsOn r read s → Leaves r read s → line ≡ s.past.lines → TakesItem (turned a line place it) old new n → TakesNext a place r old s new n
+item_read a place r s read it line old new n is reads leaves same h =
+    let on = subst (λ q. ReadsOn r q s) is reads in
+    let left : s ≡ after r (Some it) = subst (λ q. Leaves r q s) is leaves in
+    next_taken a place r s it old new on (ap (λ (x : Reading). x.past.lines) left) n (subst (λ k. TakesItem (turned a k place it) old new n) same h)

@@ -1,3 +1,4 @@
 pub mod Telling
 pub mod Items
 pub mod Going
+pub mod Streams

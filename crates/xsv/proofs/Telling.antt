@@ -1,5 +1,5 @@
 -- What was told, and what is still to be told.
-use Rattle.std.proofs.Common.{◌≡◌, ◌≢◌, ℕ, ◌+◌, ◌≤◌, List, [], ◌∷◌, ◌++◌, length, take, nat_le, Bool, true, false, Option, Some, None, refl, sym, ap, ◌∙◌, arith, subst, append_assoc}
+use Rattle.std.proofs.Common.{◌≡◌, ◌≢◌, ℕ, ◌+◌, ◌≤◌, List, [], ◌∷◌, ◌++◌, length, take, nat_le, Bool, true, false, Option, Some, None, IfSome, refl, sym, ap, ◌∙◌, arith, subst, append_assoc}
 use Rattle.std.specs.Io.KnownBytes.{Appends}
 use Rattle.std.proofs.KnownBytes.{Appends-nil, Appends-trans}
 use Rattle.std.proofs.lemmas.Bool.Decides.{nat_tests}
@@ -10,7 +10,8 @@ use Rattle.stream_answers.specs.Numbers.{IsFinal}
 use Rattle.stream_answers.specs.Output.{Told, before, over}
 use Rattle.stream_answers.specs.declared.status.Status.{Status}
 use Rattle.stream_answers.specs.declared.status.Status.TheVariants as statuses
-use Rattle.xsv.specs.Output.{Answers}
+use Rattle.xsv.specs.Output.{Answers, asked, usage, told_by, output}
+use Rattle.stream_answers.specs.declared.place.Asked.{Asked}
 use Rattle.xsv.specs.Progress.{IsBroken}
 
 pub front_none : (a : Option (List ℕ)) (text : List ℕ) → AppendsFront a a text
@@ -87,3 +88,13 @@ not_broken statuses.Words final = (λ e. cc, λ e. cc)
 not_broken statuses.ReadFault final = absurd final
 not_broken statuses.WriteFault final = absurd final
 not_broken statuses.Memory final = absurd final
+
+pub whatever_rest : {P : List ℕ → Type 0} (rest : Option (List ℕ)) → ((whole : List ℕ) → P whole) → IfSome rest P
+whatever_rest None h = tt
+whatever_rest (Some whole) h = h whole
+
+-- words that ask for nothing
+pub none_asked : (words : List (List ℕ)) (rest o n : Option (List ℕ)) (status : Status) → asked words ≡ None → Answers status o n (over usage statuses.Words)
+    → IfSome rest (λ whole. Answers status o n (output words whole))
+none_asked words rest o n status is answers =
+    whatever_rest rest (λ whole. subst (λ (q : Option Asked). Answers status o n (told_by q whole true)) (sym is) answers)

@@ -1,4 +1,4 @@
-ghost use Rattle.std.specs.Prelude.{◌≡◌, ◌≢◌, ◌<◌, ◌≤◌, ◌+◌, false};
+ghost use Rattle.std.specs.Prelude.{◌≡◌, ◌≢◌, ◌<◌, ◌≤◌, ◌+◌, length, false};
 ghost use Rattle.xsv_io.specs.Causes.{Rose};
 ghost use Rattle.item_listing.specs.Limits.{most_bytes};
 ghost use Rattle.item_listing.specs.Listing.{bytes_taken};
@@ -55,13 +55,14 @@ fn take_bytes<W: Sink, L: Ledger>(
     take_lines(alloc, asked, listing, place, sink, steps)
 }
 
-/// Reads a piece, and answers its lines.
+/// Reads a piece of at most `room` bytes, and answers its lines.
 pub fn take_piece<S: Source, W: Sink, L: Ledger>(
     alloc: Global,
     asked: Asked,
     source: &mut S,
     listing: &mut Listing,
     place: Place,
+    buf: &mut [u8],
     room: usize,
     sink: &mut W,
     steps: &mut Steps<L>,
@@ -70,6 +71,7 @@ pub fn take_piece<S: Source, W: Sink, L: Ledger>(
     requires going { listing.old.finished ≡ false }
     requires room { bytes_taken listing.old + room ≡ most_bytes + 1 }
     requires some { 0 < room }
+    requires buf { 0 < length buf.old }
     ensures takes { Pieces asked place listing.old (S.rest source.old) (W.taken sink.old) listing.new (S.rest source.new) (W.taken sink.new) result }
     ensures not_read { result ≢ pieces.Ends Status.ReadFault }
     ensures read_cause { result ≡ pieces.Failed → Rose (S.faults source.old) (S.faults source.new) }
@@ -80,8 +82,8 @@ pub fn take_piece<S: Source, W: Sink, L: Ledger>(
     ensures write_bound { W.fault_bound sink.new ≡ W.fault_bound sink.old }
     ensures steps { steps.old ≤ steps.new }
 {
-    let mut buf = [0u8; 4096];
-    match source.read(&mut buf[..room.min(4096)]) {
+    let most = room.min(buf.len());
+    match source.read(&mut buf[..most]) {
         Ok(0) => Piece::AtEnd(place),
         Ok(count) => {
             match take_bytes(alloc, asked, listing, place, &buf[..count], sink, steps) {

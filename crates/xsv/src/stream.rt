@@ -76,8 +76,19 @@ pub fn answer_stream<S: Source, W: Sink, L: Ledger>(
     let mut listing = Listing::new(alloc);
     let mut stands = Place::Fresh;
     let mut room = ENOUGH;
+    let mut buf = [0u8; 4096];
     'pieces: loop {
-        match take_piece(alloc, asked, source, &mut listing, stands, room, sink, steps) {
+        match take_piece(
+            alloc,
+            asked,
+            source,
+            &mut listing,
+            stands,
+            &mut buf,
+            room,
+            sink,
+            steps,
+        ) {
             Piece::Goes(next, count) => {
                 stands = next;
                 room -= count;

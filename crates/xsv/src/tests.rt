@@ -75,9 +75,21 @@ fn refuses_lines_by_their_text(rt: HostRuntime) -> Result<(), Fail> {
         refused(b"", b"edits\nend\n", "listing 1 BadSection\n"),
         refused(b"schema\ts\n(a:b:c\n", b"edits\n", "listing 3 BadSection\n"),
         refused(b"schema\ts\n(a\n", b"-x\\", "listing 3 EndMissing\n"),
-        refused(ONE_STRING, b"(r\n-x\nAa 1\nend\n", "schema ok\nlisting 12 BadAttributePlace\n"),
-        refused(ONE_STRING, b"(r\n)r\n", "schema ok\nlisting 12 EndMissing\n"),
-        refused(ONE_STRING, b"(r\n)r\nend\nx\n", "schema ok\nok 0 0\nlisting 13 AfterEnd\n"),
+        refused(
+            ONE_STRING,
+            b"(r\n-x\nAa 1\nend\n",
+            "schema ok\nlisting 12 BadAttributePlace\n",
+        ),
+        refused(
+            ONE_STRING,
+            b"(r\n)r\n",
+            "schema ok\nlisting 12 EndMissing\n",
+        ),
+        refused(
+            ONE_STRING,
+            b"(r\n)r\nend\nx\n",
+            "schema ok\nok 0 0\nlisting 13 AfterEnd\n",
+        ),
     ];
     check_all(&rt, alloc, &cases)?;
     Ok(())
@@ -87,11 +99,31 @@ fn refuses_lines_by_their_text(rt: HostRuntime) -> Result<(), Fail> {
 fn refuses_lines_by_their_tree(rt: HostRuntime) -> Result<(), Fail> {
     let alloc = rt.alloc();
     let cases = [
-        refused(ONE_STRING, b"(a:b:c\nAxmlns:xmlns u\n)x\n", "schema ok\nlisting 10 BadName\n"),
-        refused(ONE_STRING, b"(p:r\nAxmlns:xml u\n)r\n", "schema ok\nlisting 10 ReservedName\n"),
-        refused(ONE_STRING, b"(r\nAp:a 1\n)r\nend\n", "schema ok\nlisting 10 UnboundPrefix\n"),
-        refused(ONE_STRING, b"(p:r\nAa 1\nAa 2\n)p:r\n", "schema ok\nlisting 10 UnboundPrefix\n"),
-        refused(ONE_STRING, b"(r\nAa 1\nAa 2\n)q\n", "schema ok\nlisting 10 DoubleAttribute\n"),
+        refused(
+            ONE_STRING,
+            b"(a:b:c\nAxmlns:xmlns u\n)x\n",
+            "schema ok\nlisting 10 BadName\n",
+        ),
+        refused(
+            ONE_STRING,
+            b"(p:r\nAxmlns:xml u\n)r\n",
+            "schema ok\nlisting 10 ReservedName\n",
+        ),
+        refused(
+            ONE_STRING,
+            b"(r\nAp:a 1\n)r\nend\n",
+            "schema ok\nlisting 10 UnboundPrefix\n",
+        ),
+        refused(
+            ONE_STRING,
+            b"(p:r\nAa 1\nAa 2\n)p:r\n",
+            "schema ok\nlisting 10 UnboundPrefix\n",
+        ),
+        refused(
+            ONE_STRING,
+            b"(r\nAa 1\nAa 2\n)q\n",
+            "schema ok\nlisting 10 DoubleAttribute\n",
+        ),
         refused(
             ONE_STRING,
             b"(r\nAxmlns:p u\nAxmlns:q u\nAp:a 1\nAq:a 2\n)r\n",
@@ -102,7 +134,11 @@ fn refuses_lines_by_their_tree(rt: HostRuntime) -> Result<(), Fail> {
             b"(p:r\nAxmlns:p u\nAxmlns:q u\n)q:r\n",
             "schema ok\nlisting 13 EndMismatch\n",
         ),
-        refused(ONE_STRING, b"(r\n)r\n(q\n", "schema ok\nlisting 12 TwoRoots\n"),
+        refused(
+            ONE_STRING,
+            b"(r\n)r\n(q\n",
+            "schema ok\nlisting 12 TwoRoots\n",
+        ),
         refused(ONE_STRING, b"-x\n", "schema ok\nlisting 10 TextOutside\n"),
         refused(ONE_STRING, b")r\n", "schema ok\nlisting 10 EndMismatch\n"),
         refused(ONE_STRING, b"(r\nend\n", "schema ok\nlisting 11 Unclosed\n"),
