@@ -1,0 +1,14 @@
+pub mod Choosing
+pub mod Comparing
+pub mod Effects
+pub mod Growing
+pub mod Lists
+pub mod Noting
+pub mod Reading
+pub mod Remains
+pub mod Runs
+pub mod RunsInClass
+pub mod RunsWhole
+pub mod Sanity
+pub mod Sound
+pub mod Viable

@@ -1,0 +1,15 @@
+pub mod Built
+pub mod BuiltViews
+pub mod Characters
+pub mod Classed
+pub mod Examples
+pub mod Grammar
+pub mod Machine
+pub mod Names
+pub mod Notes
+pub mod Numbers
+pub mod Outcome
+pub mod ReaderViews
+pub mod Reading
+pub mod Stages
+pub mod Views

@@ -1,0 +1,96 @@
+//! Classes of characters.
+
+ghost use Rattle.std.specs.Prelude.{◌≡◌, map};
+ghost use Rattle.std.specs.List.{list_any};
+ghost use Rattle.pattern_terms.specs.Classes.{is_item, in_group, has, group_of, class_of};
+
+use crate::set::CharSet;
+
+/// An item of a group: a character, a range from one character to another, or a set that an escape names.
+#[derive(Clone, Copy, Debug, PartialEq, Eq)]
+pub enum ClassItem {
+    /// The character itself.
+    One(char),
+    /// The characters from the first to the last.
+    Range(char, char),
+    /// The characters of the set.
+    In(CharSet),
+    /// The characters outside the set.
+    NotIn(CharSet),
+}
+
+/// The characters of the items or, where it is negated, all others (Datatypes, appendix F.1, positive and negative
+/// character groups).
+#[derive(Debug, Drop)]
+pub struct CharGroup {
+    /// Whether the group stands for the characters that no item has.
+    pub negated: bool,
+    /// The items.
+    pub items: Vec<ClassItem>,
+}
+
+/// A class of characters. Contracts see the list of its groups: the characters of the first, less those of the class of
+/// the groups after it.
+#[derive(Debug, Drop)]
+pub enum CharClass {
+    /// The characters of one item.
+    Item(ClassItem),
+    /// The characters of the first group, less those of the class of the groups after it (Datatypes, appendix F.1,
+    /// character class subtraction). Without groups there are none.
+    Groups(Vec<CharGroup>),
+}
+
+impl ClassItem {
+    /// Whether the character is one of the item.
+    pub fn contains(self, c: char) -> bool
+        ensures { result ≡ is_item self c }
+    {
+        match self {
+            ClassItem::One(other) => c == other,
+            ClassItem::Range(first, last) => first <= c && c <= last,
+            ClassItem::In(set) => set.contains(c),
+            ClassItem::NotIn(set) => !set.contains(c),
+        }
+    }
+}
+
+impl CharGroup {
+    /// Whether the character is one of the group.
+    pub fn contains(&self, c: char) -> bool
+        ensures { result ≡ in_group (group_of self.now) c }
+    {
+        some_item(&self.items, c) != self.negated
+    }
+}
+
+fn some_item(items: &[ClassItem], c: char) -> bool
+    ensures { result ≡ list_any (λ item. is_item item c) items.now }
+{
+    items.iter().any(|item| item.contains(c))
+}
+
+impl CharClass {
+    /// Whether the character is one of the class.
+    pub fn contains(&self, c: char) -> bool
+        ensures { result ≡ has (class_of self.now) c }
+    {
+        match self {
+            CharClass::Item(item) => item.contains(c),
+            CharClass::Groups(groups) => groups_contain(groups, c),
+        }
+    }
+}
+
+/// Whether the first group has the character and the class of those after it lacks it.
+fn groups_contain(groups: &[CharGroup], c: char) -> bool
+    ensures { result ≡ has (map group_of groups.now) c }
+{
+    let mut inside = false;
+    for group in groups {
+        if !group.contains(c) {
+            return inside;
+        }
+        inside = !inside;
+    }
+    inside
+}

@@ -1,0 +1,4 @@
+pub mod Integers
+pub mod Keys
+pub mod LanguageParts
+pub mod Pointwise

@@ -1,0 +1,5 @@
+pub mod Grammar
+pub mod Language
+pub mod Literals
+pub mod Reading
+pub mod Same

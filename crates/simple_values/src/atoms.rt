@@ -1,0 +1,75 @@
+//! The items of list values.
+ghost use Rattle.std.specs.Prelude.{◌≡◌, ◌==◌, ◌++◌, ◌∷◌, [], length, OnOk, OnErr};
+
+use crate::Atom;
+use std::alloc::{AllocError, Global};
+use std::marker::Model;
+use xs_codes::Builtin;
+
+/// An atom, and the built-in type that accepted it, or the nearest one that the accepting type is derived from.
+#[derive(Debug, Drop)]
+pub struct TypedAtom {
+    pub builtin: Builtin,
+    pub atom: Atom,
+}
+
+/// The items of a list value, at most 4,294,967,295. Contracts see the list of them.
+#[derive(Debug, Drop)]
+pub struct Atoms {
+    inner: Vec<TypedAtom>,
+}
+
+impl Model for Atoms {
+    ghost use Rattle.std.specs.Prelude.{List, length, ◌<◌, ◌^◌};
+    ghost use Rattle.simple_values.specs.declared.atoms.TypedAtom.{TypedAtom};
+
+    ghost Value = { List TypedAtom };
+
+    ghost view = { λ s. s.inner.items };
+
+    ghost invariant = { λ s. length s.inner.items < 2 ^ 32 };
+}
+
+impl Atoms {
+    /// No items.
+    pub fn new(alloc: Global) -> Self
+        ensures { result ≡ [] }
+    {
+        Atoms {
+            inner: Vec::new(alloc),
+        }
+    }
+
+    /// Puts an item at the end. Where there is no room for it, the list stays.
+    pub fn push(&mut self, item: TypedAtom) -> Result<(), AllocError>
+        ensures ok { OnOk result (self.new ≡ self.old ++ item ∷ []) }
+        ensures err { OnErr result (self.new ≡ self.old) }
+    {
+        if self.inner.len() >= u32::MAX as usize {
+            return Err(AllocError);
+        }
+        self.inner.push(item)?;
+        Ok(())
+    }
+
+    /// The items in order.
+    pub fn as_slice(&self) -> &[TypedAtom]
+        ensures { result.now ≡ self.now }
+    {
+        self.inner.as_slice()
+    }
+
+    /// The number of items.
+    pub fn len(&self) -> u32
+        ensures { result ≡ length self.now }
+    {
+        self.inner.len() as u32
+    }
+
+    /// Whether there are no items.
+    pub fn is_empty(&self) -> bool
+        ensures { result ≡ (length self.now == 0) }
+    {
+        self.inner.is_empty()
+    }
+}

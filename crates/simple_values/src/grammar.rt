@@ -1,0 +1,121 @@
+//! Which literals a built-in type has, and what it does with white space.
+ghost use Rattle.std.specs.Prelude.{◌≡◌, IsTrue};
+ghost use Rattle.simple_values.specs.Grammar as spec;
+
+use crate::IntegerRange;
+use time_value::MomentKind;
+use white_space::WhiteSpace;
+use xs_codes::Builtin;
+
+/// The literals of an atomic type, or of the items of a list type.
+#[derive(Debug, Clone, Copy, PartialEq, Eq)]
+pub enum Grammar {
+    /// Every text, as a value of `anySimpleType`.
+    Untyped,
+    /// Every text, as a string.
+    Text,
+    /// Every text, as a URI (Datatypes 3.2.17).
+    Uri,
+    /// Language tags (Datatypes 3.3.3).
+    Language,
+    /// Names (Datatypes 3.3.6).
+    Name,
+    /// One or more characters of names (Datatypes 3.3.4).
+    NmToken,
+    /// Names without a colon (Datatypes 3.3.7 to 3.3.9).
+    NcName,
+    /// Names whose prefix, if they have one, is bound (Datatypes 3.2.18).
+    QName,
+    /// `true`, `false`, `1` and `0` (Datatypes 3.2.2).
+    Boolean,
+    /// Decimal numbers (Datatypes 3.2.3).
+    Decimal,
+    /// Integers of a range (Datatypes 3.3.13 to 3.3.25).
+    Integer(IntegerRange),
+    /// Pairs of hexadecimal digits (Datatypes 3.2.15).
+    Hex,
+    /// Base64 (Datatypes 3.2.16).
+    Base64,
+    /// Dates and times (Datatypes 3.2.7 to 3.2.14).
+    Moment(MomentKind),
+    /// Durations (Datatypes 3.2.6).
+    Duration,
+}
+
+/// The literals of a type; of a list type, those of its items.
+pub fn grammar_of(kind: Builtin) -> Grammar
+    ensures value { result ≡ spec.grammar_of kind }
+    ensures narrow { IsTrue (spec.is_narrow_grammar result) }
+{
+    match kind {
+        Builtin::AnySimpleType => Grammar::Untyped,
+        Builtin::String => Grammar::Text,
+        Builtin::NormalizedString => Grammar::Text,
+        Builtin::Token => Grammar::Text,
+        Builtin::AnyUri => Grammar::Uri,
+        Builtin::Language => Grammar::Language,
+        Builtin::Name => Grammar::Name,
+        Builtin::NmToken => Grammar::NmToken,
+        Builtin::NmTokens => Grammar::NmToken,
+        Builtin::NcName => Grammar::NcName,
+        Builtin::Id => Grammar::NcName,
+        Builtin::IdRef => Grammar::NcName,
+        Builtin::IdRefs => Grammar::NcName,
+        Builtin::QName => Grammar::QName,
+        Builtin::Boolean => Grammar::Boolean,
+        Builtin::Decimal => Grammar::Decimal,
+        Builtin::HexBinary => Grammar::Hex,
+        Builtin::Base64Binary => Grammar::Base64,
+        Builtin::DateTime => Grammar::Moment(MomentKind::DateTime),
+        Builtin::Date => Grammar::Moment(MomentKind::Date),
+        Builtin::Time => Grammar::Moment(MomentKind::Time),
+        Builtin::GYearMonth => Grammar::Moment(MomentKind::YearMonth),
+        Builtin::GYear => Grammar::Moment(MomentKind::Year),
+        Builtin::GMonthDay => Grammar::Moment(MomentKind::MonthDay),
+        Builtin::GDay => Grammar::Moment(MomentKind::Day),
+        Builtin::GMonth => Grammar::Moment(MomentKind::Month),
+        Builtin::Duration => Grammar::Duration,
+        Builtin::Integer => Grammar::Integer(IntegerRange::ALL),
+        Builtin::Byte => Grammar::Integer(IntegerRange::between(i8::MIN as i128, i8::MAX as i128)),
+        Builtin::Short => Grammar::Integer(IntegerRange::between(
+            i16::MIN as i128,
+            i16::MAX as i128,
+        )),
+        Builtin::Int => Grammar::Integer(IntegerRange::between(i32::MIN as i128, i32::MAX as i128)),
+        Builtin::Long => Grammar::Integer(IntegerRange::between(
+            i64::MIN as i128,
+            i64::MAX as i128,
+        )),
+        Builtin::UnsignedByte => Grammar::Integer(IntegerRange::between(0, u8::MAX as i128)),
+        Builtin::UnsignedShort => Grammar::Integer(IntegerRange::between(0, u16::MAX as i128)),
+        Builtin::UnsignedInt => Grammar::Integer(IntegerRange::between(0, u32::MAX as i128)),
+        Builtin::UnsignedLong => Grammar::Integer(IntegerRange::between(0, u64::MAX as i128)),
+        Builtin::NonPositiveInteger => Grammar::Integer(IntegerRange::at_most(0)),
+        Builtin::NegativeInteger => Grammar::Integer(IntegerRange::at_most(-1)),
+        Builtin::NonNegativeInteger => Grammar::Integer(IntegerRange::at_least(0)),
+        Builtin::PositiveInteger => Grammar::Integer(IntegerRange::at_least(1)),
+    }
+}
+
+/// The type of the items of a list type; `None` where the type is atomic (Datatypes 3.3.5 and 3.3.10).
+pub fn item_type(kind: Builtin) -> Option<Builtin>
+    ensures { result ≡ spec.item_type kind }
+{
+    match kind {
+        Builtin::NmTokens => Some(Builtin::NmToken),
+        Builtin::IdRefs => Some(Builtin::IdRef),
+        _ => None,
+    }
+}
+
+/// What the type does with white space (Datatypes 4.3.6).
+pub fn white_space_of(kind: Builtin) -> WhiteSpace
+    ensures { result ≡ spec.white_space_of kind }
+{
+    match kind {
+        Builtin::AnySimpleType => WhiteSpace::Preserve,
+        Builtin::String => WhiteSpace::Preserve,
+        Builtin::NormalizedString => WhiteSpace::Replace,
+        _ => WhiteSpace::Collapse,
+    }
+}

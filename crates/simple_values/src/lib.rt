@@ -1,0 +1,26 @@
+//! The values of the built-in simple types of XML Schema: what their literals are and what they read to, when two values
+//! are the same, which is less, how long they are, and keys by which equal values meet (Datatypes 3.2 and 3.3).
+#![tactic(auto)]
+
+mod atom;
+mod atoms;
+mod fault;
+mod grammar;
+mod key;
+mod language;
+mod literals;
+mod numbers;
+mod range;
+mod reading;
+#[cfg(test)]
+mod tests;
+mod value;
+
+pub use atom::{Atom, ExpandedName};
+pub use atoms::{Atoms, TypedAtom};
+pub use fault::ValueFault;
+pub use grammar::{Grammar, grammar_of, item_type, white_space_of};
+pub use key::{Key, KeyItems};
+pub use range::IntegerRange;
+pub use reading::read_builtin;
+pub use value::{Value, key_of, length, less, same};

@@ -1,0 +1,9 @@
+//! White space of XML Schema (Datatypes 4.3.6): the three ways in which a type treats the white space of a text before
+//! its literals are read, and the items of a list.
+#![tactic(auto)]
+
+mod handling;
+#[cfg(test)]
+mod tests;
+
+pub use handling::{WhiteSpace, items, normalized};

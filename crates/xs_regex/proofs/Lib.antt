@@ -1,0 +1,6 @@
+pub mod SetLaws
+pub mod Locals
+pub mod Spelled
+pub mod ProgramLaws
+pub mod Running
+pub mod Counting

@@ -1,0 +1,11 @@
+//! Regular expressions of schema types (Datatypes, appendix F), matched in time proportional to the text.
+#![tactic(auto)]
+
+mod pattern;
+mod program;
+mod set;
+#[cfg(test)]
+mod tests;
+
+pub use pattern::Pattern;
+pub use pattern_syntax::PatternFault;

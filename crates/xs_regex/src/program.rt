@@ -1,0 +1,141 @@
+//! The positions of a term, and how they take the characters of a text.
+
+ghost use Rattle.std.specs.Prelude.{◌≡◌, ℕ, ◌<◌, ◌≤◌, ◌↔◌, ◌⊎◌, length, replicate, false, All, Contains, IfOk, IsErr, IsTrue};
+ghost use Rattle.std.specs.Str.{chars};
+ghost use Rattle.xs_positions.specs.Sets.{row};
+ghost use Rattle.xs_positions.specs.Nodes.{tree_at};
+ghost use Rattle.pattern_terms.specs.Regex.{Matches, regex_at};
+ghost use Rattle.pattern_terms.specs.Terms.{regexes_of, classes_of, trees_of};
+ghost use Rattle.xs_regex.specs.Sets.{Has};
+ghost use Rattle.xs_regex.specs.Expression.{regex, position_count};
+ghost use Rattle.xs_regex.specs.Program.{expression_of, takes, SomeTakes, IsProgram};
+
+use crate::set::PositionSet;
+use pattern_terms::{ExprId, Terms};
+use std::alloc::{AllocError, Global};
+use std::mem;
+use xs_positions::{Positions, PositionsError, find_positions};
+
+/// How many positions a pattern may have.
+const MOST_POSITIONS: u32 = 4_096;
+
+/// The positions of a term.
+#[derive(Debug, Drop)]
+pub(crate) struct Program {
+    terms: Terms,
+    root: ExprId,
+    positions: Positions,
+    /// For each position, whether a word may end with it.
+    ends: Vec<bool>,
+}
+
+impl Program {
+    /// The positions of a term, unless there are more than `MOST_POSITIONS`.
+    pub(crate) fn new(
+        alloc: Global,
+        terms: Terms,
+        root: ExprId,
+    ) -> Result<Result<Program, PositionsError>, AllocError>
+        requires { root < length (trees_of terms) }
+        ensures program { IfOk result (λ answer. IfOk answer IsProgram) }
+        ensures term { IfOk result (λ answer. IfOk answer (λ program. expression_of program ≡ record { classes = classes_of terms; tree = tree_at (trees_of terms) root })) }
+        ensures too_large { IfOk result (λ answer. IsErr answer ↔ (MOST_POSITIONS < position_count (regex_at (regexes_of terms) root))) }
+    {
+        let positions = match find_positions(terms.expr(), root, MOST_POSITIONS)? {
+            Ok(positions) => positions,
+            Err(error) => return Ok(Err(error)),
+        };
+        let ends = marks(alloc, positions.count(), positions.last())?;
+        Ok(Ok(Program {
+            terms,
+            root,
+            positions,
+            ends,
+        }))
+    }
+
+    /// How many positions there are.
+    pub(crate) fn len(&self) -> u32
+        ensures { result ≡ length self.now.positions.symbols }
+    {
+        self.positions.count()
+    }
+
+    /// Whether the text is in the language of the term. The sets are for use meanwhile.
+    pub(crate) fn run(&self, waiting: &mut PositionSet, next: &mut PositionSet, text: &str) -> bool
+        requires program { IsProgram self.now }
+        requires waiting { length waiting.old ≡ length self.now.positions.symbols }
+        requires next { length next.old ≡ length self.now.positions.symbols }
+        ensures answer { IsTrue result ↔ Matches (regex (expression_of self.now)) (chars text.now) }
+        ensures waiting_size { length waiting.new ≡ length waiting.old }
+        ensures next_size { length next.new ≡ length next.old }
+    {
+        waiting.clear();
+        waiting.insert_all(self.positions.first());
+        let mut accepted = self.positions.nullable();
+        for c in text.chars() {
+            accepted = self.advance(waiting, next, c);
+            mem::swap(waiting, next);
+        }
+        accepted
+    }
+
+    /// Whether the text up to this character is in the language, where these positions wait for the character. Then
+    /// the next ones wait for the character after it.
+    fn advance(&self, waiting: &PositionSet, next: &mut PositionSet, c: char) -> bool
+        requires program { IsProgram self.now }
+        requires waiting { length waiting.now ≡ length self.now.positions.symbols }
+        requires next { length next.old ≡ length self.now.positions.symbols }
+        ensures accepted { IsTrue result ↔ SomeTakes self.now waiting.now c (Contains self.now.positions.last) }
+        ensures next { (q : ℕ) → Has next.new q ↔ SomeTakes self.now waiting.now c (λ p. Contains (row self.now.positions.follow p) q) }
+        ensures size { length next.new ≡ length next.old }
+    {
+        next.clear();
+        let mut accepted = false;
+        for p in waiting.members() {
+            accepted = self.visit(*p, c, next) || accepted;
+        }
+        accepted
+    }
+
+    /// Whether the position takes the character and may end a word. Where it takes it, those that follow it wait.
+    fn visit(&self, p: u32, c: char, next: &mut PositionSet) -> bool
+        requires program { IsProgram self.now }
+        requires within { p < length self.now.positions.symbols }
+        requires next { length next.old ≡ length self.now.positions.symbols }
+        ensures accepted { IsTrue result ↔ (IsTrue (takes self.now p c) × Contains self.now.positions.last p) }
+        ensures next { (q : ℕ) → Has next.new q ↔ (Has next.old q ⊎ (IsTrue (takes self.now p c) × Contains (row self.now.positions.follow p) q)) }
+        ensures size { length next.new ≡ length next.old }
+    {
+        if !self.takes(p, c) {
+            return false;
+        }
+        next.insert_all(self.positions.follow(p));
+        self.ends[p as usize]
+    }
+
+    /// Whether the class of the position's symbol has the character.
+    fn takes(&self, p: u32, c: char) -> bool
+        requires { p < length self.now.positions.symbols }
+        ensures { result ≡ takes self.now p c }
+    {
+        let number = self.positions.symbol_of(p) as usize;
+        match self.terms.classes().get(number) {
+            Some(class) => class.contains(c),
+            None => false,
+        }
+    }
+}
+
+/// A flag for each number below the count, set for these numbers.
+fn marks(alloc: Global, count: u32, numbers: &[u32]) -> Result<Vec<bool>, AllocError>
+    requires { All (λ p. p < count) numbers.now }
+    ensures flags { IfOk result (λ flags. (p : ℕ) → Has flags.items p ↔ Contains numbers.now p) }
+    ensures count { IfOk result (λ flags. length flags.items ≡ count) }
+{
+    let mut flags = vec![in alloc; false; count as usize]?;
+    for p in numbers {
+        flags[*p as usize] = true;
+    }
+    Ok(flags)
+}
