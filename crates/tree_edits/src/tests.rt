@@ -187,6 +187,7 @@ fn refused(
     steps: &[(u32, Step, EditError)],
 ) -> Result<usize, Fail>
     requires { AreSound rows.old.items }
+    ensures { AreSound rows.new.items }
 {
     for (place, (next_free, step, refusal)) in steps.iter().enumerate() {
         match take_step(alloc, rows, *next_free, *step)? {
