@@ -1,6 +1,5 @@
 -- What a block comes to, by what stands against its names and by the limits.
-use Rattle.std.proofs.Common.{◌≡◌, ℕ, ◌+◌, ◌≤◌, List, [], false, ◌||◌, Option, Some, None, Result, Ok, Err, length, refl, sym, ap, ◌∙◌, arith, nat_lt, subst, take, reverse}
-use Rattle.std.proofs.lemmas.Bool.Decides.{nat_tests}
+use Rattle.std.proofs.Common.{◌≡◌, ℕ, ◌+◌, List, [], Option, Some, None, Result, Ok, Err, refl, sym, ap, ◌∙◌, subst, take, reverse}
 use Rattle.item_listing.specs.declared.item.Item.{Item}
 use Rattle.tree_rows.specs.Forest.{Forest, Document, text, none}
 use Rattle.tree_rows.specs.Rows.{siblings}
@@ -12,7 +11,7 @@ use Rattle.tag_names.specs.Scopes.{first_scope}
 use Rattle.tree_edits.specs.Places.{scope_above}
 use Rattle.tree_edits.specs.declared.places.Spot.{Spot}
 use Rattle.tree_edits.specs.Edits.{put, put_within, insert_within, unless, then_unless}
-use Rattle.tree_building.specs.Shape.{AreWhole, AreSound}
+use Rattle.tree_building.specs.Shape.{AreWhole}
 use Rattle.tree_edits.specs.Refusals.{IsWhy}
 use Rattle.tree_edits.specs.Spots.{tree_of, inserting, IsSpot, Puts, Inserts, Fits}
 use Rattle.tree_edits.specs.declared.names.BlockNames.{BlockNames}

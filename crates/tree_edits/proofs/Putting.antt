@@ -56,11 +56,13 @@ pub put_ok : (rows new : List Row) (next parent place depth : ℕ) → AreWhole 
 put_ok rows new next parent place depth whole new_whole fits =
     let g : Forest = siblings new 1 in
     let many = are_many rows new next whole new_whole ∙ fits.few in
-    let deep : nat_lt 128 (deepest_of (depth + 1) g) ≡ false = grind (arith, nat_tests, deep-whole depth new new_whole, fits.shallow) in
-    (record {
-      forest = replaced parent (with_children place (renumbered next g)) (siblings rows 1);
-      next_free = next + count g;
-    }, rw (many, deep) refl)
+    let deep : nat_lt 128 (deepest_of (depth + 1) g) ≡ false = grind (arith, nat_tests, deep-whole depth new new_whole, fits.shallow) in (
+      record {
+        forest = replaced parent (with_children place (renumbered next g)) (siblings rows 1);
+        next_free = next + count g;
+      },
+      rw (many, deep) refl,
+    )
 
 pub put_fits : (rows new changed : List Row) (next free parent place : ℕ) (s : Spot) → AreSound rows → AreWhole new → IsSpot rows parent place s
     → (nat_lt 131072 (length rows + length new) || nat_lt 4294967295 (next + length new)) ≡ false → deepest_row s.depth new ≤ 128

@@ -52,7 +52,8 @@ has key none = false
 has key (text number chars next) = number == key || has key next
 has key (element number name bindings attributes children next) = number == key || (has key children || has key next)
 
--- the bindings of the elements around a place are in scope there, the innermost first (Namespaces in XML 1.0, 6.1): the scope inside the node of this number, where the siblings stand in this scope
+-- the scope inside the node of this number, where the siblings stand in this scope: its bindings, and those of the elements
+-- around it, the innermost first (Namespaces in XML 1.0, 6.1)
 abbrev pub scope_in : ℕ → List Binding → Forest → List Binding
 scope_in key scope none = scope
 scope_in key scope (text number chars next) = if number == key then scope else scope_in key scope next

@@ -96,8 +96,8 @@ fn put_block(
     let new = build_block(alloc, scope, items)?;
     fit(rows, next_free, &new, spot.depth)?;
     names.late()?;
-    let free = put_fitting(rows, next_free, spot, new)?;
-    Ok(free)
+    let next = put_fitting(rows, next_free, spot, new)?;
+    Ok(next)
 }
 
 /// Puts the element of a block, and answers the next free number.

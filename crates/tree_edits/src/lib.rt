@@ -7,6 +7,8 @@ mod names;
 mod places;
 mod scope;
 mod shifts;
+#[cfg(test)]
+mod tests;
 
 pub use apply::edit_rows;
 pub use edit::{Edit, EditError};

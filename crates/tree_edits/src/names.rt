@@ -159,7 +159,11 @@ impl Walk {
 }
 
 /// What stands against the names of a block whose parent gives this scope.
-pub fn judge_block(alloc: Global, scope: &Prefixes, items: &[Item]) -> Result<BlockNames, AllocError>
+pub fn judge_block(
+    alloc: Global,
+    scope: &Prefixes,
+    items: &[Item],
+) -> Result<BlockNames, AllocError>
     ensures { IfOk result (λ names. names ≡ blocks.judged (blocks.tags_in scope.now [] items.now)) }
 {
     let mut walk = Walk::new(alloc, scope)?;

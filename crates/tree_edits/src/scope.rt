@@ -1,4 +1,4 @@
-ghost use Rattle.std.specs.Prelude.{◌≡◌, ◌+◌, ◌<◌, ◌≤◌, ◌^◌, List, IfOk, IfSome, MatchOption, length, reverse, take};
+ghost use Rattle.std.specs.Prelude.{◌≡◌, ◌+◌, ◌<◌, ◌≤◌, List, IfOk, IfSome, MatchOption, length, reverse, take};
 ghost use Rattle.tree_rows.specs.declared.row.Binding.{Binding};
 ghost use Rattle.tag_names.specs.Scopes.{first_scope};
 ghost use Rattle.tree_edits.specs.Places.{scope_above};

@@ -1,4 +1,4 @@
-use Rattle.std.proofs.Common.{◌≡◌, ◌<◌, arith, sym, ap, ◌∙◌}
+use Rattle.std.proofs.Common.{◌<◌, arith, sym, ◌∙◌}
 use Rattle.tree_building.specs.Shape.{deepest_row}
 use Rattle.tree_edits.proofs.Putting.{put_many, put_deep}
 use Rattle.tree_edits.proofs.apply.fit.Goals as goal

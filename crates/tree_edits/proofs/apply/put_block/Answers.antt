@@ -21,6 +21,6 @@ returns-in_err-late-clause-err c =
 
 pub returns-clause-ok : goal.returns-clause-ok
 returns-clause-ok c =
-    λ parent index spot. inserted c.args.rows.now.items c.in_ok-new.new.items c.put_fitting.new.rows.items c.args.next_free c.in_ok-free.free parent index
+    λ parent index spot. inserted c.args.rows.now.items c.in_ok-new.new.items c.put_fitting.new.rows.items c.args.next_free c.in_ok-next.next parent index
     c.args.scope.now c.args.items.now c.args.spot.depth c.in_ok-names.names c.in_ok-names.ensures c.in_ok-early.ensures.ok c.in_ok-late.ensures.ok
-    c.in_ok-new.ensures.is_block (c.in_ok-free.ensures.ok parent index spot)
+    c.in_ok-new.ensures.is_block (c.in_ok-next.ensures.ok parent index spot)
