@@ -1,8 +1,8 @@
 use crate::{Command, ScriptFault, read_command};
 use item_listing::{Item, Items};
-use plain_tree::Edit;
 use std::alloc::Global;
 use std::test::Fail;
+use tree_edits::Edit;
 use xs_names::Text;
 
 /// The fault of a line, whose block is one element where `whole`, else the start of one.

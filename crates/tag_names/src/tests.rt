@@ -87,58 +87,53 @@ fn names_an_element(rt: HostRuntime) -> Result<(), Fail> {
     Ok(())
 }
 
-#[test]
-fn refuses_names_by_their_first_reason(rt: HostRuntime) -> Result<(), Fail> {
-    let alloc = rt.alloc();
+/// The first reason against such a tag, with no prefix bound around it.
+fn fault_of(
+    alloc: Global,
+    name: &str,
+    lines: &[(&str, &str)],
+) -> Result<Option<NameReason>, Fail> {
     let scope = Prefixes::new(alloc)?;
-    let cases: [(&str, &[(&str, &str)], Option<NameReason>); 14] = [
-        (
-            "xml:a",
-            &[("xmlns:xml", "http://www.w3.org/XML/1998/namespace")],
-            None,
-        ),
-        ("a:b:c", &[], Some(NameReason::BadName)),
-        ("a", &[("xmlns:", "u")], Some(NameReason::BadName)),
-        ("xmlns:a", &[], Some(NameReason::ReservedName)),
-        ("a", &[("xmlns:xmlns", "u")], Some(NameReason::ReservedName)),
-        ("a", &[("xmlns:xml", "u")], Some(NameReason::ReservedName)),
-        (
-            "a",
-            &[("xmlns", "http://www.w3.org/2000/xmlns/")],
-            Some(NameReason::ReservedName),
-        ),
-        (
-            "a",
-            &[("xmlns:p", "http://www.w3.org/XML/1998/namespace")],
-            Some(NameReason::ReservedName),
-        ),
-        ("p:a", &[("xmlns:p", "")], Some(NameReason::ReservedName)),
-        ("a", &[("xmlns", "")], None),
-        ("a", &[("p:b", "1")], Some(NameReason::UnboundPrefix)),
-        (
-            "a",
-            &[("xmlns", "u"), ("xmlns:p", "u"), ("b", "1"), ("p:b", "1")],
-            None,
-        ),
-        (
-            "a",
-            &[
-                ("xmlns:q", "u"),
-                ("xmlns:p", "u"),
-                ("q:b", "1"),
-                ("p:b", "1"),
-            ],
-            Some(NameReason::DoubleAttribute),
-        ),
-        (
-            "a",
-            &[("xmlns:p", "u"), ("xmlns:p", "v")],
-            Some(NameReason::DoubleAttribute),
-        ),
+    Ok(tag_of(alloc, name, lines)?.name_fault(alloc, &scope)?)
+}
+
+#[test]
+fn refuses_bad_and_reserved_names(rt: HostRuntime) -> Result<(), Fail> {
+    let alloc = rt.alloc();
+    let bad = Some(NameReason::BadName);
+    assert_eq!(rt; fault_of(alloc, "a:b:c", &[])?, bad);
+    assert_eq!(rt; fault_of(alloc, "a", &[("xmlns:", "u")])?, bad);
+    let reserved = Some(NameReason::ReservedName);
+    assert_eq!(rt; fault_of(alloc, "xmlns:a", &[])?, reserved);
+    assert_eq!(rt; fault_of(alloc, "a", &[("xmlns:xmlns", "u")])?, reserved);
+    assert_eq!(rt; fault_of(alloc, "a", &[("xmlns:xml", "u")])?, reserved);
+    let lines = [("xmlns", "http://www.w3.org/2000/xmlns/")];
+    assert_eq!(rt; fault_of(alloc, "a", &lines)?, reserved);
+    let lines = [("xmlns:p", "http://www.w3.org/XML/1998/namespace")];
+    assert_eq!(rt; fault_of(alloc, "a", &lines)?, reserved);
+    assert_eq!(rt; fault_of(alloc, "p:a", &[("xmlns:p", "")])?, reserved);
+    let lines = [("xmlns:xml", "http://www.w3.org/XML/1998/namespace")];
+    assert_eq!(rt; fault_of(alloc, "xml:a", &lines)?, None);
+    assert_eq!(rt; fault_of(alloc, "a", &[("xmlns", "")])?, None);
+    Ok(())
+}
+
+#[test]
+fn refuses_unbound_and_double_attributes(rt: HostRuntime) -> Result<(), Fail> {
+    let alloc = rt.alloc();
+    let unbound = Some(NameReason::UnboundPrefix);
+    assert_eq!(rt; fault_of(alloc, "a", &[("p:b", "1")])?, unbound);
+    let lines = [("xmlns", "u"), ("xmlns:p", "u"), ("b", "1"), ("p:b", "1")];
+    assert_eq!(rt; fault_of(alloc, "a", &lines)?, None);
+    let double = Some(NameReason::DoubleAttribute);
+    let lines = [
+        ("xmlns:q", "u"),
+        ("xmlns:p", "u"),
+        ("q:b", "1"),
+        ("p:b", "1"),
     ];
-    for (name, lines, reason) in cases {
-        let tag = tag_of(alloc, name, lines)?;
-        assert_eq!(rt; tag.name_fault(alloc, &scope)?, reason);
-    }
+    assert_eq!(rt; fault_of(alloc, "a", &lines)?, double);
+    let lines = [("xmlns:p", "u"), ("xmlns:p", "v")];
+    assert_eq!(rt; fault_of(alloc, "a", &lines)?, double);
     Ok(())
 }
