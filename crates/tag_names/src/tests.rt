@@ -88,11 +88,7 @@ fn names_an_element(rt: HostRuntime) -> Result<(), Fail> {
 }
 
 /// The first reason against such a tag, with no prefix bound around it.
-fn fault_of(
-    alloc: Global,
-    name: &str,
-    lines: &[(&str, &str)],
-) -> Result<Option<NameReason>, Fail> {
+fn fault_of(alloc: Global, name: &str, lines: &[(&str, &str)]) -> Result<Option<NameReason>, Fail> {
     let scope = Prefixes::new(alloc)?;
     Ok(tag_of(alloc, name, lines)?.name_fault(alloc, &scope)?)
 }
