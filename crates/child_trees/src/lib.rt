@@ -2,9 +2,8 @@
 #![tactic(auto)]
 
 pub use crate::leaf::{ItemId, Leaf, SeqId};
-pub use crate::seqs::Seqs;
 pub use crate::summary::Summary;
 
+mod cells;
 mod leaf;
-mod seqs;
 mod summary;
