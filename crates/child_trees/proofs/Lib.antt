@@ -1,1 +1,2 @@
 pub mod Celled
+pub mod Chains

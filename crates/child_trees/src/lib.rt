@@ -7,3 +7,4 @@ pub use crate::summary::Summary;
 mod cells;
 mod leaf;
 mod summary;
+mod tops;
