@@ -1,0 +1,6 @@
+pub mod Tree
+pub mod Balance
+pub mod Arena
+pub mod Change
+pub mod Cut
+pub mod Slots
