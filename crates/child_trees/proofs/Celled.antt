@@ -2,8 +2,8 @@
 use Rattle.std.proofs.Common.{◌≡◌, ◌≢◌, ◌⊎◌, ℕ, zero, suc, ◌+◌, ◌<◌, List, [], ◌∷◌, ◌++◌, length, get_or, set, map, refl, sym, ap, ◌∙◌, subst, inl, inr, arith}
 use Rattle.std.proofs.lemmas.Bool.{cases_eq}
 use Rattle.std.proofs.lemmas.Grind.{common_steps}
-use Rattle.std.proofs.lemmas.List.{get_or-map, get_or_push, get_or_append_left, get_or_default, length_push, map_push}
-use Rattle.child_trees.specs.Cells.{CellMaps, AreCells}
+use Rattle.std.proofs.lemmas.List.{get_or-map, get_or_push, get_or_append_left, get_or_default, get_or-set_same, get_or-set_other, length_push, length-set, map_push}
+use Rattle.child_trees.specs.Cells.{CellMaps, map_at, AreCells, SetsMap, AddsSlot}
 use Rattle.child_trees.specs.Laws.{KeepsCells}
 
 pub same_view : {Shape Map : Type 0} (v w : CellMaps Shape Map) → v.shape ≡ w.shape → v.maps ≡ w.maps → v ≡ w
@@ -78,3 +78,20 @@ module _ {Sum Cell Map : Type 0} (live : Sum → Cell → Type 0) (map_of : Sum 
                 | inr x ↦ w.0 ∙ sym x.0
               ]
           ]
+
+-- a list of maps with one changed
+pub sets_map : {Shape Map : Type 0} (unit : Shape → Map) (v w : CellMaps Shape Map) (k : ℕ) (m : Map) → k < length v.maps → w.shape ≡ v.shape → w.maps ≡ set v.maps k m → SetsMap unit v w k m
+sets_map unit v w k m l h e = record {
+  changed = ap (λ ms. get_or ms k (unit w.shape)) e ∙ get_or-set_same v.maps k m (unit w.shape) l;
+  others = λ j n. ap (λ ms. get_or ms j (unit w.shape)) e ∙ get_or-set_other v.maps k j m (unit w.shape) n ∙ ap (λ s. get_or v.maps j (unit s)) h;
+  size = ap length e ∙ length-set v.maps k m;
+  shape = h;
+}
+
+-- a list of maps with one more
+pub adds_slot : {Shape Map : Type 0} (unit : Shape → Map) (v w : CellMaps Shape Map) (m : Map) → w.shape ≡ v.shape → w.maps ≡ v.maps ++ m ∷ [] → AddsSlot unit v w
+adds_slot unit v w m h e = record {
+  size = ap length e ∙ length_push v.maps m;
+  others = λ j l. ap (λ ms. get_or ms j (unit w.shape)) e ∙ get_or_append_left v.maps (m ∷ []) (unit w.shape) j l ∙ ap (λ s. get_or v.maps j (unit s)) h;
+  shape = h;
+}

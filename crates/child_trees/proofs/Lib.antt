@@ -1,2 +1,4 @@
+pub mod Along
 pub mod Celled
 pub mod Chains
+pub mod Split

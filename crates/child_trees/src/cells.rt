@@ -1,6 +1,6 @@
 //! A cell for each slot of an arena.
 
-ghost use Rattle.std.specs.Prelude.{◌≡◌, ◌≢◌, ℕ, ◌+◌, ◌<◌, ◌≤◌, List, [], ◌∷◌, ◌++◌, length, slice_set, OnOk, OnErr};
+ghost use Rattle.std.specs.Prelude.{◌≡◌, ◌≢◌, ℕ, ◌+◌, ◌<◌, ◌≤◌, [], length, OnOk, OnErr};
 ghost use Rattle.std.specs.Option.{ForSome};
 ghost use Rattle.child_trees.specs.Lists.{map_by};
 
@@ -28,7 +28,7 @@ impl<M: Summary> Model for Cells<M> {
 }
 
 impl<M: Summary> Cells<M> {
-    ghost use Rattle.child_trees.specs.Cells.{map_at, AreMaps};
+    ghost use Rattle.child_trees.specs.Cells.{map_at, AreMaps, SetsMap, AddsSlot};
 
     /// No slots yet.
     pub fn new(alloc: Global, summary: M) -> Cells<M>
@@ -49,7 +49,7 @@ impl<M: Summary> Cells<M> {
 
     /// One more slot, with some map.
     pub fn add(&mut self) -> Result<(), AllocError>
-        ensures ok { OnOk result ((m : M.Map) × (self.new ≡ record { shape = self.old.shape; maps = self.old.maps ++ m ∷ [] })) }
+        ensures ok { OnOk result (AddsSlot M.unit self.old self.new) }
         ensures err { OnErr result (self.new ≡ self.old) }
     {
         let cell = self.summary.new_cell()?;
@@ -72,7 +72,7 @@ impl<M: Summary> Cells<M> {
     )
         requires slot { slot < length self.old.maps }
         requires fits { ForSome letter (M.fits self.old.shape source.now) }
-        ensures maps { self.new ≡ record { shape = self.old.shape; maps = slice_set self.old.maps slot (map_by (M.unit self.old.shape) (M.leaf source.now) letter) } }
+        ensures map { SetsMap M.unit self.old self.new slot (map_by (M.unit self.old.shape) (M.leaf source.now) letter) }
         ensures steps { steps.new ≤ steps.old + 1 }
     {
         let cell = self.cells[slot as usize];
@@ -89,7 +89,7 @@ impl<M: Summary> Cells<M> {
         requires into { into < length self.old.maps }
         requires not_left { into ≢ left }
         requires not_right { into ≢ right }
-        ensures maps { self.new ≡ record { shape = self.old.shape; maps = slice_set self.old.maps into (M.join (map_at M.unit self.old left) (map_at M.unit self.old right)) } }
+        ensures map { SetsMap M.unit self.old self.new into (M.join (map_at M.unit self.old left) (map_at M.unit self.old right)) }
         ensures steps { steps.new ≤ steps.old + 1 }
     {
         let a = self.cells[left as usize];

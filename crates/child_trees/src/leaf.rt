@@ -1,5 +1,9 @@
 //! Leaves, and the numbers of lists and leaves.
 
+ghost use Rattle.std.specs.Prelude.{◌≡◌, map, IfOk};
+
+use leaf_trees::Flags;
+use std::alloc::{AllocError, Global};
 use std::marker::Model;
 
 /// The number of a list.
@@ -42,4 +46,23 @@ pub struct Leaf<T> {
     pub element: bool,
     /// Whether it is found by `nth_marked`.
     pub marked: bool,
+}
+
+impl<T> Leaf<T> {
+    /// What it counts as.
+    pub(crate) fn flags(&self) -> Flags
+        ensures { result ≡ record { element = self.now.element; marked = self.now.marked } }
+    {
+        Flags {
+            element: self.element,
+            marked: self.marked,
+        }
+    }
+}
+
+/// What these leaves count as.
+pub(crate) fn flags_of<T: Copy>(alloc: Global, leaves: &[Leaf<T>]) -> Result<Vec<Flags>, AllocError>
+    ensures { IfOk result (λ flags. flags.items ≡ map (λ l. record { element = l.element; marked = l.marked }) leaves.now) }
+{
+    leaves.iter().map(|leaf| leaf.flags()).collect(alloc)
 }

@@ -2,9 +2,14 @@
 #![tactic(auto)]
 
 pub use crate::leaf::{ItemId, Leaf, SeqId};
+pub use crate::seqs::Seqs;
 pub use crate::summary::Summary;
 
 mod cells;
+mod edits;
 mod leaf;
+mod seqs;
 mod summary;
+mod sums;
 mod tops;
+mod walks;

@@ -1,6 +1,6 @@
 use Rattle.std.proofs.Common.{◌≡◌, ap, sym, ◌∙◌, subst}
 use Rattle.std.proofs.lemmas.Result.{err_from_is_err_and}
-use Rattle.child_trees.proofs.Celled.{same_view, AreCells-pushed, maps_pushed, maps_kept, KeepsCells-then}
+use Rattle.child_trees.proofs.Celled.{same_view, adds_slot, AreCells-pushed, maps_pushed, maps_kept, KeepsCells-then}
 use Rattle.child_trees.proofs.cells.Cells.add.Goals as goal
 
 pub returns-in_err-cell-clause-err : goal.returns-in_err-cell-clause-err
@@ -20,7 +20,7 @@ pub returns-in-Ok-clause-ok : goal.returns-in-Ok-clause-ok
 returns-in-Ok-clause-ok g c =
     let M = g.M.Summary in
     let t = c.new_cell.new.self in
-    rw (c.in-Ok.ensures.items, ← c.self.view_is) (M.map_of t c.in_ok-cell.cell, same_view _ _ c.new_cell.ensures.shape (maps_pushed M.live M.map_of c.self.inside.summary t c.self.inside.cells.items c.in_ok-cell.cell c.new_cell.ensures.others c.self.invariant))
+    rw (c.in-Ok.ensures.items, ← c.self.view_is) (adds_slot M.unit _ _ (M.map_of t c.in_ok-cell.cell) c.new_cell.ensures.shape (maps_pushed M.live M.map_of c.self.inside.summary t c.self.inside.cells.items c.in_ok-cell.cell c.new_cell.ensures.others c.self.invariant))
 
 pub returns-in-Err-clause-err : goal.returns-in-Err-clause-err
 returns-in-Err-clause-err g c =
