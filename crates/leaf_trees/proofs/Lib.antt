@@ -1,0 +1,5 @@
+pub mod Held
+pub mod Turns
+pub mod Lean
+pub mod Balanced
+pub mod Height
