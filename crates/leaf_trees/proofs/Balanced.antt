@@ -87,12 +87,12 @@ balances i l r al ar a b =
       | inl h ↦
           (let s = settles_left i l r al ar (omega arith) in
           let e = sym (balanced_left i l r h) in
-          record { avl = subst IsAvl e s.avl; least = subst (λ (t : Tree). max (height l) (height r) ≤ height t) e (let k = s.least in omega arith); most = subst (λ (t : Tree). height t ≤ max (height l) (height r) + 1) e (let k = s.most in omega arith); even = λ f g. absurd (omega arith) })
+          record { avl = subst IsAvl e s.avl; least = subst (λ (t : Tree). max (height l) (height r) ≤ height t) e (let m = s.least in omega arith); most = subst (λ (t : Tree). height t ≤ max (height l) (height r) + 1) e (let m = s.most in omega arith); even = λ f g. absurd (omega arith) })
       | inr h ↦ elim (cases_lt (height l + 1) (height r)) [
           | inl k ↦
               (let s = settles_right i l r al ar (omega arith) in
               let e = sym (balanced_right i l r k) in
-              record { avl = subst IsAvl e s.avl; least = subst (λ (t : Tree). max (height l) (height r) ≤ height t) e (let k = s.least in omega arith); most = subst (λ (t : Tree). height t ≤ max (height l) (height r) + 1) e (let k = s.most in omega arith); even = λ f g. absurd (omega arith) })
+              record { avl = subst IsAvl e s.avl; least = subst (λ (t : Tree). max (height l) (height r) ≤ height t) e (let m = s.least in omega arith); most = subst (λ (t : Tree). height t ≤ max (height l) (height r) + 1) e (let m = s.most in omega arith); even = λ f g. absurd (omega arith) })
           | inr k ↦
               (let e = sym (balanced_even i l r h k) in
               record { avl = subst IsAvl e (h, k, al, ar); least = subst (λ (t : Tree). max (height l) (height r) ≤ height t) e (omega arith); most = subst (λ (t : Tree). height t ≤ max (height l) (height r) + 1) e (omega arith); even = λ f g. subst (λ (t : Tree). height t ≡ max (height l) (height r) + 1) e refl })

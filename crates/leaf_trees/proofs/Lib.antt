@@ -3,3 +3,4 @@ pub mod Turns
 pub mod Lean
 pub mod Balanced
 pub mod Height
+pub mod Put
