@@ -4,3 +4,5 @@ pub mod Lean
 pub mod Balanced
 pub mod Height
 pub mod Put
+pub mod Parts
+pub mod Flag
