@@ -6,3 +6,4 @@ pub mod Height
 pub mod Put
 pub mod Parts
 pub mod Flag
+pub mod TakeOut
