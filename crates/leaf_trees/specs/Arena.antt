@@ -1,12 +1,12 @@
 -- The trees that an arena of nodes holds.
-use Rattle.std.specs.Prelude.{◌≡◌, ◌≢◌, ℕ, ◌+◌, ◌^◌, ◌<◌, max, List, slice_index_or, length, Option, Some, None}
+use Rattle.std.specs.Prelude.{◌≡◌, ◌≢◌, ℕ, ◌+◌, ◌^◌, ◌<◌, max, List, slice_index_or, length}
 use Rattle.leaf_trees.specs.declared.node.Above.{Above}
 use Rattle.leaf_trees.specs.declared.node.Above.TheVariants.{Fork, Top, Free}
 use Rattle.leaf_trees.specs.declared.node.Node.{Node}
 use Rattle.leaf_trees.specs.Tree.{Item, Tree, leaf, fork, root, size, height, counted, plus, counts, Has, Apart, IsAvl}
 
 abbrev pub blank : Node
-blank = record { above = Free None; left = 0; right = 0; height = 0; counts = record { leaves = 0; elements = 0; marked = 0 } }
+blank = record { above = Fork 0; left = 0; right = 0; height = 0; counts = record { leaves = 0; elements = 0; marked = 0 } }
 
 -- the node of this number
 abbrev pub at : List Node → ℕ → Node

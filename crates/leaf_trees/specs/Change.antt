@@ -66,6 +66,14 @@ pub record CanAdd (a b : Counts) : Type 0 where
   pub elements : a.elements + b.elements < 2 ^ 32
   pub marked : a.marked + b.marked < 2 ^ 32
 
+-- this node counts so much now, and all else stays
+pub record Recounts (old new : List Node) (i : ℕ) (now : Counts) : Type 0 where
+  pub len : length new ≡ length old
+  pub above : (at new i).above ≡ (at old i).above
+  pub height : (at new i).height ≡ (at old i).height
+  pub counts : (at new i).counts ≡ now
+  pub others : (j : ℕ) → j ≢ i → at new j ≡ at old j
+
 -- the two nodes differ in what stands above them at most
 pub record Alike (m n : Node) : Type 0 where
   pub left : n.left ≡ m.left

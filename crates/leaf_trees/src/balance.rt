@@ -10,7 +10,7 @@ use crate::node::Node;
 
 /// Two sides below `i`, of which the right one, a fork, comes to the top.
 fn turn_left(nodes: &mut [Node], i: u32, left: u32, right: u32) -> u32
-    requires { (lt : Tree) × (rl : Tree) × (rr : Tree) × Sides nodes.old i left right lt (fork right rl rr) }
+    requires { (lt : Tree) × (rt : Tree) × Sides nodes.old i left right lt rt × (0 < height rt) }
     ensures { (lt rt : Tree) → Sides nodes.old i left right lt rt → 0 < height rt
         → Becomes nodes.old nodes.new result (fork i lt rt) (turned_left i lt rt) }
 {
@@ -22,7 +22,7 @@ fn turn_left(nodes: &mut [Node], i: u32, left: u32, right: u32) -> u32
 
 /// Two sides below `i`, of which the left one, a fork, comes to the top.
 fn turn_right(nodes: &mut [Node], i: u32, left: u32, right: u32) -> u32
-    requires { (ll : Tree) × (lr : Tree) × (rt : Tree) × Sides nodes.old i left right (fork left ll lr) rt }
+    requires { (lt : Tree) × (rt : Tree) × Sides nodes.old i left right lt rt × (0 < height lt) }
     ensures { (lt rt : Tree) → Sides nodes.old i left right lt rt → 0 < height lt
         → Becomes nodes.old nodes.new result (fork i lt rt) (turned_right i lt rt) }
 {

@@ -1,10 +1,10 @@
 //! A leaf put into a tree, taken out of it, or changed.
 
-ghost use Rattle.std.specs.Prelude.{◌≡◌, ℕ, ◌<◌, ◌≤◌, MatchOption};
-ghost use Rattle.leaf_trees.specs.Tree.{Item, Tree, leaf, fork, size, item_of, IsItemAt};
+ghost use Rattle.std.specs.Prelude.{◌≡◌, ◌<◌, length};
+ghost use Rattle.leaf_trees.specs.Tree.{Item, Tree, leaf, fork, size, counted};
 ghost use Rattle.leaf_trees.specs.Balance.{put_in, flag_at};
 ghost use Rattle.leaf_trees.specs.Arena.{HasTree};
-ghost use Rattle.leaf_trees.specs.Change.{Becomes, Ready};
+ghost use Rattle.leaf_trees.specs.Change.{Becomes, Ready, Recounts};
 ghost use Rattle.leaf_trees.specs.Cut.{Cuts};
 
 use crate::balance::balance;
@@ -97,14 +97,23 @@ pub fn flag_under(nodes: &mut [Node], top: u32, place: u32, flags: Flags)
 {
     let node = nodes[top as usize];
     if node.height == 0 {
-        nodes[top as usize].counts = flags.counts();
+        recount(nodes, top, flags);
         return;
     }
     let before = nodes[node.left as usize].counts.leaves;
     if place < before {
         flag_under(nodes, node.left, place, flags);
+        link(nodes, top, node.left, node.right);
     } else {
         flag_under(nodes, node.right, place - before, flags);
+        link(nodes, top, node.left, node.right);
     }
-    link(nodes, top, node.left, node.right);
+}
+
+/// Counts a leaf anew.
+fn recount(nodes: &mut [Node], leaf: u32, flags: Flags)
+    requires { leaf < length nodes.old }
+    ensures { Recounts nodes.old nodes.new leaf (counted flags.element flags.marked) }
+{
+    nodes[leaf as usize].counts = flags.counts();
 }

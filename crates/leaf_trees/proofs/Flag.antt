@@ -1,0 +1,58 @@
+-- A leaf with other flags.
+use Rattle.std.proofs.Common.{◌≡◌, ◌≢◌, ◌⊎◌, ℕ, zero, suc, ◌+◌, ◌-◌, ◌^◌, ◌<◌, ◌≤◌, max, Bool, true, false, cond, List, [], ◌∷◌, ◌++◌, length, get_or, set, refl, sym, ap, ◌∙◌, subst, inl, inr, arith}
+use Rattle.std.specs.Prelude.{nat_lt}
+use Rattle.std.proofs.lemmas.Bool.{cases_lt, cases_eq}
+use Rattle.leaf_trees.specs.declared.node.Node.{Node}
+use Rattle.leaf_trees.specs.declared.node.Flags.{Flags}
+use Rattle.leaf_trees.specs.Tree.{Item, Tree, leaf, fork, root, size, height, counted, leaves, items, item_of, Has, Disjoint, Apart, IsAvl}
+use Rattle.leaf_trees.specs.Balance.{flag_at}
+use Rattle.leaf_trees.specs.Arena.{at, IsTaken, IsUsed, Holds, HasTree}
+use Rattle.leaf_trees.specs.Change.{Sides, Becomes, Recounts}
+use Rattle.leaf_trees.proofs.Held.{positive}
+use Rattle.leaf_trees.proofs.Turns.{new_left, new_right}
+use Rattle.leaf_trees.proofs.Lean.{lt_is, ge_is, then_left, then_right, beside_left, beside_right}
+use Rattle.leaf_trees.proofs.Parts.{Parts, leaf_of, top_height, top_within}
+
+pub size-flag_at : (f : Flags) (k : ℕ) (t : Tree) → size (flag_at f k t) ≡ size t
+size-flag_at f k (leaf x) = refl
+size-flag_at f k (fork b l r) =
+    elim (nat_lt k (size l)) as (λ c. size (cond c (fork b (flag_at f k l) r) (fork b l (flag_at f (k - size l) r))) ≡ size l + size r) [
+      | true ↦ (let e = size-flag_at f k l in omega arith)
+      | false ↦ (let e = size-flag_at f (k - size l) r in omega arith)
+    ]
+
+-- where the tree is a leaf
+pub leaf_flagged : (ns ms : List Node) (top : ℕ) (f : Flags) (k : ℕ) (t : Tree) → HasTree ns top t → (at ns top).height ≡ 0 → Recounts ns ms top (counted f.element f.marked) → Becomes ns ms top t (flag_at f k t)
+leaf_flagged ns ms top f k t H low R =
+    let w = leaf_of t (sym (top_height ns top t H) ∙ low) in
+    let at_top : w.0.number ≡ top = sym (ap root w.1) ∙ H.top_is in
+    subst (λ (x : Tree). Becomes ns ms top x (flag_at f k x)) (sym w.1) (record {
+      len = R.len;
+      top_is = at_top;
+      holds = record {
+        within = subst (λ n. w.0.number < n) (sym R.len) (subst (λ i. i < length ns) (sym at_top) (top_within ns top t H));
+        height_is = subst (λ i. (at ms i).height ≡ 0) (sym at_top) (R.height ∙ low);
+        counts_are = subst (λ i. (at ms i).counts ≡ counted f.element f.marked) (sym at_top) R.counts;
+      };
+      apart = tt;
+      inside = λ j h. h;
+      others = λ j n. R.others j (λ e. n (e ∙ sym at_top));
+      taken = λ j h. elim (cases_eq j top) [ inl e ↦ subst (λ i. IsTaken (at ms i)) (sym e) (subst IsUsed (sym R.above) (subst (λ i. IsTaken (at ns i)) e h)) | inr n ↦ subst IsTaken (sym (R.others j n)) h ];
+    })
+
+module _ (ns : List Node) (top : ℕ) (f : Flags) (k : ℕ) (t : Tree) (P : Parts ns top t) where
+  pub flagged_left_sides : (ms : List Node) → Becomes ns ms (at ns top).left P.l (flag_at f k P.l) → Sides ms top (at ns top).left (at ns top).right (flag_at f k P.l) P.r
+  flagged_left_sides ms B = new_left ns ms top (at ns top).left (at ns top).right P.l (flag_at f k P.l) P.r (beside_left ns top (at ns top).left (at ns top).right P.l P.r P.sides) B (let few = P.sides.few in omega (arith, size-flag_at f k P.l))
+
+  pub flagged_right_sides : (ms : List Node) → Becomes ns ms (at ns top).right P.r (flag_at f (k - size P.l) P.r) → Sides ms top (at ns top).left (at ns top).right P.l (flag_at f (k - size P.l) P.r)
+  flagged_right_sides ms B = new_right ns ms top (at ns top).right (at ns top).left P.r (flag_at f (k - size P.l) P.r) P.l (beside_right ns top (at ns top).left (at ns top).right P.l P.r P.sides) B (let few = P.sides.few in omega (arith, size-flag_at f (k - size P.l) P.r))
+
+  pub flagged_left : k < size P.l → (ms ks : List Node) → Becomes ns ms (at ns top).left P.l (flag_at f k P.l) → Becomes ms ks top (fork top (flag_at f k P.l) P.r) (fork top (flag_at f k P.l) P.r) → Becomes ns ks top t (flag_at f k t)
+  flagged_left h ms ks B C =
+      subst (λ (x : Tree). Becomes ns ks top x (flag_at f k x)) (sym P.is) (rw (lt_is k (size P.l) h)
+      (then_left ns ms ks top (at ns top).left top P.l (flag_at f k P.l) P.r (fork top (flag_at f k P.l) P.r) (fork top P.l P.r) B C (λ j a. inr (inl a)) (inl refl) (λ j a. inr (inr a))))
+
+  pub flagged_right : size P.l ≤ k → (ms ks : List Node) → Becomes ns ms (at ns top).right P.r (flag_at f (k - size P.l) P.r) → Becomes ms ks top (fork top P.l (flag_at f (k - size P.l) P.r)) (fork top P.l (flag_at f (k - size P.l) P.r)) → Becomes ns ks top t (flag_at f k t)
+  flagged_right h ms ks B C =
+      subst (λ (x : Tree). Becomes ns ks top x (flag_at f k x)) (sym P.is) (rw (ge_is k (size P.l) h)
+      (then_right ns ms ks top (at ns top).right top P.r (flag_at f (k - size P.l) P.r) P.l (fork top P.l (flag_at f (k - size P.l) P.r)) (fork top P.l P.r) B C (λ j a. inr (inr a)) (inl refl) (λ j a. inr (inl a))))
