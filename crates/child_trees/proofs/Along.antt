@@ -5,7 +5,7 @@ use Rattle.std.proofs.lemmas.Bool.{cases_lt}
 use Rattle.leaf_trees.specs.Tree.{Item, Tree, leaf, fork, root, size, leaves, Has}
 use Rattle.leaf_trees.proofs.Lists.{length-leaves}
 use Rattle.child_trees.specs.Lists.{Entry, acts_along, IsFirstDead, NoneIsDead}
-use Rattle.child_trees.proofs.Split.{has_root}
+use Rattle.leaf_trees.proofs.Held.{Has-root}
 use Rattle.child_trees.specs.Laws.{SummaryLaws}
 use Rattle.child_trees.specs.Sums.{entry_of, entries, AreSums}
 
@@ -35,8 +35,8 @@ module _ {Shape Map State : Type 0} (is_state : Shape → State → Type 0) (is_
   pub acts_root : (t : Tree) → AreSums join f t → ((j : ℕ) → Has t j → is_map h (f j)) → (s : State) → is_state h s → acts (f (root t)) s ≡ acts_along acts s (entries f t)
   acts_root (leaf x) e m s i = refl
   acts_root (fork k l r) e m s i =
-      let ml : is_map h (f (root l)) = m (root l) (inr (inl (has_root l))) in
-      let mr : is_map h (f (root r)) = m (root r) (inr (inr (has_root r))) in
+      let ml : is_map h (f (root l)) = m (root l) (inr (inl (Has-root l))) in
+      let mr : is_map h (f (root r)) = m (root r) (inr (inr (Has-root r))) in
       let sl : is_state h (acts (f (root l)) s) = laws.acts_is h (f (root l)) s ml i in
       ap (λ x. acts x s) e.0 ∙ laws.acts_join h (f (root l)) (f (root r)) s ml mr i
       ∙ acts_root r e.2 (λ j k. m j (inr (inr k))) (acts (f (root l)) s) sl
@@ -114,3 +114,29 @@ module _ {Shape Map State : Type 0} (is_state : Shape → State → Type 0) (is_
       right k =
           ap (λ zs. is_dead h (acts_along acts s zs)) (take_past (n + k + 1) xs ys (omega arith) ∙ ap (λ q. xs ++ take q ys) (let q : n + k + 1 - length xs ≡ k + 1 = omega arith in q))
           ∙ ap (is_dead h) (acts_along-append acts s xs (take (k + 1) ys))
+
+module _ {Map : Type 0} (f : ℕ → Map) (t : Tree) (i : ℕ) (l r : Tree) (is : t ≡ fork i l r) where
+  pub entries-sides : entries f t ≡ entries f l ++ entries f r
+  entries-sides = ap (entries f) is ∙ entries-fork f i l r
+
+  pub take_left : (place : ℕ) → place ≤ size l → take place (entries f t) ≡ take place (entries f l)
+  take_left place le = ap (take place) entries-sides ∙ take-append-le place (entries f l) (entries f r) (omega (arith, le, length-entries f l))
+
+  pub take_right : (place n : ℕ) → n ≡ size l → n ≤ place → take place (entries f t) ≡ entries f l ++ take (place - n) (entries f r)
+  take_right place n e le =
+      let m : length (entries f l) ≡ n = length-entries f l ∙ sym e in
+      ap (take place) entries-sides ∙ take_past place (entries f l) (entries f r) (omega (arith, le, m)) ∙ ap (λ k. entries f l ++ take (place - k) (entries f r)) m
+
+  pub drop_left : (place : ℕ) → place ≤ size l → drop place (entries f t) ≡ drop place (entries f l) ++ entries f r
+  drop_left place le = ap (drop place) entries-sides ∙ drop-append-le place (entries f l) (entries f r) (omega (arith, le, length-entries f l))
+
+  pub drop_right : (place n : ℕ) → n ≡ size l → n ≤ place → drop place (entries f t) ≡ drop (place - n) (entries f r)
+  drop_right place n e le =
+      let m : length (entries f l) ≡ n = length-entries f l ∙ sym e in
+      ap (drop place) entries-sides ∙ drop_past place (entries f l) (entries f r) (omega (arith, le, m)) ∙ ap (λ k. drop (place - k) (entries f r)) m
+
+pub take_entries : {Map : Type 0} (f : ℕ → Map) (t : Tree) (place : ℕ) → size t ≤ place → take place (entries f t) ≡ entries f t
+take_entries f t place le = take_all place (entries f t) (omega (arith, le, length-entries f t))
+
+pub drop_entries : {Map : Type 0} (f : ℕ → Map) (t : Tree) (place : ℕ) → size t ≤ place → drop place (entries f t) ≡ []
+drop_entries f t place le = drop_all place (entries f t) (omega (arith, le, length-entries f t))

@@ -1,3 +1,4 @@
+pub mod Acting
 pub mod Along
 pub mod Celled
 pub mod Chains
