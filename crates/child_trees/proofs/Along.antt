@@ -3,7 +3,7 @@ use Rattle.std.proofs.Common.{◌≡◌, ◌≢◌, ◌⊎◌, ℕ, zero, suc, �
 use Rattle.std.proofs.lemmas.List.{map-append, length-map, take-append-le, take_all, drop-append-le, drop_all}
 use Rattle.std.proofs.lemmas.Bool.{cases_lt}
 use Rattle.leaf_trees.specs.Tree.{Item, Tree, leaf, fork, root, size, leaves, Has}
-use Rattle.leaf_trees.proofs.Lists.{length-leaves}
+use Rattle.leaf_trees.proofs.Balanced.{length-leaves}
 use Rattle.child_trees.specs.Lists.{Entry, acts_along, IsFirstDead, NoneIsDead}
 use Rattle.leaf_trees.proofs.Held.{Has-root}
 use Rattle.child_trees.specs.Laws.{SummaryLaws}

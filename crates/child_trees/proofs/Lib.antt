@@ -3,3 +3,4 @@ pub mod Along
 pub mod Celled
 pub mod Chains
 pub mod Split
+pub mod Summing

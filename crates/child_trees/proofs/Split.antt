@@ -97,3 +97,10 @@ module _ {Shape Map : Type 0} (unit : Shape → Map) (join : Map → Map → Map
 -- two trees below one top are of one size
 pub same_size : (n : ℕ) (ns : List Node) (top : ℕ) (t u : Tree) → HasCells n ns top t → HasCells n ns top u → size t ≡ size u
 same_size n ns top t u h k = sym (top_size n ns top t h) ∙ top_size n ns top u k
+
+-- the top is none of its sides
+pub top_not_left : (n : ℕ) (ns : List Node) (top : ℕ) (t : Tree) (s : Sides n ns top t) → top ≢ (at ns top).left
+top_not_left n ns top t s e = s.apart.0 (subst (Has s.l) (s.left.has.top_is ∙ sym e) (Has-root s.l))
+
+pub top_not_right : (n : ℕ) (ns : List Node) (top : ℕ) (t : Tree) (s : Sides n ns top t) → top ≢ (at ns top).right
+top_not_right n ns top t s e = s.apart.1 (subst (Has s.r) (s.right.has.top_is ∙ sym e) (Has-root s.r))

@@ -51,11 +51,12 @@ pub fn sum_along<M: Summary, L: Ledger>(
     if place < before {
         sum_along(cells, nodes, node.left, place, steps);
         sum_sides(cells, nodes, node.right, steps);
+        cells.join(node.left, node.right, top, steps);
     } else {
         sum_sides(cells, nodes, node.left, steps);
         sum_along(cells, nodes, node.right, place - before, steps);
+        cells.join(node.left, node.right, top, steps);
     }
-    cells.join(node.left, node.right, top, steps);
 }
 
 /// Writes the maps of the leaves of the tree below `top`, and sums up all its forks.
