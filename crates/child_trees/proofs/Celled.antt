@@ -1,9 +1,9 @@
 -- The maps of cells before and after a call of their summary.
-use Rattle.std.proofs.Common.{◌≡◌, ◌≢◌, ◌⊎◌, ℕ, zero, suc, ◌+◌, ◌<◌, List, [], ◌∷◌, ◌++◌, length, get_or, set, map, refl, sym, ap, ◌∙◌, subst, inl, inr, arith}
+use Rattle.std.proofs.Common.{◌≡◌, ◌≢◌, ◌⊎◌, ℕ, zero, suc, ◌+◌, ◌<◌, ◌≤◌, List, [], ◌∷◌, ◌++◌, length, get_or, set, map, refl, sym, ap, ◌∙◌, subst, inl, inr, arith}
 use Rattle.std.proofs.lemmas.Bool.{cases_eq}
 use Rattle.std.proofs.lemmas.Grind.{common_steps}
 use Rattle.std.proofs.lemmas.List.{get_or-map, get_or_push, get_or_append_left, get_or_default, get_or-set_same, get_or-set_other, length_push, length-set, map_push}
-use Rattle.child_trees.specs.Cells.{CellMaps, map_at, AreCells, SetsMap, AddsSlot}
+use Rattle.child_trees.specs.Cells.{CellMaps, map_at, AreCells, SetsMap, AddsSlot, AddsSlots}
 use Rattle.child_trees.specs.Laws.{KeepsCells}
 
 pub same_view : {Shape Map : Type 0} (v w : CellMaps Shape Map) → v.shape ≡ w.shape → v.maps ≡ w.maps → v ≡ w
@@ -94,4 +94,12 @@ adds_slot unit v w m h e = record {
   size = ap length e ∙ length_push v.maps m;
   others = λ j l. ap (λ ms. get_or ms j (unit w.shape)) e ∙ get_or_append_left v.maps (m ∷ []) (unit w.shape) j l ∙ ap (λ s. get_or v.maps j (unit s)) h;
   shape = h;
+}
+
+-- one more slot after others
+pub adds_then : {Shape Map : Type 0} (unit : Shape → Map) (u v w : CellMaps Shape Map) → AddsSlots unit u v → AddsSlot unit v w → AddsSlots unit u w
+adds_then unit u v w a b = record {
+  size = (let p = a.size in let q = b.size in omega arith);
+  others = λ j l. (let p = a.size in b.others j (omega arith)) ∙ a.others j l;
+  shape = b.shape ∙ a.shape;
 }

@@ -10,7 +10,7 @@ use Rattle.child_trees.specs.Sums.{HasCells, HasSums, AreSums}
 
 module _ (n : ℕ) (ns : List Node) (top : ℕ) (t : Tree) (h : HasCells n ns top t) where
   pub top_within : top < length ns
-  top_within = subst (λ i. i < length ns) h.has.top_is (has_within ns t (root t) h.has.holds (Has-root t))
+  top_within = subst (λ i. i < length ns) h.has.top_is (has_within ns t h.has.holds (root t) (Has-root t))
 
   pub top_has_cell : top < n
   top_has_cell = subst (λ i. i < n) h.has.top_is (h.within (root t) (Has-root t))

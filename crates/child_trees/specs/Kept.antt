@@ -4,7 +4,6 @@ use Rattle.std.specs.Option.{option_map}
 use Rattle.leaf_trees.specs.declared.node.Node.{Node}
 use Rattle.leaf_trees.specs.Tree.{Item, Tree, Has}
 use Rattle.leaf_trees.specs.Arena.{at, IsTreeOf, IsFreeSlot}
-use Rattle.leaf_trees.specs.Change.{Slots}
 use Rattle.child_trees.specs.Cells.{CellMaps, map_at}
 use Rattle.child_trees.specs.Lists.{Entry, items}
 use Rattle.child_trees.specs.Sums.{entry_of, entries, AreSums}
@@ -27,11 +26,6 @@ list_of f ns (Some top) = map (entry_of f) (leaves_below ((at ns top).height + 1
 
 abbrev pub lists_of : {Map : Type 0} → (ℕ → Map) → List Node → List (Option Top) → List (Option (List (Entry Map)))
 lists_of f ns tops = map (option_map (list_of f ns)) tops
-
--- there are so many free slots, and each slot has a cell
-pub record HasRoom {Shape Map : Type 0} (v : CellMaps Shape Map) (slots : Slots) (n : ℕ) : Type 0 where
-  pub spare : n ≤ slots.spare
-  pub cells : length slots.nodes ≤ length v.maps
 
 -- the items of these entries were free slots, and no two are one
 pub record AreOfFree {Map : Type 0} (ns : List Node) (xs : List (Entry Map)) : Type 0 where
@@ -57,6 +51,7 @@ module _ {Shape Map : Type 0} (unit : Shape → Map) (join : Map → Map → Map
     pub same : (p top : ℕ) (u : Tree) → ¬ but p → IsKept v ns p top u → entries (map_at unit w) u ≡ entries (map_at unit v) u
     pub shape : w.shape ≡ v.shape
 
-  -- so is the tree of each list that has leaves
+  -- so is the tree of each list that has leaves, and each slot has a cell
   pub record AreKept (v : CellMaps Shape Map) (ns : List Node) (tops : List (Option Top)) : Type 0 where
     pub kept : (q top : ℕ) → top_at tops q ≡ Some (Some top) → (t : Tree) × IsKept v ns q top t
+    pub cells : length ns ≤ length v.maps
