@@ -1,10 +1,11 @@
 -- A tree whose top is a fork, and its two sides.
 use Rattle.std.proofs.Common.{◌≡◌, ◌≢◌, ◌⊎◌, ℕ, zero, suc, ◌+◌, ◌-◌, ◌^◌, ◌<◌, ◌≤◌, max, List, length, get_or, refl, sym, ap, ◌∙◌, subst, inl, inr, arith}
 use Rattle.leaf_trees.specs.declared.node.Node.{Node}
-use Rattle.leaf_trees.specs.Tree.{Item, Tree, leaf, fork, root, size, height, counts, Has, Apart}
+use Rattle.leaf_trees.specs.Tree.{Item, Tree, leaf, fork, root, size, height, counts, marked_items, Has, Apart}
 use Rattle.leaf_trees.specs.Arena.{at, Holds, HasTree}
 use Rattle.leaf_trees.proofs.Forest.{has_within}
 use Rattle.leaf_trees.proofs.Held.{Has-root, positive, height_at, counts_at}
+use Rattle.leaf_trees.proofs.Told.{marked_counted}
 use Rattle.child_trees.specs.Cells.{CellMaps, map_at}
 use Rattle.child_trees.specs.Sums.{HasCells, HasSums, AreSums}
 
@@ -104,3 +105,6 @@ top_not_left n ns top t s e = s.apart.0 (subst (Has s.l) (s.left.has.top_is ∙ 
 
 pub top_not_right : (n : ℕ) (ns : List Node) (top : ℕ) (t : Tree) (s : Sides n ns top t) → top ≢ (at ns top).right
 top_not_right n ns top t s e = s.apart.1 (subst (Has s.r) (s.right.has.top_is ∙ sym e) (Has-root s.r))
+
+pub top_marked : (n : ℕ) (ns : List Node) (top : ℕ) (t : Tree) → HasCells n ns top t → (at ns top).counts.marked ≡ length (marked_items t)
+top_marked n ns top t h = ap (λ i. (at ns i).counts.marked) (sym h.has.top_is) ∙ ap (λ c. c.marked) (counts_at ns t h.has.holds) ∙ marked_counted t

@@ -221,3 +221,6 @@ keeps_then unit join u v w ls ns ms but a b = record {
   same = λ p top t n k. b.same p top t n (a.kept p top t n k) ∙ a.same p top t n k;
   shape = b.shape ∙ a.shape;
 }
+
+pub some_is : {A : Type 0} (x y : A) → Some x ≡ Some y → x ≡ y
+some_is x y e = cc

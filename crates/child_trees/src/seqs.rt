@@ -1,6 +1,6 @@
 //! Many lists under their numbers.
 
-ghost use Rattle.std.specs.Prelude.{◌≡◌, ℕ, ◌+◌, ◌*◌, ◌<◌, ◌≤◌, Bool, List, [], length, map, filter, take, drop, insert, remove, count_by, slice_get, slice_set, Option, Some, None, All, MatchOption, IfOk, OnErr, vec_len};
+ghost use Rattle.std.specs.Prelude.{◌≡◌, ℕ, ◌+◌, ◌*◌, ◌<◌, ◌≤◌, Bool, List, [], length, map, filter, take, drop, insert, remove, slice_get, slice_set, Option, Some, None, All, MatchOption, IfOk, OnErr, vec_len};
 ghost use Rattle.std.specs.Option.{ForSome};
 ghost use Rattle.child_trees.specs.Bits.{bits};
 ghost use Rattle.child_trees.specs.Lists.{Entry, get, IsLive, IsUpTo, Updates, IsAt, HasItem, entry, AreEntries, AreNew, items, acts_along, IsFirstDead, NoneIsDead};
@@ -115,9 +115,9 @@ impl<M: Summary> Seqs<M> {
         ensures steps { (xs : List (Entry M.Map)) → get self.old seq ≡ Some xs → steps.new ≤ steps.old + 16 * (bits (length xs + 2) + 1) }
     {
         reserve(&mut self.trees, &mut self.cells, 2)?;
-        let number = match self.tops.top(seq.number) {
+        match self.tops.top(seq.number) {
             None => {
-                let item = plant(
+                let number = plant(
                     &mut self.trees,
                     &mut self.cells,
                     seq.number,
@@ -125,8 +125,8 @@ impl<M: Summary> Seqs<M> {
                     source,
                     steps,
                 );
-                self.tops.set(seq.number, Some(item));
-                item
+                self.tops.set(seq.number, Some(number));
+                Ok(ItemId { number })
             }
             Some(top) => {
                 if self.trees.nodes()[top as usize].counts.leaves == u32::MAX {
@@ -142,10 +142,11 @@ impl<M: Summary> Seqs<M> {
                     steps,
                 );
                 self.tops.set(seq.number, Some(inserted.top));
-                inserted.item
+                Ok(ItemId {
+                    number: inserted.item,
+                })
             }
-        };
-        Ok(ItemId { number })
+        }
     }
 
     /// Takes a leaf out of its list.
@@ -240,7 +241,7 @@ impl<M: Summary> Seqs<M> {
     pub fn elements_upto(&self, seq: SeqId, place: u32) -> u32
         requires live { IsLive self.now seq }
         requires place { IsUpTo self.now seq place }
-        ensures { (xs : List (Entry M.Map)) → get self.now seq ≡ Some xs → result ≡ count_by (λ e. e.element) (take place xs) }
+        ensures { (xs : List (Entry M.Map)) → get self.now seq ≡ Some xs → result ≡ length (filter (λ e. e.element) (take place xs)) }
     {
         match self.tops.top(seq.number) {
             None => 0,
