@@ -1,5 +1,5 @@
 -- What the readers of a list find.
-use Rattle.std.proofs.Common.{◌≡◌, ◌≢◌, ℕ, zero, suc, ◌+◌, ◌<◌, ◌≤◌, Bool, true, false, cond, List, [], ◌∷◌, length, get_or, take, drop, map, filter, Option, Some, None, refl, sym, ap, ◌∙◌, subst, arith}
+use Rattle.std.proofs.Common.{◌≡◌, ◌≢◌, ℕ, zero, suc, ◌+◌, ◌<◌, ◌≤◌, Bool, true, false, cond, List, [], ◌∷◌, length, get_or, take, drop, map, filter, insert, Option, Some, None, refl, sym, ap, ◌∙◌, subst, arith}
 use Rattle.std.specs.Prelude.{slice_get, slice_index}
 use Rattle.std.proofs.lemmas.List.{take-map}
 use Rattle.leaf_trees.specs.declared.node.Node.{Node}
@@ -64,3 +64,8 @@ elements_upto_are f t place xs e =
 pub no_elements : {Map : Type 0} (place : ℕ) (xs : List (Entry Map)) → xs ≡ [] → 0 ≡ length (filter (λ (e : Entry Map). e.element) (take place xs))
 no_elements zero xs e = refl
 no_elements (suc place) xs e = sym (ap (λ ys. length (filter (λ e. e.element) (take (suc place) ys))) e)
+
+-- the first leaf of a list
+pub insert_none : {A : Type 0} (xs : List A) (place : ℕ) (x : A) → xs ≡ [] → place ≤ 0 → x ∷ [] ≡ insert xs place x
+insert_none xs zero x e le = ap (λ ys. x ∷ ys) (sym e)
+insert_none xs (suc place) x e le = absurd (omega arith)

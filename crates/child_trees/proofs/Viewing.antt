@@ -1,6 +1,6 @@
 -- The lists that contracts see, and the trees that stand for them.
 use Rattle.std.proofs.Common.{◌≡◌, ◌≢◌, ◌⊎◌, ℕ, zero, suc, ◌+◌, ◌<◌, ◌≤◌, Bool, true, false, cond, List, [], ◌∷◌, ◌++◌, length, get_or, map, Option, Some, None, refl, sym, ap, ◌∙◌, subst, inl, inr, arith, nat_eq}
-use Rattle.std.specs.Prelude.{slice_index, ◌==◌}
+use Rattle.std.specs.Prelude.{slice_index, ◌==◌, MatchOption}
 use Rattle.std.specs.Option.{option_map}
 use Rattle.std.proofs.lemmas.List.{map-append, length-map, get_or_past}
 use Rattle.std.proofs.lemmas.Bool.{cases_eq}
@@ -18,7 +18,7 @@ use Rattle.child_trees.specs.Sums.{entry_of, entries, HasCells, HasSums}
 use Rattle.child_trees.specs.Tops.{Top, top_at, Writes}
 use Rattle.child_trees.specs.Kept.{leaf_at, leaves_below, list_of, lists_of, IsKept, HasList, KeepsLists, AreKept}
 use Rattle.child_trees.proofs.Along.{length-entries}
-use Rattle.child_trees.proofs.Keeping.{item_has, kept_not_free}
+use Rattle.child_trees.proofs.Keeping.{item_has, kept_not_free, kept_stays}
 
 bit_is : (b : Bool) → (bit b == 1) ≡ b
 bit_is true = refl
@@ -224,3 +224,42 @@ keeps_then unit join u v w ls ns ms but a b = record {
 
 pub some_is : {A : Type 0} (x y : A) → Some x ≡ Some y → x ≡ y
 some_is x y e = cc
+
+pub none_some : {A : Type 0} (x : A) → None ≡ Some x → ⊥
+none_some x e = cc
+
+-- an empty list has no top
+pub no_such : (top : ℕ) → ◌≢◌ {A = Option Top} (Some None) (Some (Some top))
+no_such top e = none_some top (some_is None (Some top) e)
+
+pub one_top : (tops : List (Option Top)) (q a b : ℕ) → top_at tops q ≡ Some (Some a) → top_at tops q ≡ Some (Some b) → a ≡ b
+one_top tops q a b e f = some_is a b (some_is (Some a) (Some b) (sym e ∙ f))
+
+module _ {Shape Map : Type 0} (unit : Shape → Map) (join : Map → Map → Map) where
+  pub kept_none : (v : CellMaps Shape Map) (ns : List Node) (tops : List (Option Top)) → ns ≡ [] → tops ≡ [] → AreKept unit join v ns tops
+  kept_none v ns tops e f = record {
+    kept = λ q top g. absurd (none_some (Some top) (ap (λ ts. top_at ts q) (sym f) ∙ g));
+    cells = (let n = ap length e in omega arith);
+  }
+
+  -- the tree of a list is gone
+  pub tree_gone : (v : CellMaps Shape Map) (ns ms : List Node) (q : ℕ) → ((p top : ℕ) (u : Tree) → p ≢ q → IsTreeOf ns p top u → IsTreeOf ms p top u) → KeepsLists unit join v ns v ms (λ p. p ≡ q)
+  tree_gone v ns ms q others = record {
+    kept = λ p b u n k. kept_stays unit join v v ns ms p b u k (others p b u n k.tree) (omega arith) (λ j h. refl);
+    same = λ p b u n k. refl;
+    shape = refl;
+  }
+
+  module _ (v w : CellMaps Shape Map) (ns ms : List Node) (tops tops' : List (Option Top)) (q : ℕ) (xs : List (Entry Map)) where
+    -- what is left of a list, if anything is
+    pub rest_kept : (x : Top) → MatchOption x (xs ≡ []) (λ top. HasList unit join w ms q top xs) → AreKept unit join v ns tops → KeepsLists unit join v ns w ms (λ j. j ≡ q) → Writes tops tops' q (Some x) → length ms ≤ length w.maps → AreKept unit join w ms tops'
+    rest_kept None h a k t room = kept_no_tree unit join v w ns ms tops tops' q (Some None) no_such a k t room
+    rest_kept (Some top) h a k t room = kept_tree unit join v w ns ms tops tops' q top xs a k t h room
+
+    pub rest_updates : (x : Top) → MatchOption x (xs ≡ []) (λ top. HasList unit join w ms q top xs) → AreKept unit join v ns tops → KeepsLists unit join v ns w ms (λ j. j ≡ q) → Writes tops tops' q (Some x) → Updates (seen unit v ns tops) (seen unit w ms tops') q (Some xs)
+    rest_updates None h a k t = subst (λ ys. Updates (seen unit v ns tops) (seen unit w ms tops') q (Some ys)) (sym h) (updates_no_tree unit join v w ns ms tops tops' q (Some None) a k t)
+    rest_updates (Some top) h a k t = updates_tree unit join v w ns ms tops tops' q top xs a k t h
+
+  -- the top of a list stays
+  pub writes_same : (tops : List (Option Top)) (q : ℕ) (x : Option Top) → top_at tops q ≡ x → Writes tops tops q x
+  writes_same tops q x e = record { changed = e; others = λ p n. refl }

@@ -195,10 +195,11 @@ impl<M: Summary> Seqs<M> {
         requires { IsLive self.old seq }
         ensures { Updates self.old self.new seq None }
     {
-        if let Some(top) = self.tops.top(seq.number) {
+        let top = self.tops.top(seq.number);
+        self.tops.give(seq.number);
+        if let Some(top) = top {
             self.trees.drop_tree(top);
         }
-        self.tops.give(seq.number);
     }
 
     /// The place of an item in its list.
