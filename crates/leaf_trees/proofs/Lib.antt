@@ -7,3 +7,4 @@ pub mod Put
 pub mod Parts
 pub mod Flag
 pub mod TakeOut
+pub mod FreeSlots

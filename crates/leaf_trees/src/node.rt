@@ -2,6 +2,7 @@
 
 ghost use Rattle.std.specs.Prelude.{◌≡◌};
 ghost use Rattle.leaf_trees.specs.Tree.{plus, counted};
+ghost use Rattle.leaf_trees.specs.Arena.{next_free};
 ghost use Rattle.leaf_trees.specs.Change.{CanAdd};
 
 /// What stands above a node.
@@ -38,6 +39,18 @@ pub struct Node {
     pub right: u32,
     pub height: u32,
     pub counts: Counts,
+}
+
+impl Above {
+    /// The free slot that a free slot names.
+    pub(crate) fn next_free(self) -> Option<u32>
+        ensures { result ≡ next_free self }
+    {
+        match self {
+            Above::Free(next) => next,
+            Above::Fork(_) | Above::Top(_) => None,
+        }
+    }
 }
 
 impl Flags {

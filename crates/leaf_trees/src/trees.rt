@@ -240,11 +240,8 @@ impl Trees {
         ensures { Takes self.old self.new result }
     {
         let slot = self.free.unwrap();
-        let node = &mut self.nodes[slot as usize];
-        if let Above::Free(next) = node.above {
-            self.free = next;
-        }
-        node.above = Above::Fork(slot);
+        self.free = self.nodes[slot as usize].above.next_free();
+        self.nodes[slot as usize].above = Above::Fork(slot);
         self.spare -= 1;
         slot
     }
