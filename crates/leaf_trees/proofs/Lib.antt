@@ -5,6 +5,8 @@ pub mod Balanced
 pub mod Height
 pub mod Put
 pub mod Parts
+pub mod Items
 pub mod Flag
 pub mod TakeOut
 pub mod FreeSlots
+pub mod Forest

@@ -36,3 +36,4 @@ mod link;
 mod node;
 mod read;
 mod trees;
+mod whole;

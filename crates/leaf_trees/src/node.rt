@@ -81,21 +81,6 @@ impl Counts {
 }
 
 impl Node {
-    /// A leaf with these flags.
-    pub(crate) fn leaf(above: Above, flags: Flags) -> Node
-        ensures above { result.above ≡ above }
-        ensures height { result.height ≡ 0 }
-        ensures counts { result.counts ≡ counted flags.element flags.marked }
-    {
-        Node {
-            above,
-            left: 0,
-            right: 0,
-            height: 0,
-            counts: flags.counts(),
-        }
-    }
-
     /// A free slot.
     pub(crate) fn free(next: Option<u32>) -> Node
         ensures { result.above ≡ Above.Free next }
