@@ -10,3 +10,4 @@ pub mod Flag
 pub mod TakeOut
 pub mod FreeSlots
 pub mod Forest
+pub mod Along

@@ -84,10 +84,10 @@ pub some_fork : (k : ℕ) (t u : Tree) → take_out k t ≡ Some u → 0 < heigh
 some_fork k (leaf x) u e = absurd (cc)
 some_fork k (fork b l r) u e = omega arith
 
-eq_zero : (n : ℕ) → n ≡ 0 → nat_eq n 0 ≡ true
+pub eq_zero : (n : ℕ) → n ≡ 0 → nat_eq n 0 ≡ true
 eq_zero n e = grind (arith, nat_tests)
 
-ne_zero : (n : ℕ) → 0 < n → nat_eq n 0 ≡ false
+pub ne_zero : (n : ℕ) → 0 < n → nat_eq n 0 ≡ false
 ne_zero n e = grind (arith, nat_tests)
 
 -- a part of a tree, with nothing changed
