@@ -11,3 +11,4 @@ pub mod TakeOut
 pub mod FreeSlots
 pub mod Forest
 pub mod Along
+pub mod AlongRest

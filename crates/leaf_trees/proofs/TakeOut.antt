@@ -194,7 +194,7 @@ rest_place-below k (fork b l r) =
     ]
 
 -- the tree stays balanced, and is at most one level lower
-pub TakesHigh : Tree → Option Tree → Type 0
+unfoldable pub TakesHigh : Tree → Option Tree → Type 0
 TakesHigh t None = height t ≡ 0
 TakesHigh t (Some u) = IsAvl u × (height u ≤ height t) × (height t ≤ height u + 1)
 
