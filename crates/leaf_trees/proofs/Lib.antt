@@ -12,3 +12,4 @@ pub mod FreeSlots
 pub mod Forest
 pub mod Along
 pub mod AlongRest
+pub mod Changed
