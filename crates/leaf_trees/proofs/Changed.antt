@@ -1,5 +1,5 @@
 -- What the calls of an arena change.
-use Rattle.std.proofs.Common.{◌≡◌, ◌≢◌, ◌⊎◌, ℕ, zero, suc, ◌+◌, ◌-◌, ◌^◌, ◌<◌, ◌≤◌, Option, Some, None, List, [], ◌∷◌, ◌++◌, length, take, drop, insert, remove, set, get_or, refl, sym, ap, ◌∙◌, subst, inl, inr, arith}
+use Rattle.std.proofs.Common.{◌≡◌, ◌≢◌, ◌⊎◌, ℕ, zero, suc, ◌+◌, ◌-◌, ◌^◌, ◌<◌, ◌≤◌, Option, Some, None, List, [], ◌∷◌, ◌++◌, length, take, drop, insert, remove, set, get_or, refl, sym, ap, ◌∙◌, subst, inl, inr, arith, lit<}
 use Rattle.std.proofs.lemmas.Bool.{cases_eq}
 use Rattle.std.proofs.lemmas.List.{take-append-le, take_all}
 use Rattle.leaf_trees.specs.declared.node.Node.{Node}
@@ -7,17 +7,17 @@ use Rattle.leaf_trees.specs.declared.node.Flags.{Flags}
 use Rattle.leaf_trees.specs.declared.node.Above.TheVariants.{Top}
 use Rattle.leaf_trees.specs.declared.edit.Cut.{Cut}
 use Rattle.leaf_trees.specs.Tree.{Item, Tree, leaf, fork, size, height, leaves, items, item_of, Has, Disjoint}
-use Rattle.leaf_trees.specs.Balance.{put_in, take_out, flag_at, rest_place}
+use Rattle.leaf_trees.specs.Balance.{put_in, take_out, flag_at, rest_place, ChangesAlong}
 use Rattle.leaf_trees.specs.Arena.{at, IsTaken, IsUsed, HasTree, IsTreeOf, IsFreeSlot, IsInUse}
-use Rattle.leaf_trees.specs.Change.{Slots, KeepsOthers, KeepsAll, Changes, Makes, Grows, SetsAbove, WritesLeaf, Replants, HasRoom}
+use Rattle.leaf_trees.specs.Change.{Slots, KeepsOthers, KeepsAll, Changes, Makes, Grows, SetsAbove, WritesLeaf, Plants, Replants, HasRoom}
 use Rattle.leaf_trees.specs.Slots.{Takes, Gives}
 use Rattle.leaf_trees.specs.Cut.{Stays, LeavesTree}
 use Rattle.leaf_trees.proofs.Held.{has_top}
 use Rattle.leaf_trees.proofs.Forest.{has_within, has_taken, not_free, trees_apart, tree_kept, tree_grown}
-use Rattle.leaf_trees.proofs.Parts.{top_counts, top_height}
+use Rattle.leaf_trees.proofs.Parts.{top_counts, top_height, leaf_of}
 use Rattle.leaf_trees.proofs.Put.{leaves-put_in}
 use Rattle.leaf_trees.proofs.Flag.{leaves-flag_at}
-use Rattle.leaf_trees.proofs.TakeOut.{rest_leaves, leaves-take_out}
+use Rattle.leaf_trees.proofs.TakeOut.{rest_leaves, leaves-take_out, none_leaf}
 use Rattle.leaf_trees.proofs.Along.{along-put_in, along-flag_at}
 use Rattle.leaf_trees.proofs.AlongRest.{along-take_out}
 
@@ -104,3 +104,67 @@ written items now len same all = take-append-le len now (drop (length now) items
 -- trees with the same top have the same size
 pub same_size : (ns : List Node) (p q top : ℕ) (t u : Tree) → IsTreeOf ns p top t → IsTreeOf ns q top u → size t ≡ size u
 same_size ns p q top t u T U = ap (λ c. c.leaves) (sym (top_counts ns top t T.has) ∙ top_counts ns top u U.has)
+
+-- the last item goes, and its slot
+pub one_gone : (ns : List Node) (s1 s2 : Slots) (list top place : ℕ) (t : Tree) → IsTreeOf ns list top t → Stays ns s1.nodes t place → Gives s1 s2 top → (size t ≡ 1) × KeepsOthers ns s2.nodes list
+one_gone ns s1 s2 list top place t T S G =
+    (let w = leaf_of t (none_leaf place t S.left) in ap size w.1,
+    λ p b u n U.
+      let U' = subst (λ ms. IsTreeOf ms p b u) (sym S.same) U in
+      give_keeps s1 s2 top p b u G (λ h. kept_apart ns list p top b t u T U n top h (has_top t top T.has.top_is)) U')
+
+pub one_used : (ns ms : List Node) (list top place : ℕ) (t : Tree) → IsTreeOf ns list top t → Stays ns ms t place → IsInUse ms top
+one_used ns ms list top place t T S = subst (λ ks. IsInUse ks top) (sym S.same) (record {
+  within = has_within ns t T.has.holds top (has_top t top T.has.top_is);
+  taken = has_taken ns list top t T top (has_top t top T.has.top_is);
+})
+
+-- an item goes, with a fork
+module _ (ns : List Node) (list top place : ℕ) (t : Tree) (T : IsTreeOf ns list top t) (s1 : Slots) (cut : Cut) (L : LeavesTree ns s1.nodes list t place cut) where
+  pub fork_used : IsInUse s1.nodes cut.fork
+  fork_used = record { within = (let w = has_within ns t T.has.holds cut.fork L.fork in let n = L.tree.len in omega arith); taken = L.tree.taken cut.fork (has_taken ns list top t T cut.fork L.fork) }
+
+  module _ (s2 : Slots) (G : Gives s1 s2 cut.fork) where
+    pub item_used : IsInUse s2.nodes cut.item
+    item_used = record {
+      within = (let w = has_within ns t T.has.holds cut.item L.item in let n = L.tree.len in let m = G.len in omega arith);
+      taken = subst IsTaken (sym (G.others cut.item L.differ)) (L.tree.taken cut.item (has_taken ns list top t T cut.item L.item));
+    }
+
+    pub one_less : (s3 : Slots) → Gives s2 s3 cut.item → place < size t → Changes ns s3.nodes list t cut.top cut.place (remove (leaves t) place)
+    one_less s3 H h = record {
+      now = L.now;
+      tree = give_keeps s2 s3 cut.item list cut.top L.now H L.not_item (give_keeps s1 s2 cut.fork list cut.top L.now G L.not_fork L.tree.tree);
+      leaves_are = sym (ap rest_leaves L.left) ∙ leaves-take_out place t h;
+      along = subst (λ j. ChangesAlong t j L.now) (sym L.place_is) (along-take_out place t L.now T.avl L.left);
+      others = λ p b u n U.
+        let apart : (j : ℕ) → Has t j → ¬ Has u j = λ j k m. kept_apart ns list p top b t u T U n j m k in
+        give_keeps s2 s3 cut.item p b u H (apart cut.item L.item) (give_keeps s1 s2 cut.fork p b u G (apart cut.fork L.fork)
+        (replanted_others ns s1.nodes list top cut.top t L.now T L.tree p b u n U));
+    }
+
+-- a leaf alone
+pub planted : (ns ms ks : List Node) (list : ℕ) (x : Item) → WritesLeaf ns ms x → SetsAbove ms ks x.number (Top list) → Plants ns ks list x
+planted ns ms ks list x W S = record {
+  len = S.len ∙ W.len;
+  tree = record {
+    has = record {
+      holds = record { within = subst (λ n. x.number < n) (sym S.len) W.is_leaf.within; height_is = S.alike.height ∙ W.is_leaf.height_is; counts_are = S.alike.counts ∙ W.is_leaf.counts_are };
+      apart = tt; top_is = refl; few = lit< tt;
+    };
+    avl = tt;
+    above = S.above_is;
+  };
+  others = λ j n. S.others j n ∙ W.others j n;
+}
+
+-- a taken slot is a tree
+pub planted_makes : (s0 s1 : Slots) (ns : List Node) (list : ℕ) (x : Item) → Takes s0 s1 x.number → Plants s1.nodes ns list x → Makes s0.nodes ns list x.number (leaf x)
+planted_makes s0 s1 ns list x K P = record {
+  tree = P.tree;
+  slots = λ j h. subst (IsFreeSlot s0.nodes) (sym h) K.free;
+  others = λ p b u U. tree_kept s1.nodes ns p b u P.len (λ j h. P.others j (λ e. take_apart s0 s1 x.number p b u K U (subst (Has u) e h))) (take_keeps s0 s1 x.number p b u K U);
+}
+
+pub planted_free : (s0 s1 : Slots) (ns : List Node) (list : ℕ) (x : Item) → Takes s0 s1 x.number → Plants s1.nodes ns list x → (j : ℕ) → ¬ IsTaken (at s1.nodes j) → at ns j ≡ at s1.nodes j
+planted_free s0 s1 ns list x K P j free = P.others j (λ e. free (subst (λ i. IsTaken (at s1.nodes i)) (sym e) K.taken))

@@ -88,6 +88,12 @@ pub record WritesLeaf (old new : List Node) (x : Item) : Type 0 where
   pub is_leaf : IsLeaf new x
   pub others : (j : ℕ) → j ≢ x.number → at new j ≡ at old j
 
+-- the item is all of the list's tree now, and all else stays
+pub record Plants (old new : List Node) (list : ℕ) (x : Item) : Type 0 where
+  pub len : length new ≡ length old
+  pub tree : IsTreeOf new list x.number (leaf x)
+  pub others : (j : ℕ) → j ≢ x.number → at new j ≡ at old j
+
 -- the nodes of one tree now hold this one, which is the list's, and each other node stays
 pub record Replants (old new : List Node) (list top : ℕ) (was now : Tree) : Type 0 where
   pub len : length new ≡ length old

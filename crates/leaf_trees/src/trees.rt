@@ -9,7 +9,7 @@ ghost use Rattle.leaf_trees.specs.Change.{KeepsOthers, KeepsAll, Changes, Makes,
 use crate::link::link;
 use crate::node::{Above, Flags, Node};
 use crate::read::{elements_under, item_under, marked_under, spot_of};
-use crate::whole::{flag_leaf, put_leaf, set_above, take_leaf, write_leaf};
+use crate::whole::{flag_leaf, plant_leaf, put_leaf, set_above, take_leaf, write_leaf};
 use std::alloc::{AllocError, Global};
 use std::marker::Model;
 
@@ -101,8 +101,7 @@ impl Trees {
         ensures len { length self.new.nodes ≡ length self.old.nodes }
     {
         let item = self.take();
-        write_leaf(self.nodes.as_mut_slice(), item, flags);
-        set_above(self.nodes.as_mut_slice(), item, Above::Top(list));
+        plant_leaf(self.nodes.as_mut_slice(), item, list, flags);
         item
     }
 

@@ -4,7 +4,7 @@ ghost use Rattle.std.specs.Prelude.{◌≡◌, ℕ, ◌<◌, length};
 ghost use Rattle.leaf_trees.specs.Tree.{Tree, leaf, fork, size, item_of};
 ghost use Rattle.leaf_trees.specs.Balance.{put_in, flag_at};
 ghost use Rattle.leaf_trees.specs.Arena.{IsTreeOf};
-ghost use Rattle.leaf_trees.specs.Change.{SetsAbove, WritesLeaf, Replants, HasRoom};
+ghost use Rattle.leaf_trees.specs.Change.{SetsAbove, WritesLeaf, Plants, Replants, HasRoom};
 ghost use Rattle.leaf_trees.specs.Cut.{TakesOut};
 
 use crate::edit::{Cut, flag_under, insert_under, remove_under};
@@ -61,4 +61,13 @@ pub fn write_leaf(nodes: &mut [Node], slot: u32, flags: Flags)
     let node = &mut nodes[slot as usize];
     node.height = 0;
     node.counts = flags.counts();
+}
+
+/// Makes the tree of one leaf, of a slot that is taken.
+pub fn plant_leaf(nodes: &mut [Node], slot: u32, list: u32, flags: Flags)
+    requires { slot < length nodes.old }
+    ensures { Plants nodes.old nodes.new list (item_of slot flags) }
+{
+    write_leaf(nodes, slot, flags);
+    set_above(nodes, slot, Above::Top(list));
 }
