@@ -168,3 +168,7 @@ planted_makes s0 s1 ns list x K P = record {
 
 pub planted_free : (s0 s1 : Slots) (ns : List Node) (list : ℕ) (x : Item) → Takes s0 s1 x.number → Plants s1.nodes ns list x → (j : ℕ) → ¬ IsTaken (at s1.nodes j) → at ns j ≡ at s1.nodes j
 planted_free s0 s1 ns list x K P j free = P.others j (λ e. free (subst (λ i. IsTaken (at s1.nodes i)) (sym e) K.taken))
+
+-- an arena that grows keeps its trees
+pub grows_keeps : (ns ms : List Node) → Grows ns ms → KeepsAll ns ms
+grows_keeps ns ms G = λ p b u U. tree_grown ns ms p b u G.longer (λ j h. G.same j (has_within ns u U.has.holds j h)) U

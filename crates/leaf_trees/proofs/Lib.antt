@@ -13,3 +13,4 @@ pub mod Forest
 pub mod Along
 pub mod AlongRest
 pub mod Changed
+pub mod Told
