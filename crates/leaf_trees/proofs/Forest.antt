@@ -51,13 +51,13 @@ module _ (ns : List Node) (list top : ℕ) (t : Tree) (T : IsTreeOf ns list top 
   pub not_free : (j : ℕ) → ¬ IsTaken (at ns j) → ¬ Has t j
   not_free j f k = f (has_taken j k)
 
-fork_is : (i j : ℕ) → Fork i ≡ Fork j → i ≡ j
+pub fork_is : (i j : ℕ) → Fork i ≡ Fork j → i ≡ j
 fork_is i j e = cc
 
-top_is : (i j : ℕ) → Top i ≡ Top j → i ≡ j
+pub top_is : (i j : ℕ) → Top i ≡ Top j → i ≡ j
 top_is i j e = cc
 
-not_both : (i j : ℕ) → Fork i ≡ Top j → ⊥
+pub not_both : (i j : ℕ) → Fork i ≡ Top j → ⊥
 not_both i j e = cc
 
 module _ (ns : List Node) (list top : ℕ) (u : Tree) (U : IsTreeOf ns list top u) where

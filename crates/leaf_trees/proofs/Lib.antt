@@ -14,3 +14,4 @@ pub mod Along
 pub mod AlongRest
 pub mod Changed
 pub mod Told
+pub mod Climb

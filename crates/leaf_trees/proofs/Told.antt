@@ -1,7 +1,7 @@
 -- What a tree tells of its items.
 use Rattle.std.proofs.Common.{◌≡◌, ◌≢◌, ◌⊎◌, ℕ, zero, suc, ◌+◌, ◌-◌, ◌^◌, ◌<◌, ◌≤◌, Bool, true, false, cond, List, [], ◌∷◌, ◌++◌, map, filter, take, drop, length, get_or, refl, sym, ap, ◌∙◌, subst, inl, inr, arith, length-append}
 use Rattle.std.proofs.lemmas.Bool.{cases_lt, cases_eq}
-use Rattle.std.proofs.lemmas.List.{map-append, get_or_append_left, get_or-append_right, take-append-le, take_all}
+use Rattle.std.proofs.lemmas.List.{map-append, get_or_append_left, get_or-append_right, take-append-le, take_all, length-take}
 use Rattle.std.proofs.Math.Seq.{take-append-add}
 use Rattle.std.proofs.lemmas.List.Elements.{filter-append}
 use Rattle.leaf_trees.specs.declared.node.Node.{Node}
@@ -71,13 +71,21 @@ elements_all t place h = ap (λ (xs : List Item). length (filter (λ x. x.elemen
 pub elements_left : (i : ℕ) (l r : Tree) (place : ℕ) → place ≤ size l → elements_before (fork i l r) place ≡ elements_before l place
 elements_left i l r place h = ap (λ (xs : List Item). length (filter (λ x. x.element) xs)) (take-append-le place (leaves l) (leaves r) (let n = length-leaves l in omega arith))
 
+at_seam : (m n p : ℕ) → m ≡ n → n ≤ p → p ≡ m + (p - n)
+at_seam m n p e g = omega arith
+
+split : (xs ys : List Item) (n p : ℕ) → length xs ≡ n → n ≤ p → take p (xs ++ ys) ≡ xs ++ take (p - n) ys
+split xs ys n p e g = ap (λ j. take j (xs ++ ys)) (at_seam (length xs) n p e g) ∙ take-append-add xs ys (p - n)
+
 pub elements_right : (i : ℕ) (l r : Tree) (place : ℕ) → size l ≤ place → elements_before (fork i l r) place ≡ (counts l).elements + elements_before r (place - size l)
 elements_right i l r place h =
     ap (λ (xs : List Item). length (filter (λ x. x.element) xs)) (split (leaves l) (leaves r) (size l) place (length-leaves l) h)
     ∙ length_elements-append (leaves l) (take (place - size l) (leaves r))
     ∙ ap (λ n. n + elements_before r (place - size l)) (sym (elements_counted l))
-  where
-    split : (xs ys : List Item) (n p : ℕ) → length xs ≡ n → n ≤ p → take p (xs ++ ys) ≡ xs ++ take (p - n) ys
-    split xs ys n p e g = ap (λ j. take j (xs ++ ys)) (at_seam (length xs) n p e g) ∙ take-append-add xs ys (p - n)
-    at_seam : (m n p : ℕ) → m ≡ n → n ≤ p → p ≡ m + (p - n)
-    at_seam m n p e g = omega arith
+
+length_elements : (xs : List Item) → length (filter (λ x. x.element) xs) ≤ length xs
+length_elements [] = omega arith
+length_elements (x ∷ xs) = elim x.element as (λ b. length (cond b (x ∷ filter (λ y. y.element) xs) (filter (λ y. y.element) xs)) ≤ length xs + 1) [ true ↦ (let h = length_elements xs in omega arith) | false ↦ (let h = length_elements xs in omega arith) ]
+
+pub elements_most : (t : Tree) (place : ℕ) → elements_before t place ≤ size t
+elements_most t place = let h = length_elements (take place (leaves t)) in let n = length-take place (leaves t) in let m = length-leaves t in omega arith
