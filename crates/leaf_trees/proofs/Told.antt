@@ -85,7 +85,7 @@ elements_right i l r place h =
 
 length_elements : (xs : List Item) → length (filter (λ x. x.element) xs) ≤ length xs
 length_elements [] = omega arith
-length_elements (x ∷ xs) = elim x.element as (λ b. length (cond b (x ∷ filter (λ y. y.element) xs) (filter (λ y. y.element) xs)) ≤ length xs + 1) [ true ↦ (let h = length_elements xs in omega arith) | false ↦ (let h = length_elements xs in omega arith) ]
+length_elements (x ∷ xs) = elim x.element as (λ b. length (cond b (x ∷ filter (λ y. y.element) xs) (filter (λ y. y.element) xs)) ≤ suc (length xs)) [ true ↦ (let h = length_elements xs in omega arith) | false ↦ (let h = length_elements xs in omega arith) ]
 
 pub elements_most : (t : Tree) (place : ℕ) → elements_before t place ≤ size t
 elements_most t place = let h = length_elements (take place (leaves t)) in let n = length-take place (leaves t) in let m = length-leaves t in omega arith
