@@ -15,3 +15,4 @@ pub mod AlongRest
 pub mod Changed
 pub mod Told
 pub mod Climb
+pub mod Freed

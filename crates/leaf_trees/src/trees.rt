@@ -261,9 +261,9 @@ impl Trees {
         requires spare { 2 * length leaves.now ≤ self.old.spare + 1 }
         ensures { Builds self.old self.new result leaves.now }
     {
-        if let [flags] = leaves {
+        if leaves.len() == 1 {
             let item = self.take();
-            write_leaf(self.nodes.as_mut_slice(), item, *flags);
+            write_leaf(self.nodes.as_mut_slice(), item, leaves[0]);
             return item;
         }
         let (front, back) = leaves.split_at(leaves.len() / 2);
@@ -280,10 +280,12 @@ impl Trees {
         ensures { (t : Tree) → HasTree self.old.nodes top t → Frees self.old self.new t }
     {
         let node = self.nodes[top as usize];
-        if node.height > 0 {
-            self.free_under(node.left);
-            self.free_under(node.right);
+        if node.height == 0 {
+            self.give(top);
+            return;
         }
+        self.free_under(node.left);
+        self.free_under(node.right);
         self.give(top);
     }
 }
