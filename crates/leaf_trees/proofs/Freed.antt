@@ -1,5 +1,6 @@
 -- A tree whose slots are given back.
-use Rattle.std.proofs.Common.{◌≡◌, ◌≢◌, ◌⊎◌, ℕ, ◌+◌, ◌*◌, ◌^◌, ◌<◌, ◌≤◌, max, List, length, refl, sym, ap, ◌∙◌, subst, inl, inr, arith}
+use Rattle.std.proofs.Common.{◌≡◌, ◌≢◌, ◌⊎◌, ℕ, ◌+◌, ◌*◌, ◌^◌, ◌<◌, ◌≤◌, max, List, length, get_or, refl, sym, ap, ◌∙◌, subst, inl, inr, arith}
+use Rattle.std.proofs.lemmas.List.{get_or_read}
 use Rattle.leaf_trees.specs.declared.node.Node.{Node}
 use Rattle.leaf_trees.specs.declared.node.Above.TheVariants.{Fork}
 use Rattle.leaf_trees.specs.Tree.{Item, Tree, leaf, fork, root, size, height, Has, Disjoint, Apart}
@@ -41,6 +42,9 @@ module _ (s0 : Slots) (top : ℕ) (t : Tree) (P : Parts s0.nodes top t) where
         (subst IsUsed (sym (ap (λ i. (at s0.nodes i).above) (sym P.sides.right) ∙ P.whole.holds.0.right_above)) tt);
     }
 
+    pub right_low : (at s1.nodes (at s0.nodes top).right).height < (at s0.nodes top).height
+    right_low = subst (λ (n : Node). n.height < (at s0.nodes top).height) (sym (stays_right (at s0.nodes top).right (has_top P.r (at s0.nodes top).right P.sides.right))) P.right_lower
+
     module _ (s2 : Slots) (B : Frees s1 s2 P.r) where
       stays_top : at s2.nodes top ≡ at s0.nodes top
       stays_top = B.others top P.sides.apart.1 ∙ A.others top P.sides.apart.0
@@ -65,3 +69,7 @@ module _ (s0 : Slots) (top : ℕ) (t : Tree) (P : Parts s0.nodes top t) where
 -- the trees of the other lists stay
 pub freed_others : (s0 s1 : Slots) (list top : ℕ) (t : Tree) → IsTreeOf s0.nodes list top t → Frees s0 s1 t → KeepsOthers s0.nodes s1.nodes list
 freed_others s0 s1 list top t T F = λ p b u n U. tree_kept s0.nodes s1.nodes p b u F.len (λ j h. F.others j (kept_apart s0.nodes list p top b t u T U n j h)) U
+
+-- the node that is read
+pub read_is : (ns : List Node) (i : ℕ) (n : Node) → i < length ns → n ≡ get_or ns i n → n ≡ at ns i
+read_is ns i n h e = get_or_read ns i n h e _
