@@ -16,3 +16,4 @@ pub mod Changed
 pub mod Told
 pub mod Climb
 pub mod Freed
+pub mod Built
