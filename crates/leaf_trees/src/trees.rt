@@ -86,6 +86,7 @@ impl Trees {
         ensures ok { OnOk result (slots ≤ self.new.spare) }
         ensures grows { Grows self.old.nodes self.new.nodes }
         ensures others { KeepsAll self.old.nodes self.new.nodes }
+        ensures most { length self.new.nodes ≤ length self.old.nodes + slots }
     {
         while self.spare < slots {
             self.grow()?;
@@ -221,6 +222,7 @@ impl Trees {
         ensures ok { OnOk result (self.new.spare ≡ self.old.spare + 1) }
         ensures err { OnErr result (self.new ≡ self.old) }
         ensures grows { Grows self.old.nodes self.new.nodes }
+        ensures balance { length self.new.nodes + self.old.spare ≡ length self.old.nodes + self.new.spare }
     {
         if self.nodes.len() >= u32::MAX as usize {
             return Err(AllocError);
