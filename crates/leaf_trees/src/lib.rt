@@ -37,3 +37,6 @@ mod node;
 mod read;
 mod trees;
 mod whole;
+
+#[cfg(test)]
+mod tests;
