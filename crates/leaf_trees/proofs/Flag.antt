@@ -12,6 +12,9 @@ use Rattle.leaf_trees.proofs.Held.{positive}
 use Rattle.leaf_trees.proofs.Turns.{new_left, new_right}
 use Rattle.leaf_trees.proofs.Lean.{lt_is, ge_is, then_left, then_right, beside_left, beside_right}
 use Rattle.leaf_trees.proofs.Parts.{Parts, leaf_of, top_height, top_within}
+use Rattle.leaf_trees.proofs.Balanced.{length-leaves}
+use Rattle.leaf_trees.proofs.Items.{items_left, items_right}
+use Rattle.std.proofs.lemmas.List.{set-append_left, set-append_right}
 
 pub size-flag_at : (f : Flags) (k : ℕ) (t : Tree) → size (flag_at f k t) ≡ size t
 size-flag_at f k (leaf x) = refl
@@ -56,3 +59,37 @@ module _ (ns : List Node) (top : ℕ) (f : Flags) (k : ℕ) (t : Tree) (P : Part
   flagged_right h ms ks B C =
       subst (λ (x : Tree). Becomes ns ks top x (flag_at f k x)) (sym P.is) (rw (ge_is k (size P.l) h)
       (then_right ns ms ks top (at ns top).right top P.r (flag_at f (k - size P.l) P.r) P.l (fork top P.l (flag_at f (k - size P.l) P.r)) (fork top P.l P.r) B C (λ j a. inr (inr a)) (inl refl) (λ j a. inr (inl a))))
+
+pub height-flag_at : (f : Flags) (k : ℕ) (t : Tree) → height (flag_at f k t) ≡ height t
+height-flag_at f k (leaf x) = refl
+height-flag_at f k (fork b l r) =
+    elim (nat_lt k (size l)) as (λ c. height (cond c (fork b (flag_at f k l) r) (fork b l (flag_at f (k - size l) r))) ≡ max (height l) (height r) + 1) [
+      | true ↦ ap (λ n. max n (height r) + 1) (height-flag_at f k l)
+      | false ↦ ap (λ n. max (height l) n + 1) (height-flag_at f (k - size l) r)
+    ]
+
+pub avl-flag_at : (f : Flags) (k : ℕ) (t : Tree) → IsAvl t → IsAvl (flag_at f k t)
+avl-flag_at f k (leaf x) avl = tt
+avl-flag_at f k (fork b l r) avl =
+    let d : height l ≤ height r + 1 = avl.0 in let e : height r ≤ height l + 1 = avl.1 in
+    elim (nat_lt k (size l)) as (λ c. IsAvl (cond c (fork b (flag_at f k l) r) (fork b l (flag_at f (k - size l) r)))) [
+      | true ↦ (let h = height-flag_at f k l in (omega arith, omega arith, avl-flag_at f k l avl.2, avl.3))
+      | false ↦ (let h = height-flag_at f (k - size l) r in (omega arith, omega arith, avl.2, avl-flag_at f (k - size l) r avl.3))
+    ]
+
+-- the item at the place has these flags
+pub leaves-flag_at : (f : Flags) (k : ℕ) (t : Tree) → k < size t → leaves (flag_at f k t) ≡ set (leaves t) k (item_of (get_or (items t) k 0) f)
+leaves-flag_at f zero (leaf x) h = refl
+leaves-flag_at f (suc k) (leaf x) h = absurd (omega arith)
+leaves-flag_at f k (fork b l r) h =
+    let n = length-leaves l in
+    elim (cases_lt k (size l)) [
+      | inl lt ↦ rw (lt_is k (size l) lt)
+          (ap (λ (xs : List Item). xs ++ leaves r) (leaves-flag_at f k l lt)
+          ∙ sym (set-append_left (leaves l) (leaves r) k _ (omega arith))
+          ∙ ap (λ i. set (leaves l ++ leaves r) k (item_of i f)) (sym (items_left l r k lt)))
+      | inr ge ↦ rw (ge_is k (size l) ge)
+          (ap (λ (xs : List Item). leaves l ++ xs) (leaves-flag_at f (k - size l) r (omega arith))
+          ∙ sym (set-append_right (leaves l) (leaves r) (size l) k _ n ge)
+          ∙ ap (λ i. set (leaves l ++ leaves r) k (item_of i f)) (sym (items_right l r k ge)))
+    ]

@@ -5,5 +5,15 @@ pub mod Balanced
 pub mod Height
 pub mod Put
 pub mod Parts
+pub mod Items
 pub mod Flag
 pub mod TakeOut
+pub mod FreeSlots
+pub mod Forest
+pub mod Along
+pub mod AlongRest
+pub mod Changed
+pub mod Told
+pub mod Climb
+pub mod Freed
+pub mod Built

@@ -1,14 +1,14 @@
 -- A leaf put into a tree.
 use Rattle.std.proofs.Common.{◌≡◌, ◌≢◌, ◌⊎◌, ℕ, zero, suc, ◌+◌, ◌-◌, ◌^◌, ◌<◌, ◌≤◌, max, Bool, true, false, cond, List, [], ◌∷◌, ◌++◌, length, insert, refl, sym, ap, ◌∙◌, subst, inl, inr, arith}
 use Rattle.std.specs.Prelude.{nat_lt, nat_le}
-use Rattle.std.proofs.lemmas.Bool.{cases_lt}
+use Rattle.std.proofs.lemmas.Bool.{cases_lt, cases_eq}
 use Rattle.std.proofs.lemmas.List.Edits.{insert-append_left, insert-append_right}
 use Rattle.leaf_trees.specs.declared.node.Node.{Node}
 use Rattle.leaf_trees.specs.Tree.{Item, Tree, leaf, fork, root, size, height, leaves, Has, Disjoint, Apart, IsAvl}
 use Rattle.leaf_trees.specs.Balance.{put_in, balanced}
-use Rattle.leaf_trees.specs.Arena.{at, Holds}
-use Rattle.leaf_trees.specs.Change.{Sides, Becomes, Ready}
-use Rattle.leaf_trees.proofs.Held.{Has-root, positive, height_of_top, counts_of_top}
+use Rattle.leaf_trees.specs.Arena.{at, IsTaken, IsUsed, Holds}
+use Rattle.leaf_trees.specs.Change.{Sides, Becomes, Ready, HasRoom, WritesLeaf}
+use Rattle.leaf_trees.proofs.Held.{Has-root, positive, height_of_top, counts_of_top, Holds-same}
 use Rattle.leaf_trees.proofs.Turns.{Beside, new_left, new_right, forked, flip}
 use Rattle.leaf_trees.proofs.Lean.{le_is, gt_is, lt_is, ge_is, then_left, then_right}
 use Rattle.leaf_trees.proofs.Balanced.{size-balanced, leaves-balanced, length-leaves, balances}
@@ -165,3 +165,25 @@ module _ (ns : List Node) (top i : ℕ) (x : Item) (l r : Tree) (R : Ready ns to
     pub right_put : size l < k → (ks : List Node) (res : ℕ) → Becomes ms ks res (fork top l (put_in i x (k - size l) r)) (balanced top l (put_in i x (k - size l) r)) → Becomes ns ks res (fork i (leaf x) (fork top l r)) (put_in i x k (fork top l r))
     right_put gt ks res C = rw (gt_is k (size l) gt) (then_right ns ms ks top new res (fork i (leaf x) r) (put_in i x (k - size l) r) l (balanced top l (put_in i x (k - size l) r)) (fork i (leaf x) (fork top l r)) B C
       (wider r (λ j h. inr (inr h))) (inr (inr (inl refl))) (λ j h. inr (inr (inr (inl h)))))
+
+-- a tree with room for a leaf, once the leaf is written
+pub room_ready : (ns ms : List Node) (list top place i : ℕ) (x : Item) (t : Tree) → HasRoom ns list top place i x.number t → WritesLeaf ns ms x → Ready ms top i x t
+room_ready ns ms list top place i x t R W = record {
+  holds = Holds-same ns ms t W.len R.tree.has.apart (λ j h. W.others j (λ e. R.not_leaf (subst (Has t) e h))) R.tree.has.holds;
+  apart = R.tree.has.apart;
+  top_is = R.tree.has.top_is;
+  new_leaf = W.is_leaf;
+  new_fork = subst (λ n. i < n) (sym W.len) R.new_fork;
+  differ = R.differ;
+  not_fork = R.not_fork;
+  not_leaf = R.not_leaf;
+  few = R.few;
+}
+
+-- the leaf written, and then put in
+pub written_first : (ns ms ks : List Node) (a i : ℕ) (x : Item) (t now : Tree) → WritesLeaf ns ms x → Becomes ms ks a (fork i (leaf x) t) now → Becomes ns ks a (fork i (leaf x) t) now
+written_first ns ms ks a i x t now W B = record {
+  len = B.len ∙ W.len; top_is = B.top_is; holds = B.holds; apart = B.apart; inside = B.inside;
+  others = λ j n. B.others j n ∙ W.others j (λ e. n (inr (inl e)));
+  taken = λ j h. B.taken j (elim (cases_eq j x.number) [ inl e ↦ subst IsUsed (sym (ap (λ y. (at ms y).above) e ∙ W.above ∙ ap (λ y. (at ns y).above) (sym e))) h | inr n ↦ subst IsTaken (sym (W.others j n)) h ]);
+}

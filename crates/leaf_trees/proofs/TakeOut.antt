@@ -14,7 +14,7 @@ use Rattle.leaf_trees.specs.Cut.{CutsTo, Stays}
 use Rattle.leaf_trees.proofs.Held.{Has-root, positive, has_top}
 use Rattle.leaf_trees.proofs.Turns.{new_left, new_right}
 use Rattle.leaf_trees.proofs.Lean.{lt_is, ge_is, then_left, then_right, beside_left, beside_right}
-use Rattle.leaf_trees.proofs.Balanced.{size-balanced, leaves-balanced, length-leaves}
+use Rattle.leaf_trees.proofs.Balanced.{size-balanced, leaves-balanced, length-leaves, balances}
 use Rattle.leaf_trees.proofs.Parts.{Parts, leaf_of}
 
 -- how many leaves are left, and which
@@ -84,10 +84,10 @@ pub some_fork : (k : ℕ) (t u : Tree) → take_out k t ≡ Some u → 0 < heigh
 some_fork k (leaf x) u e = absurd (cc)
 some_fork k (fork b l r) u e = omega arith
 
-eq_zero : (n : ℕ) → n ≡ 0 → nat_eq n 0 ≡ true
+pub eq_zero : (n : ℕ) → n ≡ 0 → nat_eq n 0 ≡ true
 eq_zero n e = grind (arith, nat_tests)
 
-ne_zero : (n : ℕ) → 0 < n → nat_eq n 0 ≡ false
+pub ne_zero : (n : ℕ) → 0 < n → nat_eq n 0 ≡ false
 ne_zero n e = grind (arith, nat_tests)
 
 -- a part of a tree, with nothing changed
@@ -192,3 +192,50 @@ rest_place-below k (fork b l r) =
       | true ↦ elim (nat_eq (height l) 0) as (λ c. cond c 0 (rest_place k l) < size l + size r) [ true ↦ omega arith | false ↦ (let h = rest_place-below k l in omega arith) ]
       | false ↦ elim (nat_eq (height r) 0) as (λ c. cond c (size l - 1) (size l + rest_place (k - size l) r) < size l + size r) [ true ↦ omega arith | false ↦ (let h = rest_place-below (k - size l) r in omega arith) ]
     ]
+
+-- the tree stays balanced, and is at most one level lower
+unfoldable pub TakesHigh : Tree → Option Tree → Type 0
+TakesHigh t None = height t ≡ 0
+TakesHigh t (Some u) = IsAvl u × (height u ≤ height t) × (height t ≤ height u + 1)
+
+-- the height after a side shrank
+shrunk : (l r l' r' n : ℕ) → l ≤ r + 1 → r ≤ l + 1 → l' ≤ l → l ≤ l' + 1 → r' ≤ r → r ≤ r' + 1 → (l ≤ l') ⊎ (r ≤ r') → max l' r' ≤ n → n ≤ max l' r' + 1 → (l' ≤ r' + 1 → r' ≤ l' + 1 → n ≡ max l' r' + 1) → (n ≤ max l r + 1) × (max l r + 1 ≤ n + 1)
+shrunk l r l' r' n a a' b b' c c' one least most even =
+    elim (cases_lt (r' + 1) l') [
+      | inl h ↦ (omega arith, omega arith)
+      | inr h ↦ elim (cases_lt (l' + 1) r') [
+          | inl k ↦ (omega arith, omega arith)
+          | inr k ↦ (let e = even h k in (omega arith, omega arith))
+        ]
+    ]
+
+high_right : (b : ℕ) (l r : Tree) (o : Option Tree) → IsAvl (fork b l r) → TakesHigh l o → TakesHigh (fork b l r) (Some (rest_right b o r))
+unfolding TakesHigh
+high_right b l r None avl h = let d : height l ≤ height r + 1 = avl.0 in let e : height r ≤ height l + 1 = avl.1 in (avl.3, omega arith, omega arith)
+high_right b l r (Some u) avl h =
+    let d : height l ≤ height r + 1 = avl.0 in let e : height r ≤ height l + 1 = avl.1 in let most = h.1 in let least = h.2 in
+    let B = balances b u r h.0 avl.3 (omega arith) (omega arith) in
+    let s = shrunk (height l) (height r) (height u) (height r) (height (balanced b u r)) d e most least (omega arith) (omega arith) (inr (omega arith)) B.least B.most B.even in
+    (B.avl, s.0, s.1)
+
+high_left : (b : ℕ) (l r : Tree) (o : Option Tree) → IsAvl (fork b l r) → TakesHigh r o → TakesHigh (fork b l r) (Some (rest_left b l o))
+unfolding TakesHigh
+high_left b l r None avl h = let d : height l ≤ height r + 1 = avl.0 in let e : height r ≤ height l + 1 = avl.1 in (avl.2, omega arith, omega arith)
+high_left b l r (Some u) avl h =
+    let d : height l ≤ height r + 1 = avl.0 in let e : height r ≤ height l + 1 = avl.1 in let most = h.1 in let least = h.2 in
+    let B = balances b l u avl.2 h.0 (omega arith) (omega arith) in
+    let s = shrunk (height l) (height r) (height l) (height u) (height (balanced b l u)) d e (omega arith) (omega arith) most least (inl (omega arith)) B.least B.most B.even in
+    (B.avl, s.0, s.1)
+
+pub high-take_out : (k : ℕ) (t : Tree) → IsAvl t → TakesHigh t (take_out k t)
+unfolding TakesHigh
+high-take_out k (leaf x) avl = refl
+high-take_out k (fork b l r) avl =
+    elim (nat_lt k (size l)) as (λ c. TakesHigh (fork b l r) (Some (cond c (rest_right b (take_out k l) r) (rest_left b l (take_out (k - size l) r))))) [
+      | true ↦ high_right b l r (take_out k l) avl (high-take_out k l avl.2)
+      | false ↦ high_left b l r (take_out (k - size l) r) avl (high-take_out (k - size l) r avl.3)
+    ]
+
+pub avl-take_out : (k : ℕ) (t u : Tree) → IsAvl t → take_out k t ≡ Some u → IsAvl u
+unfolding TakesHigh
+avl-take_out k t u avl e = (subst (TakesHigh t) e (high-take_out k t avl)).0

@@ -1,5 +1,5 @@
 -- The trees that an arena of nodes holds.
-use Rattle.std.specs.Prelude.{◌≡◌, ◌≢◌, ℕ, ◌+◌, ◌^◌, ◌<◌, max, List, slice_index_or, length}
+use Rattle.std.specs.Prelude.{◌≡◌, ◌≢◌, ℕ, ◌+◌, ◌^◌, ◌<◌, max, List, slice_index_or, length, Option, None}
 use Rattle.leaf_trees.specs.declared.node.Above.{Above}
 use Rattle.leaf_trees.specs.declared.node.Above.TheVariants.{Fork, Top, Free}
 use Rattle.leaf_trees.specs.declared.node.Node.{Node}
@@ -21,6 +21,12 @@ IsUsed (Free next) = ⊥
 -- the node is no free slot
 abbrev pub IsTaken : Node → Type 0
 IsTaken n = IsUsed n.above
+
+-- the free slot that a free slot names
+abbrev pub next_free : Above → Option ℕ
+next_free (Free next) = next
+next_free (Fork i) = None
+next_free (Top list) = None
 
 -- node i is a fork of these two sides, and each of them names it
 pub record IsFork (ns : List Node) (i : ℕ) (l r : Tree) : Type 0 where

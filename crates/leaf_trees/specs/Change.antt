@@ -1,6 +1,7 @@
 -- What a call changes in an arena.
 use Rattle.std.specs.Prelude.{◌≡◌, ◌≢◌, ℕ, ◌+◌, ◌^◌, ◌<◌, ◌≤◌, max, List, [], ◌∷◌, length, Option, Some, None, nat_eq}
 use Rattle.std.specs.List.{IsDistinct}
+use Rattle.leaf_trees.specs.declared.node.Above.{Above}
 use Rattle.leaf_trees.specs.declared.node.Above.TheVariants.{Fork, Top, Free}
 use Rattle.leaf_trees.specs.declared.node.Counts.{Counts}
 use Rattle.leaf_trees.specs.declared.node.Node.{Node}
@@ -66,6 +67,41 @@ pub record CanAdd (a b : Counts) : Type 0 where
   pub elements : a.elements + b.elements < 2 ^ 32
   pub marked : a.marked + b.marked < 2 ^ 32
 
+-- the two nodes differ in what stands above them at most
+pub record Alike (m n : Node) : Type 0 where
+  pub left : n.left ≡ m.left
+  pub right : n.right ≡ m.right
+  pub height : n.height ≡ m.height
+  pub counts : n.counts ≡ m.counts
+
+-- this stands above node i now, and all else stays
+pub record SetsAbove (old new : List Node) (i : ℕ) (above : Above) : Type 0 where
+  pub len : length new ≡ length old
+  pub above_is : (at new i).above ≡ above
+  pub alike : Alike (at old i) (at new i)
+  pub others : (j : ℕ) → j ≢ i → at new j ≡ at old j
+
+-- the node of this item is a leaf now, and all else stays
+pub record WritesLeaf (old new : List Node) (x : Item) : Type 0 where
+  pub len : length new ≡ length old
+  pub above : (at new x.number).above ≡ (at old x.number).above
+  pub is_leaf : IsLeaf new x
+  pub others : (j : ℕ) → j ≢ x.number → at new j ≡ at old j
+
+-- the item is all of the list's tree now, and all else stays
+pub record Plants (old new : List Node) (list : ℕ) (x : Item) : Type 0 where
+  pub len : length new ≡ length old
+  pub tree : IsTreeOf new list x.number (leaf x)
+  pub others : (j : ℕ) → j ≢ x.number → at new j ≡ at old j
+
+-- the nodes of one tree now hold this one, which is the list's, and each other node stays
+pub record Replants (old new : List Node) (list top : ℕ) (was now : Tree) : Type 0 where
+  pub len : length new ≡ length old
+  pub tree : IsTreeOf new list top now
+  pub inside : (j : ℕ) → Has now j → Has was j
+  pub others : (j : ℕ) → ¬ Has was j → at new j ≡ at old j
+  pub taken : (j : ℕ) → IsTaken (at old j) → IsTaken (at new j)
+
 -- this node counts so much now, and all else stays
 pub record Recounts (old new : List Node) (i : ℕ) (now : Counts) : Type 0 where
   pub len : length new ≡ length old
@@ -73,13 +109,6 @@ pub record Recounts (old new : List Node) (i : ℕ) (now : Counts) : Type 0 wher
   pub height : (at new i).height ≡ (at old i).height
   pub counts : (at new i).counts ≡ now
   pub others : (j : ℕ) → j ≢ i → at new j ≡ at old j
-
--- the two nodes differ in what stands above them at most
-pub record Alike (m n : Node) : Type 0 where
-  pub left : n.left ≡ m.left
-  pub right : n.right ≡ m.right
-  pub height : n.height ≡ m.height
-  pub counts : n.counts ≡ m.counts
 
 -- node i now has these two sides, and each other node stays, but for what stands above these two
 pub record Links (old new : List Node) (i l r : ℕ) : Type 0 where
@@ -125,3 +154,14 @@ pub record Ready (ns : List Node) (top i : ℕ) (x : Item) (t : Tree) : Type 0 w
   pub not_fork : ¬ Has t i
   pub not_leaf : ¬ Has t x.number
   pub few : size t + 1 < 2 ^ 32
+
+-- the tree of a list, and outside it two slots that are taken: i for a fork and j for a leaf
+pub record HasRoom (ns : List Node) (list top place i j : ℕ) (t : Tree) : Type 0 where
+  pub tree : IsTreeOf ns list top t
+  pub place_in : place ≤ size t
+  pub few : size t + 1 < 2 ^ 32
+  pub new_fork : i < length ns
+  pub new_leaf : j < length ns
+  pub differ : i ≢ j
+  pub not_fork : ¬ Has t i
+  pub not_leaf : ¬ Has t j

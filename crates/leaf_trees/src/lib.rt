@@ -36,3 +36,7 @@ mod link;
 mod node;
 mod read;
 mod trees;
+mod whole;
+
+#[cfg(test)]
+mod tests;

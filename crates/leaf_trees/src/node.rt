@@ -2,6 +2,7 @@
 
 ghost use Rattle.std.specs.Prelude.{◌≡◌};
 ghost use Rattle.leaf_trees.specs.Tree.{plus, counted};
+ghost use Rattle.leaf_trees.specs.Arena.{next_free};
 ghost use Rattle.leaf_trees.specs.Change.{CanAdd};
 
 /// What stands above a node.
@@ -40,6 +41,18 @@ pub struct Node {
     pub counts: Counts,
 }
 
+impl Above {
+    /// The free slot that a free slot names.
+    pub(crate) fn next_free(self) -> Option<u32>
+        ensures { result ≡ next_free self }
+    {
+        match self {
+            Above::Free(next) => next,
+            Above::Fork(_) | Above::Top(_) => None,
+        }
+    }
+}
+
 impl Flags {
     /// What a leaf with these flags counts.
     pub(crate) fn counts(self) -> Counts
@@ -68,21 +81,6 @@ impl Counts {
 }
 
 impl Node {
-    /// A leaf with these flags.
-    pub(crate) fn leaf(above: Above, flags: Flags) -> Node
-        ensures above { result.above ≡ above }
-        ensures height { result.height ≡ 0 }
-        ensures counts { result.counts ≡ counted flags.element flags.marked }
-    {
-        Node {
-            above,
-            left: 0,
-            right: 0,
-            height: 0,
-            counts: flags.counts(),
-        }
-    }
-
     /// A free slot.
     pub(crate) fn free(next: Option<u32>) -> Node
         ensures { result.above ≡ Above.Free next }

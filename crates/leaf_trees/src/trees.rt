@@ -6,10 +6,10 @@ ghost use Rattle.leaf_trees.specs.Arena.{IsTreeOf, HasTree, IsFreeSlot, IsInUse}
 ghost use Rattle.leaf_trees.specs.Slots.{Takes, Gives, Builds, Frees};
 ghost use Rattle.leaf_trees.specs.Change.{KeepsOthers, KeepsAll, Changes, Makes, Grows};
 
-use crate::edit::{flag_under, insert_under, remove_under};
 use crate::link::link;
 use crate::node::{Above, Flags, Node};
 use crate::read::{elements_under, item_under, marked_under, spot_of};
+use crate::whole::{flag_leaf, plant_leaf, put_leaf, set_above, take_leaf, write_leaf};
 use std::alloc::{AllocError, Global};
 use std::marker::Model;
 
@@ -86,6 +86,7 @@ impl Trees {
         ensures ok { OnOk result (slots ≤ self.new.spare) }
         ensures grows { Grows self.old.nodes self.new.nodes }
         ensures others { KeepsAll self.old.nodes self.new.nodes }
+        ensures most { length self.new.nodes ≤ length self.old.nodes + slots }
     {
         while self.spare < slots {
             self.grow()?;
@@ -101,7 +102,7 @@ impl Trees {
         ensures len { length self.new.nodes ≡ length self.old.nodes }
     {
         let item = self.take();
-        self.nodes[item as usize] = Node::leaf(Above::Top(list), flags);
+        plant_leaf(self.nodes.as_mut_slice(), item, list, flags);
         item
     }
 
@@ -115,7 +116,7 @@ impl Trees {
         ensures len { length self.new.nodes ≡ length self.old.nodes }
     {
         let top = self.build_part(leaves);
-        self.nodes[top as usize].above = Above::Top(list);
+        set_above(self.nodes.as_mut_slice(), top, Above::Top(list));
         top
     }
 
@@ -131,10 +132,7 @@ impl Trees {
     {
         let item = self.take();
         let fork = self.take();
-        let above = self.nodes[top as usize].above;
-        self.nodes[item as usize] = Node::leaf(above, flags);
-        let top = insert_under(self.nodes.as_mut_slice(), top, place, fork, item);
-        self.nodes[top as usize].above = above;
+        let top = put_leaf(self.nodes.as_mut_slice(), top, place, fork, item, flags);
         Inserted { top, item }
     }
 
@@ -148,17 +146,18 @@ impl Trees {
         ensures spare { self.new.spare ≡ (if is_some result then self.old.spare + 2 else self.old.spare + 1) }
         ensures len { length self.new.nodes ≡ length self.old.nodes }
     {
-        let above = self.nodes[top as usize].above;
-        match remove_under(self.nodes.as_mut_slice(), top, place) {
+        match take_leaf(self.nodes.as_mut_slice(), top, place) {
             None => {
                 self.give(top);
                 None
             }
             Some(cut) => {
-                self.nodes[cut.top as usize].above = above;
                 self.give(cut.fork);
                 self.give(cut.item);
-                Some(Rest { top: cut.top, place: cut.place })
+                Some(Rest {
+                    top: cut.top,
+                    place: cut.place,
+                })
             }
         }
     }
@@ -171,7 +170,7 @@ impl Trees {
         ensures spare { self.new.spare ≡ self.old.spare }
         ensures len { length self.new.nodes ≡ length self.old.nodes }
     {
-        flag_under(self.nodes.as_mut_slice(), top, place, flags);
+        flag_leaf(self.nodes.as_mut_slice(), top, place, flags);
     }
 
     /// Frees all slots of the tree below `top`.
@@ -223,6 +222,7 @@ impl Trees {
         ensures ok { OnOk result (self.new.spare ≡ self.old.spare + 1) }
         ensures err { OnErr result (self.new ≡ self.old) }
         ensures grows { Grows self.old.nodes self.new.nodes }
+        ensures balance { length self.new.nodes + self.old.spare ≡ length self.old.nodes + self.new.spare }
     {
         if self.nodes.len() >= u32::MAX as usize {
             return Err(AllocError);
@@ -240,11 +240,8 @@ impl Trees {
         ensures { Takes self.old self.new result }
     {
         let slot = self.free.unwrap();
-        let node = &mut self.nodes[slot as usize];
-        if let Above::Free(next) = node.above {
-            self.free = next;
-        }
-        node.above = Above::Fork(slot);
+        self.free = self.nodes[slot as usize].above.next_free();
+        self.nodes[slot as usize].above = Above::Fork(slot);
         self.spare -= 1;
         slot
     }
@@ -266,9 +263,9 @@ impl Trees {
         requires spare { 2 * length leaves.now ≤ self.old.spare + 1 }
         ensures { Builds self.old self.new result leaves.now }
     {
-        if let [flags] = leaves {
+        if leaves.len() == 1 {
             let item = self.take();
-            self.nodes[item as usize] = Node::leaf(Above::Fork(item), *flags);
+            write_leaf(self.nodes.as_mut_slice(), item, leaves[0]);
             return item;
         }
         let (front, back) = leaves.split_at(leaves.len() / 2);
@@ -285,10 +282,12 @@ impl Trees {
         ensures { (t : Tree) → HasTree self.old.nodes top t → Frees self.old self.new t }
     {
         let node = self.nodes[top as usize];
-        if node.height > 0 {
-            self.free_under(node.left);
-            self.free_under(node.right);
+        if node.height == 0 {
+            self.give(top);
+            return;
         }
+        self.free_under(node.left);
+        self.free_under(node.right);
         self.give(top);
     }
 }
