@@ -227,3 +227,37 @@ removed_all xs k e l = nil_from_length (remove xs k) (let n = length-remove xs k
 -- the entry of a leaf with these flags and this map
 pub entry_is : {Letter Map : Type 0} (unit : Map) (leaf_map : Letter → Map) (f : ℕ → Map) (item : ℕ) (l : Leaf Letter) (flags : Flags) → flags ≡ record { element = l.element; marked = l.marked } → f item ≡ map_by unit leaf_map l.letter → entry_of f (item_of item flags) ≡ entry unit leaf_map item l
 entry_is unit leaf_map f item l flags e m = λ k. record { item = item; element = (e k).element; marked = (e k).marked; act = m k }
+
+-- the maps of leaves stay where those of the tree's nodes do
+pub leaves_stay : {Map : Type 0} (f g : ℕ → Map) (t : Tree) → ((j : ℕ) → Has t j → g j ≡ f j) → map (λ (x : Item). g x.number) (leaves t) ≡ map (λ (x : Item). f x.number) (leaves t)
+leaves_stay f g (leaf x) same = ap (λ m. m ∷ []) (same x.number refl)
+leaves_stay f g (fork i l r) same =
+    let a = leaves_stay f g l (λ j h. same j (inr (inl h))) in
+    let b = leaves_stay f g r (λ j h. same j (inr (inr h))) in
+    map-append (λ (x : Item). g x.number) (leaves l) (leaves r) ∙ (λ k. a k ++ b k) ∙ sym (map-append (λ (x : Item). f x.number) (leaves l) (leaves r))
+
+-- no item comes twice in a tree
+pub items_once : (t : Tree) (p k : ℕ) → Apart t → p < size t → k < size t → slice_index (items t) p ≡ slice_index (items t) k → p ≡ k
+items_once (leaf x) p k a lp lk e = omega arith
+items_once (fork i l r) p k a lp lk e =
+    let n : length (items l) ≡ size l = length-map (leaves l) (λ (x : Item). x.number) ∙ length-leaves l in
+    elim (cases_lt p (size l)) [
+      | inl pl ↦ elim (cases_lt k (size l)) [
+          | inl kl ↦ items_once l p k a.3 pl kl (item_left l r p (slice_index (items (fork i l r)) p) pl refl ∙ e ∙ sym (item_left l r k (slice_index (items (fork i l r)) k) kl refl))
+          | inr kr ↦
+              let x = item_has l p (slice_index (items (fork i l r)) p) pl (item_left l r p (slice_index (items (fork i l r)) p) pl refl) in
+              let y = item_has r (k - size l) (slice_index (items (fork i l r)) k) (omega (arith, lk, kr)) (item_right l r k (slice_index (items (fork i l r)) k) kr refl) in
+              absurd (a.2.apart (slice_index (items (fork i l r)) p) x (subst (Has r) (sym e) y))
+        ]
+      | inr pr ↦ elim (cases_lt k (size l)) [
+          | inl kl ↦
+              let x = item_has r (p - size l) (slice_index (items (fork i l r)) p) (omega (arith, lp, pr)) (item_right l r p (slice_index (items (fork i l r)) p) pr refl) in
+              let y = item_has l k (slice_index (items (fork i l r)) k) kl (item_left l r k (slice_index (items (fork i l r)) k) kl refl) in
+              absurd (a.2.apart (slice_index (items (fork i l r)) k) y (subst (Has r) e x))
+          | inr kr ↦
+              let few_p : p - size l < size r = omega (arith, lp, pr) in
+              let few_k : k - size l < size r = omega (arith, lk, kr) in
+              let q = items_once r (p - size l) (k - size l) a.4 few_p few_k (item_right l r p (slice_index (items (fork i l r)) p) pr refl ∙ e ∙ sym (item_right l r k (slice_index (items (fork i l r)) k) kr refl)) in
+              omega (arith, q, pr, kr)
+        ]
+    ]

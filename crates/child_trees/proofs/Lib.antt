@@ -1,5 +1,6 @@
 pub mod Acting
 pub mod Along
+pub mod Building
 pub mod Celled
 pub mod Chains
 pub mod Digits

@@ -108,3 +108,13 @@ top_not_right n ns top t s e = s.apart.1 (subst (Has s.r) (s.right.has.top_is �
 
 pub top_marked : (n : ℕ) (ns : List Node) (top : ℕ) (t : Tree) → HasCells n ns top t → (at ns top).counts.marked ≡ length (marked_items t)
 top_marked n ns top t h = ap (λ i. (at ns i).counts.marked) (sym h.has.top_is) ∙ ap (λ c. c.marked) (counts_at ns t h.has.holds) ∙ marked_counted t
+
+-- a tree whose top is a leaf
+pub record IsOne (top : ℕ) (t : Tree) : Type 0 where
+  pub item : Item
+  pub is : t ≡ leaf item
+  pub number : item.number ≡ top
+
+pub one_leaf : (n : ℕ) (ns : List Node) (top : ℕ) (t : Tree) → HasCells n ns top t → (at ns top).height ≡ 0 → IsOne top t
+one_leaf n ns top (leaf x) h low = record { item = x; is = refl; number = h.has.top_is }
+one_leaf n ns top (fork i l r) h low = absurd (omega (arith, low, top_height n ns top (fork i l r) h))

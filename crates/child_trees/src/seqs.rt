@@ -82,18 +82,19 @@ impl<M: Summary> Seqs<M> {
         let flags = flags_of(self.alloc, leaves.as_slice())?;
         reserve(&mut self.trees, &mut self.cells, 2 * count)?;
         let number = self.tops.add()?;
-        if count > 0 {
-            let top = build_tree(
-                &mut self.trees,
-                &mut self.cells,
-                number,
-                leaves.as_slice(),
-                flags.as_slice(),
-                source,
-                steps,
-            );
-            self.tops.set(number, Some(top));
+        if count == 0 {
+            return Ok(SeqId { number });
         }
+        let top = build_tree(
+            &mut self.trees,
+            &mut self.cells,
+            number,
+            leaves.as_slice(),
+            flags.as_slice(),
+            source,
+            steps,
+        );
+        self.tops.set(number, Some(top));
         Ok(SeqId { number })
     }
 

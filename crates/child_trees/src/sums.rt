@@ -79,11 +79,12 @@ pub fn write_leaves<M: Summary, L: Ledger>(
     ensures slots { SameSlots cells.old cells.new }
     ensures steps { steps.new + 1 ≤ steps.old + 2 * length leaves.now }
 {
-    if let [leaf] = leaves {
+    let node = nodes[top as usize];
+    if node.height == 0 {
+        let leaf = &leaves[0];
         cells.set(top, leaf.letter, source, steps);
         return;
     }
-    let node = nodes[top as usize];
     let (front, back) = leaves.split_at(nodes[node.left as usize].counts.leaves as usize);
     write_leaves(cells, nodes, node.left, front, source, steps);
     write_leaves(cells, nodes, node.right, back, source, steps);
