@@ -32,9 +32,10 @@ are_entries unit leaf_map f [] (y ∷ ys) e m = absurd (omega (arith, ap length 
 are_entries unit leaf_map f (l ∷ ls) [] e m = absurd (omega (arith, ap length e))
 are_entries unit leaf_map f (l ∷ ls) (y ∷ ys) e m =
     let a = head_is (flags_of y) (flags l) (map flags_of ys) (map flags ls) e in
-    let b = head_is (f y.number) (map_by unit leaf_map l.letter) (map (λ x. f x.number) ys) (map (λ l. map_by unit leaf_map l.letter) ls) m in
-    ((λ k. record { item = y.number; element = (a k).element; marked = (a k).marked; act = b k }),
-      are_entries unit leaf_map f ls ys (tail_is (flags_of y) (flags l) (map flags_of ys) (map flags ls) e) (tail_is (f y.number) (map_by unit leaf_map l.letter) (map (λ x. f x.number) ys) (map (λ l. map_by unit leaf_map l.letter) ls) m))
+    let b = head_is (f y.number) (map_by unit leaf_map l.letter) (map (λ x. f x.number) ys) (map (λ l. map_by unit leaf_map l.letter) ls) m in (
+      (λ k. record { item = y.number; element = (a k).element; marked = (a k).marked; act = b k }),
+      are_entries unit leaf_map f ls ys (tail_is (flags_of y) (flags l) (map flags_of ys) (map flags ls) e) (tail_is (f y.number) (map_by unit leaf_map l.letter) (map (λ x. f x.number) ys) (map (λ l. map_by unit leaf_map l.letter) ls) m),
+    )
 
 numbers_are : {Map : Type 0} (f : ℕ → Map) (xs : List Item) → map (λ (e : Entry Map). e.item) (map (entry_of f) xs) ≡ map (λ (x : Item). x.number) xs
 numbers_are f [] = refl

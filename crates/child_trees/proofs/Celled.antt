@@ -60,23 +60,25 @@ module _ {Sum Cell Map : Type 0} (live : Sum → Cell → Type 0) (map_of : Sum 
             | inl e ↦ inr (e, get_or_push cs c d j (sym e))
             | inr o ↦ (let b : j < length cs = omega (arith, l, n, o) in inl (b, get_or_append_left cs (c ∷ []) d j b))
           ]
+
       all : (j : ℕ) (d : Cell) → j < length (cs ++ c ∷ []) → live t (get_or (cs ++ c ∷ []) j d)
       all j d l =
           elim (where_is j d l) [
             | inl w ↦ subst (live t) (sym w.1) (k.stays (get_or cs j d) (a.live_at j d w.0) (λ x. x))
             | inr w ↦ subst (live t) (sym w.1) made
           ]
+
       differ : (i j : ℕ) (d : Cell) → i < length (cs ++ c ∷ []) → j < length (cs ++ c ∷ []) → get_or (cs ++ c ∷ []) i d ≡ get_or (cs ++ c ∷ []) j d → i ≡ j
       differ i j d l m e =
           elim (where_is i d l) [
             | inl w ↦ elim (where_is j d m) [
-                | inl x ↦ a.apart i j d w.0 x.0 (sym w.1 ∙ e ∙ x.1)
-                | inr x ↦ absurd (new (subst (live s) (sym w.1 ∙ e ∙ x.1) (a.live_at i d w.0)))
-              ]
+              | inl x ↦ a.apart i j d w.0 x.0 (sym w.1 ∙ e ∙ x.1)
+              | inr x ↦ absurd (new (subst (live s) (sym w.1 ∙ e ∙ x.1) (a.live_at i d w.0)))
+            ]
             | inr w ↦ elim (where_is j d m) [
-                | inl x ↦ absurd (new (subst (live s) (sym x.1 ∙ sym e ∙ w.1) (a.live_at j d x.0)))
-                | inr x ↦ w.0 ∙ sym x.0
-              ]
+              | inl x ↦ absurd (new (subst (live s) (sym x.1 ∙ sym e ∙ w.1) (a.live_at j d x.0)))
+              | inr x ↦ w.0 ∙ sym x.0
+            ]
           ]
 
 -- a list of maps with one changed

@@ -19,8 +19,10 @@ taken_slot ss q top e = both (cases_lt q (length ss))
     of_slot : (s : Slot) → top_of s ≡ Some top → s ≡ Taken top
     of_slot (Taken t) f = ap Taken (let g : t ≡ top = cc in g)
     of_slot (Free n) f = absurd (cc)
+
     slot : slot_at ss q ≡ Taken top
     slot = of_slot (slot_at ss q) (sym (top_is ss q) ∙ e)
+
     both : ((q < length ss) ⊎ (length ss ≤ q)) → (q < length ss) × (slot_at ss q ≡ Taken top)
     both (inl l) = (l, slot)
     both (inr g) = absurd (let f : Taken top ≡ Free None = sym slot ∙ get_or_past ss q (Free None) g in cc)
@@ -56,8 +58,15 @@ module _ (ss : List Slot) (free : Option ℕ) (a : AreLinked ss free) where
   pub linked_give : (q : ℕ) (top : Top) → q < length ss → slot_at ss q ≡ Taken top → AreLinked (set ss q (Free free)) (Some q)
   linked_give q top w e = record {
     chain = q ∷ a.chain;
-    linked = (refl, not_chained ss free a.chain q top a.linked e, (free, record { within = subst (λ m. q < m) (sym (length-set ss q (Free free))) w; slot = get_or-set_same ss q (Free free) (Free None) w },
-      chain_stays ss (set ss q (Free free)) free a.chain a.linked (λ p n i l. link_set ss q p (Free free) n (λ k. not_chained ss free a.chain q top a.linked e (subst (λ x. IsIn x a.chain) k i)) l)));
+    linked = (
+      refl,
+      not_chained ss free a.chain q top a.linked e,
+      (
+        free,
+        record { within = subst (λ m. q < m) (sym (length-set ss q (Free free))) w; slot = get_or-set_same ss q (Free free) (Free None) w },
+        chain_stays ss (set ss q (Free free)) free a.chain a.linked (λ p n i l. link_set ss q p (Free free) n (λ k. not_chained ss free a.chain q top a.linked e (subst (λ x. IsIn x a.chain) k i)) l),
+      ),
+    );
     few = subst (λ n. n < 2 ^ 32) (sym (length-set ss q (Free free))) a.few;
   }
 

@@ -243,21 +243,21 @@ items_once (fork i l r) p k a lp lk e =
     let n : length (items l) ≡ size l = length-map (leaves l) (λ (x : Item). x.number) ∙ length-leaves l in
     elim (cases_lt p (size l)) [
       | inl pl ↦ elim (cases_lt k (size l)) [
-          | inl kl ↦ items_once l p k a.3 pl kl (item_left l r p (slice_index (items (fork i l r)) p) pl refl ∙ e ∙ sym (item_left l r k (slice_index (items (fork i l r)) k) kl refl))
-          | inr kr ↦
-              let x = item_has l p (slice_index (items (fork i l r)) p) pl (item_left l r p (slice_index (items (fork i l r)) p) pl refl) in
-              let y = item_has r (k - size l) (slice_index (items (fork i l r)) k) (omega (arith, lk, kr)) (item_right l r k (slice_index (items (fork i l r)) k) kr refl) in
-              absurd (a.2.apart (slice_index (items (fork i l r)) p) x (subst (Has r) (sym e) y))
-        ]
+        | inl kl ↦ items_once l p k a.3 pl kl (item_left l r p (slice_index (items (fork i l r)) p) pl refl ∙ e ∙ sym (item_left l r k (slice_index (items (fork i l r)) k) kl refl))
+        | inr kr ↦
+            let x = item_has l p (slice_index (items (fork i l r)) p) pl (item_left l r p (slice_index (items (fork i l r)) p) pl refl) in
+            let y = item_has r (k - size l) (slice_index (items (fork i l r)) k) (omega (arith, lk, kr)) (item_right l r k (slice_index (items (fork i l r)) k) kr refl) in
+            absurd (a.2.apart (slice_index (items (fork i l r)) p) x (subst (Has r) (sym e) y))
+      ]
       | inr pr ↦ elim (cases_lt k (size l)) [
-          | inl kl ↦
-              let x = item_has r (p - size l) (slice_index (items (fork i l r)) p) (omega (arith, lp, pr)) (item_right l r p (slice_index (items (fork i l r)) p) pr refl) in
-              let y = item_has l k (slice_index (items (fork i l r)) k) kl (item_left l r k (slice_index (items (fork i l r)) k) kl refl) in
-              absurd (a.2.apart (slice_index (items (fork i l r)) k) y (subst (Has r) e x))
-          | inr kr ↦
-              let few_p : p - size l < size r = omega (arith, lp, pr) in
-              let few_k : k - size l < size r = omega (arith, lk, kr) in
-              let q = items_once r (p - size l) (k - size l) a.4 few_p few_k (item_right l r p (slice_index (items (fork i l r)) p) pr refl ∙ e ∙ sym (item_right l r k (slice_index (items (fork i l r)) k) kr refl)) in
-              omega (arith, q, pr, kr)
-        ]
+        | inl kl ↦
+            let x = item_has r (p - size l) (slice_index (items (fork i l r)) p) (omega (arith, lp, pr)) (item_right l r p (slice_index (items (fork i l r)) p) pr refl) in
+            let y = item_has l k (slice_index (items (fork i l r)) k) kl (item_left l r k (slice_index (items (fork i l r)) k) kl refl) in
+            absurd (a.2.apart (slice_index (items (fork i l r)) k) y (subst (Has r) e x))
+        | inr kr ↦
+            let few_p : p - size l < size r = omega (arith, lp, pr) in
+            let few_k : k - size l < size r = omega (arith, lk, kr) in
+            let q = items_once r (p - size l) (k - size l) a.4 few_p few_k (item_right l r p (slice_index (items (fork i l r)) p) pr refl ∙ e ∙ sym (item_right l r k (slice_index (items (fork i l r)) k) kr refl)) in
+            omega (arith, q, pr, kr)
+      ]
     ]

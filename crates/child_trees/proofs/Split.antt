@@ -52,11 +52,13 @@ sides_of n ns top (fork i l r) h high = record {
   where
     here : at ns top ≡ at ns i
     here = ap (at ns) (sym h.has.top_is)
+
     lh : HasCells n ns (at ns top).left l
     lh = record {
       has = record { holds = h.has.holds.1; apart = h.has.apart.3; top_is = sym (ap (λ (m : Node). m.left) here ∙ h.has.holds.0.left); few = omega (arith, h.has.few) };
       within = λ j k. h.within j (inr (inl k));
     }
+
     rh : HasCells n ns (at ns top).right r
     rh = record {
       has = record { holds = h.has.holds.2; apart = h.has.apart.4; top_is = sym (ap (λ (m : Node). m.right) here ∙ h.has.holds.0.right); few = omega (arith, h.has.few) };

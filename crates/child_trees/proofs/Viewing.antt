@@ -167,6 +167,7 @@ module _ {Shape Map : Type 0} (unit : Shape → Map) (join : Map → Map → Map
     where
       same_top : (b c : ℕ) → Some (Some b) ≡ Some (Some c) → b ≡ c
       same_top b c z = cc
+
       by_number : (p b : ℕ) → top_at tops' p ≡ Some (Some b) → ((p ≡ q) ⊎ (p ≢ q)) → (u : Tree) × IsKept unit join w ms p b u
       by_number p b e (inr n) = others_kept q p b (Some (Some top)) n a k t e
       by_number p b e (inl z) =

@@ -11,14 +11,18 @@ ghost use Rattle.child_trees.specs.Kept.{AreOfFree, IsKept, HasList, KeepsLists}
 
 use crate::cells::Cells;
 use crate::leaf::Leaf;
-use crate::sums::{sum_along, write_leaves};
 use crate::summary::Summary;
+use crate::sums::{sum_along, write_leaves};
 use leaf_trees::{Flags, Inserted, Trees};
 use std::alloc::AllocError;
 use xsv_steps::{Ledger, Steps};
 
 /// Makes sure of so many free slots, and of a cell for each slot.
-pub fn reserve<M: Summary>(trees: &mut Trees, cells: &mut Cells<M>, slots: u32) -> Result<(), AllocError>
+pub fn reserve<M: Summary>(
+    trees: &mut Trees,
+    cells: &mut Cells<M>,
+    slots: u32,
+) -> Result<(), AllocError>
     requires { length trees.old.nodes ≤ length cells.old.maps }
     ensures ok { OnOk result (slots ≤ trees.new.spare) }
     ensures lists { KeepsLists M.unit M.join cells.old trees.old.nodes cells.new trees.new.nodes (λ _. ⊥) }
@@ -79,7 +83,7 @@ pub fn insert_leaf<M: Summary, L: Ledger>(
     ensures fresh { IsFreeSlot trees.old.nodes result.item }
     ensures list { (list : ℕ) (t : Tree) → IsKept M.unit M.join cells.old trees.old.nodes list top t → place ≤ size t
         → HasList M.unit M.join cells.new trees.new.nodes list result.top
-            (insert (entries (map_at M.unit cells.old) t) place (entry (M.unit cells.old.shape) (M.leaf source.now) result.item leaf)) }
+        (insert (entries (map_at M.unit cells.old) t) place (entry (M.unit cells.old.shape) (M.leaf source.now) result.item leaf)) }
     ensures lists { (list : ℕ) (t : Tree) → IsKept M.unit M.join cells.old trees.old.nodes list top t → place ≤ size t
         → KeepsLists M.unit M.join cells.old trees.old.nodes cells.new trees.new.nodes (λ p. p ≡ list) }
     ensures cells { length trees.new.nodes ≤ length cells.new.maps }
@@ -104,7 +108,7 @@ pub fn remove_leaf<M: Summary, L: Ledger>(
     requires cells { length trees.old.nodes ≤ length cells.old.maps }
     ensures list { (list : ℕ) (t : Tree) → IsKept M.unit M.join cells.old trees.old.nodes list top t → place < size t
         → MatchOption result (remove (entries (map_at M.unit cells.old) t) place ≡ [])
-            (λ rest. HasList M.unit M.join cells.new trees.new.nodes list rest (remove (entries (map_at M.unit cells.old) t) place)) }
+        (λ rest. HasList M.unit M.join cells.new trees.new.nodes list rest (remove (entries (map_at M.unit cells.old) t) place)) }
     ensures lists { (list : ℕ) (t : Tree) → IsKept M.unit M.join cells.old trees.old.nodes list top t → place < size t
         → KeepsLists M.unit M.join cells.old trees.old.nodes cells.new trees.new.nodes (λ p. p ≡ list) }
     ensures cells { length trees.new.nodes ≤ length cells.new.maps }
@@ -132,7 +136,7 @@ pub fn write_leaf<M: Summary, L: Ledger>(
     requires fits { ForSome leaf.letter (M.fits cells.old.shape source.now) }
     ensures list { (list : ℕ) (t : Tree) → IsKept M.unit M.join cells.old trees.old.nodes list top t → IsItemAt t place item
         → HasList M.unit M.join cells.new trees.new.nodes list top
-            (set (entries (map_at M.unit cells.old) t) place (entry (M.unit cells.old.shape) (M.leaf source.now) item leaf)) }
+        (set (entries (map_at M.unit cells.old) t) place (entry (M.unit cells.old.shape) (M.leaf source.now) item leaf)) }
     ensures lists { (list : ℕ) (t : Tree) → IsKept M.unit M.join cells.old trees.old.nodes list top t → IsItemAt t place item
         → KeepsLists M.unit M.join cells.old trees.old.nodes cells.new trees.new.nodes (λ p. p ≡ list) }
     ensures cells { length trees.new.nodes ≤ length cells.new.maps }

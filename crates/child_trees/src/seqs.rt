@@ -7,7 +7,7 @@ ghost use Rattle.child_trees.specs.Lists.{Entry, get, IsLive, IsUpTo, Updates, I
 
 use crate::cells::Cells;
 use crate::edits::{build_tree, insert_leaf, plant, remove_leaf, reserve, write_leaf};
-use crate::leaf::{flags_of, ItemId, Leaf, SeqId};
+use crate::leaf::{ItemId, Leaf, SeqId, flags_of};
 use crate::summary::Summary;
 use crate::tops::Tops;
 use crate::walks::{first_dead, run_from, run_upto};

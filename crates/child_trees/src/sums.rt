@@ -14,7 +14,12 @@ use leaf_trees::Node;
 use xsv_steps::{Ledger, Steps};
 
 /// Sums up the two sides of a node, where it is a fork.
-fn sum_sides<M: Summary, L: Ledger>(cells: &mut Cells<M>, nodes: &[Node], top: u32, steps: &mut Steps<L>)
+fn sum_sides<M: Summary, L: Ledger>(
+    cells: &mut Cells<M>,
+    nodes: &[Node],
+    top: u32,
+    steps: &mut Steps<L>,
+)
     requires { (t : Tree) × HasCells (length cells.old.maps) nodes.now top t }
     ensures sums { (t : Tree) → HasCells (length cells.old.maps) nodes.now top t
         → AreSidesSums M.join (map_at M.unit cells.old) t → AreSums M.join (map_at M.unit cells.new) t }

@@ -35,11 +35,12 @@ returns-clause-list g c =
     let k = sym (length-leaves t) ∙ sym (length-map (leaves t) flags_of) ∙ ap length b.tree.2 ∙ n in
     let cells : HasCells (length v.maps) ms c.build-top.result t = record { has = m.tree.has; within = λ j h. (let q = has_within ms t m.tree.has.holds j h in omega (arith, q, b.len, c.requires.cells)) } in
     let h = subst (λ ks. HasCells (length v.maps) ks c.build-top.result t) (sym c.nodes.ensures) cells in
-    let e = c.write_leaves.ensures in
-    (entries f t,
+    let e = c.write_leaves.ensures in (
+      entries f t,
       are_entries (M.unit v.shape) (M.leaf c.args.source.now) f c.args.leaves.now (leaves t) (b.tree.2 ∙ c.requires.flags) (e.maps t h k),
       are_of_free f ns ms c.args.list c.build-top.result t m,
-      record { now = t; kept = record { tree = m.tree; within = λ j q. (let z = cells.within j q in omega (arith, z, e.slots.size)); sums = e.sums t h k }; entries_are = refl })
+      record { now = t; kept = record { tree = m.tree; within = λ j q. (let z = cells.within j q in omega (arith, z, e.slots.size)); sums = e.sums t h k }; entries_are = refl },
+    )
 
 pub returns-clause-lists : goal.returns-clause-lists
 returns-clause-lists g c =

@@ -49,7 +49,7 @@ returns-clause-lists g c = λ list t k le.
     let few = inserted_size t ch.now c.args.place x ch.leaves_are le in
     let has = item_has ch.now c.args.place item (omega (arith, few, le)) (inserted_at t ch.now c.args.place x ch.leaves_are le) in
     others_stay M.unit M.join ns ms v v1 v2 list top c.args.place t _ ch room c.sum_along.ensures.slots.size (c.sum_along.ensures.maps ch.now cells) (sym s.size) (c.sum_along.ensures.slots.shape ∙ s.shape)
-      (λ j n. s.others j (λ e. n (subst (Has ch.now) (sym e) has)))
+    (λ j n. s.others j (λ e. n (subst (Has ch.now) (sym e) has)))
 
 pub returns-clause-steps : goal.returns-clause-steps
 returns-clause-steps g c = λ list t k le b few.

@@ -55,7 +55,7 @@ returns-clause-lists g c = λ list t k i.
     let few = written_size t ch.now place x ch.leaves_are in
     let has = item_has ch.now place item (omega (arith, few, i.within)) (written_at t ch.now place x ch.leaves_are i.within ∙ i.is) in
     others_stay M.unit M.join ns ms v v1 v2 list top place t _ ch room c.sum_along.ensures.slots.size (c.sum_along.ensures.maps ch.now cells) (sym s.size) (c.sum_along.ensures.slots.shape ∙ s.shape)
-      (λ j n. s.others j (λ e. n (subst (Has ch.now) (sym e) has)))
+    (λ j n. s.others j (λ e. n (subst (Has ch.now) (sym e) has)))
 
 pub returns-clause-steps : goal.returns-clause-steps
 returns-clause-steps g c = λ list t k i b few.

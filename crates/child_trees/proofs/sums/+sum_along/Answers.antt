@@ -137,7 +137,7 @@ returns-else-place-before-clause-sums g t c = λ x h e.
     let was = but_right M.join c.args.top c.args.place s.l s.r f place (subst (AreSumsBut M.join f c.args.place) s.is e) in
     subst (AreSums M.join f3) (sym s.is)
     (along_right M.join c.args.top s.l s.r s.apart f f1 f2 f3 (c.args.place - size s.l) (c.sum_sides-else-place-before.ensures.maps s.l s.left).same (c.sum_along-else-place-before.ensures.maps s.r right).same m.others here (c.sum_sides-else-place-before.ensures.sums s.l s.left was.0) was.1
-      (λ z. c.sum_along-else-place-before.ensures.sums s.r right (subst (λ k. AreSumsBut M.join f1 (c.args.place - k) s.r) (sym s.left_size) z)))
+    (λ z. c.sum_along-else-place-before.ensures.sums s.r right (subst (λ k. AreSumsBut M.join f1 (c.args.place - k) s.r) (sym s.left_size) z)))
 
 pub returns-else-place-before-clause-maps : goal.returns-else-place-before-clause-maps
 returns-else-place-before-clause-maps g t c = λ x h.

@@ -147,7 +147,7 @@ returns-clause-maps g t c = λ x h e.
     let K = λ (l : Leaf g.row.M-Letter.Denot). map_by (M.unit c.args.cells.now.shape) (M.leaf c.args.source.now) l.letter in
     let left = leaves_stay f2 f3 s.l (λ j k. m.others j (left_not_top M.join c.args.top s.l s.r s.apart j k)) ∙ leaves_stay f1 f2 s.l (λ j k. c.write_leaves-2.ensures.others s.r right j (λ z. s.apart.2.apart j k z)) ∙ c.write_leaves.ensures.maps s.l s.left el in
     let new = leaves_stay f2 f3 s.r (λ j k. m.others j (right_not_top M.join c.args.top s.l s.r s.apart j k)) ∙ c.write_leaves-2.ensures.maps s.r right er
-        ∙ ap (λ q. map (λ (l : Leaf g.row.M-Letter.Denot). map_by (M.unit q) (M.leaf c.args.source.now) l.letter) back) c.write_leaves.ensures.slots.shape in
+    ∙ ap (λ q. map (λ (l : Leaf g.row.M-Letter.Denot). map_by (M.unit q) (M.leaf c.args.source.now) l.letter) back) c.write_leaves.ensures.slots.shape in
     ap (λ z. map (λ (y : Item). f3 y.number) (leaves z)) s.is ∙ map-append (λ (y : Item). f3 y.number) (leaves s.l) (leaves s.r)
     ∙ (λ k. left k ++ new k) ∙ (λ k. map K (c.split_at.ensures.front k) ++ map K (c.split_at.ensures.back k))
     ∙ sym (map-append K (take (at ns (at ns c.args.top).left).counts.leaves ls) (drop (at ns (at ns c.args.top).left).counts.leaves ls)) ∙ ap (map K) (take-append-drop (at ns (at ns c.args.top).left).counts.leaves ls)

@@ -75,7 +75,7 @@ returns-else-dead-clause-place g t c = λ x h d.
     let first = subst (λ z. IsFirstDead M.acts (M.is_dead v.shape) z (entries f s.r) c.first_dead-else-dead.result) left (c.first_dead-else-dead.ensures.place s.r both.right dead) in
     subst (λ xs. IsFirstDead M.acts (M.is_dead v.shape) c.args.state xs ((at ns (at ns c.args.top).left).counts.leaves + c.first_dead-else-dead.result)) (sym (entries-sides f x c.args.top s.l s.r s.is))
     (first_right M.is_state M.is_map M.unit M.join M.acts M.is_dead g.met.M.Summary.laws v.shape f c.args.state (entries f s.l) (entries f s.r) c.first_dead-else-dead.result (at ns (at ns c.args.top).left).counts.leaves
-      c.requires.state (node_maps g.met.M.Summary.laws v ns (at ns c.args.top).left s.l s.left c.act-after.ensures.maps) (s.left_size ∙ sym (length-entries f s.l)) alive first)
+    c.requires.state (node_maps g.met.M.Summary.laws v ns (at ns c.args.top).left s.l s.left c.act-after.ensures.maps) (s.left_size ∙ sym (length-entries f s.l)) alive first)
 
 pub returns-else-dead-clause-steps : goal.returns-else-dead-clause-steps
 returns-else-dead-clause-steps g t c = λ x h.

@@ -10,5 +10,5 @@ returns-clause-maps g c =
     let cs = c.self.inside.cells.items in
     let x = c.index.result.now in
     rw (← c.self.view_is) (λ j d l.
-      let w = rw length-map at l in
-      subst (M.is_map (M.shape s)) (sym (get_or-map (M.map_of s) cs j x d w)) (g.met.M.Summary.maps s (get_or cs j x) (c.self.invariant.live_at j x w)))
+    let w = rw length-map at l in
+    subst (M.is_map (M.shape s)) (sym (get_or-map (M.map_of s) cs j x d w)) (g.met.M.Summary.maps s (get_or cs j x) (c.self.invariant.live_at j x w)))

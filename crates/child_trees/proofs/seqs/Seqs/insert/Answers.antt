@@ -59,7 +59,7 @@ invariant_of-self-in-None g c =
     let eq = same_seen M.unit M.join v w ns ms s.tops c.self.invariant lists in
     let e = c.plant-number.ensures in
     kept_tree M.unit M.join w c.plant-number.new.cells ms c.plant-number.new.trees.nodes s.tops c.set.new.self n c.plant-number.result _ a
-      (but_one M.unit M.join w c.plant-number.new.cells ms c.plant-number.new.trees.nodes n e.lists) c.set.ensures e.list e.cells
+    (but_one M.unit M.join w c.plant-number.new.cells ms c.plant-number.new.trees.nodes n e.lists) c.set.ensures e.list e.cells
 
 pub bounds-nodes-top : goal.bounds-nodes-top
 bounds-nodes-top g c =
@@ -131,7 +131,7 @@ invariant_of-self-in-Some g c =
     let few : c.args.place ≤ size R.tree = omega (arith, le r0.0 r0.1, R.size_is) in
     let e = c.insert_leaf-inserted.ensures in
     kept_tree M.unit M.join w c.insert_leaf-inserted.new.cells ms c.insert_leaf-inserted.new.trees.nodes s.tops c.set-in-Some.new.self n c.insert_leaf-inserted.result.top _ a
-      (e.lists n R.tree R.kept few) c.set-in-Some.ensures (e.list n R.tree R.kept few) e.cells
+    (e.lists n R.tree R.kept few) c.set-in-Some.ensures (e.list n R.tree R.kept few) e.cells
 
 pub returns-in-None-clause-fresh : goal.returns-in-None-clause-fresh
 returns-in-None-clause-fresh g c = rw (← c.self.view_is) (
@@ -152,9 +152,9 @@ returns-in-None-clause-ok g c = rw (← c.self.view_is, ← c.seq.view_is) (λ x
     let le = rw (← c.self.view_is, ← c.seq.view_is) at c.requires.place in
     let new = entry (M.unit w.shape) (M.leaf c.args.source.now) c.plant-number.result c.args.leaf in
     let same : new ∷ [] ≡ insert xs c.args.place (entry (M.unit v.shape) (M.leaf c.args.source.now) c.plant-number.result c.args.leaf) =
-        insert_none xs c.args.place new empty (omega (arith, le xs e, ap length empty)) ∙ ap (λ h. insert xs c.args.place (entry (M.unit h) (M.leaf c.args.source.now) c.plant-number.result c.args.leaf)) c.reserve.ensures.lists.shape in
+    insert_none xs c.args.place new empty (omega (arith, le xs e, ap length empty)) ∙ ap (λ h. insert xs c.args.place (entry (M.unit h) (M.leaf c.args.source.now) c.plant-number.result c.args.leaf)) c.reserve.ensures.lists.shape in
     let u = updates_tree M.unit M.join w c.plant-number.new.cells ms c.plant-number.new.trees.nodes s.tops c.set.new.self n c.plant-number.result _ a
-      (but_one M.unit M.join w c.plant-number.new.cells ms c.plant-number.new.trees.nodes n p.lists) c.set.ensures p.list in
+    (but_one M.unit M.join w c.plant-number.new.cells ms c.plant-number.new.trees.nodes n p.lists) c.set.ensures p.list in
     subst (λ ys. Updates (seen M.unit v ns s.tops) (seen M.unit c.plant-number.new.cells c.plant-number.new.trees.nodes c.set.new.self) n (Some ys)) same
     (subst (λ z. Updates z (seen M.unit c.plant-number.new.cells c.plant-number.new.trees.nodes c.set.new.self) n (Some (new ∷ []))) eq u))
 
@@ -182,7 +182,7 @@ returns-else-nodes-top-clause-ok g c = rw (← c.self.view_is, ← c.seq.view_is
     let new = entry (M.unit w.shape) (M.leaf c.args.source.now) c.insert_leaf-inserted.result.item c.args.leaf in
     let same = ap (λ ys. insert ys c.args.place new) R.entries_are ∙ ap (λ h. insert xs c.args.place (entry (M.unit h) (M.leaf c.args.source.now) c.insert_leaf-inserted.result.item c.args.leaf)) c.reserve.ensures.lists.shape in
     let u = updates_tree M.unit M.join w c.insert_leaf-inserted.new.cells ms c.insert_leaf-inserted.new.trees.nodes s.tops c.set-in-Some.new.self n c.insert_leaf-inserted.result.top _ a
-      (i.lists n R.tree R.kept few) c.set-in-Some.ensures (i.list n R.tree R.kept few) in
+    (i.lists n R.tree R.kept few) c.set-in-Some.ensures (i.list n R.tree R.kept few) in
     subst (λ ys. Updates (seen M.unit v ns s.tops) (seen M.unit c.insert_leaf-inserted.new.cells c.insert_leaf-inserted.new.trees.nodes c.set-in-Some.new.self) n (Some ys)) same
     (subst (λ z. Updates z (seen M.unit c.insert_leaf-inserted.new.cells c.insert_leaf-inserted.new.trees.nodes c.set-in-Some.new.self) n (Some (insert (entries (map_at M.unit w) R.tree) c.args.place new))) eq u))
 

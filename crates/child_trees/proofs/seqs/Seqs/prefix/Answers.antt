@@ -31,8 +31,8 @@ upto-requires-clause-place g c =
     let F = found M.unit M.join v ns s.tops c.self.invariant item r.0 r.1 r.2 r.3 in
     let spot = c.spot-spot.ensures r.0 F.top r.1 F.rooted.tree F.rooted.kept.tree F.place in
     rw (← c.self.view_is) (λ xs e.
-      let same = some_is xs r.2 (sym e ∙ ap (get (seen M.unit v ns s.tops)) (ap (λ z. z.list) spot) ∙ r.3.list) in
-      omega (arith, ap (λ z. z.place) spot, r.3.within, ap length same))
+    let same = some_is xs r.2 (sym e ∙ ap (get (seen M.unit v ns s.tops)) (ap (λ z. z.list) spot) ∙ r.3.list) in
+    omega (arith, ap (λ z. z.place) spot, r.3.within, ap length same))
 
 pub upto-requires-clause-state : goal.upto-requires-clause-state
 upto-requires-clause-state g c = c.requires.state
