@@ -6,3 +6,4 @@ pub mod Tabs
 pub mod Limiting
 pub mod Searching
 pub mod Reading
+pub mod FirstByte

@@ -12,6 +12,7 @@ use crate::limits::{begun_limit, byte_after_end, whole_limit};
 use crate::line::{LineError, read_line};
 use crate::past::{ListingFault, Past};
 use crate::{Item, Reason};
+use memchr::memchr;
 use std::alloc::{AllocError, Global};
 use std::marker::Model;
 
@@ -51,7 +52,7 @@ impl Model for Listing {
 fn first_feed(bytes: &[u8]) -> Option<usize>
     ensures { result ≡ position (λ b. b == 10) bytes.now }
 {
-    bytes.iter().position(|b| *b == b'\n')
+    memchr(b'\n', bytes)
 }
 
 /// Where the first line feed is, which is not among the bytes that were searched.

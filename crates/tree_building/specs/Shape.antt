@@ -1,5 +1,6 @@
 -- The rows of trees.
 use Rattle.std.specs.Prelude.{◌≡◌, ℕ, ◌+◌, ◌≤◌, List, [], ◌∷◌, max}
+use Rattle.tree_rows.specs.Limits.{max_depth}
 use Rattle.tree_rows.specs.Rows.{rows_of, siblings}
 use Rattle.tree_rows.specs.declared.row.Row.{Row}
 use Rattle.tree_rows.specs.declared.row.Content.{Content}
@@ -23,7 +24,7 @@ AreUnder most (row ∷ rows) = (row.depth ≤ most) × AreUnder most rows
 abbrev pub AreWhole : List Row → Type 0
 AreWhole rows = rows ≡ rows_of 1 (siblings rows 1)
 
--- rows of a tree that has no element of a depth of more than 128
+-- rows of a tree that has no element that stands too deep
 pub record AreSound (rows : List Row) : Type 0 where
   pub whole : AreWhole rows
-  pub shallow : deepest_row 0 rows ≤ 128
+  pub shallow : deepest_row 0 rows ≤ max_depth

@@ -1,6 +1,8 @@
 ghost use Rattle.std.specs.Prelude.{◌≡◌, ◌+◌};
 ghost use Rattle.tree_building.specs.Rules as rules;
 
+use tree_rows::{MAX_DEPTH, MAX_NODES};
+
 /// What is asked of items that are to be a tree.
 #[derive(Clone, Copy, Debug, PartialEq, Eq)]
 pub struct Rules {
@@ -13,13 +15,13 @@ pub struct Rules {
 }
 
 impl Rules {
-    /// The rules of a document: depth 128, 131,072 nodes, and names are judged.
+    /// The rules of a document: the limits on depth and nodes hold, and names are judged.
     pub fn document() -> Self
         ensures { result ≡ rules.document_rules }
     {
         Rules {
-            levels: Some(128),
-            nodes: Some(131_072),
+            levels: Some(MAX_DEPTH),
+            nodes: Some(MAX_NODES),
             names: true,
         }
     }

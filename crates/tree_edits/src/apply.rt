@@ -3,6 +3,7 @@ ghost use Rattle.tree_rows.specs.declared.row.Row.{Row};
 ghost use Rattle.tree_rows.specs.declared.row.Content.TheVariants as contents;
 ghost use Rattle.tree_rows.specs.Rows.{siblings};
 ghost use Rattle.tree_building.specs.Blocks.{one_element};
+ghost use Rattle.tree_rows.specs.Limits.{max_depth, max_nodes};
 ghost use Rattle.tree_rows.specs.Forest.{none, text as text_node};
 ghost use Rattle.tree_edits.specs.Edits.{after, put, put_within, insert_within, reword, found, can_be_made};
 ghost use Rattle.tree_building.specs.Shape.{AreSound, AreWhole, AreUnder, deepest_row};
@@ -18,14 +19,14 @@ use item_listing::Item;
 use std::alloc::{AllocError, Global};
 use tag_names::Prefixes;
 use tree_building::build_block;
-use tree_rows::{Attributes, Bindings, Content, Row};
+use tree_rows::{Attributes, Bindings, Content, MAX_DEPTH, MAX_NODES, Row};
 use xs_names::Text;
 
-const MAX_NODES: usize = 131_072;
+const MOST_NODES: usize = MAX_NODES as usize;
+
+const MOST_LEVELS: u64 = MAX_DEPTH as u64;
 
 const MAX_NUMBER: usize = 4_294_967_295;
-
-const MAX_DEPTH: u64 = 128;
 
 /// Refuses new rows that pass a limit when they are put below an element of this depth.
 fn fit(rows: &[Row], next_free: u32, new: &[Row], depth: u32) -> Result<(), EditError>
@@ -37,7 +38,7 @@ fn fit(rows: &[Row], next_free: u32, new: &[Row], depth: u32) -> Result<(), Edit
     if are_too_many(rows.len(), next_free, new.len()) {
         return Err(EditError::TooManyNodes);
     }
-    if deepest(new, depth) > MAX_DEPTH {
+    if deepest(new, depth) > MOST_LEVELS {
         return Err(EditError::TooDeep);
     }
     Ok(())
@@ -47,9 +48,9 @@ fn fit(rows: &[Row], next_free: u32, new: &[Row], depth: u32) -> Result<(), Edit
 fn are_too_many(live: usize, next_free: u32, more: usize) -> bool
     requires live { live < 2 ^ 63 }
     requires more { more < 2 ^ 63 }
-    ensures { result ≡ (nat_lt 131072 (live + more) || nat_lt 4294967295 (next_free + more)) }
+    ensures { result ≡ (nat_lt max_nodes (live + more) || nat_lt 4294967295 (next_free + more)) }
 {
-    live + more > MAX_NODES || next_free as usize + more > MAX_NUMBER
+    live + more > MOST_NODES || next_free as usize + more > MAX_NUMBER
 }
 
 /// Puts new rows that fit at a spot, and answers the next free number.
@@ -61,7 +62,7 @@ fn put_fitting(
 ) -> Result<u32, AllocError>
     requires sound { AreSound rows.old.items }
     requires within { spot.place ≤ length rows.old.items }
-    requires shallow { spot.depth ≤ 128 }
+    requires shallow { spot.depth ≤ max_depth }
     requires whole { AreWhole new.items }
     requires under { AreUnder (deepest_row 0 new.items + 1) new.items }
     requires fits { Fits rows.old.items new.items next_free spot.depth }
@@ -85,7 +86,7 @@ fn put_block(
 ) -> Result<u32, EditError>
     requires sound { AreSound rows.old.items }
     requires within { spot.place ≤ length rows.old.items }
-    requires shallow { spot.depth ≤ 128 }
+    requires shallow { spot.depth ≤ max_depth }
     requires one { one_element items.now ≡ true }
     ensures ok { IfOk result (λ free. (parent index : ℕ) → IsSpot rows.old.items parent index spot → Inserts rows.old.items rows.new.items next_free free parent index spot.depth scope.now items.now) }
     ensures err { IfErr result (λ e. (parent index : ℕ) → IsWhy (insert_within (tree_of rows.old.items next_free) parent index scope.now items.now spot.depth) e) }

@@ -1,4 +1,5 @@
 pub mod Naming
+pub mod Limits
 pub mod Forest
 pub mod Rows
 pub mod RowLaws

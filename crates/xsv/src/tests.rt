@@ -1,5 +1,7 @@
 ghost use Rattle.std.specs.Prelude.{◌≤◌};
 
+mod limits;
+
 use crate::run::run;
 use std::alloc::{AllocError, Global};
 use std::process::Abort;
