@@ -9,3 +9,4 @@ pub mod Sound
 pub mod Blocks
 pub mod Tags
 pub mod Spelling
+pub mod Examples

@@ -5,3 +5,4 @@ pub mod Places
 pub mod Blocks
 pub mod Walks
 pub mod Spots
+pub mod Examples
