@@ -5,6 +5,8 @@ mod limits;
 mod lists;
 mod name;
 mod row;
+#[cfg(test)]
+mod tests;
 mod white;
 
 pub use limits::{MAX_DEPTH, MAX_NODES};

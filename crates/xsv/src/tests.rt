@@ -69,6 +69,7 @@ fn refuses_lines_by_their_text(rt: HostRuntime) -> Result<(), Fail> {
     let alloc = rt.alloc();
     let cases = [
         refused(b"", b"\xff\n", "listing 1 NotUtf8\n"),
+        refused(b"", b"+\xff\n", "listing 1 NotUtf8\n"),
         refused(b"", b"+x\n", "listing 1 BadStart\n"),
         refused(b"", b"(\n", "listing 1 NoName\n"),
         refused(b"", b"A \\x\n", "listing 1 NoName\n"),
@@ -193,6 +194,13 @@ fn reports_on_documents(rt: HostRuntime) -> Result<(), Fail> {
             word: "check",
             head: b"schema\ts\n(schema\nAxmlns http://www.w3.org/2001/XMLSchema\n(element\nAtype string\nAname r\n)element\n)schema\n",
             lines: b"schema\tt\tu\n(x\n)x\nend\n",
+            text: "schema ok\n",
+            status: Status::Valid,
+        },
+        Case {
+            word: "check",
+            head: b"schema\ts\n(xs:schema\nAxmlns:xs http://www.w3.org/2001/XMLSchema\n(xs:element\nAname r\nAtype xs:string\n)xs:element\n)xs:schema\n",
+            lines: b"end\n",
             text: "schema ok\n",
             status: Status::Valid,
         },
