@@ -1,5 +1,5 @@
 -- What is put into an element, on the rows and on the tree.
-use Rattle.std.proofs.Common.{◌≡◌, ℕ, ◌+◌, ◌≤◌, ◌<◌, List, [], ◌∷◌, ◌++◌, Some, length, take, drop, get_or, set, refl, sym, ap, ◌∙◌, arith, append_assoc, append-nil, max, subst}
+use Rattle.std.proofs.Common.{◌≡◌, ℕ, ◌+◌, ◌≤◌, ◌<◌, List, [], ◌∷◌, ◌++◌, Some, Result, Ok, Err, OnOk, length, take, drop, get_or, set, refl, sym, ap, ◌∙◌, arith, append_assoc, append-nil, max, subst}
 use Rattle.std.specs.List.{position_or_len, insert}
 use Rattle.std.proofs.lemmas.Grind.{common_steps}
 use Rattle.std.proofs.Math.Seq.{take-append_seam, set-append_seam}
@@ -24,7 +24,7 @@ use Rattle.tree_edits.proofs.Putting.{whole_from}
 use Rattle.plain_tree.specs.Putting.{with_last, with_attribute, with_binding, depth_of, depth_by}
 use Rattle.plain_tree.specs.Changes.{Changes, IsEnd}
 use Rattle.plain_tree.specs.declared.putting.End.{End}
-use Rattle.plain_tree.proofs.Kinds.{kind_in, kind_found, has_kind, kind_is_found}
+use Rattle.plain_tree.proofs.KindLaws.{kind_in, kind_found, has_kind, kind_is_found}
 
 -- an element by its row, and the rows around it
 pub record Lies (rows : List Row) (key k : ℕ) (row : Row) : Type 0 where
@@ -91,7 +91,7 @@ lies rows key k row whole kind at_k read =
     (whole ∙ s.rows_are) s.ends s.becomes (row_is rows key k row whole s at_k read)
 
 module _ (rows : List Row) (key k : ℕ) (row : Row) (e : Lies rows key k row) where
-  inside : List Row
+  abbrev pub inside : List Row
   inside = rows_of (row.depth + 1) e.children
 
   -- no element is too deep
@@ -188,8 +188,7 @@ node_put rows changed key number content end sound e shallow is =
       gives = now.0;
     }
 
--- a root alone is a tree
-pub root_sound : (name : Expanded) (rows : List Row) → rows ≡ element_row 1 1 name [] [] ∷ [] → AreSound rows
-root_sound name rows is =
-    let now = whole_from rows (element 1 name [] [] none none) is in
-    record { whole = now.1; shallow = omega (arith, ap (deepest_row 0) is) }
+-- what holds after a call that ended well
+pub on_ok : {T E : Type 0} (r : Result T E) (P Q : Type 0) → OnOk r P → (P → Q) → OnOk r Q
+on_ok (Ok x) P Q p f = f p
+on_ok (Err e) P Q p f = tt

@@ -1,4 +1,4 @@
 pub mod Finding
 pub mod Sound
-pub mod Kinds
+pub mod KindLaws
 pub mod Adding

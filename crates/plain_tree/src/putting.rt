@@ -1,7 +1,9 @@
-ghost use Rattle.std.specs.Prelude.{◌≡◌, ◌+◌, ◌≤◌, [], Some, OnOk, OnErr};
+ghost use Rattle.std.specs.Prelude.{◌≡◌, ◌+◌, ◌≤◌, ◌<◌, [], Some, OnOk, OnErr, length};
+ghost use Rattle.std.specs.List.{position_or_len};
 ghost use Rattle.plain_tree.specs.Changes.{Changes, IsEnd};
 ghost use Rattle.plain_tree.specs.Putting.{with_last, with_attribute, with_binding, depth_of};
-ghost use Rattle.tree_building.specs.Shape.{AreSound};
+ghost use Rattle.tree_building.specs.Shape.{AreSound, AreWhole};
+ghost use Rattle.tree_edits.specs.EditRows.{is_numbered};
 ghost use Rattle.tree_edits.specs.Edits.{deepest_of};
 ghost use Rattle.tree_rows.specs.Forest.{none};
 ghost use Rattle.tree_rows.specs.Kinds.{kind_of};
@@ -20,13 +22,23 @@ pub struct End {
     pub depth: u32,
 }
 
+/// The place of the row of an element.
+fn element_place(rows: &[Row], node: u32) -> usize
+    requires whole { AreWhole rows.now }
+    requires element { kind_of node (siblings rows.now 1) ≡ Some kinds.Element }
+    ensures at { result ≡ position_or_len (is_numbered node) rows.now }
+    ensures within { result < length rows.now }
+{
+    place_of(rows, node)
+}
+
 /// Where the rows below an element end.
 fn end_of(rows: &[Row], parent: u32) -> End
     requires sound { AreSound rows.now }
     requires parent { kind_of parent (siblings rows.now 1) ≡ Some kinds.Element }
     ensures { IsEnd rows.now parent result }
 {
-    let place = place_of(rows, parent);
+    let place = element_place(rows, parent);
     let depth = rows[place].depth;
     let behind = &rows[place + 1..];
     End {
@@ -85,7 +97,7 @@ pub(crate) fn put_attribute(
     ensures ok { OnOk result (Changes rows.old.items rows.new.items node (with_attribute attribute)) }
     ensures err { OnErr result (rows.new.items ≡ rows.old.items) }
 {
-    let place = place_of(rows, node);
+    let place = element_place(rows, node);
     rows[place].attributes.push(attribute)
 }
 
@@ -100,6 +112,6 @@ pub(crate) fn put_binding(
     ensures ok { OnOk result (Changes rows.old.items rows.new.items node (with_binding binding)) }
     ensures err { OnErr result (rows.new.items ≡ rows.old.items) }
 {
-    let place = place_of(rows, node);
+    let place = element_place(rows, node);
     rows[place].bindings.push(binding)
 }

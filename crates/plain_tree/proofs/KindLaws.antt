@@ -10,10 +10,11 @@ use Rattle.tree_rows.specs.declared.row.NodeKind.{NodeKind}
 use Rattle.tree_rows.specs.declared.row.NodeKind.TheVariants.{Element, Chars}
 use Rattle.tree_edits.specs.Edits.{Found, has, found}
 use Rattle.plain_tree.specs.Nodes.{Node, first_of, node_at}
-use Rattle.plain_tree.specs.Behind.{kind_by}
+use Rattle.tree_rows.specs.declared.row.Row.{Row}
+use Rattle.plain_tree.specs.Behind.{kind_by, IsNode}
 
 -- the kind of a node that was looked up
-abbrev pub kind_at : Option Node → Option NodeKind
+abbrev kind_at : Option Node → Option NodeKind
 kind_at None = None
 kind_at (Some node) = Some (kind_by node.content)
 
@@ -33,12 +34,26 @@ element_kind key n name bindings attributes children next below later true t = r
 element_kind key n name bindings attributes children next below later false t =
     rw t (kind-first (node_at key children) (node_at key next) ∙ ap (λ k. first_kind k (kind_at (node_at key next))) below ∙ ap (first_kind (kind_of key children)) later)
 
--- the kind of the node of a number
-pub kind-node : (key : ℕ) (f : Forest) → kind_at (node_at key f) ≡ kind_of key f
+kind-node : (key : ℕ) (f : Forest) → kind_at (node_at key f) ≡ kind_of key f
 kind-node key none = refl
 kind-node key (text n chars next) = text_kind key n chars next (kind-node key next) (n == key) refl
 kind-node key (element n name bindings attributes children next) =
     element_kind key n name bindings attributes children next (kind-node key children) (kind-node key next) (n == key) refl
+
+-- the kind of a row that was found
+abbrev pub row_kind : Option (Row × List Row) → Option NodeKind
+row_kind None = None
+row_kind (Some found) = Some (kind_by found.0.content)
+
+kind-row : (found : Option (Row × List Row)) (node : Option Node) → IsNode found node → row_kind found ≡ kind_at node
+kind-row None None is = refl
+kind-row None (Some node) is = absurd is
+kind-row (Some found) None is = absurd is
+kind-row (Some found) (Some node) is = ap (λ c. Some (kind_by c)) is.content
+
+-- the kind of the node of a number is that of its row
+pub kind_is_row : (key : ℕ) (f : Forest) (found : Option (Row × List Row)) → IsNode found (node_at key f) → row_kind found ≡ kind_of key f
+kind_is_row key f found is = kind-row found (node_at key f) is ∙ kind-node key f
 
 or_first : (a b : Bool) → (a || b) ≡ false → a ≡ false
 or_first false b e = refl
