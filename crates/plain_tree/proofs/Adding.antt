@@ -17,7 +17,7 @@ use Rattle.tree_rows.specs.declared.row.NodeKind.TheVariants.{Element}
 use Rattle.tree_building.specs.Shape.{AreWhole, AreSound, deepest_with, deepest_row}
 use Rattle.tree_edits.specs.EditRows.{is_numbered, ends_at}
 use Rattle.tree_edits.specs.Edits.{append, deepest_of, found, replaced}
-use Rattle.tree_edits.proofs.Standing.{element_row, rows-append, IsNode, Stands, stands, rows-node}
+use Rattle.tree_edits.proofs.Standing.{element_row, rows-append, IsNode, stands, rows-node}
 use Rattle.tree_edits.proofs.Placing.{below-rows, deepest-append, deepest-rows, deepest-part}
 use Rattle.tree_edits.proofs.Spotting.{standing, top, row_is, behind_is}
 use Rattle.tree_edits.proofs.Putting.{whole_from}

@@ -1,6 +1,5 @@
 -- What a node is, by its number.
 use Rattle.std.proofs.Common.{◌≡◌, ℕ, ◌+◌, List, Bool, true, false, ◌==◌, ◌||◌, Option, Some, None, refl, sym, ap, ◌∙◌}
-use Rattle.std.specs.Option.{option_and_then}
 use Rattle.tree_rows.specs.Forest.{Forest, none, text, element}
 use Rattle.tree_rows.specs.Kinds.{first_kind, kind_of}
 use Rattle.tree_rows.specs.declared.name.Expanded.{Expanded}

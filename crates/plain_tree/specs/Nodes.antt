@@ -1,5 +1,5 @@
 -- The nodes of a tree by their numbers, and their parts by their places.
-use Rattle.std.specs.Prelude.{ℕ, ◌-◌, List, [], Bool, ◌==◌, slice_get, Option, Some, None, if◌then◌else◌}
+use Rattle.std.specs.Prelude.{ℕ, ◌-◌, List, [], ◌==◌, slice_get, Option, Some, None, if◌then◌else◌}
 use Rattle.std.specs.Option.{option_and_then}
 use Rattle.tree_rows.specs.Forest.{Forest, none, text, element}
 use Rattle.tree_rows.specs.declared.name.Expanded.{Expanded}

@@ -1,6 +1,6 @@
 use crate::{
-    Attribute, Binding, Builder, Edit, EditError, Expanded, NodeKind, Prefixes, Row, Tree, TreeReason, fragment,
-    read_tree,
+    Attribute, Binding, Builder, Edit, EditError, Expanded, NodeKind, Prefixes, Row, Tree,
+    TreeReason, fragment, read_tree,
 };
 use item_listing::{Items, read_item};
 use std::alloc::Global;
@@ -155,12 +155,18 @@ fn reads_a_fragment_in_its_scope(rt: HostRuntime) -> Result<(), Fail> {
     let mut scope = Prefixes::new(alloc)?;
     scope.bind(bound(alloc, "p", "u")?)?;
     let items = items_of(alloc, &["(p:r", "-x", "(p:s", ")p:s", ")p:r"])?;
-    let tree = fragment(alloc, &scope, items.as_slice())?.ok().ok_or("no tree")?;
+    let tree = fragment(alloc, &scope, items.as_slice())?
+        .ok()
+        .ok_or("no tree")?;
     assert!(rt; stand_as(tree.rows(), &[(1, 1), (2, 2), (3, 2)]));
     assert_eq!(rt; tree.next_free(), 4);
     let name = tree.name(3).ok_or("no element")?;
     assert!(rt; name.local.as_str() == "s");
-    assert!(rt; name.namespace.as_ref().is_some_and(|space| space.as_str() == "u"));
+    assert!(rt;
+        name.namespace
+            .as_ref()
+            .is_some_and(|space| space.as_str() == "u")
+    );
     assert!(rt; tree.binding_at(1, 0).is_none());
     assert!(rt; read_tree(alloc, items.as_slice())?.is_err());
     Ok(())
@@ -172,7 +178,9 @@ fn refuses_a_fragment_at_its_item(rt: HostRuntime) -> Result<(), Fail> {
     let mut scope = Prefixes::new(alloc)?;
     scope.bind(bound(alloc, "p", "u")?)?;
     let items = items_of(alloc, &["(p:r", "-x", "(q:s", ")q:s", ")p:r"])?;
-    let fault = fragment(alloc, &scope, items.as_slice())?.err().ok_or("read")?;
+    let fault = fragment(alloc, &scope, items.as_slice())?
+        .err()
+        .ok_or("read")?;
     assert_eq!(rt; fault.reason, TreeReason::Name(NameReason::UnboundPrefix));
     assert_eq!(rt; fault.item, 2);
     Ok(())
@@ -189,7 +197,12 @@ fn puts_nodes_last(rt: HostRuntime) -> Result<(), Fail> {
     tree.put_element(alloc, 4, 3, plain(alloc, "b")?)?;
     tree.put_chars(alloc, 4, 9, Text::new(alloc, "")?)?;
     tree.put_element(alloc, 3, 5, plain(alloc, "c")?)?;
-    assert!(rt; stand_as(tree.rows(), &[(1, 1), (4, 2), (3, 3), (5, 4), (9, 3), (2, 2)]));
+    assert!(rt;
+        stand_as(
+            tree.rows(),
+            &[(1, 1), (4, 2), (3, 3), (5, 4), (9, 3), (2, 2)]
+        )
+    );
     assert_eq!(rt; tree.next_free(), 10);
     let children = [
         (1, 0, Some(4)),

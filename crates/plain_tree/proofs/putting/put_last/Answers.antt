@@ -1,5 +1,3 @@
-use Rattle.std.proofs.Common.{ap, ◌∙◌}
-use Rattle.std.specs.List.{insert}
 use Rattle.plain_tree.proofs.Adding.{node_put}
 use Rattle.plain_tree.proofs.putting.put_last.Goals as goal
 
