@@ -1,2 +1,4 @@
 pub mod Finding
 pub mod Sound
+pub mod KindLaws
+pub mod Adding

@@ -1,5 +1,5 @@
 -- A builder of a document keeps to what will be sound.
-use Rattle.std.proofs.Common.{◌≡◌, List, [], ◌∷◌, Result, Ok, Err, OnOk, OnErr, refl, sym, ◌∙◌, subst}
+use Rattle.std.proofs.Common.{◌≡◌, [], ◌∷◌, Result, Ok, Err, OnOk, OnErr, refl, sym, ◌∙◌, subst}
 use Rattle.item_listing.specs.declared.item.Item.{Item}
 use Rattle.tree_building.specs.Building.{◌>>=◌, after, ended_all}
 use Rattle.tree_building.specs.Builder.{end_of}

@@ -1,6 +1,10 @@
 -- The rows of a tree from a node on.
 use Rattle.std.specs.Prelude.{◌≡◌, ℕ, ◌+◌, ◌-◌, List, [], ◌∷◌, ◌==◌, nat_lt, Option, Some, None, if◌then◌else◌}
 use Rattle.std.specs.Borrow.{Bor}
+use Rattle.tree_rows.specs.declared.row.Content.{Content}
+use Rattle.tree_rows.specs.declared.row.Content.TheVariants as contents
+use Rattle.tree_rows.specs.declared.row.NodeKind.{NodeKind}
+use Rattle.tree_rows.specs.declared.row.NodeKind.TheVariants as kinds
 use Rattle.tree_rows.specs.declared.row.Row.{Row}
 use Rattle.plain_tree.specs.Nodes.{Node, number_at}
 
@@ -15,6 +19,11 @@ number_in place depth [] = None
 number_in place depth (row ∷ rows) =
     if nat_lt row.depth depth then None
     else (if row.depth == depth then (if place == 0 then Some row.number else number_in (place - 1) depth rows) else number_in place depth rows)
+
+-- an element or a text, by its row
+abbrev pub kind_by : Content → NodeKind
+kind_by (contents.Element name) = kinds.Element
+kind_by (contents.Chars chars) = kinds.Chars
 
 -- what a row and those behind it say of a node
 pub record IsRow (row : Row) (behind : List Row) (node : Node) : Type 0 where

@@ -1,5 +1,5 @@
 -- The nodes of a tree by their numbers, and their parts by their places.
-use Rattle.std.specs.Prelude.{ℕ, ◌-◌, List, [], Bool, ◌==◌, slice_get, Option, Some, None, if◌then◌else◌}
+use Rattle.std.specs.Prelude.{ℕ, ◌-◌, List, [], ◌==◌, slice_get, Option, Some, None, if◌then◌else◌}
 use Rattle.std.specs.Option.{option_and_then}
 use Rattle.tree_rows.specs.Forest.{Forest, none, text, element}
 use Rattle.tree_rows.specs.declared.name.Expanded.{Expanded}
@@ -7,8 +7,6 @@ use Rattle.tree_rows.specs.declared.row.Attribute.{Attribute}
 use Rattle.tree_rows.specs.declared.row.Binding.{Binding}
 use Rattle.tree_rows.specs.declared.row.Content.{Content}
 use Rattle.tree_rows.specs.declared.row.Content.TheVariants as contents
-use Rattle.tree_rows.specs.declared.row.NodeKind.{NodeKind}
-use Rattle.tree_rows.specs.declared.row.NodeKind.TheVariants as kinds
 
 -- a node by what it is, its bindings and attributes, and what is below it
 pub record Node : Type 0 where
@@ -29,14 +27,6 @@ node_at key (text number chars next) =
 node_at key (element number name bindings attributes children next) =
     if number == key then Some (record { content = contents.Element name; bindings = bindings; attributes = attributes; children = children })
     else first_of (node_at key children) (node_at key next)
-
--- an element or a text
-abbrev pub kind_by : Content → NodeKind
-kind_by (contents.Element name) = kinds.Element
-kind_by (contents.Chars chars) = kinds.Chars
-
-abbrev pub kind_at : ℕ → Forest → Option NodeKind
-kind_at key f = option_and_then (λ node. Some (kind_by node.content)) (node_at key f)
 
 -- the name of an element
 abbrev pub name_by : Content → Option Expanded

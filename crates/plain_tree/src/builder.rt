@@ -10,7 +10,7 @@ use item_listing::Item;
 use std::alloc::{AllocError, Global};
 use std::marker::Model;
 use tag_names::Prefixes;
-use tree_building::{Built, Rules, TreeFault, build_document, documents_are_sound};
+use tree_building::{Built, Rules, TreeFault, build_document, build_fragment, documents_are_sound};
 
 /// Makes the tree of a document section, item by item. Contracts see what was built, or the fault of the item that was
 /// refused first.
@@ -91,6 +91,25 @@ pub fn read_tree(alloc: Global, items: &[Item]) -> Result<Result<Tree, TreeFault
     ensures { IfOk result (λ read. read ≡ steps.tree items.now) }
 {
     match build_document(alloc, items)? {
+        Ok(built) => Ok(Ok(tree_of(built))),
+        Err(fault) => Ok(Err(fault)),
+    }
+}
+
+/// The tree of items that stand in this scope, by the rules of a document section, or the first reason why they are no
+/// tree.
+///
+/// # Errors
+///
+/// `AllocError` is want of memory; a `TreeFault` is the items'.
+pub fn fragment(
+    alloc: Global,
+    scope: &Prefixes,
+    items: &[Item],
+) -> Result<Result<Tree, TreeFault>, AllocError>
+    ensures { IfOk result (λ read. read ≡ steps.document (steps.built document_rules scope.now items.now)) }
+{
+    match build_fragment(alloc, scope, items)? {
         Ok(built) => Ok(Ok(tree_of(built))),
         Err(fault) => Ok(Err(fault)),
     }

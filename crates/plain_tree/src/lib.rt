@@ -3,11 +3,13 @@
 
 mod builder;
 mod nodes;
+mod putting;
 #[cfg(test)]
 mod tests;
 mod tree;
 
-pub use builder::{Builder, read_tree};
+pub use builder::{Builder, fragment, read_tree};
+pub use tag_names::Prefixes;
 pub use tree::Tree;
 pub use tree_building::{TreeFault, TreeReason, is_one_element};
 pub use tree_edits::{Edit, EditError};

@@ -1,6 +1,7 @@
 ghost use Rattle.std.specs.Prelude.{◌≡◌, slice_get};
 ghost use Rattle.std.specs.Option.{option_copied};
 ghost use Rattle.plain_tree.specs.Behind.{found_by, tail_at, number_in};
+ghost use Rattle.plain_tree.specs.Behind as behind;
 ghost use Rattle.plain_tree.specs.Nodes as nodes;
 
 use tree_rows::{Attribute, Binding, Content, Expanded, NodeKind, Row};
@@ -41,7 +42,7 @@ pub(crate) fn number_in(rows: &[Row], depth: u64, place: u32) -> Option<u32>
 
 /// Whether the content is that of an element or of a text.
 pub(crate) fn kind_by(content: &Content) -> NodeKind
-    ensures { result ≡ nodes.kind_by content.now }
+    ensures { result ≡ behind.kind_by content.now }
 {
     match content {
         Content::Element(_) => NodeKind::Element,

@@ -1,7 +1,11 @@
-use crate::{Builder, Edit, EditError, NodeKind, Tree, TreeReason, read_tree};
+use crate::{
+    Attribute, Binding, Builder, Edit, EditError, Expanded, NodeKind, Prefixes, Row, Tree,
+    TreeReason, fragment, read_tree,
+};
 use item_listing::{Items, read_item};
 use std::alloc::Global;
 use std::test::Fail;
+use tag_names::NameReason;
 use xs_names::Text;
 
 /// The items of these lines.
@@ -105,5 +109,140 @@ fn makes_an_edit(rt: HostRuntime) -> Result<(), Fail> {
     assert!(rt; tree.chars(2).is_some_and(|text| text.as_str() == "z"));
     let refusal = tree.apply_edit(alloc, &Edit::Remove { node: 1 });
     assert_eq!(rt; refusal.err(), Some(EditError::RootFixed));
+    Ok(())
+}
+
+/// A name in no namespace.
+fn plain(alloc: Global, local: &str) -> Result<Expanded, Fail> {
+    Ok(Expanded {
+        namespace: None,
+        local: Text::new(alloc, local)?,
+    })
+}
+
+/// The binding of a prefix.
+fn bound(alloc: Global, prefix: &str, namespace: &str) -> Result<Binding, Fail> {
+    Ok(Binding {
+        prefix: Text::new(alloc, prefix)?,
+        namespace: Text::new(alloc, namespace)?,
+    })
+}
+
+/// An attribute in no namespace.
+fn attribute(alloc: Global, local: &str, value: &str) -> Result<Attribute, Fail> {
+    Ok(Attribute {
+        name: plain(alloc, local)?,
+        value: Text::new(alloc, value)?,
+    })
+}
+
+/// Whether the rows have these numbers and depths.
+fn stand_as(rows: &[Row], places: &[(u32, u32)]) -> bool {
+    if rows.len() != places.len() {
+        return false;
+    }
+    for (row, place) in rows.iter().zip(places.iter()) {
+        if row.number != place.0 || row.depth != place.1 {
+            return false;
+        }
+    }
+    true
+}
+
+#[test]
+fn reads_a_fragment_in_its_scope(rt: HostRuntime) -> Result<(), Fail> {
+    let alloc = rt.alloc();
+    let mut scope = Prefixes::new(alloc)?;
+    scope.bind(bound(alloc, "p", "u")?)?;
+    let items = items_of(alloc, &["(p:r", "-x", "(p:s", ")p:s", ")p:r"])?;
+    let tree = fragment(alloc, &scope, items.as_slice())?
+        .ok()
+        .ok_or("no tree")?;
+    assert!(rt; stand_as(tree.rows(), &[(1, 1), (2, 2), (3, 2)]));
+    assert_eq!(rt; tree.next_free(), 4);
+    let name = tree.name(3).ok_or("no element")?;
+    assert!(rt; name.local.as_str() == "s");
+    assert!(rt;
+        name.namespace
+            .as_ref()
+            .is_some_and(|space| space.as_str() == "u")
+    );
+    assert!(rt; tree.binding_at(1, 0).is_none());
+    assert!(rt; read_tree(alloc, items.as_slice())?.is_err());
+    Ok(())
+}
+
+#[test]
+fn refuses_a_fragment_at_its_item(rt: HostRuntime) -> Result<(), Fail> {
+    let alloc = rt.alloc();
+    let mut scope = Prefixes::new(alloc)?;
+    scope.bind(bound(alloc, "p", "u")?)?;
+    let items = items_of(alloc, &["(p:r", "-x", "(q:s", ")q:s", ")p:r"])?;
+    let fault = fragment(alloc, &scope, items.as_slice())?
+        .err()
+        .ok_or("read")?;
+    assert_eq!(rt; fault.reason, TreeReason::Name(NameReason::UnboundPrefix));
+    assert_eq!(rt; fault.item, 2);
+    Ok(())
+}
+
+#[test]
+fn puts_nodes_last(rt: HostRuntime) -> Result<(), Fail> {
+    let alloc = rt.alloc();
+    let mut tree = Tree::root_alone(alloc, plain(alloc, "r")?, 10)?;
+    assert!(rt; stand_as(tree.rows(), &[(1, 1)]));
+    assert_eq!(rt; tree.next_free(), 10);
+    tree.put_element(alloc, 1, 4, plain(alloc, "a")?)?;
+    tree.put_chars(alloc, 1, 2, Text::new(alloc, "t")?)?;
+    tree.put_element(alloc, 4, 3, plain(alloc, "b")?)?;
+    tree.put_chars(alloc, 4, 9, Text::new(alloc, "")?)?;
+    tree.put_element(alloc, 3, 5, plain(alloc, "c")?)?;
+    assert!(rt;
+        stand_as(
+            tree.rows(),
+            &[(1, 1), (4, 2), (3, 3), (5, 4), (9, 3), (2, 2)]
+        )
+    );
+    assert_eq!(rt; tree.next_free(), 10);
+    let children = [
+        (1, 0, Some(4)),
+        (1, 1, Some(2)),
+        (1, 2, None),
+        (4, 0, Some(3)),
+        (4, 1, Some(9)),
+        (3, 0, Some(5)),
+    ];
+    for (node, place, child) in children {
+        assert_eq!(rt; tree.child_at(node, place), child);
+    }
+    assert!(rt; tree.name(3).is_some_and(|name| name.local.as_str() == "b"));
+    assert!(rt; tree.chars(2).is_some_and(|text| text.as_str() == "t"));
+    assert!(rt; tree.chars(9).is_some_and(|text| text.as_str() == ""));
+    Ok(())
+}
+
+#[test]
+fn puts_attributes_and_bindings_last(rt: HostRuntime) -> Result<(), Fail> {
+    let alloc = rt.alloc();
+    let mut tree = tree_of(alloc, &LINES)?;
+    tree.put_attr(1, attribute(alloc, "b", "2")?)?;
+    tree.put_attr(3, attribute(alloc, "c", "3")?)?;
+    tree.put_binding(1, bound(alloc, "", "v")?)?;
+    assert!(rt; stand_as(tree.rows(), &[(1, 1), (2, 2), (3, 2), (4, 2)]));
+    let values = [(1, 0, "1"), (1, 1, "2"), (3, 0, "2"), (3, 1, "3")];
+    for (node, place, value) in values {
+        assert!(rt;
+            tree.attr_at(node, place)
+                .is_some_and(|attribute| attribute.value.as_str() == value)
+        );
+    }
+    assert!(rt; tree.attr_at(1, 2).is_none() && tree.binding_at(1, 2).is_none());
+    let spaces = [(0, "u"), (1, "v")];
+    for (place, space) in spaces {
+        assert!(rt;
+            tree.binding_at(1, place)
+                .is_some_and(|binding| binding.namespace.as_str() == space)
+        );
+    }
     Ok(())
 }

@@ -1,11 +1,12 @@
-ghost use Rattle.std.specs.Prelude.{◌≡◌, true, Ok, OnOk, OnErr, IfErr};
+ghost use Rattle.std.specs.Prelude.{◌≡◌, ◌<◌, ◌+◌, [], length, true, false, Ok, Some, IfOk, OnOk, OnErr, IfErr};
 ghost use Rattle.std.specs.Option.{option_copied};
 
 use crate::nodes::{attribute_in, binding_in, chars_by, find_row, kind_by, name_by, number_in};
-use std::alloc::Global;
+use crate::putting::{put_attribute, put_binding, put_last, root_row};
+use std::alloc::{AllocError, Global};
 use std::marker::Model;
 use tree_edits::{Edit, EditError, edit_rows};
-use tree_rows::{Attribute, Binding, Expanded, NodeKind, Row};
+use tree_rows::{Attribute, Binding, Content, Expanded, NodeKind, Row};
 use xs_names::Text;
 
 /// A tree of elements and texts. Contracts see it as a forest of one root, with the next free number.
@@ -36,7 +37,12 @@ impl Tree {
     ghost use Rattle.tree_edits.specs.Edits.{after, can_be_made};
     ghost use Rattle.tree_edits.specs.Refusals.{IsWhy};
     ghost use Rattle.plain_tree.specs.Behind.{IsNode, found_by};
-    ghost use Rattle.plain_tree.specs.Nodes.{node_at, kind_at, name_at, chars_at, attribute_at, binding_at, child_at};
+    ghost use Rattle.plain_tree.specs.Nodes.{node_at, name_at, chars_at, attribute_at, binding_at, child_at};
+    ghost use Rattle.plain_tree.specs.Putting.{changed, with_last, with_attribute, with_binding, depth_of, attributes_of, bindings_of, has_name, has_prefix};
+    ghost use Rattle.tree_edits.specs.Edits.{has};
+    ghost use Rattle.tree_rows.specs.Forest.{none, text as text_node, element, count};
+    ghost use Rattle.tree_rows.specs.Kinds.{kind_of};
+    ghost use Rattle.tree_rows.specs.declared.row.NodeKind.TheVariants.{Element};
 
     /// The tree of rows in document order.
     pub(crate) fn from_rows(rows: Vec<Row>, next_free: u32) -> Self
@@ -69,6 +75,77 @@ impl Tree {
         Ok(())
     }
 
+    /// The tree of a root alone, which has the number 1.
+    pub fn root_alone(alloc: Global, name: Expanded, next_free: u32) -> Result<Self, AllocError>
+        requires { 1 < next_free }
+        ensures { IfOk result (λ tree. tree ≡ record { forest = element 1 name [] [] none none; next_free = next_free }) }
+    {
+        let mut rows = Vec::new(alloc);
+        rows.push(root_row(alloc, name))?;
+        Ok(Tree::from_rows(rows, next_free))
+    }
+
+    /// Puts an element of this number last among the children of an element.
+    pub fn put_element(
+        &mut self,
+        alloc: Global,
+        parent: u32,
+        node: u32,
+        name: Expanded,
+    ) -> Result<(), AllocError>
+        requires parent { kind_of parent self.old.forest ≡ Some Element }
+        requires above_0 { 0 < node }
+        requires fresh { has node self.old.forest ≡ false }
+        requires below_next { node < self.old.next_free }
+        requires few { count self.old.forest < 131072 }
+        requires shallow { depth_of parent self.old.forest < 128 }
+        ensures ok { OnOk result (self.new ≡ changed parent (with_last (element node name [] [] none none)) self.old) }
+        ensures err { OnErr result (self.new ≡ self.old) }
+    {
+        put_last(alloc, &mut self.rows, parent, node, Content::Element(name))
+    }
+
+    /// Puts a text of this number last among the children of an element. It stays apart from a text before it.
+    pub fn put_chars(
+        &mut self,
+        alloc: Global,
+        parent: u32,
+        node: u32,
+        text: Text,
+    ) -> Result<(), AllocError>
+        requires parent { kind_of parent self.old.forest ≡ Some Element }
+        requires above_0 { 0 < node }
+        requires fresh { has node self.old.forest ≡ false }
+        requires below_next { node < self.old.next_free }
+        requires few { count self.old.forest < 131072 }
+        ensures ok { OnOk result (self.new ≡ changed parent (with_last (text_node node text none)) self.old) }
+        ensures err { OnErr result (self.new ≡ self.old) }
+    {
+        put_last(alloc, &mut self.rows, parent, node, Content::Chars(text))
+    }
+
+    /// Puts an attribute behind those of an element, which has none of its name.
+    pub fn put_attr(&mut self, node: u32, attr: Attribute) -> Result<(), AllocError>
+        requires element { kind_of node self.old.forest ≡ Some Element }
+        requires lacks { has_name attr.name (attributes_of node self.old.forest) ≡ false }
+        requires few { length (attributes_of node self.old.forest) + length (bindings_of node self.old.forest) < 256 }
+        ensures ok { OnOk result (self.new ≡ changed node (with_attribute attr) self.old) }
+        ensures err { OnErr result (self.new ≡ self.old) }
+    {
+        put_attribute(&mut self.rows, node, attr)
+    }
+
+    /// Puts a binding behind those of an element's start tag, which has none of its prefix.
+    pub fn put_binding(&mut self, node: u32, binding: Binding) -> Result<(), AllocError>
+        requires element { kind_of node self.old.forest ≡ Some Element }
+        requires lacks { has_prefix binding.prefix (bindings_of node self.old.forest) ≡ false }
+        requires few { length (attributes_of node self.old.forest) + length (bindings_of node self.old.forest) < 256 }
+        ensures ok { OnOk result (self.new ≡ changed node (with_binding binding) self.old) }
+        ensures err { OnErr result (self.new ≡ self.old) }
+    {
+        put_binding(&mut self.rows, node, binding)
+    }
+
     /// The number that the next new node gets.
     pub fn next_free(&self) -> u32
         ensures { result ≡ self.now.next_free }
@@ -85,7 +162,7 @@ impl Tree {
 
     /// Whether the node is an element or a text; `None` where there is no such node.
     pub fn kind(&self, node: u32) -> Option<NodeKind>
-        ensures { result ≡ kind_at node self.now.forest }
+        ensures { result ≡ kind_of node self.now.forest }
     {
         match self.find(node) {
             None => None,

@@ -49,6 +49,23 @@ pub fn build_document(alloc: Global, items: &[Item]) -> Result<Result<Built, Tre
     Ok(built)
 }
 
+/// The nodes of items that stand in this scope, by the rules of a document, or the first reason why they are no tree.
+///
+/// # Errors
+///
+/// `AllocError` is want of memory; a `TreeFault` is the items'.
+pub fn build_fragment(
+    alloc: Global,
+    scope: &Prefixes,
+    items: &[Item],
+) -> Result<Result<Built, TreeFault>, AllocError>
+    ensures built { IfOk result (λ built. built ≡ steps.built document_rules scope.now items.now) }
+    ensures sound { IfOk result (λ built. IfOk built (λ end. AreSound end.rows)) }
+{
+    let built = build(alloc, Rules::document(), scope.try_clone(alloc)?, items)?;
+    Ok(built)
+}
+
 /// The nodes of the element that the items of a block are, with numbers and depths from 1. Names resolve in the scope
 /// and the block's bindings, and are not judged.
 pub fn build_block(alloc: Global, scope: &Prefixes, items: &[Item]) -> Result<Vec<Row>, AllocError>

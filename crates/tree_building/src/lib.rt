@@ -15,7 +15,7 @@ mod rules;
 mod tests;
 
 pub use block::is_one_element;
-pub use build::{Built, build_block, build_document};
+pub use build::{Built, build_block, build_document, build_fragment};
 pub use builder::Builder;
 pub use building::Building;
 pub use fault::{TreeFault, TreeReason};

@@ -12,3 +12,4 @@ mod tests;
 
 pub use apply::edit_rows;
 pub use edit::{Edit, EditError};
+pub use places::{below_count, place_of};

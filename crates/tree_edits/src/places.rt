@@ -24,7 +24,7 @@ pub struct Span {
 }
 
 /// The place of the first row of the number; the number of rows where there is none.
-fn place_of(rows: &[Row], number: u32) -> usize
+pub fn place_of(rows: &[Row], number: u32) -> usize
     ensures { result ≡ position_or_len (is_numbered number) rows.now }
 {
     for (place, row) in rows.iter().enumerate() {
@@ -44,7 +44,7 @@ fn rows_behind(rows: &[Row], place: usize) -> &[Row]
 }
 
 /// How many rows are below a node of this depth, where these rows come behind it.
-fn below_count(rows: &[Row], depth: u32) -> usize
+pub fn below_count(rows: &[Row], depth: u32) -> usize
     ensures count { result ≡ position_or_len (ends_at depth) rows.now }
     ensures within { result ≤ length rows.now }
 {
