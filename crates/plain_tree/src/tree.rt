@@ -42,6 +42,7 @@ impl Tree {
     ghost use Rattle.tree_edits.specs.Edits.{has};
     ghost use Rattle.tree_rows.specs.Forest.{none, text as text_node, element, count};
     ghost use Rattle.tree_rows.specs.Kinds.{kind_of};
+    ghost use Rattle.tree_rows.specs.Limits.{max_depth, max_nodes};
     ghost use Rattle.tree_rows.specs.declared.row.NodeKind.TheVariants.{Element};
 
     /// The tree of rows in document order.
@@ -97,8 +98,8 @@ impl Tree {
         requires above_0 { 0 < node }
         requires fresh { has node self.old.forest ≡ false }
         requires below_next { node < self.old.next_free }
-        requires few { count self.old.forest < 131072 }
-        requires shallow { depth_of parent self.old.forest < 128 }
+        requires few { count self.old.forest < max_nodes }
+        requires shallow { depth_of parent self.old.forest < max_depth }
         ensures ok { OnOk result (self.new ≡ changed parent (with_last (element node name [] [] none none)) self.old) }
         ensures err { OnErr result (self.new ≡ self.old) }
     {
@@ -117,7 +118,7 @@ impl Tree {
         requires above_0 { 0 < node }
         requires fresh { has node self.old.forest ≡ false }
         requires below_next { node < self.old.next_free }
-        requires few { count self.old.forest < 131072 }
+        requires few { count self.old.forest < max_nodes }
         ensures ok { OnOk result (self.new ≡ changed parent (with_last (text_node node text none)) self.old) }
         ensures err { OnErr result (self.new ≡ self.old) }
     {
