@@ -187,62 +187,64 @@ fn refuses_a_fragment_at_its_item(rt: HostRuntime) -> Result<(), Fail> {
 }
 
 #[test]
-fn puts_nodes_last(rt: HostRuntime) -> Result<(), Fail> {
+fn puts_elements_last(rt: HostRuntime) -> Result<(), Fail> {
     let alloc = rt.alloc();
     let mut tree = Tree::root_alone(alloc, plain(alloc, "r")?, 10)?;
     assert!(rt; stand_as(tree.rows(), &[(1, 1)]));
-    assert_eq!(rt; tree.next_free(), 10);
     tree.put_element(alloc, 1, 4, plain(alloc, "a")?)?;
-    tree.put_chars(alloc, 1, 2, Text::new(alloc, "t")?)?;
-    tree.put_element(alloc, 4, 3, plain(alloc, "b")?)?;
-    tree.put_chars(alloc, 4, 9, Text::new(alloc, "")?)?;
-    tree.put_element(alloc, 3, 5, plain(alloc, "c")?)?;
-    assert!(rt;
-        stand_as(
-            tree.rows(),
-            &[(1, 1), (4, 2), (3, 3), (5, 4), (9, 3), (2, 2)]
-        )
-    );
+    tree.put_element(alloc, 1, 2, plain(alloc, "b")?)?;
+    tree.put_element(alloc, 4, 3, plain(alloc, "c")?)?;
+    assert!(rt; stand_as(tree.rows(), &[(1, 1), (4, 2), (3, 3), (2, 2)]));
     assert_eq!(rt; tree.next_free(), 10);
-    let children = [
-        (1, 0, Some(4)),
-        (1, 1, Some(2)),
-        (1, 2, None),
-        (4, 0, Some(3)),
-        (4, 1, Some(9)),
-        (3, 0, Some(5)),
-    ];
-    for (node, place, child) in children {
-        assert_eq!(rt; tree.child_at(node, place), child);
-    }
-    assert!(rt; tree.name(3).is_some_and(|name| name.local.as_str() == "b"));
-    assert!(rt; tree.chars(2).is_some_and(|text| text.as_str() == "t"));
-    assert!(rt; tree.chars(9).is_some_and(|text| text.as_str() == ""));
+    assert!(rt; tree.name(3).is_some_and(|name| name.local.as_str() == "c"));
+    assert_eq!(rt; tree.child_at(1, 1), Some(2));
+    assert_eq!(rt; tree.child_at(4, 0), Some(3));
     Ok(())
 }
 
 #[test]
-fn puts_attributes_and_bindings_last(rt: HostRuntime) -> Result<(), Fail> {
+fn puts_texts_last(rt: HostRuntime) -> Result<(), Fail> {
     let alloc = rt.alloc();
-    let mut tree = tree_of(alloc, &LINES)?;
-    tree.put_attr(1, attribute(alloc, "b", "2")?)?;
-    tree.put_attr(3, attribute(alloc, "c", "3")?)?;
-    tree.put_binding(1, bound(alloc, "", "v")?)?;
-    assert!(rt; stand_as(tree.rows(), &[(1, 1), (2, 2), (3, 2), (4, 2)]));
-    let values = [(1, 0, "1"), (1, 1, "2"), (3, 0, "2"), (3, 1, "3")];
-    for (node, place, value) in values {
-        assert!(rt;
-            tree.attr_at(node, place)
-                .is_some_and(|attribute| attribute.value.as_str() == value)
-        );
-    }
-    assert!(rt; tree.attr_at(1, 2).is_none() && tree.binding_at(1, 2).is_none());
-    let spaces = [(0, "u"), (1, "v")];
-    for (place, space) in spaces {
-        assert!(rt;
-            tree.binding_at(1, place)
-                .is_some_and(|binding| binding.namespace.as_str() == space)
-        );
-    }
+    let mut tree = Tree::root_alone(alloc, plain(alloc, "r")?, 10)?;
+    tree.put_chars(alloc, 1, 9, Text::new(alloc, "t")?)?;
+    tree.put_chars(alloc, 1, 2, Text::new(alloc, "")?)?;
+    assert!(rt; stand_as(tree.rows(), &[(1, 1), (9, 2), (2, 2)]));
+    assert!(rt; tree.chars(9).is_some_and(|text| text.as_str() == "t"));
+    assert!(rt; tree.chars(2).is_some_and(|text| text.as_str() == ""));
+    Ok(())
+}
+
+#[test]
+fn puts_attributes_last(rt: HostRuntime) -> Result<(), Fail> {
+    let alloc = rt.alloc();
+    let mut tree = Tree::root_alone(alloc, plain(alloc, "r")?, 2)?;
+    let first = attribute(alloc, "a", "1")?;
+    let second = attribute(alloc, "b", "2")?;
+    assert!(rt; !first.name.is_same(&second.name));
+    tree.put_attr(1, first)?;
+    tree.put_attr(1, second)?;
+    assert!(rt;
+        tree.attr_at(1, 0)
+            .is_some_and(|attribute| attribute.value.as_str() == "1")
+    );
+    assert!(rt;
+        tree.attr_at(1, 1)
+            .is_some_and(|attribute| attribute.value.as_str() == "2")
+    );
+    assert!(rt; tree.attr_at(1, 2).is_none() && tree.binding_at(1, 0).is_none());
+    Ok(())
+}
+
+#[test]
+fn puts_a_binding(rt: HostRuntime) -> Result<(), Fail> {
+    let alloc = rt.alloc();
+    let mut tree = Tree::root_alone(alloc, plain(alloc, "r")?, 2)?;
+    tree.put_binding(1, bound(alloc, "p", "u")?)?;
+    assert!(rt; stand_as(tree.rows(), &[(1, 1)]));
+    assert!(rt;
+        tree.binding_at(1, 0).is_some_and(|binding| binding.prefix.as_str() == "p"
+            && binding.namespace.as_str() == "u")
+    );
+    assert!(rt; tree.binding_at(1, 1).is_none() && tree.attr_at(1, 0).is_none());
     Ok(())
 }
