@@ -60,6 +60,37 @@ fn looks_up_the_latest_binding(rt: HostRuntime) -> Result<(), Fail> {
     Ok(())
 }
 
+/// Whether the prefix is bound to this namespace.
+fn is_bound_to(scope: &Prefixes, prefix: &str, namespace: &str) -> bool {
+    scope
+        .of_prefix(prefix)
+        .is_some_and(|space| space.as_str() == namespace)
+}
+
+#[test]
+fn shows_hidden_bindings_again(rt: HostRuntime) -> Result<(), Fail> {
+    let alloc = rt.alloc();
+    let mut scope = Prefixes::new(alloc)?;
+    scope.bind(binding(alloc, "p", "u")?)?;
+    scope.bind(binding(alloc, "q", "x")?)?;
+    let mark = scope.len();
+    let tag = tag_of(alloc, "a", &[("xmlns:p", "v"), ("xmlns:p", "w")])?;
+    scope.bind_all(tag.bindings(alloc)?.as_slice())?;
+    assert!(rt; is_bound_to(&scope, "p", "v"));
+    scope.truncate(mark + 1);
+    assert!(rt; is_bound_to(&scope, "p", "w") && is_bound_to(&scope, "q", "x"));
+    scope.truncate(mark + 7);
+    assert!(rt; is_bound_to(&scope, "p", "w"));
+    scope.truncate(mark);
+    assert!(rt; is_bound_to(&scope, "p", "u") && is_bound_to(&scope, "q", "x"));
+    scope.truncate(1);
+    assert!(rt; scope.of_prefix("p").is_none() && scope.of_prefix("q").is_none());
+    scope.bind(binding(alloc, "q", "y")?)?;
+    assert!(rt; is_bound_to(&scope, "q", "y") && scope.of_prefix("p").is_none());
+    assert_eq!(rt; scope.len(), 2);
+    Ok(())
+}
+
 #[test]
 fn names_an_element(rt: HostRuntime) -> Result<(), Fail> {
     let alloc = rt.alloc();
@@ -131,5 +162,43 @@ fn refuses_unbound_and_double_attributes(rt: HostRuntime) -> Result<(), Fail> {
     assert_eq!(rt; fault_of(alloc, "a", &lines)?, double);
     let lines = [("xmlns:p", "u"), ("xmlns:p", "v")];
     assert_eq!(rt; fault_of(alloc, "a", &lines)?, double);
+    Ok(())
+}
+
+/// A tag that binds 10,000 prefixes, with an attribute of each, and this attribute at the end.
+fn long_tag(alloc: Global, last: &str) -> Result<Tag, Fail> {
+    let mut attributes = AttributeLines::new(alloc);
+    for i in 0..10_000u32 {
+        attributes.push(AttributeLine {
+            name: Text::from_string(format!(in alloc; "xmlns:p{i}")?),
+            value: Text::from_string(format!(in alloc; "u{i}")?),
+        })?;
+        attributes.push(AttributeLine {
+            name: Text::from_string(format!(in alloc; "p{i}:a")?),
+            value: Text::new(alloc, "")?,
+        })?;
+    }
+    attributes.push(AttributeLine {
+        name: Text::new(alloc, last)?,
+        value: Text::new(alloc, "")?,
+    })?;
+    Ok(Tag {
+        name: Text::new(alloc, "p0:r")?,
+        attributes,
+    })
+}
+
+#[test]
+fn judges_a_long_tag_at_once(rt: HostRuntime) -> Result<(), Fail> {
+    let alloc = rt.alloc();
+    let scope = Prefixes::new(alloc)?;
+    let too_many = Some(NameReason::TooManyAttributes);
+    assert_eq!(rt; long_tag(alloc, "a")?.name_fault(alloc, &scope)?, too_many);
+    let double = Some(NameReason::DoubleAttribute);
+    assert_eq!(rt; long_tag(alloc, "p0:a")?.name_fault(alloc, &scope)?, double);
+    let unbound = Some(NameReason::UnboundPrefix);
+    assert_eq!(rt; long_tag(alloc, "q:a")?.name_fault(alloc, &scope)?, unbound);
+    let named = long_tag(alloc, "a")?.named(alloc, &scope)?;
+    assert_eq!(rt; named.attributes.as_slice().len(), 10_001);
     Ok(())
 }
