@@ -1,5 +1,6 @@
 -- Tags outside of all elements.
 use Rattle.std.specs.Prelude.{◌≡◌, ℕ, List, [], ◌∷◌, None, Some, codes}
+use Rattle.std.specs.Str.{chars}
 use Rattle.std.proofs.Common.{refl}
 use Rattle.tag_names.specs.Scopes.{first_scope}
 use Rattle.tag_names.specs.Tags.{named}
@@ -20,6 +21,7 @@ whole_tag : named first_scope (tag (codes "p:a") (line (codes "p:b") (codes "1")
   bindings = record { prefix = codes "p"; namespace = codes "u" } ∷ [];
   attributes = record { name = record { namespace = Some (codes "u"); local = codes "b" }; value = codes "1" } ∷ [];
 }
+unfolding chars
 whole_tag = refl
 
 -- <a b="1" xmlns="d"/>: the default namespace is not that of an attribute
@@ -28,20 +30,25 @@ default_namespace : named first_scope (tag (codes "a") (line (codes "b") (codes 
   bindings = record { prefix = []; namespace = codes "d" } ∷ [];
   attributes = record { name = record { namespace = None; local = codes "b" }; value = codes "1" } ∷ [];
 }
+unfolding chars
 default_namespace = refl
 
 -- <a p:b="1"/>
 unbound_prefix : name_fault first_scope (tag (codes "a") (line (codes "p:b") (codes "1") ∷ [])) ≡ Some UnboundPrefix
+unfolding chars
 unbound_prefix = refl
 
 -- <a xmlns:p="" q:b="1"/>: the first reason of two
 no_namespace : name_fault first_scope (tag (codes "a") (line (codes "xmlns:p") [] ∷ line (codes "q:b") (codes "1") ∷ [])) ≡ Some ReservedName
+unfolding chars
 no_namespace = refl
 
 -- <a xmlns:p="u" xmlns:q="u" p:b="1" q:b="2"/>
 one_name_by_two_prefixes : name_fault first_scope (tag (codes "a") (line (codes "xmlns:p") (codes "u") ∷ line (codes "xmlns:q") (codes "u") ∷ line (codes "p:b") (codes "1") ∷ line (codes "q:b") (codes "2") ∷ [])) ≡ Some DoubleAttribute
+unfolding chars
 one_name_by_two_prefixes = refl
 
 -- <a xmlns="u" xmlns:p="u" b="1" p:b="2"/>
 two_names : name_fault first_scope (tag (codes "a") (line (codes "xmlns") (codes "u") ∷ line (codes "xmlns:p") (codes "u") ∷ line (codes "b") (codes "1") ∷ line (codes "p:b") (codes "2") ∷ [])) ≡ None
+unfolding chars
 two_names = refl
