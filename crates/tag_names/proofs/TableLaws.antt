@@ -1,9 +1,9 @@
 -- The table of a scope, after a binding and before it.
-use Rattle.std.proofs.Common.{◌≡◌, ℕ, ◌+◌, ◌-◌, ◌<◌, ◌≤◌, List, [], ◌∷◌, ◌++◌, length, take, drop, reverse, map, get_or, bytes_eq, string_bytes, Bool, true, false, cond, Option, Some, None, is_some, refl, sym, ap, subst, ◌∙◌, append_assoc, arith}
+use Rattle.std.proofs.Common.{◌≡◌, ℕ, ◌+◌, ◌-◌, ◌<◌, ◌≤◌, List, [], ◌∷◌, ◌++◌, length, drop, reverse, get_or, bytes_eq, string_bytes, Bool, true, false, cond, Option, Some, None, is_some, refl, sym, ap, subst, ◌∙◌, append_assoc, arith}
 use Rattle.std.specs.Prelude.{String, slice_get, IsSome}
 use Rattle.std.specs.Map.{update}
 use Rattle.std.specs.String.{string_eq}
-use Rattle.std.proofs.lemmas.List.{length-append, length-reverse, length-drop, reverse-append, reverse-reverse, get_or_push, drop_at, drop-drop, take_more}
+use Rattle.std.proofs.lemmas.List.{length-append, length-reverse, length-drop, reverse-append, reverse-reverse, get_or_push, drop-drop}
 use Rattle.std.proofs.lemmas.Map.Text.{hash_map_updates_text}
 use Rattle.std.proofs.lemmas.Option.{slice_get_read, slice_get_within, get_or_from_slice_get}
 use Rattle.std.proofs.lemmas.Slice.Eq.{bytes_eq-Decides}
@@ -11,7 +11,7 @@ use Rattle.indexmap.specs.IndexMap.{IndexMap, get_by_text, UpdatesBy}
 use Rattle.xs_names.proofs.NumberingLaws.{slice_get-Begins}
 use Rattle.tree_rows.specs.declared.row.Binding.{Binding}
 use Rattle.tag_names.specs.Scopes.{of_prefix}
-use Rattle.tag_names.specs.Tables.{bindings_of, place_of, Hides, IsTable}
+use Rattle.tag_names.specs.Tables.{bindings_of, place_of, IsTable}
 use Rattle.tag_names.specs.declared.prefixes.Entry.{Entry}
 
 reverse-push : {X : Type 0} (xs : List X) (x : X) → reverse (xs ++ x ∷ []) ≡ x ∷ reverse xs
@@ -85,7 +85,7 @@ module _ {Z S : Type 0} where
   IsTable-bound items grown e old new prefix place t g hidden is_prefix is_place h =
       let updates : (p : List ℕ) → get_by_text new p ≡ update bytes_eq (get_by_text old) prefix (Some place) p = hash_map_updates_text prefix old new (Some place) h in
       let wanted : (p : List ℕ) → get_by_text new p ≡ update bytes_eq (get_by_text old) e.binding.prefix (Some (length (reverse items))) p =
-          λ p. updates p ∙ ap (λ q. update bytes_eq (get_by_text old) q (Some place) p) is_prefix ∙ ap (λ n. update bytes_eq (get_by_text old) e.binding.prefix (Some n) p) (is_place ∙ sym (length-reverse items)) in
+      λ p. updates p ∙ ap (λ q. update bytes_eq (get_by_text old) q (Some place) p) is_prefix ∙ ap (λ n. update bytes_eq (get_by_text old) e.binding.prefix (Some n) p) (is_place ∙ sym (length-reverse items)) in
       subst (λ l. IsTable l new) (sym (ap reverse g ∙ reverse-push items e)) (pushed (reverse items) old new e t hidden wanted)
 
   -- one binding fewer

@@ -120,8 +120,10 @@ impl Tag {
         let lines = self.attributes.as_slice();
         let bindings = bindings_in(alloc, lines)?;
         let own = Prefixes::of_bindings(alloc, bindings.as_slice())?;
-        Ok(is_unbound(&own, scope, prefix_of(self.name.as_str()))
-            || any_unbound(&own, scope, lines))
+        Ok(
+            is_unbound(&own, scope, prefix_of(self.name.as_str()))
+                || any_unbound(&own, scope, lines),
+        )
     }
 
     /// Whether two attributes have one expanded name, or two bindings one prefix, where the tag stands in this scope

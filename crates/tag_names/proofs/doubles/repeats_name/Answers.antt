@@ -1,4 +1,4 @@
-use Rattle.std.proofs.Common.{◌∙◌, ◌&&◌}
+use Rattle.std.proofs.Common.{◌&&◌}
 use Rattle.std.specs.Option.{option_eq}
 use Rattle.std.specs.String.{string_eq}
 use Rattle.tree_rows.specs.Naming.{same_name}

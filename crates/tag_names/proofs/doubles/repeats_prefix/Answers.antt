@@ -1,4 +1,4 @@
-use Rattle.std.proofs.Common.{◌∙◌, ap, bytes_eq, string_bytes, refl}
+use Rattle.std.proofs.Common.{◌∙◌, bytes_eq, string_bytes, refl}
 use Rattle.std.specs.String.{string_eq}
 use Rattle.tag_names.proofs.DoubleLaws.{start-prefixes, turn-seen, turn-added}
 use Rattle.tag_names.proofs.doubles.repeats_prefix.Goals as goal
