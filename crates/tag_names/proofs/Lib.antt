@@ -1,2 +1,4 @@
 pub mod ScopeLaws
 pub mod TagLaws
+pub mod DoubleLaws
+pub mod TableLaws

@@ -1,4 +1,6 @@
 pub mod Scopes
 pub mod Tags
 pub mod Faults
-pub mod Blocks
+pub mod Tables
+pub mod Keys
+pub mod Examples

@@ -1,15 +1,14 @@
-ghost use Rattle.std.specs.Prelude.{◌≡◌, ◌++◌, bytes_eq, IfOk};
+ghost use Rattle.std.specs.Prelude.{◌≡◌, ◌++◌, IfOk};
 ghost use Rattle.std.specs.List.{list_any};
 ghost use Rattle.std.specs.Option.{option_copied};
 ghost use Rattle.tag_names.specs.Faults as faults;
 ghost use Rattle.tag_names.specs.Tags as tags;
-ghost use Rattle.tree_rows.specs.Naming.{same_name};
 
+use crate::doubles::{repeats_name, repeats_prefix};
 use crate::named::{attributes_in, bindings_in, of_prefix};
 use crate::parts::{bound_prefix, is_no_qname, prefix_of};
 use crate::{AttributeLine, NameReason, Prefixes, Tag};
 use std::alloc::{AllocError, Global};
-use tree_rows::{Attribute, Binding, Expanded};
 
 const MAX_ATTRIBUTES: usize = 256;
 
@@ -42,7 +41,7 @@ fn binds_reserved(line: &AttributeLine) -> bool
 }
 
 /// Whether a prefix other than `xmlns` is not bound.
-fn is_unbound(own: &[Binding], scope: &Prefixes, prefix: Option<&str>) -> bool
+fn is_unbound(own: &Prefixes, scope: &Prefixes, prefix: Option<&str>) -> bool
     ensures { result ≡ faults.is_unbound (own.now ++ scope.now) (option_copied prefix.entry) }
 {
     match prefix {
@@ -52,7 +51,7 @@ fn is_unbound(own: &[Binding], scope: &Prefixes, prefix: Option<&str>) -> bool
 }
 
 /// Whether the prefix of an attribute that is no binding is not bound.
-fn line_is_unbound(own: &[Binding], scope: &Prefixes, line: &AttributeLine) -> bool
+fn line_is_unbound(own: &Prefixes, scope: &Prefixes, line: &AttributeLine) -> bool
     ensures { result ≡ faults.line_is_unbound (own.now ++ scope.now) line.now }
 {
     match bound_prefix(line) {
@@ -92,52 +91,10 @@ fn any_reserved(lines: &[AttributeLine]) -> bool
 }
 
 /// Whether the prefix of an attribute that is no binding is not bound.
-fn any_unbound(own: &[Binding], scope: &Prefixes, lines: &[AttributeLine]) -> bool
+fn any_unbound(own: &Prefixes, scope: &Prefixes, lines: &[AttributeLine]) -> bool
     ensures { result ≡ list_any (faults.line_is_unbound (own.now ++ scope.now)) lines.now }
 {
     lines.iter().any(|line| line_is_unbound(own, scope, line))
-}
-
-/// Whether the prefix is among those of the bindings.
-fn is_among(prefix: &str, bindings: &[Binding]) -> bool
-    ensures { result ≡ list_any (λ other. bytes_eq prefix.now other.prefix) bindings.now }
-{
-    bindings.iter().any(|other| prefix == other.prefix.as_str())
-}
-
-/// Whether two bindings have one prefix.
-fn repeats_prefix(bindings: &[Binding]) -> bool
-    ensures { result ≡ faults.repeats_prefix bindings.now }
-{
-    let mut left = bindings;
-    'left: while let Some((first, more)) = left.split_first() {
-        if is_among(first.prefix.as_str(), more) {
-            return true;
-        }
-        left = more;
-    }
-    false
-}
-
-/// Whether the name is among those of the attributes.
-fn is_named(name: &Expanded, attributes: &[Attribute]) -> bool
-    ensures { result ≡ list_any (λ other. same_name name.now other.name) attributes.now }
-{
-    attributes.iter().any(|other| name.is_same(&other.name))
-}
-
-/// Whether two attributes have one expanded name.
-fn repeats_name(attributes: &[Attribute]) -> bool
-    ensures { result ≡ faults.repeats_name attributes.now }
-{
-    let mut left = attributes;
-    'left: while let Some((first, more)) = left.split_first() {
-        if is_named(&first.name, more) {
-            return true;
-        }
-        left = more;
-    }
-    false
 }
 
 impl Tag {
@@ -162,8 +119,11 @@ impl Tag {
     {
         let lines = self.attributes.as_slice();
         let bindings = bindings_in(alloc, lines)?;
-        let own = bindings.as_slice();
-        Ok(is_unbound(own, scope, prefix_of(self.name.as_str())) || any_unbound(own, scope, lines))
+        let own = Prefixes::of_bindings(alloc, bindings.as_slice())?;
+        Ok(
+            is_unbound(&own, scope, prefix_of(self.name.as_str()))
+                || any_unbound(&own, scope, lines),
+        )
     }
 
     /// Whether two attributes have one expanded name, or two bindings one prefix, where the tag stands in this scope
@@ -173,9 +133,12 @@ impl Tag {
     {
         let lines = self.attributes.as_slice();
         let bindings = bindings_in(alloc, lines)?;
-        let own = bindings.as_slice();
-        let attributes = attributes_in(alloc, own, scope, lines)?;
-        Ok(repeats_prefix(own) || repeats_name(attributes.as_slice()))
+        if repeats_prefix(alloc, bindings.as_slice())? {
+            return Ok(true);
+        }
+        let own = Prefixes::of_bindings(alloc, bindings.as_slice())?;
+        let attributes = attributes_in(alloc, &own, scope, lines)?;
+        repeats_name(alloc, attributes.as_slice())
     }
 
     /// Whether there are more than 256 attributes and bindings.

@@ -1,6 +1,7 @@
 //! The names of start tags: prefixes in scope, expanded names, and why the names of a tag are refused.
 #![tactic(auto)]
 
+mod doubles;
 mod fault;
 mod judge;
 mod lines;

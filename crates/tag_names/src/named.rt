@@ -1,4 +1,4 @@
-ghost use Rattle.std.specs.Prelude.{◌≡◌, ◌∷◌, ◌++◌, List, find, bytes_eq, IfOk, OnOk};
+ghost use Rattle.std.specs.Prelude.{◌≡◌, ◌∷◌, ◌++◌, List, IfOk, OnOk};
 ghost use Rattle.std.specs.Option.{option_copied};
 ghost use Rattle.tag_names.specs.Scopes as scopes;
 ghost use Rattle.tag_names.specs.Tags as tags;
@@ -21,25 +21,16 @@ pub struct Named {
     pub attributes: Attributes,
 }
 
-/// The first binding of the prefix.
-fn find_binding<'a>(bindings: &'a [Binding], prefix: &str) -> Option<&'a Binding>
-    ensures { option_copied result ≡ find (λ b. bytes_eq b.prefix prefix.now) bindings.now }
-{
-    bindings
-        .iter()
-        .find(|binding| binding.prefix.as_str() == prefix)
-}
-
 /// The name of the namespace that a prefix is bound to, where these bindings come before a scope.
 pub(crate) fn of_prefix<'a>(
-    own: &'a [Binding],
+    own: &'a Prefixes,
     scope: &'a Prefixes,
     prefix: &str,
 ) -> Option<&'a Text>
     ensures { option_copied result ≡ scopes.of_prefix (own.now ++ scope.now) prefix.now }
 {
-    match find_binding(own, prefix) {
-        Some(binding) => Some(&binding.namespace),
+    match own.of_prefix(prefix) {
+        Some(namespace) => Some(namespace),
         None => scope.of_prefix(prefix),
     }
 }
@@ -47,7 +38,7 @@ pub(crate) fn of_prefix<'a>(
 /// The namespace that a prefix is bound to, `None` for the absent one.
 fn space_by(
     alloc: Global,
-    own: &[Binding],
+    own: &Prefixes,
     scope: &Prefixes,
     prefix: &str,
 ) -> Result<Option<Text>, AllocError>
@@ -63,7 +54,7 @@ fn space_by(
 /// The expanded name of an element.
 fn element_name(
     alloc: Global,
-    own: &[Binding],
+    own: &Prefixes,
     scope: &Prefixes,
     name: &str,
 ) -> Result<Expanded, AllocError>
@@ -80,7 +71,7 @@ fn element_name(
 /// The expanded name of an attribute: without a prefix it is in no namespace.
 fn attribute_name(
     alloc: Global,
-    own: &[Binding],
+    own: &Prefixes,
     scope: &Prefixes,
     name: &str,
 ) -> Result<Expanded, AllocError>
@@ -127,7 +118,7 @@ pub(crate) fn bindings_in(alloc: Global, lines: &[AttributeLine]) -> Result<Bind
 /// Puts an attribute behind the others, if it is no binding.
 fn put_attribute(
     alloc: Global,
-    own: &[Binding],
+    own: &Prefixes,
     scope: &Prefixes,
     attributes: &mut Attributes,
     line: &AttributeLine,
@@ -149,7 +140,7 @@ fn put_attribute(
 /// The attributes of a tag that are no bindings, in order.
 pub(crate) fn attributes_in(
     alloc: Global,
-    own: &[Binding],
+    own: &Prefixes,
     scope: &Prefixes,
     lines: &[AttributeLine],
 ) -> Result<Attributes, AllocError>
@@ -176,8 +167,9 @@ impl Tag {
     {
         let lines = self.attributes.as_slice();
         let bindings = bindings_in(alloc, lines)?;
-        let name = element_name(alloc, bindings.as_slice(), scope, self.name.as_str())?;
-        let attributes = attributes_in(alloc, bindings.as_slice(), scope, lines)?;
+        let own = Prefixes::of_bindings(alloc, bindings.as_slice())?;
+        let name = element_name(alloc, &own, scope, self.name.as_str())?;
+        let attributes = attributes_in(alloc, &own, scope, lines)?;
         Ok(Named {
             name,
             bindings,

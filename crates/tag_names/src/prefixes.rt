@@ -1,24 +1,18 @@
-ghost use Rattle.std.specs.Prelude.{◌≡◌, ◌∷◌, ◌++◌, ◌-◌, List, drop, find, length, reverse, bytes_eq, IfOk, OnOk, OnErr};
-ghost use Rattle.std.specs.Option.{option_copied, option_map};
+ghost use Rattle.std.specs.Prelude.{◌≡◌, ◌∷◌, ◌++◌, [], ◌-◌, ℕ, List, drop, length, reverse, IsSome, bytes_eq, IfOk, OnOk, OnErr};
+ghost use Rattle.std.specs.Option.{option_copied};
+ghost use Rattle.std.specs.Map.{update};
+ghost use Rattle.indexmap.specs.IndexMap.{get_by_text};
 ghost use Rattle.tag_names.specs.Scopes as scopes;
+ghost use Rattle.tag_names.specs.Tables.{bindings_of};
 ghost use Rattle.tree_rows.specs.declared.row.Binding.{Binding};
 
+use indexmap::IndexMap;
 use std::alloc::{AllocError, Global};
 use std::marker::Model;
 use tree_rows::Binding;
 use xs_names::Text;
 
 const XML_NAMESPACE: &str = "http://www.w3.org/XML/1998/namespace";
-
-/// The last binding of the prefix.
-fn latest_binding<'a>(bindings: &'a [Binding], prefix: &str) -> Option<&'a Binding>
-    ensures { option_copied result ≡ find (λ b. bytes_eq b.prefix prefix.now) (reverse bindings.now) }
-{
-    bindings
-        .iter()
-        .rev()
-        .find(|binding| binding.prefix.as_str() == prefix)
-}
 
 /// A copy of a binding.
 fn copy_of(alloc: Global, binding: &Binding) -> Result<Binding, AllocError>
@@ -30,60 +24,100 @@ fn copy_of(alloc: Global, binding: &Binding) -> Result<Binding, AllocError>
     })
 }
 
-/// Copies of bindings.
-fn copies_of(alloc: Global, bindings: &[Binding]) -> Result<Vec<Binding>, AllocError>
-    ensures { IfOk result (λ copies. copies.items ≡ bindings.now) }
+/// Gives the prefix the place of the binding that was hidden, or none.
+fn restore(latest: &mut IndexMap<String, usize>, prefix: &str, hidden: Option<usize>)
+    requires { IsSome (get_by_text latest.old prefix.now) }
+    ensures { (other : List ℕ) → get_by_text latest.new other ≡ update bytes_eq (get_by_text latest.old) prefix.now hidden other }
 {
-    let mut copies = Vec::new(alloc);
-    for binding in bindings {
-        copies.push(copy_of(alloc, binding)?)?;
+    match hidden {
+        None => {
+            latest.swap_remove(prefix);
+        }
+        Some(place) => {
+            if let Some(shown) = latest.get_mut(prefix) {
+                *shown = place;
+            }
+        }
     }
-    Ok(copies)
 }
 
-/// Copies of bindings, the last one first.
-fn reversed_copies(alloc: Global, bindings: &[Binding]) -> Result<Vec<Binding>, AllocError>
-    ensures { IfOk result (λ copies. copies.items ≡ reverse bindings.now) }
-{
-    let mut copies = Vec::new(alloc);
-    let mut left = bindings;
-    'left: while let Some((last, before)) = left.split_last() {
-        copies.push(copy_of(alloc, last)?)?;
-        left = before;
-    }
-    Ok(copies)
+/// A binding, with the place of the binding of the same prefix that it hides.
+#[derive(Debug, Drop)]
+struct Entry {
+    binding: Binding,
+    hidden: Option<usize>,
 }
 
 /// The prefixes in scope. Contracts see the bindings, the latest first.
 ///
 /// The empty prefix stands for the default namespace. Before an element's bindings `len` tells where its scope began, and
-/// after the element `truncate` goes back there.
+/// after the element `truncate` goes back there. A prefix is looked up in a time that does not grow with the bindings
+/// (expected, by hashing).
 #[derive(Debug, Drop)]
 pub struct Prefixes {
     alloc: Global,
-    bindings: Vec<Binding>,
+    /// The bindings in the order of coming.
+    entries: Vec<Entry>,
+    /// The place of the latest binding of each prefix that is bound.
+    latest: IndexMap<String, usize>,
 }
 
 impl Model for Prefixes {
-    ghost use Rattle.std.specs.Prelude.{List, reverse};
+    ghost use Rattle.std.specs.Prelude.{List};
     ghost use Rattle.tree_rows.specs.declared.row.Binding.{Binding};
 
     ghost Value = { List Binding };
 
-    ghost view = { λ p. reverse p.bindings.items };
+    ghost use Rattle.std.specs.Prelude.{reverse};
+    ghost use Rattle.tag_names.specs.Tables.{bindings_of, IsTable};
+
+    ghost view = { λ p. bindings_of (reverse p.entries.items) };
+
+    ghost invariant = { λ p. IsTable (reverse p.entries.items) p.latest };
+}
+
+/// A scope of copies of these bindings, the last of which is the latest.
+fn bound_copies(alloc: Global, entries: &[Entry]) -> Result<Prefixes, AllocError>
+    ensures { IfOk result (λ copy. copy ≡ bindings_of (reverse entries.now)) }
+{
+    let mut copy = Prefixes::empty(alloc);
+    for entry in entries {
+        copy.bind(copy_of(alloc, &entry.binding)?)?;
+    }
+    Ok(copy)
 }
 
 impl Prefixes {
+    /// No bindings.
+    pub(crate) fn empty(alloc: Global) -> Self
+        ensures { result ≡ [] }
+    {
+        Prefixes {
+            alloc,
+            entries: Vec::new(alloc),
+            latest: IndexMap::new(alloc),
+        }
+    }
+
+    /// These bindings alone. An earlier one hides a later one.
+    pub(crate) fn of_bindings(alloc: Global, bindings: &[Binding]) -> Result<Self, AllocError>
+        ensures { IfOk result (λ own. own ≡ bindings.now) }
+    {
+        let mut own = Prefixes::empty(alloc);
+        own.bind_all(bindings)?;
+        Ok(own)
+    }
+
     /// The scope outside of all elements, which binds the prefix `xml` alone.
     pub fn new(alloc: Global) -> Result<Self, AllocError>
         ensures { IfOk result (λ scope. scope ≡ scopes.first_scope) }
     {
-        let mut bindings = Vec::new(alloc);
-        bindings.push(Binding {
+        let mut scope = Prefixes::empty(alloc);
+        scope.bind(Binding {
             prefix: Text::new(alloc, "xml")?,
             namespace: Text::new(alloc, XML_NAMESPACE)?,
         })?;
-        Ok(Prefixes { alloc, bindings })
+        Ok(scope)
     }
 
     /// Binds a prefix, or the default namespace. Earlier bindings of it are hidden.
@@ -91,7 +125,30 @@ impl Prefixes {
         ensures ok { OnOk result (self.new ≡ binding ∷ self.old) }
         ensures err { OnErr result (self.new ≡ self.old) }
     {
-        self.bindings.push(binding)?;
+        let prefix = String::from_str(self.alloc, binding.prefix.as_str())?;
+        let hidden = self.latest.get(binding.prefix.as_str()).copied();
+        let place = self.entries.len();
+        self.entries.push(Entry { binding, hidden })?;
+        match self.latest.insert(prefix, place) {
+            Ok(_) => Ok(()),
+            Err(_) => {
+                self.entries.pop();
+                Err(AllocError)
+            }
+        }
+    }
+
+    /// Binds copies of bindings, the first one last. Where memory is wanting, some of them may stay bound.
+    fn bind_copies(&mut self, bindings: &[Binding]) -> Result<(), AllocError>
+        ensures ok { OnOk result (self.new ≡ bindings.now ++ self.old) }
+        ensures err { OnErr result ((more : List Binding) × (self.new ≡ more ++ self.old)) }
+    {
+        let mut left = bindings;
+        'left: while let Some((last, before)) = left.split_last() {
+            let copy = copy_of(self.alloc, last)?;
+            self.bind(copy)?;
+            left = before;
+        }
         Ok(())
     }
 
@@ -100,38 +157,55 @@ impl Prefixes {
         ensures ok { OnOk result (self.new ≡ bindings.now ++ self.old) }
         ensures err { OnErr result (self.new ≡ self.old) }
     {
-        let mut copies = reversed_copies(self.alloc, bindings)?;
-        self.bindings.append(&mut copies)?;
-        Ok(())
+        let mark = self.len();
+        match self.bind_copies(bindings) {
+            Ok(()) => Ok(()),
+            Err(AllocError) => {
+                self.truncate(mark);
+                Err(AllocError)
+            }
+        }
     }
 
     /// The name of the namespace that the latest binding of the prefix gives.
     pub fn of_prefix(&self, prefix: &str) -> Option<&Text>
         ensures { option_copied result ≡ scopes.of_prefix self.now prefix.now }
     {
-        let latest = latest_binding(&self.bindings, prefix)?;
-        Some(&latest.namespace)
+        match self.latest.get(prefix) {
+            None => None,
+            Some(place) => Some(&self.entries[*place].binding.namespace),
+        }
     }
 
     /// The number of bindings.
     pub fn len(&self) -> usize
         ensures { result ≡ length self.now }
     {
-        self.bindings.len()
+        self.entries.len()
+    }
+
+    /// Takes the latest binding away, and shows the one that it hides.
+    fn unbind(&mut self)
+        ensures { self.new ≡ drop 1 self.old }
+    {
+        if let Some(Entry { binding, hidden }) = self.entries.pop() {
+            restore(&mut self.latest, binding.prefix.as_str(), hidden);
+        }
     }
 
     /// Goes back to the scope of the first `len` bindings.
     pub fn truncate(&mut self, len: usize)
         ensures { self.new ≡ drop (length self.old - len) self.old }
     {
-        self.bindings.truncate(len);
+        'bindings: while self.len() > len {
+            self.unbind();
+        }
     }
 
     /// A copy with memory of its own.
     pub fn try_clone(&self, alloc: Global) -> Result<Self, AllocError>
         ensures { IfOk result (λ copy. copy ≡ self.now) }
     {
-        let bindings = copies_of(alloc, &self.bindings)?;
-        Ok(Prefixes { alloc, bindings })
+        bound_copies(alloc, self.entries.as_slice())
     }
 }

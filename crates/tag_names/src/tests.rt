@@ -60,6 +60,33 @@ fn looks_up_the_latest_binding(rt: HostRuntime) -> Result<(), Fail> {
     Ok(())
 }
 
+/// Whether the prefix is bound to this namespace.
+fn is_bound_to(scope: &Prefixes, prefix: &str, namespace: &str) -> bool {
+    match scope.of_prefix(prefix) {
+        None => false,
+        Some(space) => space.as_str() == namespace,
+    }
+}
+
+#[test]
+fn shows_hidden_bindings_again(rt: HostRuntime) -> Result<(), Fail> {
+    let alloc = rt.alloc();
+    let mut scope = Prefixes::new(alloc)?;
+    scope.bind(binding(alloc, "p", "u")?)?;
+    let tag = tag_of(alloc, "a", &[("xmlns:p", "v"), ("xmlns:p", "w")])?;
+    scope.bind_all(tag.bindings(alloc)?.as_slice())?;
+    assert!(rt; is_bound_to(&scope, "p", "v"));
+    scope.truncate(3);
+    assert!(rt; is_bound_to(&scope, "p", "w"));
+    scope.truncate(2);
+    assert!(rt; is_bound_to(&scope, "p", "u"));
+    scope.truncate(1);
+    assert!(rt; scope.of_prefix("p").is_none());
+    scope.bind(binding(alloc, "q", "y")?)?;
+    assert!(rt; is_bound_to(&scope, "q", "y"));
+    Ok(())
+}
+
 #[test]
 fn names_an_element(rt: HostRuntime) -> Result<(), Fail> {
     let alloc = rt.alloc();
@@ -131,5 +158,59 @@ fn refuses_unbound_and_double_attributes(rt: HostRuntime) -> Result<(), Fail> {
     assert_eq!(rt; fault_of(alloc, "a", &lines)?, double);
     let lines = [("xmlns:p", "u"), ("xmlns:p", "v")];
     assert_eq!(rt; fault_of(alloc, "a", &lines)?, double);
+    Ok(())
+}
+
+/// Puts an attribute line at the end.
+fn push_line(alloc: Global, tag: &mut Tag, name: &str) -> Result<(), Fail> {
+    tag.attributes.push(AttributeLine {
+        name: Text::new(alloc, name)?,
+        value: Text::new(alloc, "u")?,
+    })?;
+    Ok(())
+}
+
+/// A tag that binds 10,000 prefixes to namespaces of their own, with an attribute of each prefix.
+fn long_tag(alloc: Global) -> Result<Tag, Fail> {
+    let mut attributes = AttributeLines::new(alloc);
+    for i in 0..10_000u32 {
+        let text = format!(in alloc; "xmlns:p{i}")?;
+        attributes.push(AttributeLine {
+            name: Text::new(alloc, text.as_str())?,
+            value: Text::new(alloc, text.as_str())?,
+        })?;
+        let text = format!(in alloc; "p{i}:a")?;
+        attributes.push(AttributeLine {
+            name: Text::new(alloc, text.as_str())?,
+            value: Text::new(alloc, "")?,
+        })?;
+    }
+    Ok(Tag {
+        name: Text::new(alloc, "p0:r")?,
+        attributes,
+    })
+}
+
+#[test]
+fn judges_a_long_tag_at_once(rt: HostRuntime) -> Result<(), Fail> {
+    let alloc = rt.alloc();
+    let scope = Prefixes::new(alloc)?;
+    let mut tag = long_tag(alloc)?;
+    let too_many = Some(NameReason::TooManyAttributes);
+    assert_eq!(rt; tag.name_fault(alloc, &scope)?, too_many);
+    push_line(alloc, &mut tag, "p0:a")?;
+    let double = Some(NameReason::DoubleAttribute);
+    assert_eq!(rt; tag.name_fault(alloc, &scope)?, double);
+    push_line(alloc, &mut tag, "q:a")?;
+    let unbound = Some(NameReason::UnboundPrefix);
+    assert_eq!(rt; tag.name_fault(alloc, &scope)?, unbound);
+    Ok(())
+}
+
+#[test]
+fn names_a_long_tag_at_once(rt: HostRuntime) -> Result<(), Fail> {
+    let alloc = rt.alloc();
+    let named = long_tag(alloc)?.named(alloc, &Prefixes::new(alloc)?)?;
+    assert_eq!(rt; named.attributes.as_slice().len(), 10_000);
     Ok(())
 }
