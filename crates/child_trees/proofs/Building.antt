@@ -1,5 +1,5 @@
 -- The entries of a list that was built.
-use Rattle.std.proofs.Common.{◌≡◌, ℕ, zero, suc, ◌<◌, ◌≤◌, List, [], ◌∷◌, length, get_or, map, refl, sym, ap, ◌∙◌, subst, arith}
+use Rattle.std.proofs.Common.{◌≡◌, ℕ, zero, suc, ◌<◌, ◌≤◌, List, [], ◌∷◌, length, get_or, map, Option, refl, sym, ap, ◌∙◌, subst, arith}
 use Rattle.std.specs.Prelude.{slice_index}
 use Rattle.std.proofs.lemmas.List.{length-map}
 use Rattle.leaf_trees.specs.declared.node.Flags.{Flags}
@@ -8,12 +8,15 @@ use Rattle.leaf_trees.specs.Tree.{Item, Tree, size, leaves, items, flags_of, Has
 use Rattle.leaf_trees.specs.Arena.{IsFreeSlot, IsTreeOf}
 use Rattle.leaf_trees.specs.Change.{Makes}
 use Rattle.child_trees.specs.declared.leaf.Leaf.{Leaf}
-use Rattle.child_trees.specs.Lists.{Entry, entry, AreEntries, map_by}
+use Rattle.child_trees.specs.Cells.{CellMaps}
+use Rattle.child_trees.specs.Lists.{Entry, entry, AreEntries, AreNew, map_by}
 use Rattle.child_trees.specs.Lists as lists
 use Rattle.child_trees.specs.Sums.{entry_of, entries}
-use Rattle.child_trees.specs.Kept.{AreOfFree}
+use Rattle.child_trees.specs.Kept.{AreOfFree, AreKept}
+use Rattle.child_trees.specs.Tops.{Top, Writes}
 use Rattle.child_trees.proofs.Along.{length-entries}
 use Rattle.child_trees.proofs.Keeping.{item_has, items_once}
+use Rattle.child_trees.proofs.Viewing.{seen, free_absent}
 
 -- what a leaf counts as
 abbrev pub flags : {Letter : Type 0} → Leaf Letter → Flags
@@ -52,3 +55,14 @@ pub one_list : {A : Type 0} (xs : List A) (x : A) → length xs ≡ 1 → x ≡ 
 one_list [] x e is = absurd (omega arith)
 one_list (y ∷ []) x e is = ap (λ z. z ∷ []) (sym is)
 one_list (y ∷ (z ∷ zs)) x e is = absurd (omega arith)
+
+-- free slots are no items of a list
+pub are_new : {Shape Map : Type 0} (unit : Shape → Map) (join : Map → Map → Map) (v : CellMaps Shape Map) (ns : List Node) (tops : List (Option Top)) (xs : List (Entry Map)) → AreKept unit join v ns tops → AreOfFree ns xs → AreNew (seen unit v ns tops) xs
+are_new unit join v ns tops xs a f = record {
+  absent = λ p l. free_absent unit join v ns tops a (slice_index (lists.items xs) p) (f.free p l);
+  once = f.once;
+}
+
+-- one write of a number's top after another
+pub writes_then : (a b c : List (Option Top)) (q : ℕ) (x y : Option Top) → Writes a b q x → Writes b c q y → Writes a c q y
+writes_then a b c q x y one two = record { changed = two.changed; others = λ p n. two.others p n ∙ one.others p n }
