@@ -1,10 +1,10 @@
 -- The state after the map of a node.
-use Rattle.std.proofs.Common.{◌≡◌, ℕ, ◌<◌, Bool, List, length, sym, ap, ◌∙◌}
+use Rattle.std.proofs.Common.{◌≡◌, ℕ, Bool, List, length, sym, ap, ◌∙◌}
 use Rattle.leaf_trees.specs.declared.node.Node.{Node}
-use Rattle.leaf_trees.specs.Tree.{Tree, root, Has}
+use Rattle.leaf_trees.specs.Tree.{Tree}
 use Rattle.child_trees.specs.Cells.{CellMaps, map_at, AreMaps}
 use Rattle.child_trees.specs.Laws.{SummaryLaws}
-use Rattle.child_trees.specs.Lists.{Entry, acts_along}
+use Rattle.child_trees.specs.Lists.{acts_along}
 use Rattle.child_trees.specs.Sums.{entries, HasCells, HasSums}
 use Rattle.child_trees.proofs.Along.{acts_root, AreActs, AreActs-entries}
 

@@ -1,8 +1,8 @@
 -- The states along the leaves of a tree whose forks are sums.
-use Rattle.std.proofs.Common.{◌≡◌, ◌≢◌, ◌⊎◌, ℕ, zero, suc, ◌+◌, ◌-◌, ◌<◌, ◌≤◌, Bool, true, false, List, [], ◌∷◌, ◌++◌, length, take, drop, map, refl, sym, ap, ◌∙◌, subst, inl, inr, arith, length-append}
+use Rattle.std.proofs.Common.{◌≡◌, ℕ, zero, suc, ◌+◌, ◌-◌, ◌≤◌, Bool, true, false, List, [], ◌∷◌, ◌++◌, length, take, drop, refl, sym, ap, ◌∙◌, subst, inl, inr, arith, length-append}
 use Rattle.std.proofs.lemmas.List.{map-append, length-map, take-append-le, take_all, drop-append-le, drop_all}
 use Rattle.std.proofs.lemmas.Bool.{cases_lt}
-use Rattle.leaf_trees.specs.Tree.{Item, Tree, leaf, fork, root, size, leaves, Has}
+use Rattle.leaf_trees.specs.Tree.{Tree, leaf, fork, root, size, leaves, Has}
 use Rattle.leaf_trees.proofs.Balanced.{length-leaves}
 use Rattle.child_trees.specs.Lists.{Entry, acts_along, IsFirstDead, NoneIsDead}
 use Rattle.leaf_trees.proofs.Held.{Has-root}

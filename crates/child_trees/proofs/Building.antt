@@ -1,11 +1,9 @@
 -- The entries of a list that was built.
-use Rattle.std.proofs.Common.{◌≡◌, ℕ, zero, suc, ◌<◌, ◌≤◌, List, [], ◌∷◌, length, get_or, map, Option, refl, sym, ap, ◌∙◌, subst, arith}
+use Rattle.std.proofs.Common.{◌≡◌, ℕ, List, [], ◌∷◌, length, get_or, map, Option, refl, sym, ap, ◌∙◌, arith}
 use Rattle.std.specs.Prelude.{slice_index}
-use Rattle.std.proofs.lemmas.List.{length-map}
 use Rattle.leaf_trees.specs.declared.node.Flags.{Flags}
 use Rattle.leaf_trees.specs.declared.node.Node.{Node}
-use Rattle.leaf_trees.specs.Tree.{Item, Tree, size, leaves, items, flags_of, Has}
-use Rattle.leaf_trees.specs.Arena.{IsFreeSlot, IsTreeOf}
+use Rattle.leaf_trees.specs.Tree.{Item, Tree, leaves, flags_of}
 use Rattle.leaf_trees.specs.Change.{Makes}
 use Rattle.child_trees.specs.declared.leaf.Leaf.{Leaf}
 use Rattle.child_trees.specs.Cells.{CellMaps}

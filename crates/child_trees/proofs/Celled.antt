@@ -1,9 +1,8 @@
 -- The maps of cells before and after a call of their summary.
-use Rattle.std.proofs.Common.{◌≡◌, ◌≢◌, ◌⊎◌, ℕ, zero, suc, ◌+◌, ◌<◌, ◌≤◌, List, [], ◌∷◌, ◌++◌, length, get_or, set, map, refl, sym, ap, ◌∙◌, subst, inl, inr, arith}
+use Rattle.std.proofs.Common.{◌≡◌, ◌≢◌, ◌⊎◌, ℕ, zero, suc, ◌<◌, List, [], ◌∷◌, ◌++◌, length, get_or, set, map, refl, sym, ap, ◌∙◌, subst, inl, inr, arith}
 use Rattle.std.proofs.lemmas.Bool.{cases_eq}
-use Rattle.std.proofs.lemmas.Grind.{common_steps}
 use Rattle.std.proofs.lemmas.List.{get_or-map, get_or_push, get_or_append_left, get_or_default, get_or-set_same, get_or-set_other, length_push, length-set, map_push}
-use Rattle.child_trees.specs.Cells.{CellMaps, map_at, AreCells, SetsMap, AddsSlot, AddsSlots}
+use Rattle.child_trees.specs.Cells.{CellMaps, AreCells, SetsMap, AddsSlot, AddsSlots}
 use Rattle.child_trees.specs.Laws.{KeepsCells}
 
 pub same_view : {Shape Map : Type 0} (v w : CellMaps Shape Map) → v.shape ≡ w.shape → v.maps ≡ w.maps → v ≡ w

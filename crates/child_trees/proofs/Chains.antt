@@ -1,10 +1,10 @@
 -- Chains of free numbers, and what a write does to them.
-use Rattle.std.proofs.Common.{◌≡◌, ◌≢◌, ◌⊎◌, ℕ, zero, suc, ◌+◌, ◌-◌, ◌^◌, ◌<◌, ◌≤◌, List, [], ◌∷◌, ◌++◌, length, get_or, set, map, Option, Some, None, refl, sym, ap, ◌∙◌, subst, inl, inr, arith}
-use Rattle.std.proofs.lemmas.Bool.{cases_eq, cases_lt}
-use Rattle.std.proofs.lemmas.List.{get_or-map, get_or-set_same, get_or-set_other, get_or_past, get_or_push, get_or_append_left, length-set, length-map, length_push, map-set, map_push}
+use Rattle.std.proofs.Common.{◌≡◌, ◌≢◌, ◌⊎◌, ℕ, zero, suc, ◌-◌, ◌^◌, ◌<◌, ◌≤◌, List, [], ◌∷◌, ◌++◌, length, set, map, Option, Some, None, refl, sym, ap, ◌∙◌, subst, inl, inr, arith}
+use Rattle.std.proofs.lemmas.Bool.{cases_lt}
+use Rattle.std.proofs.lemmas.List.{get_or-set_same, get_or-set_other, get_or_past, get_or_push, get_or_append_left, length-set, length_push}
 use Rattle.child_trees.specs.declared.tops.Slot.{Slot}
 use Rattle.child_trees.specs.declared.tops.Slot.TheVariants.{Taken, Free}
-use Rattle.child_trees.specs.Tops.{Top, top_of, slot_at, top_at, IsTaken, Writes, IsIn, IsLink, IsChain, AreLinked}
+use Rattle.child_trees.specs.Tops.{Top, top_of, slot_at, top_at, Writes, IsIn, IsLink, IsChain, AreLinked}
 
 -- the top of a number is that of its slot
 pub top_is : (ss : List Slot) (q : ℕ) → top_at (map top_of ss) q ≡ top_of (slot_at ss q)

@@ -1,5 +1,5 @@
 -- How many digits bound a number, and the height of a list's tree.
-use Rattle.std.proofs.Common.{◌≡◌, ℕ, zero, suc, ◌+◌, ◌*◌, ◌/◌, ◌%◌, ◌^◌, ◌<◌, ◌≤◌, arith, pow-suc}
+use Rattle.std.proofs.Common.{◌≡◌, ℕ, zero, suc, ◌+◌, ◌*◌, ◌/◌, ◌^◌, ◌<◌, ◌≤◌, arith, pow-suc}
 use Rattle.leaf_trees.specs.Tree.{Tree, size, height, IsAvl}
 use Rattle.leaf_trees.proofs.Height.{height_bound}
 use Rattle.child_trees.specs.Bits.{bits, bits_up_to}

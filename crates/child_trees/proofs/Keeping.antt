@@ -1,12 +1,12 @@
 -- The trees of lists with their sums, before and after a change of one.
-use Rattle.std.proofs.Common.{◌≡◌, ◌≢◌, ◌⊎◌, ℕ, zero, suc, ◌+◌, ◌-◌, ◌*◌, ◌^◌, ◌<◌, ◌≤◌, Bool, true, false, List, [], ◌∷◌, ◌++◌, length, get_or, set, take, drop, map, insert, remove, refl, sym, ap, ◌∙◌, subst, inl, inr, arith, length-append}
+use Rattle.std.proofs.Common.{◌≡◌, ◌≢◌, ℕ, zero, suc, ◌+◌, ◌-◌, ◌*◌, ◌^◌, ◌<◌, ◌≤◌, List, [], ◌∷◌, ◌++◌, length, set, take, drop, map, insert, remove, refl, sym, ap, ◌∙◌, subst, inl, inr, arith}
 use Rattle.std.specs.Prelude.{nat_lt, MatchBool, slice_index}
 use Rattle.std.proofs.lemmas.Bool.{cases_lt}
 use Rattle.std.proofs.lemmas.List.{map-append, length-map, take-map, drop-map, map-set, set-append_left, set-append_right, get_or_append_left, get_or-append_right, length-set, get_or-set_same, nil_from_length}
 use Rattle.std.proofs.lemmas.List.Edits.{length-insert, length-remove, get_or-insert_at}
 use Rattle.leaf_trees.specs.declared.node.Node.{Node}
 use Rattle.leaf_trees.specs.declared.node.Flags.{Flags}
-use Rattle.leaf_trees.specs.Tree.{Item, Tree, leaf, fork, root, size, height, leaves, items, item_of, Has, Apart, IsPart, IsItemAt, IsAvl}
+use Rattle.leaf_trees.specs.Tree.{Item, Tree, leaf, fork, size, height, leaves, items, item_of, Has, Apart, IsPart}
 use Rattle.leaf_trees.specs.Balance.{HasOldSides, ChangesAlong}
 use Rattle.leaf_trees.specs.Arena.{at, Holds, IsTaken, IsTreeOf, IsFreeSlot}
 use Rattle.leaf_trees.specs.Change.{Changes}
@@ -19,7 +19,7 @@ use Rattle.child_trees.specs.Lists.{Entry, entry, map_by}
 use Rattle.child_trees.specs.Sums.{entry_of, entries, IsForkIn, AreSums, AreSidesSums, AreSumsBut, HasCells, KeepsMaps}
 use Rattle.child_trees.specs.Kept.{IsKept, HasList, KeepsLists}
 use Rattle.child_trees.proofs.Along.{entries-fork, length-entries}
-use Rattle.child_trees.proofs.Summing.{fork_has, sums_stay, sides_stay, but_stay, of_test, lt_true, lt_false}
+use Rattle.child_trees.proofs.Summing.{fork_has, sums_stay, sides_stay, of_test, lt_true, lt_false}
 
 -- edits of a list of images
 pub map-insert : {A B : Type 0} (f : A → B) (xs : List A) (i : ℕ) (x : A) → map f (insert xs i x) ≡ insert (map f xs) i (f x)

@@ -1,15 +1,14 @@
 -- What the readers of a list find.
-use Rattle.std.proofs.Common.{◌≡◌, ◌≢◌, ℕ, zero, suc, ◌+◌, ◌<◌, ◌≤◌, Bool, true, false, cond, List, [], ◌∷◌, length, get_or, take, drop, map, filter, insert, Option, Some, None, refl, sym, ap, ◌∙◌, subst, arith}
+use Rattle.std.proofs.Common.{◌≡◌, ℕ, zero, suc, ◌<◌, ◌≤◌, true, false, cond, List, [], ◌∷◌, length, take, drop, map, filter, insert, Option, Some, None, refl, sym, ap, ◌∙◌, arith}
 use Rattle.std.specs.Prelude.{slice_get, slice_index}
 use Rattle.std.proofs.lemmas.List.{take-map}
 use Rattle.leaf_trees.specs.declared.node.Node.{Node}
-use Rattle.leaf_trees.specs.Tree.{Item, Tree, leaves, items, marked_items, elements_before}
-use Rattle.child_trees.specs.Cells.{CellMaps, map_at}
+use Rattle.leaf_trees.specs.Tree.{Item, Tree, leaves, elements_before}
+use Rattle.child_trees.specs.Cells.{CellMaps}
 use Rattle.child_trees.specs.Lists.{Entry, Lists, get, acts_along}
 use Rattle.child_trees.specs.Lists as lists
 use Rattle.child_trees.specs.Sums.{entry_of, entries}
 use Rattle.child_trees.specs.Tops.{Top, top_at}
-use Rattle.child_trees.specs.Kept.{list_of}
 use Rattle.child_trees.proofs.Viewing.{seen, get_top}
 
 pub get_some : (xs : List ℕ) (p : ℕ) → p < length xs → slice_get xs p ≡ Some (slice_index xs p)

@@ -1,10 +1,10 @@
 -- A tree whose top is a fork, and its two sides.
-use Rattle.std.proofs.Common.{◌≡◌, ◌≢◌, ◌⊎◌, ℕ, zero, suc, ◌+◌, ◌-◌, ◌^◌, ◌<◌, ◌≤◌, max, List, length, get_or, refl, sym, ap, ◌∙◌, subst, inl, inr, arith}
+use Rattle.std.proofs.Common.{◌≡◌, ◌≢◌, ℕ, ◌+◌, ◌-◌, ◌^◌, ◌<◌, ◌≤◌, List, length, refl, sym, ap, ◌∙◌, subst, inl, inr, arith}
 use Rattle.leaf_trees.specs.declared.node.Node.{Node}
-use Rattle.leaf_trees.specs.Tree.{Item, Tree, leaf, fork, root, size, height, counts, marked_items, Has, Apart}
-use Rattle.leaf_trees.specs.Arena.{at, Holds, HasTree}
+use Rattle.leaf_trees.specs.Tree.{Item, Tree, leaf, fork, root, size, height, marked_items, Has, Apart}
+use Rattle.leaf_trees.specs.Arena.{at}
 use Rattle.leaf_trees.proofs.Forest.{has_within}
-use Rattle.leaf_trees.proofs.Held.{Has-root, positive, height_at, counts_at}
+use Rattle.leaf_trees.proofs.Held.{Has-root, height_at, counts_at}
 use Rattle.leaf_trees.proofs.Told.{marked_counted}
 use Rattle.child_trees.specs.Cells.{CellMaps, map_at}
 use Rattle.child_trees.specs.Sums.{HasCells, HasSums, AreSums}

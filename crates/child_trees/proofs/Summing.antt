@@ -1,13 +1,12 @@
 -- Sums at forks, and what changes them.
-use Rattle.std.proofs.Common.{◌≡◌, ◌≢◌, ◌⊎◌, ℕ, ◌+◌, ◌-◌, ◌<◌, ◌≤◌, Bool, true, false, List, length, refl, sym, ap, ◌∙◌, subst, inl, inr, arith}
+use Rattle.std.proofs.Common.{◌≡◌, ◌≢◌, ℕ, ◌-◌, ◌<◌, ◌≤◌, Bool, true, false, List, length, refl, sym, ◌∙◌, subst, inl, inr, arith}
 use Rattle.std.specs.Prelude.{nat_lt, MatchBool}
 use Rattle.std.proofs.lemmas.Bool.Decides.{nat_tests}
 use Rattle.leaf_trees.specs.declared.node.Node.{Node}
-use Rattle.leaf_trees.specs.Tree.{Item, Tree, leaf, fork, root, size, height, Has, Apart}
-use Rattle.leaf_trees.specs.Arena.{at}
+use Rattle.leaf_trees.specs.Tree.{Tree, leaf, fork, root, size, Has, Apart}
 use Rattle.leaf_trees.proofs.Held.{Has-root}
-use Rattle.child_trees.specs.Cells.{CellMaps, map_at, SetsMap}
-use Rattle.child_trees.specs.Sums.{IsForkIn, AreSums, AreSidesSums, AreSumsBut, HasCells, KeepsMaps, SameSlots}
+use Rattle.child_trees.specs.Cells.{CellMaps, SetsMap}
+use Rattle.child_trees.specs.Sums.{IsForkIn, AreSums, AreSidesSums, AreSumsBut, HasCells, SameSlots}
 
 pub lt_true : (k n : ℕ) → k < n → nat_lt k n ≡ true
 lt_true k n l = grind (arith, nat_tests)

@@ -1,20 +1,17 @@
 -- The lists that contracts see, and the trees that stand for them.
-use Rattle.std.proofs.Common.{◌≡◌, ◌≢◌, ◌⊎◌, ℕ, zero, suc, ◌+◌, ◌<◌, ◌≤◌, Bool, true, false, cond, List, [], ◌∷◌, ◌++◌, length, get_or, map, Option, Some, None, refl, sym, ap, ◌∙◌, subst, inl, inr, arith, nat_eq}
+use Rattle.std.proofs.Common.{◌≡◌, ◌≢◌, ◌⊎◌, ℕ, zero, suc, ◌+◌, ◌<◌, ◌≤◌, Bool, true, false, cond, List, [], ◌∷◌, ◌++◌, length, get_or, map, Option, Some, None, refl, sym, ap, ◌∙◌, subst, inl, inr, arith}
 use Rattle.std.specs.Prelude.{slice_index, ◌==◌, MatchOption}
 use Rattle.std.specs.Option.{option_map}
-use Rattle.std.proofs.lemmas.List.{map-append, length-map, get_or_past}
 use Rattle.std.proofs.lemmas.Bool.{cases_eq}
 use Rattle.std.proofs.lemmas.Bool.Decides.{nat_tests}
 use Rattle.leaf_trees.specs.declared.node.Node.{Node}
-use Rattle.leaf_trees.specs.declared.node.Counts.{Counts}
-use Rattle.leaf_trees.specs.Tree.{Item, Tree, leaf, fork, root, size, height, leaves, items, bit, counted, Has, IsItemAt}
-use Rattle.leaf_trees.specs.Arena.{at, Holds, IsTaken, IsTreeOf, IsFreeSlot}
-use Rattle.leaf_trees.proofs.Balanced.{length-leaves}
+use Rattle.leaf_trees.specs.Tree.{Item, Tree, leaf, fork, root, size, height, leaves, items, bit, IsItemAt}
+use Rattle.leaf_trees.specs.Arena.{at, Holds, IsTreeOf, IsFreeSlot}
 use Rattle.leaf_trees.proofs.Held.{height_at}
 use Rattle.child_trees.specs.Cells.{CellMaps, map_at}
 use Rattle.child_trees.specs.Lists.{Entry, Lists, get, IsAt, HasItem, Updates, IsLive}
 use Rattle.child_trees.specs.Lists as lists
-use Rattle.child_trees.specs.Sums.{entry_of, entries, HasCells, HasSums}
+use Rattle.child_trees.specs.Sums.{entry_of, entries, HasSums}
 use Rattle.child_trees.specs.Tops.{Top, top_at, Writes}
 use Rattle.child_trees.specs.Kept.{leaf_at, leaves_below, list_of, lists_of, IsKept, HasList, KeepsLists, AreKept}
 use Rattle.child_trees.proofs.Along.{length-entries}

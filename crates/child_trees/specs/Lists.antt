@@ -1,5 +1,5 @@
 -- What a contract sees of many lists.
-use Rattle.std.specs.Prelude.{◌≡◌, ◌≢◌, ℕ, zero, suc, ◌+◌, ◌<◌, ◌≤◌, Bool, true, false, List, [], ◌∷◌, length, map, take, Option, Some, None, MatchOption, slice_get, slice_index_or, slice_index}
+use Rattle.std.specs.Prelude.{◌≡◌, ◌≢◌, ℕ, ◌+◌, ◌<◌, ◌≤◌, Bool, true, false, List, [], ◌∷◌, length, map, take, Option, Some, None, slice_index_or, slice_index}
 use Rattle.child_trees.specs.declared.leaf.Leaf.{Leaf}
 
 -- a leaf in a list: its number, whether it is an element, whether it is marked, and its map

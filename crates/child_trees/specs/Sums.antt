@@ -1,8 +1,8 @@
 -- Sums at the forks of trees: at each fork the map is the left side's and then the right side's.
-use Rattle.std.specs.Prelude.{◌≡◌, ◌⊎◌, ℕ, ◌+◌, ◌-◌, ◌<◌, ◌≤◌, nat_lt, MatchBool, List, length, map, if◌then◌else◌}
+use Rattle.std.specs.Prelude.{◌≡◌, ◌⊎◌, ℕ, ◌-◌, ◌<◌, nat_lt, MatchBool, List, length, map}
 use Rattle.leaf_trees.specs.declared.node.Node.{Node}
 use Rattle.leaf_trees.specs.Tree.{Item, Tree, leaf, fork, root, size, leaves, Has}
-use Rattle.leaf_trees.specs.Arena.{HasTree, IsTreeOf}
+use Rattle.leaf_trees.specs.Arena.{HasTree}
 use Rattle.child_trees.specs.Cells.{CellMaps, map_at}
 use Rattle.child_trees.specs.Lists.{Entry}
 

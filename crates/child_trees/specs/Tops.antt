@@ -1,5 +1,5 @@
 -- The numbers of lists, and the top of each list's tree.
-use Rattle.std.specs.Prelude.{◌≡◌, ◌≢◌, ◌⊎◌, ℕ, ◌+◌, ◌^◌, ◌<◌, ◌≤◌, List, [], ◌∷◌, length, Option, Some, None, slice_index_or}
+use Rattle.std.specs.Prelude.{◌≡◌, ◌≢◌, ◌⊎◌, ℕ, ◌^◌, ◌<◌, List, [], ◌∷◌, length, Option, Some, None, slice_index_or}
 use Rattle.child_trees.specs.declared.tops.Slot.{Slot}
 use Rattle.child_trees.specs.declared.tops.Slot.TheVariants.{Taken, Free}
 

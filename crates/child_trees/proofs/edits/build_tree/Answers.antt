@@ -1,11 +1,11 @@
-use Rattle.std.proofs.Common.{◌≡◌, ◌≢◌, ℕ, ◌+◌, ◌*◌, ◌^◌, ◌<◌, ◌≤◌, List, length, map, refl, sym, ap, ◌∙◌, subst, arith}
+use Rattle.std.proofs.Common.{◌≡◌, List, length, map, refl, sym, ap, ◌∙◌, subst, arith}
 use Rattle.std.proofs.lemmas.List.{length-map}
-use Rattle.leaf_trees.specs.Tree.{Item, Tree, size, leaves, flags_of, Has}
+use Rattle.leaf_trees.specs.Tree.{leaves, flags_of}
 use Rattle.leaf_trees.proofs.Balanced.{length-leaves}
 use Rattle.leaf_trees.proofs.Forest.{has_within}
 use Rattle.child_trees.specs.declared.leaf.Leaf.{Leaf}
 use Rattle.child_trees.specs.Cells.{map_at}
-use Rattle.child_trees.specs.Sums.{HasCells, entries, AreSums}
+use Rattle.child_trees.specs.Sums.{HasCells, entries}
 use Rattle.child_trees.proofs.Building.{flags, are_entries, are_of_free}
 use Rattle.child_trees.proofs.Keeping.{all_stay, kept_not_free}
 use Rattle.child_trees.proofs.edits.build_tree.Goals as goal

@@ -1,9 +1,9 @@
-use Rattle.std.proofs.Common.{◌≡◌, ◌≢◌, ℕ, ◌+◌, ◌*◌, ◌^◌, ◌<◌, ◌≤◌, length, List, map, insert, refl, sym, ap, ◌∙◌, subst, arith}
+use Rattle.std.proofs.Common.{◌+◌, ◌^◌, ◌<◌, ◌≤◌, length, insert, sym, ap, ◌∙◌, subst, arith}
 use Rattle.std.proofs.lemmas.List.Edits.{length-insert}
-use Rattle.leaf_trees.specs.Tree.{Tree, size, leaves, item_of, Has}
+use Rattle.leaf_trees.specs.Tree.{leaves, item_of, Has}
 use Rattle.leaf_trees.proofs.Balanced.{length-leaves}
 use Rattle.child_trees.specs.Cells.{map_at}
-use Rattle.child_trees.specs.Sums.{HasCells, entries, entry_of}
+use Rattle.child_trees.specs.Sums.{HasCells, entry_of}
 use Rattle.child_trees.specs.Kept.{HasList}
 use Rattle.child_trees.proofs.Keeping.{now_cells, list_made, others_stay, now_low, along_sums, leaf_sums, entries_stay, kept_not_free, item_has, inserted_at, inserted_size, map-insert, entry_is}
 use Rattle.child_trees.proofs.edits.insert_leaf.Goals as goal

@@ -1,4 +1,4 @@
-use Rattle.std.proofs.Common.{◌≡◌, ℕ, ◌<◌, ◌≤◌, length, [], ◌∷◌, refl, sym, ap, subst, arith}
+use Rattle.std.proofs.Common.{◌<◌, length, [], ◌∷◌, refl, sym, ap, subst, arith}
 use Rattle.leaf_trees.specs.Tree.{leaf, item_of}
 use Rattle.child_trees.specs.Cells.{map_at}
 use Rattle.child_trees.proofs.Keeping.{all_stay, kept_not_free, entry_is}

@@ -1,6 +1,6 @@
-use Rattle.std.proofs.Common.{◌≡◌, ◌≢◌, ℕ, ◌+◌, ◌*◌, ◌^◌, ◌<◌, ◌≤◌, length, List, map, remove, refl, sym, ap, ◌∙◌, subst, arith}
+use Rattle.std.proofs.Common.{◌≤◌, length, refl, sym, ◌∙◌, subst, arith}
 use Rattle.std.proofs.lemmas.List.Edits.{length-remove}
-use Rattle.leaf_trees.specs.Tree.{Tree, size, leaves, Has}
+use Rattle.leaf_trees.specs.Tree.{leaves}
 use Rattle.leaf_trees.proofs.Balanced.{length-leaves}
 use Rattle.child_trees.specs.Cells.{map_at}
 use Rattle.child_trees.specs.Sums.{HasCells, entries, entry_of}

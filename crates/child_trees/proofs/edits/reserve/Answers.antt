@@ -1,4 +1,4 @@
-use Rattle.std.proofs.Common.{◌≡◌, ◌+◌, ◌≤◌, length, refl, sym, ap, subst, arith}
+use Rattle.std.proofs.Common.{length, ap, arith}
 use Rattle.child_trees.proofs.Keeping.{all_stay}
 use Rattle.child_trees.proofs.edits.reserve.Goals as goal
 

@@ -1,7 +1,7 @@
-use Rattle.std.proofs.Common.{◌≡◌, ◌≢◌, ℕ, ◌+◌, ◌*◌, ◌^◌, ◌<◌, ◌≤◌, length, List, map, set, refl, sym, ap, ◌∙◌, subst, arith}
+use Rattle.std.proofs.Common.{◌^◌, ◌<◌, ◌≤◌, length, set, sym, ap, ◌∙◌, subst, arith}
 use Rattle.std.specs.Prelude.{slice_index}
 use Rattle.std.proofs.lemmas.List.{map-set, length-set}
-use Rattle.leaf_trees.specs.Tree.{Tree, size, leaves, items, item_of, Has}
+use Rattle.leaf_trees.specs.Tree.{leaves, items, item_of, Has}
 use Rattle.leaf_trees.proofs.Balanced.{length-leaves}
 use Rattle.child_trees.specs.Cells.{map_at}
 use Rattle.child_trees.specs.Lists.{entry}

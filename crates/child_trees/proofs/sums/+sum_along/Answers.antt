@@ -1,8 +1,8 @@
-use Rattle.std.proofs.Common.{◌≡◌, ◌≢◌, ℕ, ◌+◌, ◌-◌, ◌*◌, ◌<◌, ◌≤◌, length, sym, ap, ◌∙◌, subst, arith, rules}
-use Rattle.leaf_trees.specs.Tree.{Tree, fork, root, size, height}
+use Rattle.std.proofs.Common.{◌-◌, ◌<◌, ◌≤◌, length, sym, ap, ◌∙◌, subst, arith, rules}
+use Rattle.leaf_trees.specs.Tree.{Tree, size, height}
 use Rattle.leaf_trees.specs.Arena.{at}
 use Rattle.child_trees.specs.Cells.{map_at}
-use Rattle.child_trees.specs.Sums.{IsForkIn, AreSums, AreSumsBut, HasCells, KeepsMaps}
+use Rattle.child_trees.specs.Sums.{AreSums, AreSumsBut, HasCells, KeepsMaps}
 use Rattle.child_trees.proofs.Split.{top_has_cell, top_not_left, top_not_right, sides}
 use Rattle.child_trees.proofs.Summing.{has_slots, but_left, but_right, along_left, along_right, along_same}
 use Rattle.child_trees.proofs.sums.+sum_along.Goals as goal

@@ -1,9 +1,9 @@
-use Rattle.std.proofs.Common.{◌≡◌, ◌≢◌, ℕ, ◌+◌, ◌-◌, ◌*◌, ◌<◌, ◌≤◌, List, [], ◌∷◌, ◌++◌, length, map, take, drop, sym, ap, ◌∙◌, subst, inl, inr, arith, rules, refl}
+use Rattle.std.proofs.Common.{◌≡◌, ◌<◌, [], ◌∷◌, ◌++◌, length, map, take, drop, sym, ap, ◌∙◌, subst, inl, inr, arith, rules}
 use Rattle.std.specs.Prelude.{All}
 use Rattle.std.specs.Option.{ForSome}
 use Rattle.std.proofs.lemmas.List.{map-append, take-append-drop}
 use Rattle.std.proofs.lemmas.List.Elements.{All-take, All-drop}
-use Rattle.leaf_trees.specs.Tree.{Item, Tree, leaf, fork, root, size, leaves, Has}
+use Rattle.leaf_trees.specs.Tree.{Item, Tree, size, leaves, Has}
 use Rattle.leaf_trees.specs.Arena.{at}
 use Rattle.leaf_trees.proofs.Held.{Has-root, positive}
 use Rattle.child_trees.specs.declared.leaf.Leaf.{Leaf}
@@ -12,7 +12,7 @@ use Rattle.child_trees.specs.Lists.{map_by}
 use Rattle.child_trees.specs.Sums.{AreSums, HasCells}
 use Rattle.child_trees.proofs.Building.{one_list}
 use Rattle.child_trees.proofs.Keeping.{leaves_stay}
-use Rattle.child_trees.proofs.Split.{top_has_cell, top_size, top_not_left, top_not_right, sides, one_leaf}
+use Rattle.child_trees.proofs.Split.{top_has_cell, top_not_left, top_not_right, sides, one_leaf}
 use Rattle.child_trees.proofs.Summing.{has_slots, sums_stay, sum_made, left_not_top, right_not_top, same_slots, set_slots}
 use Rattle.child_trees.proofs.sums.+write_leaves.Goals as goal
 

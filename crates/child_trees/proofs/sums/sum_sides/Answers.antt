@@ -1,5 +1,4 @@
-use Rattle.std.proofs.Common.{◌≡◌, ℕ, ◌<◌, length, sym, ap, ◌∙◌, subst, arith}
-use Rattle.leaf_trees.specs.Tree.{Tree, fork}
+use Rattle.std.proofs.Common.{length, sym, ◌∙◌, subst, arith}
 use Rattle.leaf_trees.specs.Arena.{at}
 use Rattle.child_trees.specs.Cells.{map_at}
 use Rattle.child_trees.specs.Sums.{AreSums, AreSidesSums}

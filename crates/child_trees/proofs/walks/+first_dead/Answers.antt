@@ -1,5 +1,5 @@
-use Rattle.std.proofs.Common.{◌≡◌, ℕ, ◌+◌, ◌-◌, ◌^◌, ◌<◌, ◌≤◌, Bool, true, length, drop, sym, ap, subst, ◌∙◌, arith, rules}
-use Rattle.leaf_trees.specs.Tree.{Tree, leaf, size, height}
+use Rattle.std.proofs.Common.{◌≡◌, ◌+◌, true, length, sym, ap, subst, ◌∙◌, arith, rules}
+use Rattle.leaf_trees.specs.Tree.{Tree, height}
 use Rattle.leaf_trees.specs.Arena.{at}
 use Rattle.child_trees.specs.Cells.{map_at}
 use Rattle.child_trees.specs.Lists.{acts_along, IsFirstDead}

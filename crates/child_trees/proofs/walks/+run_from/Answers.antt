@@ -1,10 +1,10 @@
-use Rattle.std.proofs.Common.{◌≡◌, ℕ, ◌+◌, ◌-◌, ◌^◌, ◌<◌, ◌≤◌, Bool, true, length, drop, sym, ap, subst, ◌∙◌, arith, rules}
-use Rattle.leaf_trees.specs.Tree.{Tree, leaf, size, height}
+use Rattle.std.proofs.Common.{◌-◌, ◌≤◌, length, drop, sym, ap, ◌∙◌, arith, rules}
+use Rattle.leaf_trees.specs.Tree.{size, height}
 use Rattle.leaf_trees.specs.Arena.{at}
 use Rattle.child_trees.specs.Cells.{map_at}
-use Rattle.child_trees.specs.Lists.{acts_along, IsFirstDead}
-use Rattle.child_trees.specs.Sums.{entries, HasSums}
-use Rattle.child_trees.proofs.Acting.{node_acts, node_maps}
+use Rattle.child_trees.specs.Lists.{acts_along}
+use Rattle.child_trees.specs.Sums.{entries}
+use Rattle.child_trees.proofs.Acting.{node_acts}
 use Rattle.child_trees.proofs.Along.{acts_along-append, drop_left, drop_right, drop_entries}
 use Rattle.child_trees.proofs.Split.{top_has_cell, top_size, same_size, inner, left_upto, right_upto, side_sums}
 use Rattle.child_trees.proofs.walks.+run_from.Goals as goal

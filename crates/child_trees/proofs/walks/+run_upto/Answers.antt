@@ -1,5 +1,5 @@
-use Rattle.std.proofs.Common.{◌≡◌, ℕ, ◌+◌, ◌-◌, ◌<◌, ◌≤◌, length, take, sym, ap, ◌∙◌, arith, rules}
-use Rattle.leaf_trees.specs.Tree.{Tree, size, height}
+use Rattle.std.proofs.Common.{◌-◌, ◌≤◌, length, take, sym, ap, ◌∙◌, arith, rules}
+use Rattle.leaf_trees.specs.Tree.{size, height}
 use Rattle.leaf_trees.specs.Arena.{at}
 use Rattle.child_trees.specs.Cells.{map_at}
 use Rattle.child_trees.specs.Lists.{acts_along}

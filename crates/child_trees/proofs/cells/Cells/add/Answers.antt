@@ -1,4 +1,4 @@
-use Rattle.std.proofs.Common.{◌≡◌, ap, sym, ◌∙◌, subst}
+use Rattle.std.proofs.Common.{◌∙◌}
 use Rattle.std.proofs.lemmas.Result.{err_from_is_err_and}
 use Rattle.child_trees.proofs.Celled.{same_view, adds_slot, AreCells-pushed, maps_pushed, maps_kept, KeepsCells-then}
 use Rattle.child_trees.proofs.cells.Cells.add.Goals as goal

@@ -1,4 +1,4 @@
-use Rattle.std.proofs.Common.{◌≡◌, map, ap, sym, ◌∙◌}
+use Rattle.std.proofs.Common.{sym, ◌∙◌}
 use Rattle.std.proofs.lemmas.List.{length-map}
 use Rattle.child_trees.proofs.Celled.{sets_map, maps_written, read_map}
 use Rattle.child_trees.proofs.cells.Cells.join.Goals as goal

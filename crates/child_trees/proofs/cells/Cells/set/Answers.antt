@@ -1,4 +1,3 @@
-use Rattle.std.proofs.Common.{◌≡◌, ap, sym, ◌∙◌}
 use Rattle.std.proofs.lemmas.List.{length-map}
 use Rattle.child_trees.proofs.Celled.{sets_map, maps_written}
 use Rattle.child_trees.proofs.cells.Cells.set.Goals as goal

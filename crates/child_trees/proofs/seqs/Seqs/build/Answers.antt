@@ -1,4 +1,4 @@
-use Rattle.std.proofs.Common.{◌≡◌, ℕ, ◌+◌, ◌*◌, ◌<◌, ◌≤◌, List, [], ◌∷◌, length, Option, Some, None, refl, sym, ap, ◌∙◌, subst, arith}
+use Rattle.std.proofs.Common.{◌≡◌, [], Some, None, sym, ap, ◌∙◌, subst, arith}
 use Rattle.std.proofs.lemmas.List.{nil_from_length}
 use Rattle.std.proofs.lemmas.Result.{err_from_is_err_and}
 use Rattle.child_trees.specs.Lists.{AreEntries, AreNew, Updates}
@@ -86,7 +86,7 @@ returns-clause-ok g c = rw (← c.self.view_is) (
     let u = updates_tree M.unit M.join w x ms ls s.tops c.set.new.self q c.build_tree-top.result xs a (but_one M.unit M.join w x ms ls q b.lists) t b.list.3 in (
       xs,
       subst (λ h. AreEntries (M.unit h) (M.leaf c.args.source.now) c.args.leaves.items xs) c.reserve.ensures.lists.shape
-      (subst (λ ys. AreEntries (M.unit w.shape) (M.leaf c.args.source.now) ys xs) c.as_slice-2.ensures.value b.list.1),
+          (subst (λ ys. AreEntries (M.unit w.shape) (M.leaf c.args.source.now) ys xs) c.as_slice-2.ensures.value b.list.1),
       subst (λ z. AreNew z xs) eq (are_new M.unit M.join w ms s.tops xs a b.list.2),
       subst (λ z. Updates z (seen M.unit x ls c.set.new.self) q (Some xs)) eq u,
     ))

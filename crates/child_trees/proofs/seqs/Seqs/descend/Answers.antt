@@ -1,10 +1,5 @@
-use Rattle.std.proofs.Common.{◌≡◌, ◌≢◌, ℕ, ◌+◌, ◌*◌, ◌^◌, ◌<◌, ◌≤◌, List, [], length, take, drop, filter, Option, Some, None, refl, sym, ap, ◌∙◌, subst, arith}
-use Rattle.std.specs.Prelude.{slice_get, slice_index}
-use Rattle.leaf_trees.specs.Tree.{Tree, size, height}
-use Rattle.leaf_trees.specs.Arena.{at}
-use Rattle.child_trees.specs.Bits.{bits}
+use Rattle.std.proofs.Common.{length, Some, sym, ap, ◌∙◌, subst, arith}
 use Rattle.child_trees.specs.Cells.{map_at}
-use Rattle.child_trees.specs.Lists.{Entry, get, acts_along}
 use Rattle.child_trees.specs.Sums.{entries, HasSums}
 use Rattle.child_trees.specs.Lists.{IsFirstDead, NoneIsDead}
 use Rattle.child_trees.proofs.Acting.{node_acts, node_maps}

@@ -1,5 +1,4 @@
-use Rattle.std.proofs.Common.{◌≡◌, ◌≢◌, ℕ, ◌+◌, ◌*◌, ◌^◌, ◌<◌, ◌≤◌, List, [], length, take, drop, filter, Option, Some, None, refl, sym, ap, ◌∙◌, subst, arith}
-use Rattle.std.specs.Prelude.{slice_get, slice_index}
+use Rattle.std.proofs.Common.{◌≡◌, Some, None, ap, ◌∙◌, arith}
 use Rattle.child_trees.proofs.Viewing.{live_top, none_some, tree_gone, kept_no_tree, updates_no_tree, keeps_same}
 use Rattle.child_trees.proofs.seqs.Seqs.drop_seq.Goals as goal
 

@@ -1,11 +1,5 @@
-use Rattle.std.proofs.Common.{◌≡◌, ◌≢◌, ℕ, ◌+◌, ◌*◌, ◌^◌, ◌<◌, ◌≤◌, List, [], length, take, drop, filter, Option, Some, None, refl, sym, ap, ◌∙◌, subst, arith}
-use Rattle.std.specs.Prelude.{slice_get, slice_index}
-use Rattle.leaf_trees.specs.Tree.{Tree, size, height}
-use Rattle.leaf_trees.specs.Arena.{at}
-use Rattle.child_trees.specs.Bits.{bits}
+use Rattle.std.proofs.Common.{Some, ap, ◌∙◌, arith}
 use Rattle.child_trees.specs.Cells.{map_at}
-use Rattle.child_trees.specs.Lists.{Entry, get, acts_along}
-use Rattle.child_trees.specs.Sums.{entries, HasSums}
 use Rattle.child_trees.proofs.Reading.{no_top, no_elements, elements_upto_are}
 use Rattle.child_trees.proofs.Viewing.{live_top, rooted}
 use Rattle.child_trees.proofs.seqs.Seqs.elements_upto.Goals as goal

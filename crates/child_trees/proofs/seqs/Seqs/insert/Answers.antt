@@ -1,9 +1,8 @@
-use Rattle.std.proofs.Common.{◌≡◌, ◌≢◌, ℕ, ◌+◌, ◌*◌, ◌^◌, ◌<◌, ◌≤◌, List, [], length, take, drop, filter, Option, Some, None, refl, sym, ap, ◌∙◌, subst, arith}
-use Rattle.std.specs.Prelude.{slice_get, slice_index}
+use Rattle.std.proofs.Common.{◌≡◌, ◌+◌, ◌≤◌, [], length, Some, None, sym, ap, ◌∙◌, subst, arith}
 use Rattle.std.proofs.lemmas.Result.{err_from_is_err_and}
 use Rattle.std.proofs.Common.{◌∷◌, insert}
 use Rattle.std.specs.Option.{ForSome}
-use Rattle.leaf_trees.specs.Tree.{Tree, size}
+use Rattle.leaf_trees.specs.Tree.{size}
 use Rattle.leaf_trees.specs.Arena.{at}
 use Rattle.child_trees.specs.Bits.{bits}
 use Rattle.child_trees.specs.Cells.{map_at}

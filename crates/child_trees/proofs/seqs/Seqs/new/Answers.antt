@@ -1,5 +1,4 @@
-use Rattle.std.proofs.Common.{◌≡◌, ◌≢◌, ℕ, ◌+◌, ◌*◌, ◌^◌, ◌<◌, ◌≤◌, List, [], length, take, drop, filter, Option, Some, None, refl, sym, ap, ◌∙◌, subst, arith}
-use Rattle.std.specs.Prelude.{slice_get, slice_index}
+use Rattle.std.proofs.Common.{ap}
 use Rattle.child_trees.specs.Cells.{map_at}
 use Rattle.child_trees.specs.Kept.{lists_of}
 use Rattle.child_trees.proofs.Viewing.{kept_none}

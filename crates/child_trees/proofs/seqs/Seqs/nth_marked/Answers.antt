@@ -1,11 +1,7 @@
-use Rattle.std.proofs.Common.{◌≡◌, ◌≢◌, ℕ, ◌+◌, ◌*◌, ◌^◌, ◌<◌, ◌≤◌, List, [], length, take, drop, filter, Option, Some, None, refl, sym, ap, ◌∙◌, subst, arith}
-use Rattle.std.specs.Prelude.{slice_get, slice_index}
-use Rattle.leaf_trees.specs.Tree.{Tree, size, height}
+use Rattle.std.proofs.Common.{◌<◌, length, filter, Some, sym, ap, ◌∙◌, arith}
+use Rattle.std.specs.Prelude.{slice_get}
 use Rattle.leaf_trees.specs.Arena.{at}
-use Rattle.child_trees.specs.Bits.{bits}
 use Rattle.child_trees.specs.Cells.{map_at}
-use Rattle.child_trees.specs.Lists.{Entry, get, acts_along}
-use Rattle.child_trees.specs.Sums.{entries, HasSums}
 use Rattle.leaf_trees.specs.Tree.{leaves, marked_items}
 use Rattle.child_trees.specs.Lists.{items}
 use Rattle.child_trees.proofs.Reading.{no_top, get_some, get_none, marked_are}

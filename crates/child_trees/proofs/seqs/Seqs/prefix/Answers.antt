@@ -1,11 +1,5 @@
-use Rattle.std.proofs.Common.{◌≡◌, ◌≢◌, ℕ, ◌+◌, ◌*◌, ◌^◌, ◌<◌, ◌≤◌, List, [], length, take, drop, filter, Option, Some, None, refl, sym, ap, ◌∙◌, subst, arith}
-use Rattle.std.specs.Prelude.{slice_get, slice_index}
-use Rattle.leaf_trees.specs.Tree.{Tree, size, height}
-use Rattle.leaf_trees.specs.Arena.{at}
-use Rattle.child_trees.specs.Bits.{bits}
-use Rattle.child_trees.specs.Cells.{map_at}
-use Rattle.child_trees.specs.Lists.{Entry, get, acts_along}
-use Rattle.child_trees.specs.Sums.{entries, HasSums}
+use Rattle.std.proofs.Common.{◌≡◌, length, take, Some, sym, ap, ◌∙◌, subst, arith}
+use Rattle.child_trees.specs.Lists.{get, acts_along}
 use Rattle.child_trees.proofs.Viewing.{found, seen, some_is}
 use Rattle.child_trees.proofs.seqs.Seqs.prefix.Goals as goal
 

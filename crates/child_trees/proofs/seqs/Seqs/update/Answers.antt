@@ -1,11 +1,8 @@
-use Rattle.std.proofs.Common.{◌≡◌, ◌≢◌, ℕ, ◌+◌, ◌*◌, ◌^◌, ◌<◌, ◌≤◌, List, [], length, take, drop, filter, Option, Some, None, refl, sym, ap, ◌∙◌, subst, arith}
-use Rattle.std.specs.Prelude.{slice_get, slice_index}
+use Rattle.std.proofs.Common.{◌+◌, length, Some, sym, ap, ◌∙◌, subst, arith}
 use Rattle.std.proofs.Common.{set}
-use Rattle.leaf_trees.specs.Tree.{Tree, size}
 use Rattle.child_trees.specs.Bits.{bits}
-use Rattle.child_trees.specs.Cells.{map_at}
 use Rattle.child_trees.specs.Lists.{Updates}
-use Rattle.child_trees.specs.Tops.{top_at, Writes}
+use Rattle.child_trees.specs.Tops.{top_at}
 use Rattle.child_trees.specs.Kept.{IsKept}
 use Rattle.child_trees.proofs.Digits.{bits_bound}
 use Rattle.leaf_trees.specs.Tree.{IsItemAt}

@@ -1,11 +1,7 @@
-use Rattle.std.proofs.Common.{◌≡◌, ◌≢◌, ℕ, ◌+◌, ◌*◌, ◌^◌, ◌<◌, ◌≤◌, List, [], length, take, drop, filter, Option, Some, None, refl, sym, ap, ◌∙◌, subst, arith}
-use Rattle.std.specs.Prelude.{slice_get, slice_index}
-use Rattle.leaf_trees.specs.Tree.{Tree, size, height}
-use Rattle.leaf_trees.specs.Arena.{at}
-use Rattle.child_trees.specs.Bits.{bits}
+use Rattle.std.proofs.Common.{length, take, Some, sym, ap, ◌∙◌, subst, arith}
 use Rattle.child_trees.specs.Cells.{map_at}
-use Rattle.child_trees.specs.Lists.{Entry, get, acts_along}
-use Rattle.child_trees.specs.Sums.{entries, HasSums}
+use Rattle.child_trees.specs.Lists.{acts_along}
+use Rattle.child_trees.specs.Sums.{HasSums}
 use Rattle.child_trees.proofs.Digits.{walk_bound}
 use Rattle.child_trees.proofs.Reading.{no_top, along_none}
 use Rattle.child_trees.proofs.Viewing.{live_top, rooted, kept_sums}

@@ -1,11 +1,5 @@
-use Rattle.std.proofs.Common.{◌≡◌, ◌≢◌, ℕ, ◌+◌, ◌*◌, ◌^◌, ◌<◌, ◌≤◌, List, [], length, take, drop, filter, Option, Some, None, refl, sym, ap, ◌∙◌, subst, arith}
-use Rattle.std.specs.Prelude.{slice_get, slice_index}
-use Rattle.leaf_trees.specs.Tree.{Tree, size, height}
-use Rattle.leaf_trees.specs.Arena.{at}
-use Rattle.child_trees.specs.Bits.{bits}
-use Rattle.child_trees.specs.Cells.{map_at}
-use Rattle.child_trees.specs.Lists.{Entry, get, acts_along}
-use Rattle.child_trees.specs.Sums.{entries, HasSums}
+use Rattle.std.proofs.Common.{[], length, Some, sym, ap, ◌∙◌, arith}
+use Rattle.child_trees.specs.Lists.{acts_along}
 use Rattle.leaf_trees.proofs.Held.{positive}
 use Rattle.child_trees.proofs.Acting.{node_acts}
 use Rattle.child_trees.proofs.Reading.{no_top}

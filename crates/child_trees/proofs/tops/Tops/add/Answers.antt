@@ -1,4 +1,4 @@
-use Rattle.std.proofs.Common.{◌≡◌, ◌<◌, length, Option, Some, None, arith, sym, ◌∙◌, ap, subst}
+use Rattle.std.proofs.Common.{None, arith, sym, ◌∙◌}
 use Rattle.std.proofs.lemmas.List.{get_or_default}
 use Rattle.child_trees.specs.declared.tops.Slot.TheVariants.{Taken, Free}
 use Rattle.child_trees.proofs.Chains.{first_of, writes_set, free_is}

@@ -1,4 +1,3 @@
-use Rattle.std.proofs.Common.{◌≡◌, Some}
 use Rattle.child_trees.specs.declared.tops.Slot.TheVariants.{Free}
 use Rattle.child_trees.proofs.Chains.{taken_slot, linked_give, writes_set}
 use Rattle.child_trees.proofs.tops.Tops.give.Goals as goal

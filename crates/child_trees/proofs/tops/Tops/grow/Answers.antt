@@ -1,4 +1,4 @@
-use Rattle.std.proofs.Common.{◌≡◌, ◌<◌, ◌-◌, ◌^◌, length, None, arith}
+use Rattle.std.proofs.Common.{◌<◌, ◌-◌, ◌^◌, length, None, arith}
 use Rattle.child_trees.proofs.Chains.{linked_push}
 use Rattle.child_trees.proofs.tops.Tops.grow.Goals as goal
 

@@ -1,4 +1,3 @@
-use Rattle.std.proofs.Common.{◌≡◌, Some}
 use Rattle.child_trees.specs.declared.tops.Slot.TheVariants.{Taken}
 use Rattle.child_trees.proofs.Chains.{taken_slot, linked_set, writes_set}
 use Rattle.child_trees.proofs.tops.Tops.set.Goals as goal
