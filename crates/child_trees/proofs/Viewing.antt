@@ -234,6 +234,10 @@ pub one_top : (tops : List (Option Top)) (q a b : ℕ) → top_at tops q ≡ Som
 one_top tops q a b e f = some_is a b (some_is (Some a) (Some b) (sym e ∙ f))
 
 module _ {Shape Map : Type 0} (unit : Shape → Map) (join : Map → Map → Map) where
+  -- a number that is free is no list's
+  pub not_live : (v : CellMaps Shape Map) (ns : List Node) (tops : List (Option Top)) (q : ℕ) → top_at tops q ≡ None → ¬ IsLive (seen unit v ns tops) q
+  not_live v ns tops q e h = let t = live_top unit join v ns tops q h.0 h.1 in none_some t.0 (sym e ∙ t.1)
+
   pub kept_none : (v : CellMaps Shape Map) (ns : List Node) (tops : List (Option Top)) → ns ≡ [] → tops ≡ [] → AreKept unit join v ns tops
   kept_none v ns tops e f = record {
     kept = λ q top g. absurd (none_some (Some top) (ap (λ ts. top_at ts q) (sym f) ∙ g));

@@ -17,6 +17,8 @@ use std::marker::Model;
 use xsv_steps::{Ledger, Steps};
 
 /// Many lists of leaves, each seen under its number as its leaves with the maps that their sources gave their letters.
+///
+/// A call changes one list at most. An item keeps its number for as long as its leaf lies in the list, whatever becomes of the leaves around it.
 #[derive(Drop)]
 pub struct Seqs<M: Summary> {
     alloc: Global,
@@ -53,6 +55,9 @@ impl<M: Summary> Seqs<M> {
     }
 
     /// A new empty list.
+    ///
+    /// # Errors
+    /// When memory runs out, or the numbers of lists do.
     pub fn new_seq(&mut self) -> Result<SeqId, AllocError>
         ensures fresh { IfOk result (λ q. ¬ IsLive self.old q) }
         ensures ok { IfOk result (λ q. Updates self.old self.new q (Some [])) }
@@ -62,7 +67,10 @@ impl<M: Summary> Seqs<M> {
         Ok(SeqId { number })
     }
 
-    /// A new list of these leaves. It takes at most two steps a leaf.
+    /// A new list of these leaves, in order. It takes at most two steps a leaf.
+    ///
+    /// # Errors
+    /// When memory runs out, or the numbers of lists or items do. All lists are as before then.
     pub fn build<L: Ledger>(
         &mut self,
         leaves: Vec<Leaf<M::Letter>>,
@@ -99,6 +107,11 @@ impl<M: Summary> Seqs<M> {
     }
 
     /// Puts a leaf before a place of a list, or at its end.
+    ///
+    /// It takes at most `16 * (bits(n + 1) + 1)` steps, where the list then has `n` leaves, and `bits` is the number of binary digits.
+    ///
+    /// # Errors
+    /// When memory runs out, or the numbers of items do. All lists are as before then.
     pub fn insert<L: Ledger>(
         &mut self,
         seq: SeqId,
@@ -150,7 +163,9 @@ impl<M: Summary> Seqs<M> {
         }
     }
 
-    /// Takes a leaf out of its list.
+    /// Takes a leaf out of its list. Its number may be given out again.
+    ///
+    /// It takes at most `16 * (bits(n + 1) + 1)` steps, where the list had `n` leaves.
     pub fn remove<L: Ledger>(&mut self, item: ItemId, steps: &mut Steps<L>)
         requires { HasItem self.old item }
         ensures change { (q p : ℕ) (xs : List (Entry M.Map)) → IsAt self.old item q p xs → Updates self.old self.new q (Some (remove xs p)) }
@@ -163,7 +178,9 @@ impl<M: Summary> Seqs<M> {
         }
     }
 
-    /// Writes another leaf in an item's place.
+    /// Writes another leaf in an item's place. The item keeps its number.
+    ///
+    /// It takes at most `16 * (bits(n + 1) + 1)` steps, where the list has `n` leaves.
     pub fn update<L: Ledger>(
         &mut self,
         item: ItemId,
@@ -191,7 +208,7 @@ impl<M: Summary> Seqs<M> {
         }
     }
 
-    /// Gives a list back, and the cells of its leaves. Its number may be given out again.
+    /// Gives a list back, and the cells of its leaves for other lists to use. Its number, and those of its items, may be given out again.
     pub fn drop_seq(&mut self, seq: SeqId)
         requires { IsLive self.old seq }
         ensures { Updates self.old self.new seq None }
@@ -225,7 +242,7 @@ impl<M: Summary> Seqs<M> {
         }
     }
 
-    /// The item of a marked leaf, by its number among the marked leaves of the list, from 0.
+    /// The item of a marked leaf, by its number among the marked leaves of the list, from 0, or none past the last.
     pub fn nth_marked(&self, seq: SeqId, k: u32) -> Option<ItemId>
         requires { IsLive self.now seq }
         ensures { (xs : List (Entry M.Map)) → get self.now seq ≡ Some xs → result ≡ slice_get (items (filter (λ e. e.marked) xs)) k }
@@ -266,7 +283,7 @@ impl<M: Summary> Seqs<M> {
         }
     }
 
-    /// The state after all leaves before an item.
+    /// The state after all leaves before an item. It takes at most `8 * (bits(n + 1) + 1)` steps in a list of `n` leaves.
     pub fn prefix<L: Ledger>(&self, item: ItemId, state: M::State, steps: &mut Steps<L>) -> M::State
         requires item { HasItem self.now item }
         requires state { M.is_state self.now.shape state }
@@ -279,7 +296,7 @@ impl<M: Summary> Seqs<M> {
         self.upto(list, spot.place, state, steps)
     }
 
-    /// The state after all leaves before a place.
+    /// The state after all leaves before a place. It takes at most `8 * (bits(n + 1) + 1)` steps in a list of `n` leaves.
     pub fn upto<L: Ledger>(
         &self,
         seq: SeqId,
@@ -300,7 +317,7 @@ impl<M: Summary> Seqs<M> {
         }
     }
 
-    /// The state after the leaves from a place on.
+    /// The state after the leaves from a place on. It takes at most `8 * (bits(n + 1) + 1)` steps in a list of `n` leaves.
     pub fn from<L: Ledger>(
         &self,
         seq: SeqId,
@@ -321,7 +338,9 @@ impl<M: Summary> Seqs<M> {
         }
     }
 
-    /// The first place through which the leaves lead to a dead state.
+    /// The first place through which the leaves lead to a dead state, or none where they lead to no dead state.
+    ///
+    /// It takes at most `8 * (bits(n + 1) + 1)` steps in a list of `n` leaves.
     pub fn descend<L: Ledger>(
         &self,
         seq: SeqId,

@@ -29,31 +29,43 @@ pub trait Summary: Drop {
     /// What proofs know of the summary that no call changes. No value of it is made.
     type Shape;
 
+    /// The shape of the summary.
     ghost shape: { Self → Self.Shape };
 
+    /// The cells that were made and not given back.
     ghost live: { Self → Self.Cell → Type 0 };
 
+    /// The map that a cell has.
     ghost map_of: { Self → Self.Cell → Self.Map };
 
+    /// The states of a summary of this shape.
     ghost is_state: { Self.Shape → Self.State → Type 0 };
 
+    /// The maps of a summary of this shape.
     ghost is_map: { Self.Shape → Self.Map → Type 0 };
 
+    /// The states that are dead.
     ghost is_dead: { Self.Shape → Self.State → Bool };
 
     /// Whether the source has a map for the letter.
     ghost fits: { Self.Shape → Self.Source → Self.Letter → Type 0 };
 
+    /// The map of no leaves.
     ghost unit: { Self.Shape → Self.Map };
 
+    /// The left map and then the right one.
     ghost join: { Self.Map → Self.Map → Self.Map };
 
     /// The source's map of a letter.
     ghost leaf: { Self.Source → Self.Letter → Self.Map };
 
+    /// The state after a map.
     ghost acts: { Self.Map → Self.State → Self.State };
 
     /// Makes a cell that was not live.
+    ///
+    /// # Errors
+    /// When memory runs out. No cell is made then.
     fn new_cell(&mut self) -> Result<Self::Cell, AllocError>
         ensures fresh { IfOk result (λ c. ¬ live self.old c) }
         ensures made { IfOk result (live self.new) }

@@ -4,7 +4,7 @@ use Rattle.std.proofs.lemmas.Result.{err_from_is_err_and}
 use Rattle.child_trees.specs.Lists.{AreEntries, AreNew, Updates}
 use Rattle.child_trees.specs.Kept.{AreKept}
 use Rattle.child_trees.proofs.Building.{are_new, writes_then}
-use Rattle.child_trees.proofs.Viewing.{seen, live_top, none_some, no_such, kept_all, same_seen, but_one, kept_tree, updates_tree, kept_no_tree, updates_no_tree, keeps_same}
+use Rattle.child_trees.proofs.Viewing.{seen, not_live, no_such, kept_all, same_seen, but_one, kept_tree, updates_tree, kept_no_tree, updates_no_tree, keeps_same}
 use Rattle.child_trees.proofs.seqs.Seqs.build.Goals as goal
 
 pub invariant_of-self : goal.invariant_of-self
@@ -39,10 +39,9 @@ invariant_of-self-then-count-eq0 g c =
     kept_no_tree M.unit M.join w w ms ms s.tops c.add.new.self q (Some None) no_such a (keeps_same M.unit M.join w ms (λ j. j ≡ q)) c.in_ok-number.ensures.ok a.cells
 
 pub returns-then-count-eq0-clause-fresh : goal.returns-then-count-eq0-clause-fresh
-returns-then-count-eq0-clause-fresh g c = rw (← c.self.view_is) (λ h.
+returns-then-count-eq0-clause-fresh g c = rw (← c.self.view_is) (
     let M = g.M.Summary in let s = c.self.inside in let v = s.cells in let ns = s.trees.nodes in
-    let w = live_top M.unit M.join v ns s.tops c.in_ok-number.number h.0 h.1 in
-    none_some w.0 (sym c.in_ok-number.ensures.fresh ∙ w.1))
+    not_live M.unit M.join v ns s.tops c.in_ok-number.number c.in_ok-number.ensures.fresh)
 
 pub returns-then-count-eq0-clause-ok : goal.returns-then-count-eq0-clause-ok
 returns-then-count-eq0-clause-ok g c = rw (← c.self.view_is) (
@@ -69,10 +68,9 @@ invariant_of-self-2 g c =
     kept_tree M.unit M.join w x ms ls s.tops c.set.new.self q c.build_tree-top.result b.list.0 a (but_one M.unit M.join w x ms ls q b.lists) t b.list.3 b.cells
 
 pub returns-clause-fresh : goal.returns-clause-fresh
-returns-clause-fresh g c = rw (← c.self.view_is) (λ h.
+returns-clause-fresh g c = rw (← c.self.view_is) (
     let M = g.M.Summary in let s = c.self.inside in let v = s.cells in let ns = s.trees.nodes in
-    let w = live_top M.unit M.join v ns s.tops c.in_ok-number.number h.0 h.1 in
-    none_some w.0 (sym c.in_ok-number.ensures.fresh ∙ w.1))
+    not_live M.unit M.join v ns s.tops c.in_ok-number.number c.in_ok-number.ensures.fresh)
 
 pub returns-clause-ok : goal.returns-clause-ok
 returns-clause-ok g c = rw (← c.self.view_is) (

@@ -1,7 +1,7 @@
 use Rattle.std.proofs.Common.{◌≡◌, Some, None, sym, ap, ◌∙◌, subst}
 use Rattle.std.proofs.lemmas.Result.{err_from_is_err_and}
 use Rattle.child_trees.specs.Kept.{AreKept}
-use Rattle.child_trees.proofs.Viewing.{seen, live_top, none_some, no_such, kept_no_tree, updates_no_tree, keeps_same}
+use Rattle.child_trees.proofs.Viewing.{seen, not_live, no_such, kept_no_tree, updates_no_tree, keeps_same}
 use Rattle.child_trees.proofs.seqs.Seqs.new_seq.Goals as goal
 
 pub invariant_of-self : goal.invariant_of-self
@@ -21,10 +21,9 @@ invariant_of-self-2 g c =
     kept_no_tree M.unit M.join v v ns ns s.tops c.add.new.self c.in_ok-number.number (Some None) no_such c.self.invariant (keeps_same M.unit M.join v ns (λ j. j ≡ c.in_ok-number.number)) c.in_ok-number.ensures.ok c.self.invariant.cells
 
 pub returns-clause-fresh : goal.returns-clause-fresh
-returns-clause-fresh g c = rw (← c.self.view_is) (λ h.
+returns-clause-fresh g c = rw (← c.self.view_is) (
     let M = g.M.Summary in let s = c.self.inside in let v = s.cells in let ns = s.trees.nodes in
-    let w = live_top M.unit M.join v ns s.tops c.in_ok-number.number h.0 h.1 in
-    none_some w.0 (sym c.in_ok-number.ensures.fresh ∙ w.1))
+    not_live M.unit M.join v ns s.tops c.in_ok-number.number c.in_ok-number.ensures.fresh)
 
 pub returns-clause-ok : goal.returns-clause-ok
 returns-clause-ok g c = rw (← c.self.view_is) (
