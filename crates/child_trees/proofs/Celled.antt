@@ -45,6 +45,13 @@ module _ {Sum Cell Map : Type 0} (live : Sum → Cell → Type 0) (map_of : Sum 
       (λ d. ap (map_of t) (get_or_default cs k d c l ∙ sym e) ∙ value)
       (λ j d w n. keeps.same (get_or cs j d) (a.live_at j d w) (λ q. n (a.apart j k d w l (q ∙ e ∙ get_or_default cs k c d l))))
 
+  pub AreCells-written : (s t : Sum) (cs : List Cell) (k : ℕ) (c : Cell) → KeepsCells live map_of (λ d. d ≡ c) s t → AreCells live s cs → k < length cs → c ≡ get_or cs k c → live t c → AreCells live t cs
+  AreCells-written s t cs k c keeps a l e here = record { live_at = λ j d w. by_place j d w (cases_eq j k); apart = a.apart }
+    where
+      by_place : (j : ℕ) (d : Cell) → j < length cs → ((j ≡ k) ⊎ (j ≢ k)) → live t (get_or cs j d)
+      by_place j d w (inl q) = subst (live t) (e ∙ get_or_default cs k c d l ∙ sym (ap (λ i. get_or cs i d) q)) here
+      by_place j d w (inr n) = keeps.stays (get_or cs j d) (a.live_at j d w) (λ q. n (a.apart j k d w l (q ∙ e ∙ get_or_default cs k c d l)))
+
   pub maps_pushed : (s t : Sum) (cs : List Cell) (c : Cell) → KeepsCells live map_of (λ _. ⊥) s t → AreCells live s cs → map (map_of t) (cs ++ c ∷ []) ≡ map (map_of s) cs ++ map_of t c ∷ []
   maps_pushed s t cs c k a = map_push (map_of t) cs c ∙ ap (λ ms. ms ++ map_of t c ∷ []) (maps_kept s t cs k a)
 

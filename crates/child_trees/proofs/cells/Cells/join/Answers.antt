@@ -1,7 +1,14 @@
 use Rattle.std.proofs.Common.{sym, ◌∙◌}
 use Rattle.std.proofs.lemmas.List.{length-map}
-use Rattle.child_trees.proofs.Celled.{sets_map, maps_written, read_map}
+use Rattle.child_trees.proofs.Celled.{sets_map, maps_written, AreCells-written, read_map}
 use Rattle.child_trees.proofs.cells.Cells.join.Goals as goal
+
+pub invariant_of-self : goal.invariant_of-self
+invariant_of-self g c =
+    let M = g.M.Summary in
+    let into = rw (← c.self.view_is) at c.requires.into in
+    let i = rw length-map at into in
+    AreCells-written M.live M.map_of c.self.inside.summary c.combine.new.self c.self.inside.cells.items c.args.into c.index-3.result.now c.combine.ensures.others c.self.invariant i c.index-3.ensures c.combine.ensures.live
 
 pub returns-clause-map : goal.returns-clause-map
 returns-clause-map g c =

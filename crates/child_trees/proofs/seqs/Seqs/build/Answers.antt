@@ -1,6 +1,9 @@
 use Rattle.std.proofs.Common.{◌≡◌, [], Some, None, sym, ap, ◌∙◌, subst, arith}
 use Rattle.std.proofs.lemmas.List.{nil_from_length}
 use Rattle.std.proofs.lemmas.Result.{err_from_is_err_and}
+use Rattle.std.specs.Prelude.{All}
+use Rattle.std.specs.Option.{ForSome}
+use Rattle.child_trees.specs.declared.leaf.Leaf.{Leaf}
 use Rattle.child_trees.specs.Lists.{AreEntries, AreNew, Updates}
 use Rattle.child_trees.specs.Kept.{AreKept}
 use Rattle.child_trees.proofs.Building.{are_new, writes_then}
@@ -56,6 +59,13 @@ returns-then-count-eq0-clause-ok g c = rw (← c.self.view_is) (
       record { absent = λ p l. absurd (omega (arith, l)); once = λ p k l m e. absurd (omega (arith, l)) },
       subst (λ z. Updates z (seen M.unit w ms c.add.new.self) q (Some [])) eq u,
     ))
+
+pub build_tree-top-requires-clause-fits : goal.build_tree-top-requires-clause-fits
+build_tree-top-requires-clause-fits g c =
+    let M = g.M.Summary in let source = c.args.source.now in
+    let fits = rw (← c.self.view_is) at c.requires in
+    subst (All (λ (l : Leaf g.row.M-Letter.Denot). ForSome l.letter (M.fits c.reserve.new.cells.shape source))) (sym c.as_slice-2.ensures.value)
+    (subst (λ h. All (λ (l : Leaf g.row.M-Letter.Denot). ForSome l.letter (M.fits h source)) c.args.leaves.items) (sym c.reserve.ensures.lists.shape) fits)
 
 pub invariant_of-self-2 : goal.invariant_of-self-2
 invariant_of-self-2 g c =
