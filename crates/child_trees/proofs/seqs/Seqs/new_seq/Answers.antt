@@ -1,4 +1,4 @@
-use Rattle.std.proofs.Common.{◌≡◌, Some, None, sym, ap, ◌∙◌, subst}
+use Rattle.std.proofs.Common.{◌≡◌, Some, None, sym, ap, subst}
 use Rattle.std.proofs.lemmas.Result.{err_from_is_err_and}
 use Rattle.child_trees.specs.Kept.{AreKept}
 use Rattle.child_trees.proofs.Viewing.{seen, not_live, no_such, kept_no_tree, updates_no_tree, keeps_same}
