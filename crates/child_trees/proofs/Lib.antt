@@ -1,0 +1,11 @@
+pub mod Acting
+pub mod Along
+pub mod Building
+pub mod Celled
+pub mod Chains
+pub mod Digits
+pub mod Keeping
+pub mod Reading
+pub mod Split
+pub mod Summing
+pub mod Viewing

@@ -1,0 +1,7 @@
+pub mod Bits
+pub mod Cells
+pub mod Kept
+pub mod Laws
+pub mod Lists
+pub mod Sums
+pub mod Tops

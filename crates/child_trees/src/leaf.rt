@@ -1,0 +1,68 @@
+//! Leaves, and the numbers of lists and leaves.
+
+ghost use Rattle.std.specs.Prelude.{◌≡◌, map, IfOk};
+
+use leaf_trees::Flags;
+use std::alloc::{AllocError, Global};
+use std::marker::Model;
+
+/// The number of a list.
+#[derive(Clone, Copy, Debug, PartialEq, Eq)]
+pub struct SeqId {
+    pub(crate) number: u32,
+}
+
+impl Model for SeqId {
+    ghost use Rattle.std.specs.Prelude.{ℕ};
+
+    ghost Value = { ℕ };
+
+    ghost view = { λ q. q.number };
+
+    ghost inverse = { λ n. record { number = n } };
+}
+
+/// The number of a leaf, which stays the leaf's for as long as it lies in its list.
+#[derive(Clone, Copy, Debug, PartialEq, Eq)]
+pub struct ItemId {
+    pub(crate) number: u32,
+}
+
+impl Model for ItemId {
+    ghost use Rattle.std.specs.Prelude.{ℕ};
+
+    ghost Value = { ℕ };
+
+    ghost view = { λ i. i.number };
+
+    ghost inverse = { λ n. record { number = n } };
+}
+
+/// A leaf of a list. No letter stands for the unit of the summary.
+#[derive(Clone, Copy, Debug, PartialEq, Eq, Drop)]
+pub struct Leaf<T> {
+    pub letter: Option<T>,
+    /// Whether it is counted by `elements_upto`.
+    pub element: bool,
+    /// Whether it is found by `nth_marked`.
+    pub marked: bool,
+}
+
+impl<T> Leaf<T> {
+    /// What it counts as.
+    pub(crate) fn flags(&self) -> Flags
+        ensures { result ≡ record { element = self.now.element; marked = self.now.marked } }
+    {
+        Flags {
+            element: self.element,
+            marked: self.marked,
+        }
+    }
+}
+
+/// What these leaves count as.
+pub(crate) fn flags_of<T: Copy>(alloc: Global, leaves: &[Leaf<T>]) -> Result<Vec<Flags>, AllocError>
+    ensures { IfOk result (λ flags. flags.items ≡ map (λ l. record { element = l.element; marked = l.marked }) leaves.now) }
+{
+    leaves.iter().map(|leaf| leaf.flags()).collect(alloc)
+}

@@ -1,0 +1,15 @@
+//! Many lists of leaves in one arena, each with a summary that folds its leaves.
+#![tactic(auto)]
+
+pub use crate::leaf::{ItemId, Leaf, SeqId};
+pub use crate::seqs::Seqs;
+pub use crate::summary::Summary;
+
+mod cells;
+mod edits;
+mod leaf;
+mod seqs;
+mod summary;
+mod sums;
+mod tops;
+mod walks;
