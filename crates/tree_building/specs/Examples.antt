@@ -28,10 +28,10 @@ named_in_its_scope =
 
 in_default_namespace : tree named_in_its_scope ≡ Ok (record {
   forest =
-    element 1 (record { namespace = Some (codes "u"); local = codes "r" })
-    (record { prefix = []; namespace = codes "u" } ∷ [])
-    (record { name = record { namespace = None; local = codes "a" }; value = codes "1" } ∷ [])
-    none none;
+      element 1 (record { namespace = Some (codes "u"); local = codes "r" })
+      (record { prefix = []; namespace = codes "u" } ∷ [])
+      (record { name = record { namespace = None; local = codes "a" }; value = codes "1" } ∷ [])
+      none none;
   next_free = 2;
 })
 unfolding chars

@@ -12,8 +12,8 @@ use Rattle.tree_edits.specs.declared.edit.EditError.TheVariants.{RootFixed, BadI
 abbrev with_text : Forest → Document
 with_text more = record {
   forest =
-    element 1 (record { namespace = None; local = codes "r" }) (record { prefix = codes "p"; namespace = codes "u" } ∷ []) []
-    (text 2 (codes "x") more) none;
+      element 1 (record { namespace = None; local = codes "r" }) (record { prefix = codes "p"; namespace = codes "u" } ∷ []) []
+      (text 2 (codes "x") more) none;
   next_free = 4;
 }
 
