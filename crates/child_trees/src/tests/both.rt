@@ -170,8 +170,8 @@ impl<F: Fold> Both<F> {
 }
 
 impl<F: Fold> Both<F> {
-    /// Compares every reader with the plain list in a slot, at every place and from this state on.
-    pub fn compare<A: Abort>(&self, rt: &A, slot: usize, start: u64) {
+    /// Compares every reader with the plain list in a slot, from this state on and at each place that `stride` divides.
+    pub fn compare<A: Abort>(&self, rt: &A, slot: usize, start: u64, stride: u32) {
         let Some(plain) = self.plain.get(slot) else {
             return;
         };
@@ -180,8 +180,10 @@ impl<F: Fold> Both<F> {
         let end = walk_along(entries, start);
         let mut walk = Walk::from(start);
         for entry in entries {
-            self.compare_place(rt, slot, start, walk, end.state, most);
-            self.compare_item(rt, slot, start, walk, *entry, most);
+            if walk.place.checked_rem(stride) == Some(0) {
+                self.compare_place(rt, slot, start, walk, end.state, most);
+                self.compare_item(rt, slot, start, walk, *entry, most);
+            }
             walk.pass(*entry);
         }
         assert_eq!(rt; self.held.at(slot, walk.place), None);
