@@ -80,14 +80,15 @@ fn five_states(rt: HostRuntime) -> Result<(), Fail> {
     Ok(())
 }
 
-/// Compares the first lists with their plain ones, at every place.
-fn compare_all<F: Fold, A: Abort>(rt: &A, both: &Both<F>, slots: u32, start: u64) {
+/// Compares the first lists with their plain ones, from a state on and at each place that `stride` divides.
+fn compare_all<F: Fold, A: Abort>(rt: &A, both: &Both<F>, slots: u32, start: u64, stride: u32) {
     for slot in 0..slots {
-        both.compare(rt, slot as usize, start, 1);
+        both.compare(rt, slot as usize, start, stride);
     }
 }
 
-/// Makes 20,000 drawn calls on 50 lists, and compares all lists after each hundredth.
+/// Makes 20,000 drawn calls on 50 lists. After each hundredth it compares the changed list at every place, and all lists at each
+/// seventh.
 fn make_calls<F: Fold, A: Abort>(rt: &A, both: &mut Both<F>, start: u64) -> Result<(), AllocError> {
     let mut random = Random { state: 2_026 };
     for number in 0..20_000u32 {
@@ -95,9 +96,11 @@ fn make_calls<F: Fold, A: Abort>(rt: &A, both: &mut Both<F>, start: u64) -> Resu
         let call = random.call(both.len(slot));
         both.make(rt, slot, call)?;
         if number % 100 == 99 {
-            compare_all(rt, both, 50, start);
+            both.compare(rt, slot, start, 1);
+            compare_all(rt, both, 50, start, 7);
         }
     }
+    compare_all(rt, both, 50, start, 1);
     Ok(())
 }
 
@@ -151,29 +154,35 @@ fn change_list<F: Fold, A: Abort>(
     for change in changes {
         both.make(rt, 0, change)?;
         both.compare(rt, 0, 3, stride);
-        both.compare(rt, 0, 0, stride);
     }
     both.make(rt, 0, Call::Close)?;
     both.compare(rt, 0, 3, stride);
     Ok(())
 }
 
-/// Changes lists of one, two, three and very many leaves.
+/// Changes lists of one, two, three and very many leaves, at the front, in the middle and at the end.
 fn change_lists<F: Fold, A: Abort>(rt: &A, both: &mut Both<F>) -> Result<(), AllocError> {
-    for count in [1, 2, 3, 100_000] {
-        for place in [0, count / 2, count] {
-            change_list(rt, both, count, place)?;
+    for count in 1..4u32 {
+        for place in 0..4u32 {
+            if place <= count {
+                change_list(rt, both, count, place)?;
+            }
         }
     }
+    change_list(rt, both, 100_000, 61_803)
+}
+
+#[test]
+fn short_and_long_lists_of_digests(rt: HostRuntime) -> Result<(), Fail> {
+    let mut both: Both<Digest> = Both::new(rt.alloc(), 1)?;
+    change_lists(&rt, &mut both)?;
     Ok(())
 }
 
 #[test]
-fn short_and_long_lists(rt: HostRuntime) -> Result<(), Fail> {
-    let mut digests: Both<Digest> = Both::new(rt.alloc(), 1)?;
-    change_lists(&rt, &mut digests)?;
-    let mut states: Both<FiveStates> = Both::new(rt.alloc(), 1)?;
-    change_lists(&rt, &mut states)?;
+fn short_and_long_lists_of_five_states(rt: HostRuntime) -> Result<(), Fail> {
+    let mut both: Both<FiveStates> = Both::new(rt.alloc(), 1)?;
+    change_lists(&rt, &mut both)?;
     Ok(())
 }
 
@@ -191,9 +200,9 @@ fn a_failed_call_leaves_all_as_it_was(rt: HostRuntime) {
         if both.make(&rt, slot, call).is_err() {
             assert!(rt; !failed);
             failed = true;
-            compare_all(&rt, &both, 4, 7);
+            compare_all(&rt, &both, 4, 7, 1);
             assert!(rt; both.make(&rt, slot, call).is_ok());
         }
     }
-    compare_all(&rt, &both, 4, 7);
+    compare_all(&rt, &both, 4, 7, 1);
 }

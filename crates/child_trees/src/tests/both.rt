@@ -14,7 +14,7 @@ use xsv_steps::{Steps, Tally};
 pub struct Both<F: Fold> {
     alloc: Global,
     held: Held<F>,
-    plain: Vec<Plain<F>>,
+    plain: Vec<Plain>,
 }
 
 impl<F: Fold> Both<F> {
@@ -177,14 +177,14 @@ impl<F: Fold> Both<F> {
         };
         let entries = plain.entries.as_slice();
         let most = times_digits(8, self.len(slot).unwrap_or(0));
-        let end = walk_along(entries, start);
+        let end = walk_along::<F>(entries, start);
         let mut walk = Walk::from(start);
         for entry in entries {
             if walk.place.checked_rem(stride) == Some(0) {
                 self.compare_place(rt, slot, start, walk, end.state, most);
                 self.compare_item(rt, slot, start, walk, *entry, most);
             }
-            walk.pass(*entry);
+            walk.pass::<F>(*entry);
         }
         assert_eq!(rt; self.held.at(slot, walk.place), None);
         assert_eq!(rt; self.held.nth_marked(slot, walk.marked), None);
@@ -192,10 +192,13 @@ impl<F: Fold> Both<F> {
             self.compare_place(rt, slot, start, walk, end.state, most);
             self.compare_whole(rt, slot, start, walk, most);
             let half = entries.len() / 2;
-            let rest = walk_along(&entries[half..], start);
+            let rest = walk_along::<F>(&entries[half..], start);
             let mut steps = Steps::new(Tally { count: 0 });
             let from = u32::try_from(half).unwrap_or(0);
-            assert_eq!(rt; self.held.from(slot, from, start, &mut steps), Some(rest.state));
+            assert_eq!(rt;
+                self.held.from(slot, from, start, &mut steps),
+                Some(rest.state)
+            );
         }
     }
 
@@ -212,10 +215,16 @@ impl<F: Fold> Both<F> {
         let place = walk.place;
         assert_eq!(rt; self.held.elements_upto(slot, place), Some(walk.elements));
         let mut steps = Steps::new(Tally { count: 0 });
-        assert_eq!(rt; self.held.upto(slot, place, start, &mut steps), Some(walk.state));
+        assert_eq!(rt;
+            self.held.upto(slot, place, start, &mut steps),
+            Some(walk.state)
+        );
         assert!(rt; steps.ledger().count <= most);
         let mut steps = Steps::new(Tally { count: 0 });
-        assert_eq!(rt; self.held.from(slot, place, walk.state, &mut steps), Some(end));
+        assert_eq!(rt;
+            self.held.from(slot, place, walk.state, &mut steps),
+            Some(end)
+        );
         assert!(rt; steps.ledger().count <= most);
     }
 
@@ -226,7 +235,7 @@ impl<F: Fold> Both<F> {
         slot: usize,
         start: u64,
         walk: Walk,
-        entry: Entry<F>,
+        entry: Entry,
         most: u64,
     ) {
         let place = walk.place;
@@ -236,7 +245,10 @@ impl<F: Fold> Both<F> {
             assert_eq!(rt; self.held.nth_marked(slot, walk.marked), Some(entry.item));
         }
         let mut steps = Steps::new(Tally { count: 0 });
-        assert_eq!(rt; self.held.prefix(slot, place, start, &mut steps), Some(walk.state));
+        assert_eq!(rt;
+            self.held.prefix(slot, place, start, &mut steps),
+            Some(walk.state)
+        );
         assert!(rt; steps.ledger().count <= most);
     }
 

@@ -8,7 +8,11 @@ use std::alloc::{AllocError, Global};
 pub enum Call {
     Open,
     /// So many leaves, drawn from the seed.
-    Build { count: u32, seed: u64, source: u8 },
+    Build {
+        count: u32,
+        seed: u64,
+        source: u8,
+    },
     Insert {
         place: u32,
         leaf: Leaf<u8>,
@@ -19,7 +23,9 @@ pub enum Call {
         leaf: Leaf<u8>,
         source: u8,
     },
-    Remove { place: u32 },
+    Remove {
+        place: u32,
+    },
     Close,
 }
 

@@ -1,6 +1,6 @@
 //! Two folds, and the summary that keeps the maps of a fold in cells.
 
-ghost use Rattle.std.specs.Prelude.{◌≡◌, ℕ, ◌+◌, ◌*◌, ◌%◌, ◌^◌, ◌==◌, ◌<◌, nat_le, Bool, true, false, if◌then◌else◌, Some, None, List, [], ◌∷◌, map, All, slice_index, slice_index_or, unwrap_or, length};
+ghost use Rattle.std.specs.Prelude.{◌≡◌, ℕ, ◌+◌, ◌*◌, ◌%◌, ◌^◌, ◌==◌, ◌<◌, ◌≤◌, nat_le, Bool, true, false, if◌then◌else◌, Some, None, slice_index_or, unwrap_or};
 ghost use Rattle.child_trees.specs.Laws.{SummaryLaws};
 
 use crate::summary::Summary;
@@ -45,6 +45,9 @@ pub trait Fold: Copy {
         requires { is_state state }
         ensures { result ≡ dead state };
 
+    fn is_one_of_states(state: u64) -> bool
+        ensures { result ≡ true → is_state state };
+
     ghost leaves: { (letter : ℕ) → letter < 256 → is_map (leaf_map letter) };
 
     ghost laws: { SummaryLaws {Shape = Unit {0}} (λ _. is_state) (λ _. is_map) (λ _. unit_map) joined acts (λ _. dead) };
@@ -66,9 +69,9 @@ impl Fold for Digest {
 
     ghost leaf_map = { λ letter. record { times = 31; plus = letter } };
 
-    ghost joined = { λ m n. record { times = (m.times * n.times) % 2 ^ 64; plus = ((m.plus * n.times) % 2 ^ 64 + n.plus) % 2 ^ 64 } };
+    ghost joined = { λ m n. record { times = m.times * n.times % 2 ^ 64; plus = (m.plus * n.times % 2 ^ 64 + n.plus) % 2 ^ 64 } };
 
-    ghost acts = { λ m x. ((m.times * x) % 2 ^ 64 + m.plus) % 2 ^ 64 };
+    ghost acts = { λ m x. (m.times * x % 2 ^ 64 + m.plus) % 2 ^ 64 };
 
     ghost dead = { λ _. false };
 
@@ -101,31 +104,38 @@ impl Fold for Digest {
     fn is_dead(_state: u64) -> bool {
         false
     }
+
+    fn is_one_of_states(_state: u64) -> bool {
+        true
+    }
 }
 
-/// A map of the five states 0 to 4, of which 4 is dead.
+/// A map of the states 0 to 4, by what it makes of the first four. 4 is dead and stays so.
 #[derive(Clone, Copy, Debug, PartialEq, Eq)]
 pub struct FiveStates {
-    to: [u64; 5],
+    zero: u64,
+    one: u64,
+    two: u64,
+    three: u64,
 }
 
 impl Fold for FiveStates {
-    ghost is_map = { λ m. (length m.to ≡ 5) × All (λ x. x < 5) m.to × (slice_index m.to 4 ≡ 4) };
+    ghost is_map = { λ m. (m.zero < 5) × (m.one < 5) × (m.two < 5) × (m.three < 5) };
 
     ghost is_state = { λ x. x < 5 };
 
-    ghost unit_map = { record { to = 0 ∷ 1 ∷ 2 ∷ 3 ∷ 4 ∷ [] } };
+    ghost unit_map = { record { zero = 0; one = 1; two = 2; three = 3 } };
 
-    ghost leaf_map = { λ letter. record {
-        to = if letter == 255 then 0 ∷ 1 ∷ 2 ∷ 4 ∷ 4 ∷ []
-            else if nat_le 250 letter then 0 ∷ 0 ∷ 2 ∷ 3 ∷ 4 ∷ []
-            else if nat_le 100 letter then 1 ∷ 2 ∷ 3 ∷ 0 ∷ 4 ∷ []
-            else 1 ∷ 0 ∷ 2 ∷ 3 ∷ 4 ∷ []
-    } };
+    ghost leaf_map = { λ letter.
+        if letter == 255 then record { zero = 0; one = 1; two = 2; three = 4 }
+        else if nat_le 250 letter then record { zero = 0; one = 0; two = 2; three = 3 }
+        else if nat_le 100 letter then record { zero = 1; one = 2; two = 3; three = 0 }
+        else record { zero = 1; one = 0; two = 2; three = 3 } };
 
-    ghost joined = { λ m n. record { to = map (slice_index n.to) m.to } };
+    ghost acts = { λ m x.
+        if x == 0 then m.zero else if x == 1 then m.one else if x == 2 then m.two else if x == 3 then m.three else 4 };
 
-    ghost acts = { λ m x. slice_index m.to x };
+    ghost joined = { λ m n. record { zero = acts n m.zero; one = acts n m.one; two = acts n m.two; three = acts n m.three } };
 
     ghost dead = { λ x. x == 4 };
 
@@ -135,43 +145,57 @@ impl Fold for FiveStates {
 
     fn unit() -> FiveStates {
         FiveStates {
-            to: [0, 1, 2, 3, 4],
+            zero: 0,
+            one: 1,
+            two: 2,
+            three: 3,
         }
     }
 
-    /// A turn, an exchange, rarely a meeting of two states, and for 255 the death of state 3.
+    /// A turn of the first four states, an exchange of two, rarely a meeting of two, and for 255 the death of one.
     fn of_letter(letter: u8) -> FiveStates {
-        let to = if letter == 255 {
-            [0, 1, 2, 4, 4]
+        let [zero, one, two, three] = if letter == 255 {
+            [0, 1, 2, 4]
         } else if letter >= 250 {
-            [0, 0, 2, 3, 4]
+            [0, 0, 2, 3]
         } else if letter >= 100 {
-            [1, 2, 3, 0, 4]
+            [1, 2, 3, 0]
         } else {
-            [1, 0, 2, 3, 4]
+            [1, 0, 2, 3]
         };
-        FiveStates { to }
+        FiveStates {
+            zero,
+            one,
+            two,
+            three,
+        }
     }
 
     fn then(self, next: FiveStates) -> FiveStates {
-        let [a, b, c, d, e] = self.to;
         FiveStates {
-            to: [
-                next.acts_on(a),
-                next.acts_on(b),
-                next.acts_on(c),
-                next.acts_on(d),
-                next.acts_on(e),
-            ],
+            zero: next.acts_on(self.zero),
+            one: next.acts_on(self.one),
+            two: next.acts_on(self.two),
+            three: next.acts_on(self.three),
         }
     }
 
     fn acts_on(self, state: u64) -> u64 {
-        self.to[state as usize]
+        match state {
+            0 => self.zero,
+            1 => self.one,
+            2 => self.two,
+            3 => self.three,
+            _ => 4,
+        }
     }
 
     fn is_dead(state: u64) -> bool {
         state == 4
+    }
+
+    fn is_one_of_states(state: u64) -> bool {
+        state < 5
     }
 }
 
@@ -230,7 +254,7 @@ impl<F: Fold> Summary for Keeper<F> {
 
     ghost join = { F.joined };
 
-    ghost leaf = { λ source letter. F.leaf_map ((letter + source) % 256) };
+    ghost leaf = { λ source letter. F.leaf_map ((letter + source) % 2 ^ 8) };
 
     ghost acts = { F.acts };
 
@@ -257,20 +281,15 @@ impl<F: Fold> Summary for Keeper<F> {
         self.cells[*cell as usize] = Some(F::unit());
     }
 
-    fn set_leaf<L: Ledger>(
-        &mut self,
-        cell: &u32,
-        source: &u8,
-        letter: u8,
-        steps: &mut Steps<L>,
-    ) {
+    fn set_leaf<L: Ledger>(&mut self, cell: &u32, source: &u8, letter: u8, steps: &mut Steps<L>) {
         steps.tick();
         self.cells[*cell as usize] = Some(F::of_letter(letter.wrapping_add(*source)));
     }
 
     fn combine<L: Ledger>(&mut self, left: &u32, right: &u32, into: &u32, steps: &mut Steps<L>) {
         steps.tick();
-        prove!(*into != *left && *into != *right);
+        let is_apart = *into != *left && *into != *right;
+        prove!(is_apart);
         let map = self.map(*left).then(self.map(*right));
         self.cells[*into as usize] = Some(map);
     }

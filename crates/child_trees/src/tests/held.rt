@@ -1,13 +1,19 @@
 //! Lists in slots, for the tests.
 
+ghost use Rattle.std.specs.Prelude.{◌≡◌, ◌×◌, ℕ, true, Some, None, slice_index_or};
+ghost use Rattle.child_trees.specs.Lists.{IsLive, IsUpTo, HasItem};
+
 use super::folds::{Fold, Keeper};
 use crate::leaf::{ItemId, Leaf, SeqId};
 use crate::seqs::Seqs;
 use std::alloc::{AllocError, Global};
+use std::marker::Model;
 use xsv_steps::{Ledger, Steps};
 
 /// The list in a slot.
-fn in_slot(slots: &[Option<SeqId>], slot: usize) -> Option<SeqId> {
+fn in_slot(slots: &[Option<SeqId>], slot: usize) -> Option<SeqId>
+    ensures { (q : ℕ) → result ≡ Some q → slice_index_or slots.now slot None ≡ Some q }
+{
     if slot < slots.len() {
         slots[slot]
     } else {
@@ -21,6 +27,18 @@ fn in_slot(slots: &[Option<SeqId>], slot: usize) -> Option<SeqId> {
 pub struct Held<F: Fold> {
     seqs: Seqs<Keeper<F>>,
     slots: Vec<Option<SeqId>>,
+}
+
+impl<F: Fold> Model for Held<F> {
+    ghost use Rattle.std.specs.Prelude.{Unit};
+    ghost use Rattle.child_trees.specs.Lists.{Lists};
+
+    ghost Value = { Lists (Unit {0}) F };
+
+    ghost view = { λ h. h.seqs };
+
+    ghost invariant = { λ h. ((i q : ℕ) → slice_index_or h.slots.items i None ≡ Some q → IsLive h.seqs q)
+        × ((i j q : ℕ) → slice_index_or h.slots.items i None ≡ Some q → slice_index_or h.slots.items j None ≡ Some q → i ≡ j) };
 }
 
 impl<F: Fold> Held<F> {
@@ -100,7 +118,9 @@ impl<F: Fold> Held<F> {
         }
     }
 
-    pub fn at(&self, slot: usize, place: u32) -> Option<ItemId> {
+    pub fn at(&self, slot: usize, place: u32) -> Option<ItemId>
+        ensures { (i : ℕ) → result ≡ Some i → HasItem self.now i }
+    {
         self.seqs.at(in_slot(&self.slots, slot)?, place)
     }
 
@@ -125,7 +145,11 @@ impl<F: Fold> Held<F> {
 
     pub fn whole<L: Ledger>(&self, slot: usize, state: u64, steps: &mut Steps<L>) -> Option<u64> {
         let seq = in_slot(&self.slots, slot)?;
-        Some(self.seqs.whole(seq, state, steps))
+        if F::is_one_of_states(state) {
+            Some(self.seqs.whole(seq, state, steps))
+        } else {
+            None
+        }
     }
 
     /// What `prefix` says of the item at a place.
@@ -137,7 +161,11 @@ impl<F: Fold> Held<F> {
         steps: &mut Steps<L>,
     ) -> Option<u64> {
         let item = self.at(slot, place)?;
-        Some(self.seqs.prefix(item, state, steps))
+        if F::is_one_of_states(state) {
+            Some(self.seqs.prefix(item, state, steps))
+        } else {
+            None
+        }
     }
 
     pub fn upto<L: Ledger>(
@@ -148,7 +176,7 @@ impl<F: Fold> Held<F> {
         steps: &mut Steps<L>,
     ) -> Option<u64> {
         let seq = in_slot(&self.slots, slot)?;
-        if self.reaches(seq, place) {
+        if self.reaches(seq, place) && F::is_one_of_states(state) {
             Some(self.seqs.upto(seq, place, state, steps))
         } else {
             None
@@ -163,7 +191,7 @@ impl<F: Fold> Held<F> {
         steps: &mut Steps<L>,
     ) -> Option<u64> {
         let seq = in_slot(&self.slots, slot)?;
-        if self.reaches(seq, place) {
+        if self.reaches(seq, place) && F::is_one_of_states(state) {
             Some(self.seqs.from(seq, place, state, steps))
         } else {
             None
@@ -171,11 +199,19 @@ impl<F: Fold> Held<F> {
     }
 
     pub fn descend<L: Ledger>(&self, slot: usize, state: u64, steps: &mut Steps<L>) -> Option<u32> {
-        self.seqs.descend(in_slot(&self.slots, slot)?, state, steps)
+        let seq = in_slot(&self.slots, slot)?;
+        if F::is_one_of_states(state) {
+            self.seqs.descend(seq, state, steps)
+        } else {
+            None
+        }
     }
 
     /// Whether the place is within the list, or at its end.
-    fn reaches(&self, seq: SeqId, place: u32) -> bool {
+    fn reaches(&self, seq: SeqId, place: u32) -> bool
+        requires { IsLive self.now.seqs seq }
+        ensures { result ≡ true → IsUpTo self.now.seqs seq place }
+    {
         place == 0 || self.seqs.at(seq, place - 1).is_some()
     }
 }

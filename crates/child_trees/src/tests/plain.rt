@@ -3,35 +3,31 @@
 use super::folds::Fold;
 use crate::leaf::{ItemId, Leaf};
 
-/// A leaf of a plain list: its item, its flags, and the map that its source gave its letter.
+/// A leaf of a plain list: its item, its flags, and its letter with the source added, modulo 256.
 #[derive(Clone, Copy)]
-pub struct Entry<F: Fold> {
+pub struct Entry {
     pub item: ItemId,
     pub element: bool,
     pub marked: bool,
-    map: F,
+    letter: Option<u8>,
 }
 
-impl<F: Fold> Entry<F> {
-    pub fn new(item: ItemId, leaf: Leaf<u8>, source: u8) -> Entry<F> {
-        let map = match leaf.letter {
-            Some(letter) => F::of_letter(letter.wrapping_add(source)),
-            None => F::unit(),
-        };
+impl Entry {
+    pub fn new(item: ItemId, leaf: Leaf<u8>, source: u8) -> Entry {
         Entry {
             item,
             element: leaf.element,
             marked: leaf.marked,
-            map,
+            letter: leaf.letter.map(|letter| letter.wrapping_add(source)),
         }
     }
 }
 
 /// What a slot is to hold.
 #[derive(Drop)]
-pub struct Plain<F: Fold> {
+pub struct Plain {
     pub is_open: bool,
-    pub entries: Vec<Entry<F>>,
+    pub entries: Vec<Entry>,
 }
 
 /// What a walk along a plain list has found before a place.
@@ -57,9 +53,9 @@ impl Walk {
     }
 
     /// Passes a leaf.
-    pub fn pass<F: Fold>(&mut self, entry: Entry<F>) {
-        self.state = entry.map.acts_on(self.state);
-        if self.dead.is_none() && F::is_dead(self.state) {
+    pub fn pass<F: Fold>(&mut self, entry: Entry) {
+        self.state = state_after::<F>(self.state, entry.letter);
+        if self.dead.is_none() && is_dead::<F>(self.state) {
             self.dead = Some(self.place);
         }
         if entry.element {
@@ -72,11 +68,23 @@ impl Walk {
     }
 }
 
+/// The state after a letter's map.
+fn state_after<F: Fold>(state: u64, letter: Option<u8>) -> u64 {
+    match letter {
+        Some(letter) if F::is_one_of_states(state) => F::of_letter(letter).acts_on(state),
+        _ => state,
+    }
+}
+
+fn is_dead<F: Fold>(state: u64) -> bool {
+    F::is_one_of_states(state) && F::is_dead(state)
+}
+
 /// A walk along all these leaves.
-pub fn walk_along<F: Fold>(entries: &[Entry<F>], start: u64) -> Walk {
+pub fn walk_along<F: Fold>(entries: &[Entry], start: u64) -> Walk {
     let mut walk = Walk::from(start);
     for entry in entries {
-        walk.pass(*entry);
+        walk.pass::<F>(*entry);
     }
     walk
 }
