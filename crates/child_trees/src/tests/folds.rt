@@ -135,7 +135,9 @@ impl Fold for FiveStates {
     ghost acts = { λ m x.
         if x == 0 then m.zero else if x == 1 then m.one else if x == 2 then m.two else if x == 3 then m.three else 4 };
 
-    ghost joined = { λ m n. record { zero = acts n m.zero; one = acts n m.one; two = acts n m.two; three = acts n m.three } };
+    ghost joined = { λ m n.
+        (λ at. record { zero = at m.zero; one = at m.one; two = at m.two; three = at m.three })
+        (λ x. if x == 0 then n.zero else if x == 1 then n.one else if x == 2 then n.two else if x == 3 then n.three else 4) };
 
     ghost dead = { λ x. x == 4 };
 

@@ -1,6 +1,6 @@
 //! Lists in slots, for the tests.
 
-ghost use Rattle.std.specs.Prelude.{◌≡◌, ◌×◌, ℕ, true, Some, None, slice_index_or};
+ghost use Rattle.std.specs.Prelude.{◌≡◌, ℕ, true, Some, None, slice_index_or};
 ghost use Rattle.child_trees.specs.Lists.{IsLive, IsUpTo, HasItem};
 
 use super::folds::{Fold, Keeper};
@@ -30,7 +30,6 @@ pub struct Held<F: Fold> {
 }
 
 impl<F: Fold> Model for Held<F> {
-    ghost use Rattle.std.specs.Prelude.{Unit};
     ghost use Rattle.child_trees.specs.Lists.{Lists};
 
     ghost Value = { Lists (Unit {0}) F };
@@ -209,8 +208,8 @@ impl<F: Fold> Held<F> {
 
     /// Whether the place is within the list, or at its end.
     fn reaches(&self, seq: SeqId, place: u32) -> bool
-        requires { IsLive self.now.seqs seq }
-        ensures { result ≡ true → IsUpTo self.now.seqs seq place }
+        requires { IsLive self.now seq }
+        ensures { result ≡ true → IsUpTo self.now seq place }
     {
         place == 0 || self.seqs.at(seq, place - 1).is_some()
     }
