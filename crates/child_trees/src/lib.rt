@@ -11,5 +11,7 @@ mod leaf;
 mod seqs;
 mod summary;
 mod sums;
+#[cfg(test)]
+mod tests;
 mod tops;
 mod walks;
