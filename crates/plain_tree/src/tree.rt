@@ -138,7 +138,7 @@ impl Tree {
         put_last(alloc, &mut self.rows, parent, node, Content::Chars(text))
     }
 
-    /// Puts an attribute behind those of an element, which has none of its name and less than 256 attributes and
+    /// Puts an attribute behind those of an element, which has none of its name and fewer than 256 attributes and
     /// bindings.
     ///
     /// # Errors
@@ -154,7 +154,7 @@ impl Tree {
         put_attribute(&mut self.rows, node, attr)
     }
 
-    /// Puts a binding behind those of an element's start tag, which has none of its prefix and less than 256
+    /// Puts a binding behind those of an element's start tag, which has none of its prefix and fewer than 256
     /// attributes and bindings. Names that the tree has already stay as they are.
     ///
     /// # Errors
