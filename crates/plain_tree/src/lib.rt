@@ -1,4 +1,5 @@
-//! Trees of elements and texts: built of the items of a listing, changed by edits, read by the numbers of nodes.
+//! Trees of elements and texts: built of the items of a listing or node by node, changed by edits, read by the numbers
+//! of nodes.
 #![tactic(auto)]
 
 mod builder;

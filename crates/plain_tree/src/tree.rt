@@ -76,7 +76,11 @@ impl Tree {
         Ok(())
     }
 
-    /// The tree of a root alone, which has the number 1.
+    /// The tree of a root alone, which has the number 1. The next free number is above it.
+    ///
+    /// # Errors
+    ///
+    /// `AllocError` is want of memory.
     pub fn root_alone(alloc: Global, name: Expanded, next_free: u32) -> Result<Self, AllocError>
         requires { 1 < next_free }
         ensures { IfOk result (λ tree. tree ≡ record { forest = element 1 name [] [] none none; next_free = next_free }) }
@@ -86,7 +90,12 @@ impl Tree {
         Ok(Tree::from_rows(rows, next_free))
     }
 
-    /// Puts an element of this number last among the children of an element.
+    /// Puts an element of this number last among the children of an element. The number is above 0, of no node and
+    /// below the next free one, and the tree stays within 131,072 nodes and a depth of 128.
+    ///
+    /// # Errors
+    ///
+    /// `AllocError` is want of memory: the tree is then as it was.
     pub fn put_element(
         &mut self,
         alloc: Global,
@@ -106,7 +115,12 @@ impl Tree {
         put_last(alloc, &mut self.rows, parent, node, Content::Element(name))
     }
 
-    /// Puts a text of this number last among the children of an element. It stays apart from a text before it.
+    /// Puts a text of this number last among the children of an element. It stays apart from a text before it. The
+    /// number is above 0, of no node and below the next free one, and the tree stays within 131,072 nodes.
+    ///
+    /// # Errors
+    ///
+    /// `AllocError` is want of memory: the tree is then as it was.
     pub fn put_chars(
         &mut self,
         alloc: Global,
@@ -125,7 +139,12 @@ impl Tree {
         put_last(alloc, &mut self.rows, parent, node, Content::Chars(text))
     }
 
-    /// Puts an attribute behind those of an element, which has none of its name.
+    /// Puts an attribute behind those of an element, which has none of its name and fewer than 256 attributes and
+    /// bindings.
+    ///
+    /// # Errors
+    ///
+    /// `AllocError` is want of memory: the tree is then as it was.
     pub fn put_attr(&mut self, node: u32, attr: Attribute) -> Result<(), AllocError>
         requires element { kind_of node self.old.forest ≡ Some Element }
         requires lacks { has_name attr.name (attributes_of node self.old.forest) ≡ false }
@@ -136,7 +155,12 @@ impl Tree {
         put_attribute(&mut self.rows, node, attr)
     }
 
-    /// Puts a binding behind those of an element's start tag, which has none of its prefix.
+    /// Puts a binding behind those of an element's start tag, which has none of its prefix and fewer than 256
+    /// attributes and bindings. Names that the tree has already stay as they are.
+    ///
+    /// # Errors
+    ///
+    /// `AllocError` is want of memory: the tree is then as it was.
     pub fn put_binding(&mut self, node: u32, binding: Binding) -> Result<(), AllocError>
         requires element { kind_of node self.old.forest ≡ Some Element }
         requires lacks { has_prefix binding.prefix (bindings_of node self.old.forest) ≡ false }
