@@ -1,5 +1,7 @@
 pub mod Bits
 pub mod Cells
+pub mod FoldLaws
+pub mod Folds
 pub mod Kept
 pub mod Laws
 pub mod Lists

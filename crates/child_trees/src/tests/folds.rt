@@ -1,7 +1,10 @@
 //! Two folds, and the summary that keeps the maps of a fold in cells.
 
-ghost use Rattle.std.specs.Prelude.{◌≡◌, ℕ, ◌+◌, ◌*◌, ◌%◌, ◌^◌, ◌==◌, ◌<◌, ◌≤◌, nat_le, Bool, true, false, if◌then◌else◌, Some, None, slice_index_or, unwrap_or};
+ghost use Rattle.std.specs.Prelude.{◌≡◌, ℕ, ◌+◌, ◌%◌, ◌^◌, ◌==◌, ◌<◌, Bool, true, false, Some, None, slice_index_or, unwrap_or};
+ghost use Rattle.std.proofs.Common.{arith};
 ghost use Rattle.child_trees.specs.Laws.{SummaryLaws};
+ghost use Rattle.child_trees.specs.Folds.{IsLine, lines_joined, on_line, IsFour, fours_joined, on_four, four_of};
+ghost use Rattle.child_trees.specs.FoldLaws.{line_laws, four_is, four_laws, live_map, byte};
 
 use crate::summary::Summary;
 use std::alloc::{AllocError, Global};
@@ -53,52 +56,42 @@ pub trait Fold: Copy {
     ghost laws: { SummaryLaws {Shape = Unit {0}} (λ _. is_state) (λ _. is_map) (λ _. unit_map) joined acts (λ _. dead) };
 }
 
-/// The map of `x` to `times * x + plus`, modulo 2^64. A letter's is `31 * x + letter`, so the end shows the order of the letters.
-#[derive(Clone, Copy, Debug, PartialEq, Eq)]
-pub struct Digest {
-    times: u64,
-    plus: u64,
-}
+/// The map of `x` to `m.0 * x + m.1`, modulo 2^64. A letter's is `31 * x + letter`, so the end shows the order of the letters.
+pub type Digest = (u64, u64);
 
 impl Fold for Digest {
-    ghost is_map = { λ m. (m.times < 2 ^ 64) × (m.plus < 2 ^ 64) };
+    ghost is_map = { IsLine (2 ^ 64) };
 
     ghost is_state = { λ x. x < 2 ^ 64 };
 
-    ghost unit_map = { record { times = 1; plus = 0 } };
+    ghost unit_map = { (1, 0) };
 
-    ghost leaf_map = { λ letter. record { times = 31; plus = letter } };
+    ghost leaf_map = { λ letter. (31, letter) };
 
-    ghost joined = { λ m n. record { times = m.times * n.times % 2 ^ 64; plus = (m.plus * n.times % 2 ^ 64 + n.plus) % 2 ^ 64 } };
+    ghost joined = { lines_joined (2 ^ 64) };
 
-    ghost acts = { λ m x. (m.times * x % 2 ^ 64 + m.plus) % 2 ^ 64 };
+    ghost acts = { on_line (2 ^ 64) };
 
     ghost dead = { λ _. false };
 
-    ghost leaves = { ? };
+    ghost leaves = { λ letter few. (Prim.omega arith, Prim.omega arith) };
 
-    ghost laws = { ? };
+    ghost laws = { line_laws (2 ^ 64) (Prim.omega arith) };
 
     fn unit() -> Digest {
-        Digest { times: 1, plus: 0 }
+        (1, 0)
     }
 
     fn of_letter(letter: u8) -> Digest {
-        Digest {
-            times: 31,
-            plus: u64::from(letter),
-        }
+        (31, u64::from(letter))
     }
 
     fn then(self, next: Digest) -> Digest {
-        Digest {
-            times: self.times.wrapping_mul(next.times),
-            plus: self.plus.wrapping_mul(next.times).wrapping_add(next.plus),
-        }
+        (self.0.wrapping_mul(next.0), next.acts_on(self.1))
     }
 
     fn acts_on(self, state: u64) -> u64 {
-        self.times.wrapping_mul(state).wrapping_add(self.plus)
+        self.0.wrapping_mul(state).wrapping_add(self.1)
     }
 
     fn is_dead(_state: u64) -> bool {
@@ -110,84 +103,60 @@ impl Fold for Digest {
     }
 }
 
-/// A map of the states 0 to 4, by what it makes of the first four. 4 is dead and stays so.
-#[derive(Clone, Copy, Debug, PartialEq, Eq)]
-pub struct FiveStates {
-    zero: u64,
-    one: u64,
-    two: u64,
-    three: u64,
-}
+/// A map of the states 0 to 4, by what becomes of the first four. 4 is dead and stays so.
+pub type FiveStates = (u64, u64, u64, u64);
 
 impl Fold for FiveStates {
-    ghost is_map = { λ m. (m.zero < 5) × (m.one < 5) × (m.two < 5) × (m.three < 5) };
+    ghost is_map = { IsFour };
 
     ghost is_state = { λ x. x < 5 };
 
-    ghost unit_map = { record { zero = 0; one = 1; two = 2; three = 3 } };
+    ghost unit_map = { (0, 1, 2, 3) };
 
-    ghost leaf_map = { λ letter.
-        if letter == 255 then record { zero = 0; one = 1; two = 2; three = 4 }
-        else if nat_le 250 letter then record { zero = 0; one = 0; two = 2; three = 3 }
-        else if nat_le 100 letter then record { zero = 1; one = 2; two = 3; three = 0 }
-        else record { zero = 1; one = 0; two = 2; three = 3 } };
+    ghost leaf_map = { four_of };
 
-    ghost acts = { λ m x.
-        if x == 0 then m.zero else if x == 1 then m.one else if x == 2 then m.two else if x == 3 then m.three else 4 };
+    ghost joined = { fours_joined };
 
-    ghost joined = { λ m n.
-        (λ at. record { zero = at m.zero; one = at m.one; two = at m.two; three = at m.three })
-        (λ x. if x == 0 then n.zero else if x == 1 then n.one else if x == 2 then n.two else if x == 3 then n.three else 4) };
+    ghost acts = { on_four };
 
     ghost dead = { λ x. x == 4 };
 
-    ghost leaves = { ? };
+    ghost leaves = { λ letter _. four_is letter };
 
-    ghost laws = { ? };
+    ghost laws = { four_laws };
 
     fn unit() -> FiveStates {
-        FiveStates {
-            zero: 0,
-            one: 1,
-            two: 2,
-            three: 3,
-        }
+        (0, 1, 2, 3)
     }
 
     /// A turn of the first four states, an exchange of two, rarely a meeting of two, and for 255 the death of one.
     fn of_letter(letter: u8) -> FiveStates {
-        let [zero, one, two, three] = if letter == 255 {
-            [0, 1, 2, 4]
+        if letter == 255 {
+            (0, 1, 2, 4)
         } else if letter >= 250 {
-            [0, 0, 2, 3]
+            (0, 0, 2, 3)
         } else if letter >= 100 {
-            [1, 2, 3, 0]
+            (1, 2, 3, 0)
         } else {
-            [1, 0, 2, 3]
-        };
-        FiveStates {
-            zero,
-            one,
-            two,
-            three,
+            (1, 0, 2, 3)
         }
     }
 
     fn then(self, next: FiveStates) -> FiveStates {
-        FiveStates {
-            zero: next.acts_on(self.zero),
-            one: next.acts_on(self.one),
-            two: next.acts_on(self.two),
-            three: next.acts_on(self.three),
-        }
+        (
+            next.acts_on(self.0),
+            next.acts_on(self.1),
+            next.acts_on(self.2),
+            next.acts_on(self.3),
+        )
     }
 
     fn acts_on(self, state: u64) -> u64 {
         match state {
-            0 => self.zero,
-            1 => self.one,
-            2 => self.two,
-            3 => self.three,
+            0 => self.0,
+            1 => self.1,
+            2 => self.2,
+            3 => self.3,
             _ => 4,
         }
     }
@@ -260,9 +229,9 @@ impl<F: Fold> Summary for Keeper<F> {
 
     ghost acts = { F.acts };
 
-    ghost maps = { ? };
+    ghost maps = { λ s c live. live_map F.is_map F.unit_map s.cells.items c live };
 
-    ghost leaves = { ? };
+    ghost leaves = { λ _ source letter _. F.leaves ((letter + source) % 2 ^ 8) (byte (letter + source)) };
 
     ghost laws = { F.laws };
 

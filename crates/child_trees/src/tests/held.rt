@@ -31,13 +31,13 @@ pub struct Held<F: Fold> {
 
 impl<F: Fold> Model for Held<F> {
     ghost use Rattle.child_trees.specs.Lists.{Lists};
+    ghost use Rattle.child_trees.specs.Folds.{AreHeld};
 
     ghost Value = { Lists (Unit {0}) F };
 
     ghost view = { λ h. h.seqs };
 
-    ghost invariant = { λ h. ((i q : ℕ) → slice_index_or h.slots.items i None ≡ Some q → IsLive h.seqs q)
-        × ((i j q : ℕ) → slice_index_or h.slots.items i None ≡ Some q → slice_index_or h.slots.items j None ≡ Some q → i ≡ j) };
+    ghost invariant = { λ h. AreHeld h.seqs h.slots.items };
 }
 
 impl<F: Fold> Held<F> {
