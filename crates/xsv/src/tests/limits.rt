@@ -180,6 +180,23 @@ fn keeps_the_limit_of_depth(rt: HostRuntime) -> Result<(), Fail> {
     Ok(())
 }
 
+#[test]
+fn judges_names_before_the_depth(rt: HostRuntime) -> Result<(), Fail> {
+    let alloc = rt.alloc();
+    let head = before(alloc, b"(r\n")?;
+    let text = "schema ok\nlisting 137 UnboundPrefix\n";
+    let deep = document(
+        &head,
+        b"(r\n",
+        126,
+        b"(p:r\n(r\n",
+        text,
+        Status::ListingRefused,
+    );
+    check(&rt, alloc, &deep)?;
+    Ok(())
+}
+
 /// A document with the most nodes, and these lines behind them.
 fn check_full(
     rt: &impl Abort,
@@ -355,6 +372,15 @@ fn refuses_one_byte_more(rt: HostRuntime) -> Result<(), Fail> {
     let alloc = rt.alloc();
     let tail = ending(alloc, 396, 65_000, b")r\nend\n")?;
     let text = "schema ok\nlimit 1037 TooManyBytes\n";
+    check_long(&rt, alloc, 1023, &tail, text, Status::Limit)?;
+    Ok(())
+}
+
+#[test]
+fn has_too_many_bytes_behind_the_end(rt: HostRuntime) -> Result<(), Fail> {
+    let alloc = rt.alloc();
+    let tail = ending(alloc, 395, 65_000, b")r\nend\nx\n")?;
+    let text = "schema ok\nok 0 0\nlimit 1038 TooManyBytes\n";
     check_long(&rt, alloc, 1023, &tail, text, Status::Limit)?;
     Ok(())
 }
