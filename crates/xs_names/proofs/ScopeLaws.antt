@@ -27,7 +27,7 @@ oldest-back n scope later earlier e l =
 
 -- the number of the namespace of a binding that was found
 abbrev pub found_number : Option Binding → Option ℕ
-found_number found = option_map (λ b. b.ns.number) found
+found_number found = option_map (λ b. b.ns) found
 
 binding_of-find : (prefix : List ℕ) (bindings : List Binding) → found_number (find (λ b. bytes_eq b.prefix prefix) bindings) ≡ binding_of (map prefix_and_space bindings) prefix
 binding_of-find prefix [] = refl

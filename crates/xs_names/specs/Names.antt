@@ -11,6 +11,13 @@ pub record NameTable : Type 0 where
 abbrev pub xml_name : List ℕ
 xml_name = codes "http://www.w3.org/XML/1998/namespace"
 
+-- the numbers of the absent namespace and of that of the prefix xml, the same in every table
+abbrev pub absent_space : ℕ
+absent_space = 0
+
+abbrev pub xml_space : ℕ
+xml_space = 1
+
 -- the namespaces of every table: the absent one, whose name is empty (Namespaces in XML 1.0, 6.2), and that of the prefix xml
 abbrev pub first_spaces : List (List ℕ)
 first_spaces = [] ∷ xml_name ∷ []

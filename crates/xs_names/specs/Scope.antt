@@ -4,7 +4,7 @@ use Rattle.xs_names.specs.declared.scope.Binding.{Binding}
 
 -- the prefix and the namespace of a binding
 abbrev pub prefix_and_space : Binding → List ℕ × ℕ
-prefix_and_space b = (b.prefix, b.ns.number)
+prefix_and_space b = (b.prefix, b.ns)
 
 -- the scope outside of all elements binds the prefix xml alone (Namespaces in XML 1.0, 3)
 abbrev pub first_scope : List (List ℕ × ℕ)

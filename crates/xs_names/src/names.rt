@@ -1,6 +1,6 @@
 ghost use Rattle.std.specs.Prelude.{◌≡◌, ◌≢◌, ℕ, ◌<◌, ◌↔◌, [], Some, length, slice_get, IsNone, IfSome, IfNone, IfOk, OnOk, OnErr};
 ghost use Rattle.std.specs.Option.{option_map};
-ghost use Rattle.xs_names.specs.Names.{no_names, xml_name, space_number, name_number, with_space, with_name, space_of, local_of, IsSound, Grown};
+ghost use Rattle.xs_names.specs.Names.{no_names, absent_space, xml_space, xml_name, space_number, name_number, with_space, with_name, space_of, local_of, IsSound, Grown};
 
 use crate::numbered::{NumberedPairs, NumberedTexts, Pair};
 use crate::{NameId, NsId};
@@ -48,13 +48,13 @@ impl Names {
 
     /// The number of the namespace of this name, which is the next number where the namespace was not there.
     pub fn namespace_id(&mut self, name: &str) -> Result<NsId, AllocError>
-        ensures number { IfOk result (λ ns. space_number self.new name.now ≡ Some ns.number) }
+        ensures number { IfOk result (λ ns. space_number self.new name.now ≡ Some ns) }
         ensures table { OnOk result (self.new ≡ with_space self.old name.now) }
         ensures err { OnErr result (self.new ≡ self.old) }
 
-        ensures within { IfOk result (λ ns. ns.number < length self.new.spaces) }
-        ensures absent { IfOk result (λ ns. (ns ≡ NsId.ABSENT) ↔ (name.now ≡ [])) }
-        ensures xml { IfOk result (λ ns. (ns ≡ NsId.XML) ↔ (name.now ≡ xml_name)) }
+        ensures within { IfOk result (λ ns. ns < length self.new.spaces) }
+        ensures absent { IfOk result (λ ns. (ns ≡ absent_space) ↔ (name.now ≡ [])) }
+        ensures xml { IfOk result (λ ns. (ns ≡ xml_space) ↔ (name.now ≡ xml_name)) }
         ensures grown { Grown self.old self.new }
         ensures sound { IsSound self.new }
     {
@@ -65,12 +65,12 @@ impl Names {
 
     /// The number of the name, which is the next number where the name was not there.
     pub fn intern(&mut self, ns: NsId, local: &str) -> Result<NameId, AllocError>
-        requires { ns.number < length self.old.spaces }
-        ensures number { IfOk result (λ name. name_number self.new ns.number local.now ≡ Some name.number) }
-        ensures table { OnOk result (self.new ≡ with_name self.old ns.number local.now) }
+        requires { ns < length self.old.spaces }
+        ensures number { IfOk result (λ name. name_number self.new ns local.now ≡ Some name) }
+        ensures table { OnOk result (self.new ≡ with_name self.old ns local.now) }
         ensures err { OnErr result (self.new ≡ self.old) }
 
-        ensures within { IfOk result (λ name. name.number < length self.new.names) }
+        ensures within { IfOk result (λ name. name < length self.new.names) }
         ensures grown { Grown self.old self.new }
         ensures sound { IsSound self.new }
     {
@@ -84,11 +84,11 @@ impl Names {
 
     /// The number of the name; `None` where it is not there. It takes no memory.
     pub fn lookup(&self, ns: NsId, local: &str) -> Option<NameId>
-        ensures value { option_map (λ name. name.number) result ≡ name_number self.now ns.number local.now }
+        ensures value { result ≡ name_number self.now ns local.now }
 
-        ensures within { IfSome result (λ name. name.number < length self.now.names) }
-        ensures found { IfSome result (λ name. slice_get self.now.names name.number ≡ Some (ns.number, local.now)) }
-        ensures absent { IfNone result ((n : ℕ) → slice_get self.now.names n ≢ Some (ns.number, local.now)) }
+        ensures within { IfSome result (λ name. name < length self.now.names) }
+        ensures found { IfSome result (λ name. slice_get self.now.names name ≡ Some (ns, local.now)) }
+        ensures absent { IfNone result ((n : ℕ) → slice_get self.now.names n ≢ Some (ns, local.now)) }
         ensures sound { IsSound self.now }
     {
         let local = self.locals.find(local)?;
@@ -101,8 +101,8 @@ impl Names {
 
     /// The local part of a name.
     pub fn local(&self, name: NameId) -> &str
-        requires { name.number < length self.now.names }
-        ensures text { result.now ≡ local_of self.now name.number }
+        requires { name < length self.now.names }
+        ensures text { result.now ≡ local_of self.now name }
         ensures sound { IsSound self.now }
     {
         let pair = self.pairs.get(name.number);
@@ -111,9 +111,9 @@ impl Names {
 
     /// The namespace of a name.
     pub fn ns(&self, name: NameId) -> NsId
-        requires { name.number < length self.now.names }
-        ensures value { result.number ≡ space_of self.now name.number }
-        ensures within { result.number < length self.now.spaces }
+        requires { name < length self.now.names }
+        ensures value { result ≡ space_of self.now name }
+        ensures within { result < length self.now.spaces }
         ensures sound { IsSound self.now }
     {
         NsId {
@@ -123,9 +123,9 @@ impl Names {
 
     /// The name of a namespace; `None` for the absent namespace alone.
     pub fn ns_text(&self, ns: NsId) -> Option<&str>
-        requires { ns.number < length self.now.spaces }
-        ensures text { IfSome result (λ name. slice_get self.now.spaces ns.number ≡ Some name.now) }
-        ensures absent { IsNone result ↔ (ns ≡ NsId.ABSENT) }
+        requires { ns < length self.now.spaces }
+        ensures text { IfSome result (λ name. slice_get self.now.spaces ns ≡ Some name.now) }
+        ensures absent { IsNone result ↔ (ns ≡ absent_space) }
         ensures sound { IsSound self.now }
     {
         if ns == NsId::ABSENT {

@@ -61,7 +61,7 @@ impl Scope {
 
     /// Binds a prefix, or the default namespace where the prefix is empty. Earlier bindings of it are hidden.
     pub fn bind(&mut self, prefix: &str, ns: NsId) -> Result<(), AllocError>
-        ensures ok { OnOk result (self.new ≡ (prefix.now, ns.number) ∷ self.old) }
+        ensures ok { OnOk result (self.new ≡ (prefix.now, ns) ∷ self.old) }
         ensures err { OnErr result (self.new ≡ self.old) }
     {
         let prefix = Text::new(*self.bindings.allocator(), prefix)?;
@@ -72,7 +72,7 @@ impl Scope {
     /// The namespace of the latest binding of the prefix. Without a prefix it is the default namespace, else the absent one.
     pub fn resolve(&self, prefix: Option<&str>) -> Result<NsId, Unbound>
         ensures { MatchResult result
-            (λ ns. resolved self.now (option_map (λ p. p.now) prefix.entry) ≡ Some ns.number)
+            (λ ns. resolved self.now (option_map (λ p. p.now) prefix.entry) ≡ Some ns)
             (λ _. resolved self.now (option_map (λ p. p.now) prefix.entry) ≡ None) }
     {
         match prefix {
@@ -89,7 +89,7 @@ impl Scope {
 
     // The latest binding of the prefix.
     fn binding(&self, prefix: &str) -> Option<NsId>
-        ensures { option_map (λ ns. ns.number) result ≡ binding_of self.now prefix.now }
+        ensures { result ≡ binding_of self.now prefix.now }
     {
         let latest = latest_binding(&self.bindings, prefix)?;
         Some(latest.ns)

@@ -23,15 +23,13 @@ pub returns-clause-absent : goal.returns-clause-absent
 returns-clause-absent c =
     let kept = IsKept-space _ _ _ c.self.invariant c.args.name.now in
     let number : number_of bytes_eq (with_item bytes_eq c.self.inside.spaces c.args.name.now) c.args.name.now ≡ Some c.in_ok-insert.field-0 = rw (← c.in_ok-insert.ensures.list) c.in_ok-insert.ensures.number in
-    let both = first_number _ kept.begins kept.spaces_once c.args.name.now [] 0 c.in_ok-insert.field-0 refl number in
-    (λ e. both.0 (ap (λ id. id.number) e), λ e. let n = both.1 e in λ i. record { number = n i })
+    first_number _ kept.begins kept.spaces_once c.args.name.now [] 0 c.in_ok-insert.field-0 refl number
 
 pub returns-clause-xml : goal.returns-clause-xml
 returns-clause-xml c =
     let kept = IsKept-space _ _ _ c.self.invariant c.args.name.now in
     let number : number_of bytes_eq (with_item bytes_eq c.self.inside.spaces c.args.name.now) c.args.name.now ≡ Some c.in_ok-insert.field-0 = rw (← c.in_ok-insert.ensures.list) c.in_ok-insert.ensures.number in
-    let both = first_number _ kept.begins kept.spaces_once c.args.name.now xml_name 1 c.in_ok-insert.field-0 refl number in
-    (λ e. both.0 (ap (λ id. id.number) e), λ e. let n = both.1 e in λ i. record { number = n i })
+    first_number _ kept.begins kept.spaces_once c.args.name.now xml_name 1 c.in_ok-insert.field-0 refl number
 
 pub returns-clause-within : goal.returns-clause-within
 returns-clause-within c = within-number_of bytes_eq bytes_eq-Decides _ c.args.name.now c.in_ok-insert.field-0 c.in_ok-insert.ensures.number
