@@ -5,3 +5,4 @@ pub mod Pairs
 pub mod QName
 pub mod Scope
 pub mod Text
+pub mod White

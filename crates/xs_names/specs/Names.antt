@@ -11,6 +11,10 @@ pub record NameTable : Type 0 where
 abbrev pub xml_name : List ℕ
 xml_name = codes "http://www.w3.org/XML/1998/namespace"
 
+-- the namespace name that the prefix xmlns is bound to (Namespaces in XML 1.0, 3)
+abbrev pub xmlns_name : List ℕ
+xmlns_name = codes "http://www.w3.org/2000/xmlns/"
+
 -- the numbers of the absent namespace and of that of the prefix xml, the same in every table
 abbrev pub absent_space : ℕ
 absent_space = 0

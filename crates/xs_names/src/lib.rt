@@ -7,15 +7,15 @@ mod names;
 mod numbered;
 mod qname;
 mod scope;
-#[cfg(test)]
-mod tests;
 mod text;
 mod texts;
+mod white;
 
 pub use characters::{is_name, is_ncname, is_nmtoken};
 pub use ids::{NameId, NsId};
-pub use names::Names;
+pub use names::{Names, XML_NAMESPACE, XMLNS_NAMESPACE};
 pub use qname::{BadName, split_qname};
 pub use scope::{Scope, Unbound};
 pub use text::Text;
 pub use texts::Texts;
+pub use white::is_white_space;

@@ -7,7 +7,11 @@ use crate::{NameId, NsId};
 use std::alloc::{AllocError, Global};
 use std::marker::Model;
 
-const XML_NAMESPACE: &str = "http://www.w3.org/XML/1998/namespace";
+/// The namespace that the prefix `xml` is bound to (Namespaces in XML 1.0, 3).
+pub const XML_NAMESPACE: &str = "http://www.w3.org/XML/1998/namespace";
+
+/// The namespace that the prefix `xmlns` is bound to (Namespaces in XML 1.0, 3).
+pub const XMLNS_NAMESPACE: &str = "http://www.w3.org/2000/xmlns/";
 
 /// Namespaces, and names in them, by number. Numbers are given in the order of coming and never change.
 ///

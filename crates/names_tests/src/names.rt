@@ -1,6 +1,9 @@
-use super::*;
 use std::alloc::{AllocError, Global};
 use std::test::Fail;
+use xs_names::{
+    BadName, Names, NsId, Scope, Text, Texts, Unbound, is_name, is_ncname, is_nmtoken,
+    is_white_space, split_qname,
+};
 
 // The ends of the ranges of NameStartChar and NameChar, and the neighbours of the ends (XML 1.0 Fifth Edition, 2.3), with a
 // space between two: what may begin a name, what may only stand later in one, and what may stand in none.
@@ -113,12 +116,25 @@ fn numbers_a_hundred_thousand_names(rt: HostRuntime) -> Result<(), Fail> {
 
 #[test]
 fn resolves_the_latest_binding(rt: HostRuntime) -> Result<(), Fail> {
+    let mut names = Names::new(rt.alloc())?;
+    let a = names.namespace_id("urn:a")?;
+    let b = names.namespace_id("urn:b")?;
     let mut scope = Scope::new(rt.alloc())?;
-    scope.bind("p", NsId { number: 2 })?;
-    scope.bind("p", NsId { number: 3 })?;
+    scope.bind("p", a)?;
+    scope.bind("p", b)?;
     scope.bind("", NsId::ABSENT)?;
-    assert!(rt; scope.resolve(Some("p")) == Ok(NsId { number: 3 }));
+    assert!(rt; scope.resolve(Some("p")) == Ok(b));
     assert!(rt; scope.resolve(None) == Ok(NsId::ABSENT));
     assert!(rt; scope.resolve(Some("q")) == Err(Unbound));
     Ok(())
+}
+
+#[test]
+fn tells_white_space(rt: HostRuntime) {
+    for text in ["", " ", "\t\n\r "] {
+        assert!(rt; is_white_space(text));
+    }
+    for text in ["a", " a", "\u{A0}"] {
+        assert!(rt; !is_white_space(text));
+    }
 }
