@@ -1,6 +1,6 @@
-use crate::{Failed, MemSink, MemSource, Sink, Source, StdSink, StdSource, write_whole};
 use std::io::Cursor;
 use std::test::Fail;
+use xsv_io::{Failed, MemSink, MemSource, Sink, Source, StdSink, StdSource, write_whole};
 
 #[test]
 fn reads_in_pieces_and_fails_once(rt: HostRuntime) -> Result<(), Fail> {

@@ -1,0 +1,5 @@
+//! Tests of the public calls of the ground crates: bytes in and out, rows, lists, codes.
+#![tactic(auto)]
+
+#[cfg(test)]
+mod bytes;
