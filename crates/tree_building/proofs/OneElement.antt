@@ -7,7 +7,7 @@ use Rattle.std.specs.Str.{bytes_eq}
 use Rattle.item_listing.specs.declared.item.Item.{Item}
 use Rattle.item_listing.specs.declared.item.Item.TheVariants as items
 use Rattle.tag_names.specs.declared.lines.Tag.{Tag}
-use Rattle.tree_rows.specs.White as white
+use Rattle.xs_names.specs.White as white
 use Rattle.tree_rows.specs.declared.row.Binding.{Binding}
 use Rattle.tree_rows.specs.declared.row.Row.{Row}
 use Rattle.tree_building.specs.Blocks.{ends, outer, one_from, one_element}

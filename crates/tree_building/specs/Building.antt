@@ -4,7 +4,7 @@ use Rattle.item_listing.specs.declared.item.Item.{Item}
 use Rattle.item_listing.specs.declared.item.Item.TheVariants as items
 use Rattle.tree_rows.specs.Forest.{Forest, none, Document}
 use Rattle.tree_rows.specs.Rows.{siblings}
-use Rattle.tree_rows.specs.White as white
+use Rattle.xs_names.specs.White as white
 use Rattle.tree_rows.specs.declared.row.Binding.{Binding}
 use Rattle.tree_rows.specs.declared.row.Row.{Row}
 use Rattle.tree_rows.specs.declared.row.Content.TheVariants as contents
