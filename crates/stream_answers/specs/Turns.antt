@@ -25,6 +25,7 @@ use Rattle.session_model.specs.State.{State}
 use Rattle.edit_script.specs.Commands.{command}
 use Rattle.edit_replies.specs.Replies.{Standing, Reply, made, reply, total_line}
 use Rattle.stream_answers.specs.Refusals.{refusal_line, refusal_status}
+use Rattle.stream_answers.specs.declared.schema.TheConstants.{MOST_SCHEMAS}
 use Rattle.stream_answers.specs.declared.place.Asked.{Asked}
 use Rattle.stream_answers.specs.declared.place.Asked.TheVariants.{Check, Assess, Session}
 use Rattle.stream_answers.specs.declared.place.Block.{Block}
@@ -109,7 +110,7 @@ schema_begun line count first = places.Schema (record { count = count; first = f
 
 abbrev pub next_schema : ℕ → SchemaSection → Turned
 next_schema line p =
-    if nat_le 256 p.count then refused line refusals.TooManySchemas
+    if nat_le MOST_SCHEMAS p.count then refused line refusals.TooManySchemas
     else with_tree p.start (tree_of p.builder) (λ d. goes [] (schema_begun line (p.count + 1) (Some (first_or p.first d))))
 
 -- the last schema section ends, and the schema is judged
