@@ -1,5 +1,5 @@
 -- Numbers in decimal digits.
-use Rattle.std.proofs.Common.{◌≡◌, ℕ, ◌≤◌, ◌<◌, ◌^◌, List, Bool, true, false, ◌&&◌, nat_lt, nat_le, length, Result, Ok, Err, refl, sym, ap, arith, rules}
+use Rattle.std.proofs.Common.{◌≡◌, ℕ, ◌<◌, ◌^◌, List, Bool, true, false, length, Result, Err, refl, arith, rules}
 use Rattle.std.specs.List.{list_all}
 use Rattle.std.specs.Char.{is_ascii_digit}
 use Rattle.std.specs.Str.Parse.{digits_value, ParsesUnsigned}

@@ -3,7 +3,6 @@ ghost use Rattle.tree_rows.specs.declared.row.Row.{Row};
 ghost use Rattle.tree_rows.specs.declared.row.Content.TheVariants as contents;
 ghost use Rattle.tree_rows.specs.Rows.{siblings};
 ghost use Rattle.tree_building.specs.Blocks.{one_element};
-ghost use Rattle.tree_rows.specs.declared.limits.TheConstants.{MAX_DEPTH, MAX_NODES};
 ghost use Rattle.tree_rows.specs.Forest.{none, text as text_node};
 ghost use Rattle.tree_edits.specs.Edits.{after, put, put_within, insert_within, reword, found, can_be_made};
 ghost use Rattle.tree_building.specs.Shape.{AreSound, AreWhole, AreUnder, deepest_row};

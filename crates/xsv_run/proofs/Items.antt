@@ -1,15 +1,15 @@
 -- An item that was answered.
-use Rattle.std.proofs.Common.{◌≡◌, ℕ, ◌+◌, List, [], ◌∷◌, ◌++◌, Bool, Option, Some, None, Result, Ok, Err, refl, sym, ap, ◌∙◌, subst}
+use Rattle.std.proofs.Common.{◌≡◌, ℕ, ◌+◌, List, [], Bool, Option, Some, Result, Ok, refl, sym, ap, ◌∙◌, subst}
 use Rattle.std.specs.Io.KnownBytes.{Appends}
 use Rattle.xsv_io.specs.Writing.{AppendsFront}
 use Rattle.item_listing.specs.State.{Reading}
 use Rattle.item_listing.specs.Listing.{after, Leaves}
-use Rattle.item_listing.specs.Listed.{Listed, gives, refused, listed, ReadsOn}
+use Rattle.item_listing.specs.Listed.{gives, refused, listed, ReadsOn}
 use Rattle.item_listing.specs.declared.item.Item.{Item}
 use Rattle.item_listing.specs.declared.past.ListingFault.{ListingFault}
 use Rattle.stream_answers.specs.Turns.{Turned, goes, ends, turned}
 use Rattle.stream_answers.specs.Turning.{Turns}
-use Rattle.stream_answers.specs.Output.{Told, told, turn_then, before, over}
+use Rattle.stream_answers.specs.Output.{told, turn_then, before, over}
 use Rattle.stream_answers.specs.Refusals.{refusal_line, refusal_status}
 use Rattle.stream_answers.specs.declared.place.Asked.{Asked}
 use Rattle.stream_answers.specs.declared.place.Place.{Place}
@@ -20,7 +20,7 @@ use Rattle.stream_answers.specs.Numbers.{IsFinal}
 use Rattle.stream_answers.specs.declared.turn.Turn.{Turn}
 use Rattle.stream_answers.specs.declared.turn.Turn.TheVariants as turns
 use Rattle.xsv_run.specs.Output.{Answers}
-use Rattle.xsv_run.specs.Progress.{IsBroken, TakesItem, TakesNext, HasEnded, to_tell}
+use Rattle.xsv_run.specs.Progress.{TakesItem, TakesNext, HasEnded, to_tell}
 use Rattle.xsv_run.specs.declared.next.Next.{Next}
 use Rattle.xsv_run.specs.declared.next.Next.TheVariants as nexts
 use Rattle.xsv_run.proofs.Telling.{front_none, front_before, broken_front}

@@ -1,11 +1,11 @@
 -- A stream, piece by piece.
-use Rattle.std.proofs.Common.{◌≡◌, ℕ, ◌+◌, ◌-◌, ◌≤◌, ◌<◌, List, [], ◌∷◌, ◌++◌, length, Bool, true, false, Option, Some, None, IfSome, refl, sym, ap, ◌∙◌, arith, subst, append_assoc, append-nil, length-append}
+use Rattle.std.proofs.Common.{◌≡◌, ℕ, ◌+◌, ◌-◌, ◌≤◌, ◌<◌, List, [], ◌++◌, length, Bool, true, false, Option, Some, None, IfSome, refl, sym, ap, ◌∙◌, arith, subst, append_assoc, append-nil, length-append}
 use Rattle.std.specs.Io.KnownBytes.{Appends, Consumes, IsAtEnd, Keeps}
 use Rattle.std.proofs.KnownBytes.{Appends-nil, Appends-trans, Consumes-nil, Consumes-trans, Consumes-kept}
 use Rattle.item_listing.specs.State.{Reading, unread}
 use Rattle.item_listing.specs.declared.limits.TheConstants.{MOST_BYTES}
 use Rattle.item_listing.specs.Listing.{bytes_taken}
-use Rattle.item_listing.specs.Listed.{listed, goes_on, Waits}
+use Rattle.item_listing.specs.Listed.{Waits}
 use Rattle.stream_answers.specs.Output.{Told, told, before}
 use Rattle.stream_answers.specs.declared.place.Asked.{Asked}
 use Rattle.stream_answers.specs.declared.place.Place.{Place}
@@ -67,7 +67,7 @@ module _ (a : Asked) (rest_old rest_mid rest_new o m n : Option (List ℕ)) (p :
       → IfSome rest_old (λ whole. Answers status o n (told_of a whole true))
   output_ends status one two = ends_by_rest status one two rest_old rest_new (Consumes-trans rest_old rest_mid rest_new one.bytes two.bytes one.consumed two.consumed)
 
-  pub few_ends : (status : Status) → StandsAt a rest_old rest_mid o m p r → EndsPiece a p r rest_mid m rest_new n status → TakesAtMost 67108865 rest_old rest_new
+  pub few_ends : (status : Status) → StandsAt a rest_old rest_mid o m p r → EndsPiece a p r rest_mid m rest_new n status → TakesAtMost (MOST_BYTES + 1) rest_old rest_new
   few_ends status one two = (
     one.bytes ++ two.bytes,
     Consumes-trans rest_old rest_mid rest_new one.bytes two.bytes one.consumed two.consumed,
@@ -87,7 +87,7 @@ module _ (a : Asked) (rest_old rest_mid rest_new o m n : Option (List ℕ)) (p :
       → Answers status m n (to_tell a p r [] true) → IfSome rest_old (λ whole. Answers status o n (told_of a whole true))
   output_at_end status one taken e answers = at_end_by status one answers rest_old rest_new (Consumes-trans rest_old rest_mid rest_new one.bytes [] one.consumed taken) e
 
-  pub few_at_end : StandsAt a rest_old rest_mid o m p r → Consumes rest_mid rest_new [] → bytes_taken r ≤ MOST_BYTES + 1 → TakesAtMost 67108865 rest_old rest_new
+  pub few_at_end : StandsAt a rest_old rest_mid o m p r → Consumes rest_mid rest_new [] → bytes_taken r ≤ MOST_BYTES + 1 → TakesAtMost (MOST_BYTES + 1) rest_old rest_new
   few_at_end one taken few =
       (one.bytes ++ [], Consumes-trans rest_old rest_mid rest_new one.bytes [] one.consumed taken, omega (arith, length-append one.bytes [], one.counted, few))
 
@@ -114,7 +114,7 @@ module _ (a : Asked) (rest_old rest_mid rest_new o m n : Option (List ℕ)) (p :
         ap (λ (t : Told). t.status) told_now,
       )
 
-  pub few_failed : StandsAt a rest_old rest_mid o m p r → bytes_taken r ≤ MOST_BYTES + 1 → Keeps rest_mid rest_new → TakesAtMost 67108865 rest_old rest_new
+  pub few_failed : StandsAt a rest_old rest_mid o m p r → bytes_taken r ≤ MOST_BYTES + 1 → Keeps rest_mid rest_new → TakesAtMost (MOST_BYTES + 1) rest_old rest_new
   few_failed one few kept = (one.bytes, Consumes-kept rest_old rest_mid rest_new one.bytes one.consumed kept, omega (arith, one.counted, few))
 
 -- the piece that was read is none, since the source has ended
@@ -125,7 +125,7 @@ module _ (a : Asked) (rest_old rest_mid rest_new o m k n : Option (List ℕ)) (p
       output_at_end a rest_old rest_mid rest_new o m n p r status one facts.3 facts.4
       (subst (λ v. Answers status v n (to_tell a p r [] true)) facts.2 (subst (λ v. Answers status k n (to_tell a p v [] true)) facts.1 (subst (λ v. Answers status k n (to_tell a v s [] true)) facts.0 answers)))
 
-  pub few_last : (room : ℕ) → bytes_taken r + room ≡ MOST_BYTES + 1 → TakesAtMost 67108865 rest_old rest_new
+  pub few_last : (room : ℕ) → bytes_taken r + room ≡ MOST_BYTES + 1 → TakesAtMost (MOST_BYTES + 1) rest_old rest_new
   few_last room is = few_at_end a rest_old rest_mid rest_new o m n p r one facts.3 (omega (arith, is))
 
 pub output_broken : (a : Asked) (rest_old rest_mid o m k : Option (List ℕ)) (p : Place) (r : Reading) → StandsAt a rest_old rest_mid o m p r → k ≡ m

@@ -1,6 +1,5 @@
 ghost use Rattle.std.specs.Prelude.{◌≡◌, ◌≢◌, ◌<◌, ◌≤◌, ◌+◌, length, false};
 ghost use Rattle.xsv_io.specs.Causes.{Rose};
-ghost use Rattle.item_listing.specs.declared.limits.TheConstants.{MOST_BYTES};
 ghost use Rattle.item_listing.specs.Listing.{bytes_taken};
 ghost use Rattle.stream_answers.specs.Turning.{IsOpen};
 ghost use Rattle.xsv_run.specs.Progress.{FeedsOn, Pieces};
@@ -8,14 +7,14 @@ ghost use Rattle.xsv_run.specs.declared.lines.Progress.TheVariants as progresses
 ghost use Rattle.xsv_run.specs.declared.piece.Piece.TheVariants as pieces;
 
 use crate::lines::{Progress, take_lines};
-use item_listing::Listing;
+use item_listing::{Listing, MOST_BYTES};
 use std::alloc::Global;
 use stream_answers::{Asked, Place, Status};
 use xsv_io::{Sink, Source};
 use xsv_steps::{Ledger, Steps};
 
 /// One byte more than a stream has.
-pub const ENOUGH: usize = 67_108_865;
+pub const ENOUGH: usize = MOST_BYTES + 1;
 
 /// What a read has done.
 #[derive(Drop)]

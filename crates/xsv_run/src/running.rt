@@ -1,4 +1,5 @@
-ghost use Rattle.std.specs.Prelude.{◌≡◌, ◌≤◌, None, IfSome};
+ghost use Rattle.std.specs.Prelude.{◌≡◌, ◌+◌, ◌≤◌, None, IfSome};
+ghost use Rattle.item_listing.specs.declared.limits.TheConstants.{MOST_BYTES};
 ghost use Rattle.xsv_io.specs.Causes.{Rose};
 ghost use Rattle.xsv_run.specs.Taking.{TakesAtMost};
 ghost use Rattle.xsv_run.specs.Output.{Answers, BreaksOff, asked, output};
@@ -37,7 +38,7 @@ pub fn run<S: Source, W: Sink, L: Ledger>(
 
     // For other words nothing is read. Else at most one byte more than the longest stream is taken.
     ensures unread { asked words.now ≡ None → S.rest source.new ≡ S.rest source.old }
-    ensures few { TakesAtMost 67108865 (S.rest source.old) (S.rest source.new) }
+    ensures few { TakesAtMost (MOST_BYTES + 1) (S.rest source.old) (S.rest source.new) }
 
     // A fault is answered only where that side's count rose, or stands at its last value.
     ensures read_cause { result ≡ Status.ReadFault → Rose (S.faults source.old) (S.faults source.new) }

@@ -1,4 +1,5 @@
-ghost use Rattle.std.specs.Prelude.{◌≡◌, ◌≢◌, ◌≤◌, [], IfSome, true};
+ghost use Rattle.std.specs.Prelude.{◌≡◌, ◌≢◌, ◌+◌, ◌≤◌, [], IfSome, true};
+ghost use Rattle.item_listing.specs.declared.limits.TheConstants.{MOST_BYTES};
 ghost use Rattle.xsv_io.specs.Causes.{Rose};
 ghost use Rattle.stream_answers.specs.Output.{finished};
 ghost use Rattle.stream_answers.specs.Turning.{IsOpen};
@@ -64,7 +65,7 @@ pub fn answer_stream<S: Source, W: Sink, L: Ledger>(
 ) -> Status
     ensures output { IfSome (S.rest source.old) (λ bytes. Answers result (W.taken sink.old) (W.taken sink.new) (told_of asked bytes true)) }
     ensures broken { result ≡ Status.ReadFault → StopsAt asked (S.rest source.old) (S.rest source.new) (W.taken sink.old) (W.taken sink.new) }
-    ensures few { TakesAtMost 67108865 (S.rest source.old) (S.rest source.new) }
+    ensures few { TakesAtMost (MOST_BYTES + 1) (S.rest source.old) (S.rest source.new) }
     ensures read_cause { result ≡ Status.ReadFault → Rose (S.faults source.old) (S.faults source.new) }
     ensures write_cause { result ≡ Status.WriteFault → Rose (W.faults sink.old) (W.faults sink.new) }
     ensures reads { S.faults source.old ≤ S.faults source.new }

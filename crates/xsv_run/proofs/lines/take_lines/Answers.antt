@@ -1,5 +1,5 @@
 use Rattle.std.proofs.Common.{arith, refl, ◌∙◌}
-use Rattle.xsv_run.proofs.Going.{goes_nowhere, goes_further, ends_further, waits_now}
+use Rattle.xsv_run.proofs.Going.{goes_nowhere, goes_further, ends_further}
 use Rattle.xsv_run.proofs.lines.take_lines.Goals as goal
 
 pub lines-init : goal.lines-init
