@@ -1,7 +1,7 @@
 -- Schema-validity assessment of a tree, by one recursion from its root (Structures 5.2).
 use Rattle.std.specs.Prelude.{ℕ, ◌+◌, List, [], ◌∷◌, ◌++◌, Bool, true, false, ◌==◌, ◌&&◌, ◌||◌, not, length, Option, Some, None, if◌then◌else◌}
 use Rattle.tree_rows.specs.Forest.{Forest, none, text, element}
-use Rattle.tree_rows.specs.White.{is_white}
+use Rattle.xs_names.specs.White.{is_white}
 use Rattle.tree_rows.specs.Naming.{clark_name}
 use Rattle.assess_model.specs.Tables.{Tables}
 use Rattle.assess_model.specs.Schema.{global_type, local_type, stuck_place}

@@ -1,5 +1,5 @@
 -- The items that spell a tree.
-use Rattle.std.specs.Prelude.{◌≡◌, ◌≢◌, ℕ, ◌+◌, ◌-◌, ◌≤◌, List, [], ◌∷◌, ◌++◌, Option, None, map}
+use Rattle.std.specs.Prelude.{◌≡◌, ◌≢◌, ℕ, ◌+◌, ◌-◌, ◌≤◌, List, [], ◌∷◌, ◌++◌, None, map}
 use Rattle.item_listing.specs.declared.item.Item.{Item}
 use Rattle.item_listing.specs.declared.item.Item.TheVariants as items
 use Rattle.tag_names.specs.Tags.{named, scope_within}

@@ -1,5 +1,4 @@
 use Rattle.std.proofs.Common.{◌∙◌, ◌≤◌, ◌*◌, ap, sym, append-nil, arith, subst, [], true, None, length}
-use Rattle.tree_rows.specs.Rows.{rows_of}
 use Rattle.assess_model.specs.Assessment.{assessment, code_total}
 use Rattle.first_assess.specs.Paths.{none_open}
 use Rattle.first_assess.specs.Rows.{AreBelow, row_entries, row_records}
