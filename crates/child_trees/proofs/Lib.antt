@@ -4,8 +4,6 @@ pub mod Building
 pub mod Celled
 pub mod Chains
 pub mod Digits
-pub mod Folded
-pub mod Holding
 pub mod Keeping
 pub mod Reading
 pub mod Split

@@ -11,7 +11,5 @@ mod leaf;
 mod seqs;
 mod summary;
 mod sums;
-#[cfg(test)]
-mod tests;
 mod tops;
 mod walks;

@@ -1,0 +1,4 @@
+pub mod FoldLaws
+pub mod Folded
+pub mod Holding
+pub mod Tested
