@@ -6,6 +6,7 @@ pub mod Chains
 pub mod Digits
 pub mod Keeping
 pub mod Reading
+pub mod Spending
 pub mod Split
 pub mod Summing
 pub mod Viewing

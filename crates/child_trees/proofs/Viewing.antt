@@ -9,10 +9,11 @@ use Rattle.leaf_trees.specs.Tree.{Item, Tree, leaf, fork, root, size, height, le
 use Rattle.leaf_trees.specs.Arena.{at, Holds, IsTreeOf, IsFreeSlot}
 use Rattle.leaf_trees.proofs.Held.{height_at}
 use Rattle.child_trees.specs.Cells.{CellMaps, map_at}
-use Rattle.child_trees.specs.Lists.{Entry, Lists, get, IsAt, HasItem, Updates, IsLive}
+use Rattle.child_trees.specs.Lists.{Entry, Lists, get, IsAt, LiesOnce, HasItem, Updates, IsLive}
 use Rattle.child_trees.specs.Lists as lists
+use Rattle.child_trees.specs.declared.find.Location.{Location}
 use Rattle.child_trees.specs.Sums.{entry_of, entries, HasSums}
-use Rattle.child_trees.specs.Tops.{Top, top_at, Writes}
+use Rattle.child_trees.specs.Tops.{Top, top_at, Writes, LiesIn}
 use Rattle.child_trees.specs.Kept.{leaf_at, leaves_below, list_of, lists_of, IsKept, HasList, KeepsLists, AreKept}
 use Rattle.child_trees.proofs.Along.{length-entries}
 use Rattle.child_trees.proofs.Keeping.{item_has, kept_not_free, kept_stays}
@@ -129,6 +130,45 @@ module _ {Shape Map : Type 0} (unit : Shape → Map) (join : Map → Map → Map
               is = ap (λ ys. slice_index ys p) (sym (numbers_are (map_at unit v) (leaves r.tree)) ∙ ap (map (λ e. e.item)) r.entries_are) ∙ i.item_is;
             };
           }
+
+  -- the item was found where it lies
+  pub record Home (item q p : ℕ) (xs : List (Entry Map)) (z : Location) : Type 0 where
+    pub list_is : z.list ≡ q
+    pub place_is : z.place ≡ p
+    pub top_is : top_at tops z.list ≡ Some (Some z.top)
+    pub tree : Tree
+    pub kept : IsKept unit join v ns q z.top tree
+    pub place : IsItemAt tree z.place item
+    pub entries_are : entries (map_at unit v) tree ≡ xs
+    pub size_is : size tree ≡ length xs
+
+  pub lies : (item q p : ℕ) (xs : List (Entry Map)) (F : Found item q p xs) → LiesIn ns tops q F.top p F.rooted.tree item
+  lies item q p xs F = record { tree = F.rooted.kept.tree; top_is = F.top_is; at = F.place }
+
+  pub home : AreKept unit join v ns tops → (item q p : ℕ) (xs : List (Entry Map)) → IsAt (seen unit v ns tops) item q p xs → (z : Location) → ((list top place : ℕ) (t : Tree) → LiesIn ns tops list top place t item → z ≡ record { list = list; top = top; place = place }) → Home item q p xs z
+  home a item q p xs i z is =
+      let F = found a item q p xs i in
+      let e = is q F.top p F.rooted.tree (lies item q p xs F) in
+      let list : z.list ≡ q = ap (λ y. y.list) e in
+      let top : z.top ≡ F.top = ap (λ y. y.top) e in
+      let place : z.place ≡ p = ap (λ y. y.place) e in
+      record {
+        list_is = list;
+        place_is = place;
+        top_is = ap (top_at tops) list ∙ F.top_is ∙ ap (λ b. Some (Some b)) (sym top);
+        tree = F.rooted.tree;
+        kept = subst (λ b. IsKept unit join v ns q b F.rooted.tree) (sym top) F.rooted.kept;
+        place = subst (λ k. IsItemAt F.rooted.tree k item) (sym place) F.place;
+        entries_are = F.rooted.entries_are;
+        size_is = F.rooted.size_is;
+      }
+
+  -- an item that is found in one place lies in no other
+  pub lies_once : AreKept unit join v ns tops → (item : ℕ) (z : Location) → ((list top place : ℕ) (t : Tree) → LiesIn ns tops list top place t item → z ≡ record { list = list; top = top; place = place }) → LiesOnce (seen unit v ns tops) item
+  lies_once a item z is = record {
+    list = λ q p r k xs ys i j. sym (home a item q p xs i z is).list_is ∙ (home a item r k ys j z is).list_is;
+    place = λ q p r k xs ys i j. sym (home a item q p xs i z is).place_is ∙ (home a item r k ys j z is).place_is;
+  }
 
   -- a free slot is no item of a list
   pub free_absent : AreKept unit join v ns tops → (item : ℕ) → IsFreeSlot ns item → ¬ HasItem (seen unit v ns tops) item

@@ -39,6 +39,11 @@ module _ {Shape Map : Type 0} where
     pub within : p < length xs
     pub item_is : slice_index (map (λ e. e.item) xs) p ≡ item
 
+  -- the item lies at one place of one list
+  pub record LiesOnce (v : Lists Shape Map) (item : ℕ) : Type 0 where
+    pub list : (q p r k : ℕ) (xs ys : List (Entry Map)) → IsAt v item q p xs → IsAt v item r k ys → q ≡ r
+    pub place : (q p r k : ℕ) (xs ys : List (Entry Map)) → IsAt v item q p xs → IsAt v item r k ys → p ≡ k
+
   -- the item lies in some list
   abbrev pub HasItem : Lists Shape Map → ℕ → Type 0
   HasItem v item = (q : ℕ) × (p : ℕ) × (xs : List (Entry Map)) × IsAt v item q p xs

@@ -28,7 +28,8 @@ pub fn reserve<M: Summary>(
     ensures lists { KeepsLists M.unit M.join cells.old trees.old.nodes cells.new trees.new.nodes (λ _. ⊥) }
     ensures cells { length trees.new.nodes ≤ length cells.new.maps }
 {
-    fill(cells, trees.nodes().len() + slots as usize)?;
+    let missing = slots.saturating_sub(trees.spare());
+    fill(cells, trees.nodes().len() + missing as usize)?;
     trees.reserve(slots)
 }
 
@@ -59,6 +60,7 @@ pub fn plant<M: Summary, L: Ledger>(
     ensures list { HasList M.unit M.join cells.new trees.new.nodes list result (entry (M.unit cells.old.shape) (M.leaf source.now) result leaf ∷ []) }
     ensures lists { KeepsLists M.unit M.join cells.old trees.old.nodes cells.new trees.new.nodes (λ _. ⊥) }
     ensures cells { length trees.new.nodes ≤ length cells.new.maps }
+    ensures least { steps.old ≤ steps.new }
     ensures steps { steps.new ≤ steps.old + 1 }
 {
     let item = trees.plant(list, leaf.flags());
@@ -87,6 +89,7 @@ pub fn insert_leaf<M: Summary, L: Ledger>(
     ensures lists { (list : ℕ) (t : Tree) → IsKept M.unit M.join cells.old trees.old.nodes list top t → place ≤ size t
         → KeepsLists M.unit M.join cells.old trees.old.nodes cells.new trees.new.nodes (λ p. p ≡ list) }
     ensures cells { length trees.new.nodes ≤ length cells.new.maps }
+    ensures least { steps.old ≤ steps.new }
     ensures steps { (list : ℕ) (t : Tree) → IsKept M.unit M.join cells.old trees.old.nodes list top t → place ≤ size t
         → (k : ℕ) → size t + 1 < 2 ^ k → steps.new ≤ steps.old + 4 * k }
 {
@@ -112,6 +115,7 @@ pub fn remove_leaf<M: Summary, L: Ledger>(
     ensures lists { (list : ℕ) (t : Tree) → IsKept M.unit M.join cells.old trees.old.nodes list top t → place < size t
         → KeepsLists M.unit M.join cells.old trees.old.nodes cells.new trees.new.nodes (λ p. p ≡ list) }
     ensures cells { length trees.new.nodes ≤ length cells.new.maps }
+    ensures least { steps.old ≤ steps.new }
     ensures steps { (list : ℕ) (t : Tree) → IsKept M.unit M.join cells.old trees.old.nodes list top t → place < size t
         → (k : ℕ) → size t < 2 ^ k → steps.new ≤ steps.old + 4 * k }
 {
@@ -140,6 +144,7 @@ pub fn write_leaf<M: Summary, L: Ledger>(
     ensures lists { (list : ℕ) (t : Tree) → IsKept M.unit M.join cells.old trees.old.nodes list top t → IsItemAt t place item
         → KeepsLists M.unit M.join cells.old trees.old.nodes cells.new trees.new.nodes (λ p. p ≡ list) }
     ensures cells { length trees.new.nodes ≤ length cells.new.maps }
+    ensures least { steps.old ≤ steps.new }
     ensures steps { (list : ℕ) (t : Tree) → IsKept M.unit M.join cells.old trees.old.nodes list top t → IsItemAt t place item
         → (k : ℕ) → size t < 2 ^ k → steps.new ≤ steps.old + 4 * k }
 {
@@ -167,6 +172,7 @@ pub fn build_tree<M: Summary, L: Ledger>(
     ensures list { (xs : List (Entry M.Map)) × AreEntries (M.unit cells.old.shape) (M.leaf source.now) leaves.now xs × AreOfFree trees.old.nodes xs × HasList M.unit M.join cells.new trees.new.nodes list result xs }
     ensures lists { KeepsLists M.unit M.join cells.old trees.old.nodes cells.new trees.new.nodes (λ _. ⊥) }
     ensures cells { length trees.new.nodes ≤ length cells.new.maps }
+    ensures least { steps.old ≤ steps.new }
     ensures steps { steps.new ≤ steps.old + 2 * length leaves.now }
 {
     let top = trees.build(list, flags);

@@ -7,6 +7,7 @@ pub use crate::summary::Summary;
 
 mod cells;
 mod edits;
+mod find;
 mod leaf;
 mod seqs;
 mod summary;

@@ -1,4 +1,4 @@
--- The laws of the folds that the tests keep.
+-- The proofs of the laws of the folds that the tests keep.
 use Rattle.std.proofs.Common.{◌≡◌, ℕ, zero, suc, ◌+◌, ◌*◌, ◌%◌, ◌^◌, ◌<◌, ◌≤◌, ◌==◌, Bool, true, false, if◌then◌else◌, List, Option, Some, None, unwrap_or, refl, sym, ap, ◌∙◌, subst, arith}
 use Rattle.std.specs.Prelude.{nat_le, slice_index_or}
 use Rattle.std.proofs.lemmas.Bool.{eqb-true}
@@ -37,6 +37,13 @@ line_laws w l = record {
 } where
   same : (w x : ℕ) → x < w → on_line w (1, 0) x ≡ x
   same w x k = mod-add-mod (1 * x) w 0 ∙ ap (λ z. z % w) (grind (arith)) ∙ mod-eq_of_lt k
+
+-- the map of x to 31 * x + letter, modulo 2^64
+pub digest_is : (letter : ℕ) → letter < 256 → IsLine (2 ^ 64) (31, letter)
+digest_is letter few = (omega arith, omega arith)
+
+pub digest_laws : SummaryLaws {Shape = Unit {0}} {Map = ℕ × ℕ} {State = ℕ} (λ _ x. x < 2 ^ 64) (λ _. IsLine (2 ^ 64)) (λ _. (1, 0)) (lines_joined (2 ^ 64)) (on_line (2 ^ 64)) (λ _ _. false)
+digest_laws = line_laws (2 ^ 64) (omega arith)
 
 -- a live cell has a map
 pub live_map : {Map : Type 0} (is_map : Map → Type 0) (unit : Map) (cells : List (Option Map)) (c : ℕ) → (m : Map) × (slice_index_or cells c None ≡ Some m) × is_map m → is_map (unwrap_or (slice_index_or cells c None) unit)

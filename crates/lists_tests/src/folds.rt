@@ -1,10 +1,9 @@
 //! Two folds, and the summary that keeps the maps of a fold in cells.
 
 ghost use Rattle.std.specs.Prelude.{◌≡◌, ℕ, ◌+◌, ◌%◌, ◌^◌, ◌==◌, ◌<◌, Bool, true, false, Some, None, slice_index_or, unwrap_or};
-ghost use Rattle.std.proofs.Common.{arith};
 ghost use Rattle.child_trees.specs.Laws.{SummaryLaws};
 ghost use Rattle.lists_tests.specs.Folds.{IsLine, lines_joined, on_line, IsFour, fours_joined, on_four, four_of};
-ghost use Rattle.lists_tests.proofs.FoldLaws.{line_laws, four_is, four_laws, live_map, byte};
+ghost use Rattle.lists_tests.specs.FoldLaws.{digest_is, digest_laws, four_is, four_laws, live_map, byte};
 
 use child_trees::Summary;
 use std::alloc::{AllocError, Global};
@@ -74,9 +73,9 @@ impl Fold for Digest {
 
     ghost dead = { λ _. false };
 
-    ghost leaves = { λ letter few. (Prim.omega arith, Prim.omega arith) };
+    ghost leaves = { digest_is };
 
-    ghost laws = { line_laws (2 ^ 64) (Prim.omega arith) };
+    ghost laws = { digest_laws };
 
     fn unit() -> Digest {
         (1, 0)
