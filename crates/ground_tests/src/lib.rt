@@ -3,3 +3,7 @@
 
 #[cfg(test)]
 mod bytes;
+#[cfg(test)]
+mod held;
+#[cfg(test)]
+mod rows;
