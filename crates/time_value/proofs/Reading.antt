@@ -10,8 +10,8 @@ use Rattle.time_value.specs.declared.literal.LiteralTime.{LiteralTime}
 use Rattle.time_value.specs.declared.literal.MomentKind.{MomentKind}
 use Rattle.time_value.specs.declared.literal.MomentKind.TheVariants as kinds
 use Rattle.time_value.specs.Digits.{AreDigits, after, minus_at, two_digits, digits_at, fraction_at}
-use Rattle.time_value.specs.Literal.{begins_with, is_year, is_hour, year_value, year_of, year_at, month_at, below_sixty, date_at, time_at, zone_minutes, zone_of, in_zone, date_time, date, time, year_month, year, two_dashes, month_day, day, month, literal}
-use Rattle.time_value.specs.Spelling.{Zone, NoZone, Utc, Ahead, Behind, Written, IsWritten, IsZone, IsZoneTime, IsFractionText, pair, year_text, date_text, fraction_text, time_text, zone_text, text_of, is_written_hour, fraction_value, zone_value, written_time, literal_of}
+use Rattle.time_value.specs.Literal.{begins_with, is_year, is_hour, year_value, year_of, year_at, month_at, below_sixty, time_at, zone_minutes, zone_of, in_zone, year_part, month_part, day_part, time_part, literal_at, literal}
+use Rattle.time_value.specs.Spelling.{Zone, NoZone, Utc, Ahead, Behind, Written, IsWritten, IsZone, IsZoneTime, IsFractionText, pair, year_text, fraction_text, time_text, zone_text, text_of, is_written_hour, fraction_value, zone_value, written_time, literal_of}
 
 digit_of : (n : ℕ) → n ≤ 9 → is_ascii_digit (48 + n) ≡ true
 digit_of n high = grind (arith, nat_tests)
@@ -82,11 +82,6 @@ unfolding year_at
 year_at-text w rest is other =
     rw (minus_at-text w.negative w.year rest is.digits is.year, digits_at-run w.year rest is.digits other, year_of-digits w.negative w.year is.year) refl
 
-date_at-text : (w : Written) (rest : List ℕ) → IsWritten w → date_at (date_text w rest) ≡ Some (record { year = year_value w.negative w.year; month = w.month; day = w.day }, rest)
-unfolding date_at after
-date_at-text w rest is =
-    rw (year_at-text w (45 ∷ pair w.month (45 ∷ pair w.day rest)) is refl, month_at-pair w.month (45 ∷ pair w.day rest) is.month_low is.month_high, two_digits-pair w.day rest is.day) refl
-
 pub fraction_at-text : (fraction : Option (List ℕ)) (rest : List ℕ) → IsFractionText fraction → begins_with_digit rest ≡ false → begins_with 46 rest ≡ false
     → fraction_at (fraction_text fraction rest) ≡ Some (fraction_value fraction, rest)
 unfolding fraction_at
@@ -148,10 +143,16 @@ in_zone-text date time zone is = rw (zone_of-text zone is) refl
 
 -- each literal is read to its fields
 pub literal-text : (kind : MomentKind) (w : Written) → IsWritten w → literal kind (text_of kind w) ≡ Some (literal_of kind w)
-unfolding date_time date time year_month year month_day day month two_dashes after
+unfolding literal_at year_part month_part day_part time_part after
 literal-text kinds.DateTime w is =
-    rw (date_at-text w (84 ∷ time_text w (zone_text w.zone)) is, time_at-text w (zone_text w.zone) is (no_digit w.zone) (no_point w.zone)) (in_zone-text _ _ w.zone is.zone)
-literal-text kinds.Date w is = rw (date_at-text w (zone_text w.zone) is) (in_zone-text _ _ w.zone is.zone)
+    rw (
+      year_at-text w (45 ∷ pair w.month (45 ∷ pair w.day (84 ∷ time_text w (zone_text w.zone)))) is refl,
+      month_at-pair w.month (45 ∷ pair w.day (84 ∷ time_text w (zone_text w.zone))) is.month_low is.month_high,
+      two_digits-pair w.day (84 ∷ time_text w (zone_text w.zone)) is.day,
+      time_at-text w (zone_text w.zone) is (no_digit w.zone) (no_point w.zone),
+    ) (in_zone-text _ _ w.zone is.zone)
+literal-text kinds.Date w is =
+    rw (year_at-text w (45 ∷ pair w.month (45 ∷ pair w.day (zone_text w.zone))) is refl, month_at-pair w.month (45 ∷ pair w.day (zone_text w.zone)) is.month_low is.month_high, two_digits-pair w.day (zone_text w.zone) is.day) (in_zone-text _ _ w.zone is.zone)
 literal-text kinds.Time w is = rw (time_at-text w (zone_text w.zone) is (no_digit w.zone) (no_point w.zone)) (in_zone-text _ _ w.zone is.zone)
 literal-text kinds.YearMonth w is =
     rw (year_at-text w (45 ∷ pair w.month (zone_text w.zone)) is refl, month_at-pair w.month (zone_text w.zone) is.month_low is.month_high) (in_zone-text _ _ w.zone is.zone)
