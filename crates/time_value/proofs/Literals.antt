@@ -10,7 +10,7 @@ use Rattle.time_value.specs.declared.literal.Literal.{Literal}
 use Rattle.time_value.specs.declared.literal.Shape.{Shape}
 use Rattle.time_value.specs.declared.literal.MomentKind.{MomentKind}
 use Rattle.time_value.specs.declared.literal.MomentKind.TheVariants as kinds
-use Rattle.time_value.specs.Digits.{◌>>=◌, AreDigits, after, two_digits, fraction_at, number}
+use Rattle.time_value.specs.Digits.{◌>>=◌, AreDigits, after, two_digits, fraction_at}
 use Rattle.time_value.specs.Literal.{is_year, is_hour, year_value, year_at, month_at, below_sixty, time_at, zone_of, in_zone, year_1972, midnight, first_midnight, shape_of, year_part, month_part, day_part, time_part, literal_at, literal}
 use Rattle.time_value.specs.Spelling.{Zone, Written, IsWritten, IsZone, IsFractionText, IsTaken, pair, fraction_text, zone_text, text_of, literal_of, fraction_value, zone_value}
 use Rattle.time_value.proofs.Taking.{bind_some, guard_some, some_is, two_digits-takes, month_at-takes, below_sixty-takes, after-takes, behind_sign, year_at-takes, fraction_at-takes, zone_of-takes}
@@ -72,7 +72,6 @@ digits_1972 : AreDigits (49 ∷ 57 ∷ 55 ∷ 50 ∷ [])
 digits_1972 = All-from_recursion IsAsciiDigit (49 ∷ 57 ∷ 55 ∷ 50 ∷ []) (search rules)
 
 named_1972 : is_year (49 ∷ 57 ∷ 55 ∷ 50 ∷ []) ≡ true
-unfolding number
 named_1972 = refl
 
 same_fields : (d other_date : LiteralDate) (t other_time : LiteralTime) (z : Option ℤ) → d ≡ other_date → t ≡ other_time

@@ -1,5 +1,5 @@
 -- What is written is read: the readers of the pieces, and then those of the literals.
-use Rattle.std.proofs.Common.{◌≡◌, ℕ, suc, ◌+◌, ◌-◌, ◌*◌, ◌/◌, ◌%◌, ◌<◌, ◌≤◌, ◌++◌, Bool, true, false, not, nat_eq, nat_le, nat_lt, List, [], ◌∷◌, length, Option, Some, None, refl, arith}
+use Rattle.std.proofs.Common.{◌≡◌, ℕ, suc, ◌+◌, ◌-◌, ◌*◌, ◌/◌, ◌%◌, ◌<◌, ◌≤◌, ◌++◌, Bool, true, false, not, nat_eq, nat_le, nat_lt, List, [], ◌∷◌, length, Option, Some, None, refl, ◌∙◌, arith}
 use Rattle.std.specs.Prelude.{is_none, if◌then◌else◌}
 use Rattle.std.specs.Char.{is_ascii_digit}
 use Rattle.std.specs.List.{prefix_len}
@@ -9,7 +9,8 @@ use Rattle.time_value.specs.declared.literal.LiteralDate.{LiteralDate}
 use Rattle.time_value.specs.declared.literal.LiteralTime.{LiteralTime}
 use Rattle.time_value.specs.declared.literal.MomentKind.{MomentKind}
 use Rattle.time_value.specs.declared.literal.MomentKind.TheVariants as kinds
-use Rattle.time_value.specs.Digits.{AreDigits, after, minus_at, two_digits, digits_at, fraction_at}
+use Rattle.time_value.specs.Digits.{AreDigits, number, after, minus_at, two_digits, digits_at, fraction_at}
+use Rattle.time_value.proofs.Numbers.{pair_value}
 use Rattle.time_value.specs.Literal.{begins_with, is_year, is_hour, year_value, year_of, year_at, month_at, below_sixty, time_at, zone_minutes, zone_of, in_zone, year_part, month_part, day_part, time_part, literal_at, literal}
 use Rattle.time_value.specs.Spelling.{Zone, NoZone, Utc, Ahead, Behind, Written, IsWritten, IsZone, IsZoneTime, IsFractionText, pair, year_text, fraction_text, time_text, zone_text, text_of, is_written_hour, fraction_value, zone_value, written_time, literal_of}
 
@@ -21,7 +22,7 @@ unfolding two_digits
 two_digits-pair n rest below =
     let tens : is_ascii_digit (48 + n / 10) ≡ true = digit_of (n / 10) (omega arith) in
     let ones : is_ascii_digit (48 + n % 10) ≡ true = digit_of (n % 10) (omega arith) in
-    let whole : (48 + n / 10 - 48) * 10 + (48 + n % 10 - 48) ≡ n = omega arith in
+    let whole : number ((48 + n / 10) ∷ (48 + n % 10) ∷ []) ≡ n = pair_value (48 + n / 10) (48 + n % 10) (omega arith) (omega arith) (omega arith) (omega arith) ∙ omega arith in
     rw (tens, ones, whole) refl
 
 month_at-pair : (n : ℕ) (rest : List ℕ) → 1 ≤ n → n ≤ 12 → month_at (pair n rest) ≡ Some (n, rest)
