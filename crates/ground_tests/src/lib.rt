@@ -3,3 +3,11 @@
 
 #[cfg(test)]
 mod bytes;
+#[cfg(test)]
+mod codes;
+#[cfg(test)]
+mod held;
+#[cfg(test)]
+mod lists;
+#[cfg(test)]
+mod rows;
