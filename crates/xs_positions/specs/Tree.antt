@@ -1,24 +1,11 @@
--- Expressions over numbered symbols, as plain trees, and the copies of their symbols.
+-- Expressions over numbered symbols, and the copies of their symbols.
 use Rattle.std.specs.Prelude.{◌≡◌, ℕ, zero, suc, ◌+◌, ◌*◌, max, List, [], ◌∷◌, ◌++◌, Option, Some, None, refl}
+use Rattle.xs_words.specs.Expressions.{Expression, one, empty, chain, nothing, either, repeat, sequence_of, choice_of}
 
--- An expression. A sequence is its first part and then the rest of it, and so is a choice.
-pub data Tree : Type 0 where
-  one : (symbol : ℕ) → Tree
-  empty : Tree
-  chain : (first rest : Tree) → Tree
-  nothing : Tree
-  either : (first rest : Tree) → Tree
-  repeat : (part : Tree) (least : ℕ) (most : Option ℕ) → Tree
+pub use Rattle.xs_words.specs.Expressions.{one, empty, chain, nothing, either, repeat, sequence_of, choice_of}
 
--- the sequence of these parts
-abbrev pub sequence_of : List Tree → Tree
-sequence_of [] = empty
-sequence_of (part ∷ parts) = chain part (sequence_of parts)
-
--- the choice between these parts
-abbrev pub choice_of : List Tree → Tree
-choice_of [] = nothing
-choice_of (part ∷ parts) = either part (choice_of parts)
+abbrev pub Tree : Type 0
+Tree = Expression ℕ
 
 -- A part with bounds n to m has m copies, and one with no upper bound the greater of n and 1.
 abbrev pub copies : ℕ → Option ℕ → ℕ
