@@ -1,6 +1,6 @@
 -- Regular expressions, and the texts that match them (Datatypes, appendix F): expressions whose symbols are classes of characters.
-use Rattle.std.specs.Prelude.{ℕ, List, [], ◌∷◌, ◌++◌, Option, Some, None, codes, IsTrue, refl}
-use Rattle.std.proofs.Common.{inl}
+use Rattle.std.specs.Prelude.{ℕ, List, [], ◌∷◌, ◌++◌, Option, false, codes, IsTrue, refl}
+use Rattle.std.proofs.Common.{inl, inr}
 use Rattle.xs_words.specs.Expressions.{Expression, one, repeat, sequence_of, choice_of, expression_at}
 use Rattle.xs_words.specs.Words.{IsWordOf}
 use Rattle.pattern_terms.specs.declared.class.ClassItem.TheVariants.{One}
@@ -28,13 +28,9 @@ regex_at regexes id = expression_at regexes id
 abbrev pub Matches : Regex → List ℕ → Type 0
 Matches regex text = IsWordOf (λ class c. IsTrue (has class c)) regex text
 
--- `(a|b)c?` has the text `a`: it is the text `a` of the first branch, and then no text of `c`
+-- `(a|b)c` has the text `bc`: it splits into the text `b` of the second branch, and `c`
 abbrev letter : ℕ → Regex
 letter c = character (record { negated = false; items = One c ∷ [] } ∷ [])
 
-abbrev pub some_regex : Regex
-some_regex = sequence_of (choice_of (letter 97 ∷ letter 98 ∷ []) ∷ repeated (letter 99) 0 (Some 1) ∷ [])
-
-pub example-matches : Matches some_regex (codes "a")
-example-matches =
-    (97 ∷ [], [], refl, inl (97, refl, refl), ([], [], refl, (0, (at_least_none, none_at_most), refl), refl))
+pub example-matches : Matches (sequence_of (choice_of (letter 97 ∷ letter 98 ∷ []) ∷ letter 99 ∷ [])) (codes "bc")
+example-matches = (98 ∷ [], 99 ∷ [], refl, inr (inl (98, refl, refl)), (99 ∷ [], [], refl, (99, refl, refl), refl))
