@@ -48,8 +48,11 @@ pub fn normalized(alloc: Global, handling: WhiteSpace, text: &str) -> Result<Tex
 }
 
 /// The items of a list: what stands between the white space of the text, in order (Datatypes 4.2.1.2).
+///
+/// They are the same once the white space has been treated, in whatever way.
 pub fn items(alloc: Global, text: &str) -> Result<Texts, AllocError>
-    ensures { IfOk result (λ found. found ≡ spec.items text.now) }
+    ensures value { IfOk result (λ found. found ≡ spec.items text.now) }
+    ensures treated { IfOk result (λ found. (handling : WhiteSpace) → found ≡ spec.items (spec.normalized handling text.now)) }
 {
     let spaced = replaced(alloc, text)?;
     let mut found = Texts::new(alloc);
