@@ -78,9 +78,10 @@ fn pair_answer(
     literals: &str,
     scope: &Scope,
 ) -> Result<String, AllocError> {
-    let (Some((left, right)), Some((first, second))) =
-        (names.split_once(','), literals.split_once('~'))
-    else {
+    let (Some((left, right)), Some((first, second))) = (
+        names.split_once(','),
+        literals.split_once('~'),
+    ) else {
         return String::from_str(alloc, "no pair");
     };
     let Ok(a) = read_named(alloc, left, first, scope)? else {

@@ -60,9 +60,10 @@ found p [] kind e = cc
 found p (first ∷ kinds) kind e = found_first p first kinds kind (p first) refl e (found p kinds kind)
 
 pub named_is : (name : List ℕ) (kind : Builtin) → (named name ≡ Some kind) ↔ (name ≡ name_of kind)
-named_is name kind =
-    (λ e. sym ((bytes_eq-Decides (name_of kind) name).0 (found (λ k. bytes_eq (name_of k) name) every kind e)),
-     λ e. ap named e ∙ own_name kind)
+named_is name kind = (
+  λ e. sym ((bytes_eq-Decides (name_of kind) name).0 (found (λ k. bytes_eq (name_of k) name) every kind e)),
+  λ e. ap named e ∙ own_name kind,
+)
 
 pub named_as : (name : List ℕ) (result : Option Builtin) → result ≡ named name → (kind : Builtin) → (result ≡ Some kind) ↔ (name ≡ name_of kind)
 named_as name result e kind = (λ h. (named_is name kind).0 (sym e ∙ h), λ h. e ∙ (named_is name kind).1 h)

@@ -108,10 +108,7 @@ pub fn builtin_named(name: &str) -> Option<Builtin>
 fn first_named(name: &str) -> Option<Builtin>
     ensures { result ≡ spec.named name.now }
 {
-    BUILTINS
-        .iter()
-        .copied()
-        .find(|kind| name_of(*kind) == name)
+    BUILTINS.iter().copied().find(|kind| name_of(*kind) == name)
 }
 
 /// The type that a type is derived from, by restriction or, for `NMTOKENS` and `IDREFS`, by list; `None` for

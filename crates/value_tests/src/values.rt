@@ -73,7 +73,9 @@ fn values_are_read_and_cloned(rt: HostRuntime) -> Result<(), Fail> {
     ];
     assert!(rt; clones_keep(rt.alloc(), rows.as_slice())?);
     let scope = scope_with_p(rt.alloc())?.try_clone()?;
-    let collapsed = read_normalized(rt.alloc(), Builtin::String, "a b", &scope)?.or(Err("no value"))?;
+    let collapsed = read_normalized(rt.alloc(), Builtin::String, "a b", &scope)?.or(Err(
+        "no value",
+    ))?;
     let token = value_at(rt.alloc(), Builtin::Token, " a  b ")?.ok_or("no value")?;
     assert!(rt; same(&collapsed, &token) && less(&collapsed, &token).is_none());
     assert_eq!(rt; length(&token), Some(3));
