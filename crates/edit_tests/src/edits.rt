@@ -2,7 +2,8 @@ ghost use Rattle.std.specs.Prelude.{◌≡◌, true, IfOk, IfSome};
 ghost use Rattle.tree_edits.specs.Edits.{can_be_made};
 ghost use Rattle.tree_building.specs.Shape.{AreSound};
 
-use item_listing::{Item, Items, read_item};
+use crate::lines::push_lines;
+use item_listing::{Item, Items};
 use std::alloc::Global;
 use std::test::Fail;
 use tree_building::{build_document, is_one_element};
@@ -28,16 +29,6 @@ enum Step<'a> {
     AddText(u32, u32, &'a str),
     SetText(u32, &'a str),
     Remove(u32),
-}
-
-/// Puts the items of these lines behind others.
-fn push_lines(alloc: Global, items: &mut Items, lines: &[&str]) -> Result<(), Fail> {
-    for line in lines {
-        if let Ok(item) = read_item(alloc, true, line.as_bytes())? {
-            items.push(item)?;
-        }
-    }
-    Ok(())
 }
 
 /// The items of a block.

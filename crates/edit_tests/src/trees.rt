@@ -1,4 +1,4 @@
-use item_listing::{Items, read_item};
+use crate::lines::items_of;
 use plain_tree::{
     Attribute, Binding, Builder, Edit, EditError, Expanded, NodeKind, Prefixes, Row, Tree,
     TreeReason, fragment, read_tree,
@@ -7,17 +7,6 @@ use std::alloc::Global;
 use std::test::Fail;
 use tag_names::NameReason;
 use xs_names::Text;
-
-/// The items of these lines.
-fn items_of(alloc: Global, lines: &[&str]) -> Result<Items, Fail> {
-    let mut items = Items::new(alloc);
-    for line in lines {
-        if let Ok(item) = read_item(alloc, true, line.as_bytes())? {
-            items.push(item)?;
-        }
-    }
-    Ok(items)
-}
 
 /// The tree of these lines, one item after another.
 fn tree_of(alloc: Global, lines: &[&str]) -> Result<Tree, Fail> {

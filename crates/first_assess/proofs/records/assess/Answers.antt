@@ -14,7 +14,7 @@ judge_rows-requires-clause-below c =
 pub returns-clause-entries : goal.returns-clause-entries
 returns-clause-entries c = λ f rows.
     let s = c.args.schema.now in
-    ap (row_entries c.args.rows.now) (c.reverse.ensures.items ∙ c.in_ok-records.ensures)
+    ap (row_entries c.args.rows.now) (c.from_vec.ensures ∙ c.reverse.ensures.items ∙ c.in_ok-records.ensures)
     ∙ ap (λ l. row_entries l (row_records s none_open l)) rows ∙ all_entries s f
 
 pub returns-clause-few : goal.returns-clause-few
