@@ -1,6 +1,55 @@
-use super::*;
+//! White space, characters and octets.
 use std::alloc::{AllocError, Global};
 use std::test::Fail;
+use value_strings::{Characters, Octets, read_base64, read_hex};
+use white_space::{WhiteSpace, count_items, items, normalized};
+
+// Whether each text reads as the wanted one.
+fn all_read(
+    alloc: Global,
+    handling: WhiteSpace,
+    rows: &[(&str, &str)],
+) -> Result<bool, AllocError> {
+    for (text, wanted) in rows {
+        let read = normalized(alloc, handling, text)?;
+        if read.as_str() != *wanted {
+            return Ok(false);
+        }
+    }
+    Ok(true)
+}
+
+#[test]
+fn normalizes(rt: HostRuntime) -> Result<(), Fail> {
+    let kept = [("", ""), (" a\t\nb ", " a\t\nb ")];
+    let replaced = [
+        ("", ""),
+        ("\t\n\r ", "    "),
+        ("a\u{C}\u{A0}\r\nb", "a\u{C}\u{A0}  b"),
+    ];
+    let collapsed = [
+        ("", ""),
+        (" \t\n\r", ""),
+        ("a", "a"),
+        ("  été \t\r\n ü  ", "été ü"),
+        ("a\u{A0} b", "a\u{A0} b"),
+    ];
+    assert!(rt; all_read(rt.alloc(), WhiteSpace::Preserve, kept.as_slice())?);
+    assert!(rt; all_read(rt.alloc(), WhiteSpace::Replace, replaced.as_slice())?);
+    assert!(rt; all_read(rt.alloc(), WhiteSpace::Collapse, collapsed.as_slice())?);
+    Ok(())
+}
+
+#[test]
+fn finds_items(rt: HostRuntime) -> Result<(), Fail> {
+    let found = items(rt.alloc(), "\n one  two\tthree ")?;
+    assert_eq!(rt; found.len(), 3);
+    assert!(rt; found.contains("one") && found.contains("two") && found.contains("three"));
+    assert!(rt; items(rt.alloc(), " \r\n")?.is_empty());
+    assert!(rt; count_items("\n one  two\tthree ") == 3 && count_items(" \r\n") == 0);
+    assert!(rt; WhiteSpace::Replace.stronger(WhiteSpace::Collapse) == WhiteSpace::Collapse);
+    Ok(())
+}
 
 // Whether the octets are there and are the wanted ones.
 fn are_octets(found: Option<Octets>, wanted: &[u8]) -> bool {
@@ -83,10 +132,10 @@ fn refuses_other_texts(rt: HostRuntime) -> Result<(), Fail> {
 }
 
 #[test]
-fn counts(rt: HostRuntime) -> Result<(), Fail> {
+fn strings_are_counted_and_cloned(rt: HostRuntime) -> Result<(), Fail> {
     let text = Characters::new(rt.alloc(), "aéü")?;
     let octets = Octets::from_vec([1, 2].to_vec(rt.alloc())?)?;
-    assert!(rt; text.len() == 3 && !text.is_empty() && text == text.try_clone(rt.alloc())?);
-    assert!(rt; octets.len() == 2 && !octets.is_empty() && octets == octets.try_clone(rt.alloc())?);
+    assert!(rt; text.len() == 3 && !text.is_empty() && text == text.clone()?);
+    assert!(rt; octets.len() == 2 && !octets.is_empty() && octets == octets.clone()?);
     Ok(())
 }
