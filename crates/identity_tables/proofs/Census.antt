@@ -9,11 +9,11 @@ use Rattle.std.specs.Option.{unwrap_or, option_map}
 use Rattle.std.specs.String.{string_eq, string_eq_equiv}
 use Rattle.std.specs.declared.string.String.{String}
 use Rattle.std.specs.declared.alloc.Global.{Global}
-use Rattle.std.proofs.lemmas.List.Elements.{All-head, All-tail}
+use Rattle.std.proofs.lemmas.List.Elements.{All-head, All-tail, All-nil}
 use Rattle.std.proofs.lemmas.List.Sums.{sum_by-cons}
 use Rattle.std.proofs.lemmas.Map.Entries.{sum_by_puts_entry, sum_by_values_permutation, sum_by-remove_entry, sum_by-set_value, lookup_from_place}
 use Rattle.std.proofs.lemmas.Map.Views.{All-map-remove_entry, All-values-set_value, All-map-IsPermutation, All-values-PutsEntry, IfSome-lookup_from_All}
-use Rattle.std.proofs.lemmas.Bool.{cases_Bool, cases_lt, ltb-true, lt-ltb, eqb-true, eqb-false, ne_eqb}
+use Rattle.std.proofs.lemmas.Bool.{cases_Bool, cases_lt, ltb-true, lt-ltb, le-ltb, and_parts, eqb-true, eqb-false, ne_eqb}
 use Rattle.std.proofs.lemmas.List.{nil_from_length}
 use Rattle.std.specs.Cmp.Lexicographic.{same_text}
 use Rattle.identity_tables.specs.Counts.{count_of, AreCounts, IsOneMore}
@@ -22,10 +22,10 @@ use Rattle.identity_tables.proofs.Tally as tally
 use Rattle.identity_tables.specs.IdTable.{uses_of, bearers_of, references_of, id_count, reference_count, IsOneMoreId, IsOneMoreReference, HasSameUses, HasMissingId, HasSharedId}
 use Rattle.identity_tables.specs.Uses.{missing_weight, shared_weight, is_unused, IsCensus}
 
-abbrev HaveCounts : Uses → Type 0
+abbrev pub HaveCounts : Uses → Type 0
 HaveCounts uses = AreCounts nat_eq uses.bearers
 
-abbrev references_weight : Uses → ℕ
+abbrev pub references_weight : Uses → ℕ
 references_weight uses = uses.references
 
 -- what one id weighs is at most what all weigh
@@ -67,6 +67,26 @@ module _ {S : Type 0} where
         missing_is = rw (writes.0) (omega arith);
         shared_is = rw (writes.0) (omega arith)
       }
+
+  -- the same, where the bearers change and the references stay
+  pub census_bearers : (m n : HashMap (String Global) Uses S) (test : String Global → Bool) (u : Uses) (bearers : List (ℕ × ℕ)) (r mi sh a b c d : ℕ) → get_by test m ≡ Some u → WritesThrough string_eq test m (record { bearers = bearers; references = u.references }) n → AreCounts nat_eq bearers → a ≡ missing_weight u → b ≡ missing_weight (record { bearers = bearers; references = u.references }) → c ≡ shared_weight u → d ≡ shared_weight (record { bearers = bearers; references = u.references }) → IsCensus m.entries r mi sh → IsCensus n.entries r (mi - a + b) (sh - c + d)
+  census_bearers m n test u bearers r mi sh a b c d found writes counts ea eb ec ed t =
+      let w : Uses = record { bearers = bearers; references = u.references } in
+      let m0 = t.missing_is in
+      let s0 = t.shared_is in
+      let few = weight-le missing_weight test m.entries u found in
+      let less = weight-le shared_weight test m.entries u found in
+      census_written m n test u w r mi sh r (mi - a + b) (sh - c + d) found writes counts refl (omega arith) (omega arith) t
+
+  -- the same, where the references change and the bearers stay
+  pub census_references : (m n : HashMap (String Global) Uses S) (test : String Global → Bool) (u : Uses) (references r mi sh r' a b : ℕ) → get_by test m ≡ Some u → WritesThrough string_eq test m (record { bearers = u.bearers; references = references }) n → r' + u.references ≡ r + references → a ≡ missing_weight u → b ≡ missing_weight (record { bearers = u.bearers; references = references }) → IsCensus m.entries r mi sh → IsCensus n.entries r' (mi - a + b) sh
+  census_references m n test u references r mi sh r' a b found writes er ea eb t =
+      let w : Uses = record { bearers = u.bearers; references = references } in
+      let m0 = t.missing_is in
+      let few = weight-le missing_weight test m.entries u found in
+      let all = IfSome-lookup_from_All HaveCounts test m.entries t.counts_are in
+      let counts : AreCounts nat_eq u.bearers = rw found at all in
+      census_written m n test u w r mi sh r' (mi - a + b) sh found writes counts er (omega arith) refl t
 
   -- after a new id comes in
   pub census_added : (m n : HashMap (String Global) Uses S) (k : String Global) (w : Uses) (r mi sh r' mi' sh' : ℕ) (old : Option Uses) → old ≡ get string_eq m k → old ≡ None → PutsEntry string_eq m n k w old → IsUnique string_eq n → AreCounts nat_eq w.bearers → r' ≡ r + w.references → mi' ≡ mi + missing_weight w → sh' ≡ sh + shared_weight w → IsCensus m.entries r mi sh → IsCensus n.entries r' mi' sh'
@@ -110,6 +130,73 @@ module _ {S : Type 0} where
         missing_is = omega arith;
         shared_is = omega arith
       }
+
+-- no more ids are missing than there are references
+pub missing-le-all : (es : List (String Global × Uses)) (r mi sh : ℕ) → IsCensus es r mi sh → mi ≤ r
+missing-le-all es r mi sh t =
+    let r0 = t.references_are in
+    let m0 = t.missing_is in
+    let le = missing-le-references (values_of es) in
+    omega arith
+
+-- the uses that are there have sound counts
+pub counts_at : (test : String Global → Bool) (es : List (String Global × Uses)) (u : Uses) (r mi sh : ℕ) → lookup test es ≡ Some u → IsCensus es r mi sh → AreCounts nat_eq u.bearers
+counts_at test es u r mi sh found t = let all = IfSome-lookup_from_All HaveCounts test es t.counts_are in rw found at all
+
+-- with one bearer less there are no two where there were none
+pub shared-le : (fewer more : List (ℕ × ℕ)) (bearer : ℕ) (references : ℕ) → AreCounts nat_eq fewer → IsOneMore nat_eq fewer more bearer → shared_weight (record { bearers = fewer; references = references }) ≤ shared_weight (record { bearers = more; references = references })
+shared-le fewer more bearer references counts one_less =
+    ⊎_elim
+    (λ (two : 1 < length fewer).
+      let some = tally.several nat_eq nat_eq_equiv fewer counts two in
+      let one = one_less some.0 in
+      let other = one_less some.1 in
+      let one_some = some.3 in
+      let other_some = some.4 in
+      let still = tally.two_from_several nat_eq nat_eq_equiv more (some.0, some.1, some.2, omega arith, omega arith) in
+      rw (lt-ltb 1 (length fewer) two, lt-ltb 1 (length more) still) (omega arith))
+    (λ (few : length fewer ≤ 1). rw (le-ltb 1 (length fewer) few) (omega arith))
+    (cases_lt 1 (length fewer))
+
+-- a key is not there where its text is not
+pub absent_key : {S : Type 0} (m n : HashMap (String Global) Uses S) (key : String Global) (id : List ℕ) → string_bytes key ≡ id → n ≡ m → None ≡ get_by (λ k. bytes_eq id (string_bytes k)) m → get string_eq n key ≡ None
+absent_key m n key id text same none = rw same (subst (λ (t : List ℕ). get_by (λ k. bytes_eq t (string_bytes k)) m ≡ None) (sym text) (sym none))
+
+-- no bearers
+pub no_counts : AreCounts nat_eq []
+unfolding IsDistinct
+no_counts = record { distinct = tt; present = All-nil (λ n. 1 ≤ n) }
+
+-- an id with a reference and no bearer is missing
+pub lone_reference : (bearers : List (ℕ × ℕ)) → bearers ≡ [] → (missing_weight (record { bearers = bearers; references = 1 }) ≡ 1) × (shared_weight (record { bearers = bearers; references = 1 }) ≡ 0)
+lone_reference bearers none = (rw none refl, rw none refl)
+
+-- an id without references is not missing
+pub no_reference : (bearers : List (ℕ × ℕ)) (references : ℕ) → references ≡ 0 → missing_weight (record { bearers = bearers; references = references }) ≡ 0
+no_reference bearers references none = rw none refl
+
+one_at : (bearer other : ℕ) → 1 ≤ 0 + (if nat_eq bearer other then 1 else 0) → bearer ≡ other
+one_at bearer other some = ⊎_elim (λ yes. eqb-true _ _ yes) (λ no. absurd (let h = rw no at some in omega arith)) (cases_Bool (nat_eq bearer other))
+
+-- an id with one bearer is not shared
+pub one_bearer : (bearers : List (ℕ × ℕ)) (bearer references : ℕ) → AreCounts nat_eq bearers → IsOneMore nat_eq [] bearers bearer → shared_weight (record { bearers = bearers; references = references }) ≡ 0
+one_bearer bearers bearer references counts more =
+    ⊎_elim
+    (λ (two : 1 < length bearers).
+      let some = tally.several nat_eq nat_eq_equiv bearers counts two in
+      let one = one_at bearer some.0 (rw (← more some.0) some.3) in
+      let other = one_at bearer some.1 (rw (← more some.1) some.4) in
+      absurd (eqb-false some.0 some.1 some.2 (sym one ∙ other)))
+    (λ (few : length bearers ≤ 1). rw (le-ltb 1 (length bearers) few) refl)
+    (cases_lt 1 (length bearers))
+
+-- what an id without uses weighs
+pub unused_parts : (u : Uses) → is_unused u ≡ true → (u.references ≡ 0) × (missing_weight u ≡ 0) × (shared_weight u ≡ 0) × (u.bearers ≡ [])
+unused_parts u unused =
+    let both = and_parts _ _ unused in
+    let references = eqb-true _ _ both.0 in
+    let bearers = nil_from_length u.bearers (eqb-true _ _ both.1) in
+    (references, rw references refl, rw bearers refl, bearers)
 
 -- the uses of one id are new, and all others as they were
 abbrev pub ChangesUses : List (String Global × Uses) → List (String Global × Uses) → List ℕ → Option Uses → Type 0
@@ -194,6 +281,19 @@ module _ (old new : List (String Global × Uses)) (id : List ℕ) (before after 
       (λ no. rw (is_old other no) refl)
       (cases_Bool (bytes_eq id other))
   }
+
+-- the uses stay the same after one less
+pub less_id_then : (old mid new : List (String Global × Uses)) (id : List ℕ) (bearer : ℕ) → IsOneMoreId mid old id bearer → HasSameUses mid new → IsOneMoreId new old id bearer
+less_id_then old mid new id bearer less same = record {
+  ids = λ other element. less.ids other element ∙ ap (λ n. n + (if bytes_eq id other && (bearer == element) then 1 else 0)) (sym (same.ids other element));
+  references = λ other. less.references other ∙ sym (same.references other)
+}
+
+pub less_reference_then : (old mid new : List (String Global × Uses)) (id : List ℕ) → IsOneMoreReference mid old id → HasSameUses mid new → IsOneMoreReference new old id
+less_reference_then old mid new id less same = record {
+  ids = λ other element. less.ids other element ∙ sym (same.ids other element);
+  references = λ other. less.references other ∙ ap (λ n. n + (if bytes_eq id other then 1 else 0)) (sym (same.references other))
+}
 
 -- where the weights come to something, one id weighs something
 pub weighty_place : (f : Uses → ℕ) (es : List (String Global × Uses)) → 0 < sum_by f (values_of es) → (i : ℕ) × (k : String Global) × (u : Uses) × (slice_get es i ≡ Some (k, u)) × (0 < f u)
