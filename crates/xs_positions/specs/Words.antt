@@ -2,7 +2,6 @@
 use Rattle.std.specs.Prelude.{◌≡◌, ℕ, zero, suc, ◌+◌, ◌-◌, ◌*◌, ◌≤◌, min, List, [], ◌∷◌, ◌++◌, Option, Some, None, ◌⊎◌}
 use Rattle.xs_words.specs.Words.{Allows, Rounds, IsWordOf}
 use Rattle.xs_positions.specs.Tree.{Tree, one, empty, chain, nothing, either, repeat, copies, size}
-
 pub use Rattle.xs_words.specs.Words.{Allows, Rounds}
 
 -- where copy j of a part lies, and the last copy for each round past it
