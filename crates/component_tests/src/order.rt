@@ -29,7 +29,13 @@ fn fills_by_rank(rt: HostRuntime) -> Result<(), Fail> {
     let order = order_of(rt.alloc(), ranks.as_slice())?;
     assert_eq!(rt; order.as_slice(), [1, 3, 0, 2].as_slice());
     let mut table = vec![in rt.alloc(); 0, 0, 0, 0]?;
-    fill(&OwnRank { ranks: ranks.as_slice() }, order.as_slice(), table.as_mut_slice());
+    fill(
+        &OwnRank {
+            ranks: ranks.as_slice(),
+        },
+        order.as_slice(),
+        table.as_mut_slice(),
+    );
     assert_eq!(rt; table.as_slice(), ranks.as_slice());
     Ok(())
 }

@@ -65,7 +65,10 @@ fn keeps_elements_and_identity_constraints(rt: HostRuntime) -> Result<(), Fail> 
     parts.rank_constraint(constraint, 6);
     assert_eq!(rt; parts.element(member).at, place(2));
     assert_eq!(rt; parts.element(member).head, Some(head));
-    assert_eq!(rt; parts.element(member).constraints.as_slice(), [constraint].as_slice());
+    assert_eq!(rt;
+        parts.element(member).constraints.as_slice(),
+        [constraint].as_slice()
+    );
     assert_eq!(rt; parts.element_at(1), Some(member));
     assert_eq!(rt; parts.elements().len(), 2);
     assert_eq!(rt; parts.element_ranks(), [0, 1].as_slice());

@@ -52,11 +52,7 @@ impl Spaces {
     }
 
     // The words of the namespaces that are admitted.
-    fn admitted(
-        &self,
-        alloc: Global,
-        found: Option<NsConstraint>,
-    ) -> Result<String, AllocError> {
+    fn admitted(&self, alloc: Global, found: Option<NsConstraint>) -> Result<String, AllocError> {
         let Some(constraint) = found else {
             return String::from_str(alloc, "no form");
         };
