@@ -1,6 +1,6 @@
 -- What decimal digits write, and the lowest form of what they write.
 use Rattle.std.proofs.Common.{◌≡◌, ℕ, suc, ◌+◌, ◌-◌, ◌*◌, ◌/◌, ◌%◌, ◌^◌, ◌<◌, ◌≤◌, ◌≢◌, List, [], ◌∷◌, ◌++◌, length, refl, sym, ap, ◌∙◌, arith, append_assoc, length-append, add-one, eqb, Bool, ◌&&◌, true, false, IsTrue, drop, get_or, drop-cons, length-drop, lit<, lit≤, ◌↔◌}
-use Rattle.std.proofs.lemmas.Nat.{pow-add, mul-le}
+use Rattle.std.proofs.lemmas.Nat.{mul-le}
 use Rattle.std.proofs.Math.Nat.{pow-suc, pow-le-pow_right, one-le-pow}
 use Rattle.std.proofs.lemmas.Int.Digits.{length-digits_of-le, length-digits_of_step, number_lt, number_digits_of, digits_value_push, all_below_base_digits_of}
 use Rattle.std.specs.Char.{is_ascii_digit, digit_value}

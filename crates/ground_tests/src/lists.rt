@@ -18,9 +18,9 @@ fn lists_are_filled_and_read(rt: HostRuntime) -> Result<(), Fail> {
     }
     let copy = words.clone()?;
     assert!(rt; copy == words);
-    let mut lengths = 0;
+    let mut lengths = 0usize;
     for word in &copy {
-        lengths += word.len() % 8;
+        lengths = lengths.saturating_add(word.len());
     }
     assert_eq!(rt; lengths, 7);
     words.as_mut_slice().reverse();

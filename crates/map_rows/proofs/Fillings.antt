@@ -1,10 +1,9 @@
 -- What a row is made of while its cells are written.
 use Rattle.std.proofs.Common.{◌≡◌, ℕ, ◌+◌, ◌<◌, ◌≤◌, min, List, sym, ap, ◌∙◌, subst, refl, arith}
 use Rattle.map_rows.specs.Piece.{Piece}
-use Rattle.map_rows.specs.Places.{LiesIn, ChangesOnly, number, piece_at}
-use Rattle.map_rows.specs.Filling.{number_for, IsWithin, IsPair, IsFilling, IsApart}
+use Rattle.map_rows.specs.Places.{LiesIn, ChangesOnly, number}
+use Rattle.map_rows.specs.Filling.{number_for, IsWithin, IsFilling, IsApart}
 use Rattle.map_rows.specs.declared.place.Place.{Place}
-use Rattle.map_rows.specs.declared.whole.Plain.{Plain}
 use Rattle.map_rows.specs.declared.whole.Operation.{Operation}
 use Rattle.map_rows.specs.declared.whole.Operation.TheVariants.{Composition, Sum}
 use Rattle.map_rows.specs.declared.whole.Filling.{Filling}

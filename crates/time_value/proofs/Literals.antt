@@ -11,7 +11,7 @@ use Rattle.time_value.specs.declared.literal.Shape.{Shape}
 use Rattle.time_value.specs.declared.literal.MomentKind.{MomentKind}
 use Rattle.time_value.specs.declared.literal.MomentKind.TheVariants as kinds
 use Rattle.time_value.specs.Digits.{◌>>=◌, AreDigits, after, two_digits, fraction_at}
-use Rattle.time_value.specs.Literal.{is_year, is_hour, year_value, year_at, month_at, below_sixty, time_at, zone_of, in_zone, year_1972, midnight, first_midnight, shape_of, year_part, month_part, day_part, time_part, literal_at, literal}
+use Rattle.time_value.specs.Literal.{is_year, is_hour, year_value, month_at, below_sixty, time_at, zone_of, in_zone, year_1972, midnight, first_midnight, shape_of, year_part, month_part, day_part, time_part, literal_at, literal}
 use Rattle.time_value.specs.Spelling.{Zone, Written, IsWritten, IsZone, IsFractionText, IsTaken, pair, fraction_text, zone_text, text_of, literal_of, fraction_value, zone_value}
 use Rattle.time_value.proofs.Taking.{bind_some, guard_some, some_is, two_digits-takes, month_at-takes, below_sixty-takes, after-takes, behind_sign, year_at-takes, fraction_at-takes, zone_of-takes}
 

@@ -138,8 +138,8 @@ day_part is_written text = if is_written then (after 45 text >>= λ rest. two_di
 unfoldable pub time_part : Bool → Bool → List ℕ → Front LiteralTime
 time_part is_written is_behind text =
     if is_written then
-      (if is_behind then (after 84 text >>= λ rest. time_at rest)
-      else (time_at text >>= λ time. Some (first_midnight time.0, time.1)))
+    (if is_behind then (after 84 text >>= λ rest. time_at rest)
+    else (time_at text >>= λ time. Some (first_midnight time.0, time.1)))
     else Some (midnight, text)
 
 -- the fields of a text as a literal that writes these, and nothing else

@@ -8,6 +8,7 @@ mod literal;
 mod moment;
 mod reference;
 mod span;
+
 pub use fault::TimeFault;
 pub use literal::MomentKind;
 pub use moment::Moment;

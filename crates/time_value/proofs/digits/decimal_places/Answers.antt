@@ -1,6 +1,6 @@
 use Rattle.std.proofs.Common.{◌≡◌, suc, ◌/◌, ◌+◌, ◌-◌, ◌*◌, ◌^◌, ◌≤◌, get_or, take, length, ap, ◌∙◌, arith}
 use Rattle.std.proofs.lemmas.List.{take_all}
-use Rattle.std.proofs.Math.Nat.{mul-le-mul_right, one-le-pow, mul_assoc, add-mul}
+use Rattle.std.proofs.Math.Nat.{mul-le-mul_right, one-le-pow}
 use Rattle.time_value.specs.Digits.{number, decimal_places}
 use Rattle.time_value.proofs.Numbers.{number-more, tenth, digit_worth}
 use Rattle.time_value.proofs.digits.decimal_places.Goals as goal

@@ -1,5 +1,3 @@
-use Rattle.std.proofs.Common.{◌≡◌, ℕ, List, Some}
-use Rattle.map_rows.specs.Rows.{IsLive}
 use Rattle.ground_tests.proofs.Holding.{held_live, AreHeld_written}
 use Rattle.ground_tests.proofs.held.Held.set.Goals as goal
 

@@ -1,9 +1,8 @@
-use Rattle.std.proofs.Common.{◌≡◌, ◌+◌, ◌<◌, ◌≤◌, ◌∙◌, max, ℕ, List, Some, ap, subst, sym, arith}
+use Rattle.std.proofs.Common.{◌+◌, ◌<◌, ◌≤◌, ◌∙◌, max, ℕ, List, Some, subst, sym, arith}
 use Rattle.std.proofs.lemmas.List.{with_items_is}
 use Rattle.std.specs.Vec.{with_items}
 use Rattle.map_rows.specs.Filling.{CanPair, pair_number, pair_row}
 use Rattle.map_rows.specs.Places.{number, cell}
-use Rattle.map_rows.specs.Marks.{IsMarked}
 use Rattle.map_rows.specs.Rows.{RowMap, Updates}
 use Rattle.map_rows.specs.Kept.{row_of, row_map}
 use Rattle.map_rows.proofs.Apart.{rows_apart}

@@ -1,4 +1,4 @@
-use Rattle.std.proofs.Common.{◌≡◌, ◌+◌, ◌-◌, length, take, drop, min, arith, length-take}
+use Rattle.std.proofs.Common.{arith, length-take}
 use Rattle.xsv_io.proofs.Pieces.{piece_then_rest, none_at_end}
 use Rattle.xsv_io.proofs.memory.MemSourceSource.read.Goals as goal
 
