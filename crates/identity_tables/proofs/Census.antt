@@ -1,15 +1,15 @@
 -- A table of ids through one change, and what the numbers beside it tell.
-use Rattle.std.proofs.Common.{◌≡◌, ◌≢◌, ℕ, ◌+◌, ◌-◌, ◌<◌, ◌≤◌, Bool, true, false, cond, if◌then◌else◌, ◌&&◌, ◌==◌, nat_eq, nat_lt, List, [], ◌∷◌, length, refl, sym, ◌∙◌, ap, subst, arith, ◌⊎◌, inl, inr, ⊎_elim, Option, Some, None, suc, zero, bytes_eq, string_bytes}
-use Rattle.std.specs.Cmp.{IsEquivalence, nat_eq_equiv}
-use Rattle.std.specs.HashMap.{HashMap, get, get_by, PutsEntry, IsUnique, WritesThrough, UpdatesBy, values}
-use Rattle.std.specs.List.{All, IsDistinct, slice_get, sum_by}
+use Rattle.std.proofs.Common.{◌≡◌, ℕ, ◌+◌, ◌-◌, ◌<◌, ◌≤◌, Bool, true, false, cond, if◌then◌else◌, ◌&&◌, ◌==◌, nat_eq, nat_lt, List, [], ◌∷◌, length, refl, sym, ◌∙◌, ap, subst, arith, ⊎_elim, Option, Some, None, suc, bytes_eq, string_bytes}
+use Rattle.std.specs.Cmp.{nat_eq_equiv}
+use Rattle.std.specs.HashMap.{HashMap, get, get_by, PutsEntry, IsUnique, WritesThrough}
+use Rattle.std.specs.List.{IsDistinct, slice_get, sum_by}
 use Rattle.std.specs.List.Sorted.{IsPermutation}
-use Rattle.std.specs.Map.{lookup, keys_of, values_of, remove_entry, set_value}
+use Rattle.std.specs.Map.{lookup, values_of, remove_entry}
 use Rattle.std.specs.Option.{unwrap_or, option_map}
 use Rattle.std.specs.String.{string_eq, string_eq_equiv}
 use Rattle.std.specs.declared.string.String.{String}
 use Rattle.std.specs.declared.alloc.Global.{Global}
-use Rattle.std.proofs.lemmas.List.Elements.{All-head, All-tail, All-nil}
+use Rattle.std.proofs.lemmas.List.Elements.{All-nil}
 use Rattle.std.proofs.lemmas.List.Sums.{sum_by-cons}
 use Rattle.std.proofs.lemmas.Map.Entries.{sum_by_puts_entry, sum_by_values_permutation, sum_by-remove_entry, sum_by-set_value, lookup_from_place}
 use Rattle.std.proofs.lemmas.Map.Views.{All-map-remove_entry, All-values-set_value, All-map-IsPermutation, All-values-PutsEntry, IfSome-lookup_from_All}
@@ -19,7 +19,7 @@ use Rattle.std.specs.Cmp.Lexicographic.{same_text}
 use Rattle.identity_tables.specs.Counts.{count_of, AreCounts, IsOneMore}
 use Rattle.identity_tables.specs.declared.id_table.Uses.{Uses}
 use Rattle.identity_tables.proofs.Tally as tally
-use Rattle.identity_tables.specs.IdTable.{uses_of, bearers_of, references_of, id_count, reference_count, IsOneMoreId, IsOneMoreReference, HasSameUses, HasMissingId, HasSharedId}
+use Rattle.identity_tables.specs.IdTable.{uses_of, bearers_of, references_of, IsOneMoreId, IsOneMoreReference, HasSameUses, HasMissingId, HasSharedId}
 use Rattle.identity_tables.specs.Uses.{missing_weight, shared_weight, is_unused, IsCensus}
 
 abbrev pub HaveCounts : Uses → Type 0
@@ -65,7 +65,7 @@ module _ {S : Type 0} where
         counts_are = rw (writes.0) (All-values-set_value test HaveCounts m.entries w t.counts_are counts);
         references_are = rw (writes.0) (omega arith);
         missing_is = rw (writes.0) (omega arith);
-        shared_is = rw (writes.0) (omega arith)
+        shared_is = rw (writes.0) (omega arith);
       }
 
   -- the same, where the bearers change and the references stay
@@ -105,7 +105,7 @@ module _ {S : Type 0} where
         counts_are = All-values-PutsEntry string_eq HaveCounts m n k w old puts t.counts_are counts;
         references_are = omega arith;
         missing_is = omega arith;
-        shared_is = omega arith
+        shared_is = omega arith;
       }
 
   -- after an id that weighs nothing is taken out
@@ -128,7 +128,7 @@ module _ {S : Type 0} where
         counts_are = All-map-IsPermutation (λ e. e.1) HaveCounts _ _ perm (All-map-remove_entry test (λ e. e.1) HaveCounts m.entries t.counts_are);
         references_are = omega arith;
         missing_is = omega arith;
-        shared_is = omega arith
+        shared_is = omega arith;
       }
 
 -- no more ids are missing than there are references
@@ -148,13 +148,13 @@ pub shared-le : (fewer more : List (ℕ × ℕ)) (bearer : ℕ) (references : �
 shared-le fewer more bearer references counts one_less =
     ⊎_elim
     (λ (two : 1 < length fewer).
-      let some = tally.several nat_eq nat_eq_equiv fewer counts two in
-      let one = one_less some.0 in
-      let other = one_less some.1 in
-      let one_some = some.3 in
-      let other_some = some.4 in
-      let still = tally.two_from_several nat_eq nat_eq_equiv more (some.0, some.1, some.2, omega arith, omega arith) in
-      rw (lt-ltb 1 (length fewer) two, lt-ltb 1 (length more) still) (omega arith))
+    let some = tally.several nat_eq nat_eq_equiv fewer counts two in
+    let one = one_less some.0 in
+    let other = one_less some.1 in
+    let one_some = some.3 in
+    let other_some = some.4 in
+    let still = tally.two_from_several nat_eq nat_eq_equiv more (some.0, some.1, some.2, omega arith, omega arith) in
+    rw (lt-ltb 1 (length fewer) two, lt-ltb 1 (length more) still) (omega arith))
     (λ (few : length fewer ≤ 1). rw (le-ltb 1 (length fewer) few) (omega arith))
     (cases_lt 1 (length fewer))
 
@@ -183,10 +183,10 @@ pub one_bearer : (bearers : List (ℕ × ℕ)) (bearer references : ℕ) → Are
 one_bearer bearers bearer references counts more =
     ⊎_elim
     (λ (two : 1 < length bearers).
-      let some = tally.several nat_eq nat_eq_equiv bearers counts two in
-      let one = one_at bearer some.0 (rw (← more some.0) some.3) in
-      let other = one_at bearer some.1 (rw (← more some.1) some.4) in
-      absurd (eqb-false some.0 some.1 some.2 (sym one ∙ other)))
+    let some = tally.several nat_eq nat_eq_equiv bearers counts two in
+    let one = one_at bearer some.0 (rw (← more some.0) some.3) in
+    let other = one_at bearer some.1 (rw (← more some.1) some.4) in
+    absurd (eqb-false some.0 some.1 some.2 (sym one ∙ other)))
     (λ (few : length bearers ≤ 1). rw (le-ltb 1 (length bearers) few) refl)
     (cases_lt 1 (length bearers))
 
@@ -215,84 +215,84 @@ module _ (old new : List (String Global × Uses)) (id : List ℕ) (before after 
   pub more_id : (bearer : ℕ) → IsOneMore nat_eq (bearers_of before) (bearers_of after) bearer → references_of after ≡ references_of before → IsOneMoreId old new id bearer
   more_id bearer more same = record {
     ids = λ other element.
-      ⊎_elim
-      (λ yes. rw (is_new other yes, same_old other yes, yes) (more element))
-      (λ no. rw (is_old other no, no) (omega arith))
-      (cases_Bool (bytes_eq id other));
+        ⊎_elim
+        (λ yes. rw (is_new other yes, same_old other yes, yes) (more element))
+        (λ no. rw (is_old other no, no) (omega arith))
+        (cases_Bool (bytes_eq id other));
     references = λ other.
-      ⊎_elim
-      (λ yes. rw (is_new other yes, same_old other yes) same)
-      (λ no. rw (is_old other no) refl)
-      (cases_Bool (bytes_eq id other))
+        ⊎_elim
+        (λ yes. rw (is_new other yes, same_old other yes) same)
+        (λ no. rw (is_old other no) refl)
+        (cases_Bool (bytes_eq id other));
   }
 
   pub less_id : (bearer : ℕ) → IsOneMore nat_eq (bearers_of after) (bearers_of before) bearer → references_of after ≡ references_of before → IsOneMoreId new old id bearer
   less_id bearer more same = record {
     ids = λ other element.
-      ⊎_elim
-      (λ yes. rw (is_new other yes, same_old other yes, yes) (more element))
-      (λ no. rw (is_old other no, no) (omega arith))
-      (cases_Bool (bytes_eq id other));
+        ⊎_elim
+        (λ yes. rw (is_new other yes, same_old other yes, yes) (more element))
+        (λ no. rw (is_old other no, no) (omega arith))
+        (cases_Bool (bytes_eq id other));
     references = λ other.
-      ⊎_elim
-      (λ yes. rw (is_new other yes, same_old other yes) (sym same))
-      (λ no. rw (is_old other no) refl)
-      (cases_Bool (bytes_eq id other))
+        ⊎_elim
+        (λ yes. rw (is_new other yes, same_old other yes) (sym same))
+        (λ no. rw (is_old other no) refl)
+        (cases_Bool (bytes_eq id other));
   }
 
   pub more_reference : bearers_of after ≡ bearers_of before → references_of after ≡ references_of before + 1 → IsOneMoreReference old new id
   more_reference same more = record {
     ids = λ other element.
-      ⊎_elim
-      (λ yes. rw (is_new other yes, same_old other yes, same) refl)
-      (λ no. rw (is_old other no) refl)
-      (cases_Bool (bytes_eq id other));
+        ⊎_elim
+        (λ yes. rw (is_new other yes, same_old other yes, same) refl)
+        (λ no. rw (is_old other no) refl)
+        (cases_Bool (bytes_eq id other));
     references = λ other.
-      ⊎_elim
-      (λ yes. rw (is_new other yes, same_old other yes, yes) more)
-      (λ no. rw (is_old other no, no) (omega arith))
-      (cases_Bool (bytes_eq id other))
+        ⊎_elim
+        (λ yes. rw (is_new other yes, same_old other yes, yes) more)
+        (λ no. rw (is_old other no, no) (omega arith))
+        (cases_Bool (bytes_eq id other));
   }
 
   pub less_reference : bearers_of after ≡ bearers_of before → references_of before ≡ references_of after + 1 → IsOneMoreReference new old id
   less_reference same more = record {
     ids = λ other element.
-      ⊎_elim
-      (λ yes. rw (is_new other yes, same_old other yes, same) refl)
-      (λ no. rw (is_old other no) refl)
-      (cases_Bool (bytes_eq id other));
+        ⊎_elim
+        (λ yes. rw (is_new other yes, same_old other yes, same) refl)
+        (λ no. rw (is_old other no) refl)
+        (cases_Bool (bytes_eq id other));
     references = λ other.
-      ⊎_elim
-      (λ yes. rw (is_new other yes, same_old other yes, yes) more)
-      (λ no. rw (is_old other no, no) (omega arith))
-      (cases_Bool (bytes_eq id other))
+        ⊎_elim
+        (λ yes. rw (is_new other yes, same_old other yes, yes) more)
+        (λ no. rw (is_old other no, no) (omega arith))
+        (cases_Bool (bytes_eq id other));
   }
 
   pub same_uses : bearers_of after ≡ bearers_of before → references_of after ≡ references_of before → HasSameUses old new
   same_uses bearers references = record {
     ids = λ other element.
-      ⊎_elim
-      (λ yes. rw (is_new other yes, same_old other yes, bearers) refl)
-      (λ no. rw (is_old other no) refl)
-      (cases_Bool (bytes_eq id other));
+        ⊎_elim
+        (λ yes. rw (is_new other yes, same_old other yes, bearers) refl)
+        (λ no. rw (is_old other no) refl)
+        (cases_Bool (bytes_eq id other));
     references = λ other.
-      ⊎_elim
-      (λ yes. rw (is_new other yes, same_old other yes) references)
-      (λ no. rw (is_old other no) refl)
-      (cases_Bool (bytes_eq id other))
+        ⊎_elim
+        (λ yes. rw (is_new other yes, same_old other yes) references)
+        (λ no. rw (is_old other no) refl)
+        (cases_Bool (bytes_eq id other));
   }
 
 -- the uses stay the same after one less
 pub less_id_then : (old mid new : List (String Global × Uses)) (id : List ℕ) (bearer : ℕ) → IsOneMoreId mid old id bearer → HasSameUses mid new → IsOneMoreId new old id bearer
 less_id_then old mid new id bearer less same = record {
   ids = λ other element. less.ids other element ∙ ap (λ n. n + (if bytes_eq id other && (bearer == element) then 1 else 0)) (sym (same.ids other element));
-  references = λ other. less.references other ∙ sym (same.references other)
+  references = λ other. less.references other ∙ sym (same.references other);
 }
 
 pub less_reference_then : (old mid new : List (String Global × Uses)) (id : List ℕ) → IsOneMoreReference mid old id → HasSameUses mid new → IsOneMoreReference new old id
 less_reference_then old mid new id less same = record {
   ids = λ other element. less.ids other element ∙ sym (same.ids other element);
-  references = λ other. less.references other ∙ ap (λ n. n + (if bytes_eq id other then 1 else 0)) (sym (same.references other))
+  references = λ other. less.references other ∙ ap (λ n. n + (if bytes_eq id other then 1 else 0)) (sym (same.references other));
 }
 
 -- where the weights come to something, one id weighs something
@@ -303,8 +303,8 @@ weighty_place f (e ∷ es) some =
     ⊎_elim
     (λ (one : 0 < f e.1). (0, e.0, e.1, refl, one))
     (λ (none : f e.1 ≤ 0).
-      let found = weighty_place f es (omega arith) in
-      (suc found.0, found.1, found.2, found.3, found.4))
+    let found = weighty_place f es (omega arith) in
+    (suc found.0, found.1, found.2, found.3, found.4))
     (cases_lt 0 (f e.1))
 
 -- counts that are all 0 are of nothing
@@ -328,27 +328,26 @@ module _ (es : List (String Global × Uses)) (r mi sh : ℕ) (t : IsCensus es r 
       let m0 = t.missing_is in
       let place = weighty_place missing_weight es (omega arith) in
       let found : uses_of es (string_bytes place.1) ≡ Some place.2 = lookup_from_place string_eq_equiv es place.0 place.1 place.2 t.distinct place.3 in
-      let both = both_weigh _ _ place.4 in
-      (
+      let both = both_weigh _ _ place.4 in (
         string_bytes place.1,
         rw found (ltb-true 0 place.2.references both.0),
-        λ bearer. rw (found, nil_from_length place.2.bearers (eqb-true _ _ both.1)) refl
+        λ bearer. rw (found, nil_from_length place.2.bearers (eqb-true _ _ both.1)) refl,
       )
 
   pub missing_from : HasMissingId es → 0 < mi
   missing_from some =
       let m0 = t.missing_is in
       let at : (o : Option Uses) → uses_of es some.0 ≡ o → 0 < mi =
-          λ o. elim o as (λ o. uses_of es some.0 ≡ o → 0 < mi) [
-            None ↦ λ e. absurd (let h = rw e at some.1 in omega arith)
-            | Some u ↦ λ e.
-              let counts : AreCounts nat_eq u.bearers = let all = IfSome-lookup_from_All HaveCounts (λ key. bytes_eq some.0 (string_bytes key)) es t.counts_are in rw e at all in
-              let none = no_bearers u.bearers counts (λ bearer. rw e at (some.2 bearer)) in
-              let one : 0 < u.references = rw e at some.1 in
-              let weight : missing_weight u ≡ 1 = rw (lt-ltb 0 u.references one, none) refl in
-              let le = weight-le missing_weight _ es u e in
-              omega arith
-          ] in
+      λ o. elim o as (λ o. uses_of es some.0 ≡ o → 0 < mi) [
+        | None ↦ λ e. absurd (let h = rw e at some.1 in omega arith)
+        | Some u ↦ λ e.
+            let counts : AreCounts nat_eq u.bearers = let all = IfSome-lookup_from_All HaveCounts (λ key. bytes_eq some.0 (string_bytes key)) es t.counts_are in rw e at all in
+            let none = no_bearers u.bearers counts (λ bearer. rw e at (some.2 bearer)) in
+            let one : 0 < u.references = rw e at some.1 in
+            let weight : missing_weight u ≡ 1 = rw (lt-ltb 0 u.references one, none) refl in
+            let le = weight-le missing_weight _ es u e in
+            omega arith
+      ] in
       at (uses_of es some.0) refl
 
   pub has_shared : 0 < sh → HasSharedId es
@@ -365,12 +364,12 @@ module _ (es : List (String Global × Uses)) (r mi sh : ℕ) (t : IsCensus es r 
   shared_from some =
       let m0 = t.shared_is in
       let at : (o : Option Uses) → uses_of es some.0 ≡ o → 0 < sh =
-          λ o. elim o as (λ o. uses_of es some.0 ≡ o → 0 < sh) [
-            None ↦ λ e. absurd (let h = rw e at some.4 in omega arith)
-            | Some u ↦ λ e.
-              let two = tally.two_from_several nat_eq nat_eq_equiv u.bearers (some.1, some.2, ne_eqb some.1 some.2 some.3, rw e at some.4, rw e at some.5) in
-              let weight : shared_weight u ≡ 1 = rw (lt-ltb 1 (length u.bearers) two) refl in
-              let le = weight-le shared_weight _ es u e in
-              omega arith
-          ] in
+      λ o. elim o as (λ o. uses_of es some.0 ≡ o → 0 < sh) [
+        | None ↦ λ e. absurd (let h = rw e at some.4 in omega arith)
+        | Some u ↦ λ e.
+            let two = tally.two_from_several nat_eq nat_eq_equiv u.bearers (some.1, some.2, ne_eqb some.1 some.2 some.3, rw e at some.4, rw e at some.5) in
+            let weight : shared_weight u ≡ 1 = rw (lt-ltb 1 (length u.bearers) two) refl in
+            let le = weight-le shared_weight _ es u e in
+            omega arith
+      ] in
       at (uses_of es some.0) refl

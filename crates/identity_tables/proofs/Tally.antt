@@ -1,11 +1,11 @@
 -- Counts that are kept with their sum, through one change, and what the sum and the length tell of them.
-use Rattle.std.proofs.Common.{◌≡◌, ℕ, ◌+◌, ◌-◌, ◌<◌, ◌≤◌, Bool, true, false, List, [], ◌∷◌, length, refl, sym, ◌∙◌, ap, arith, ◌⊎◌, ⊎_elim, Option, Some, None, suc, zero}
+use Rattle.std.proofs.Common.{◌≡◌, ℕ, ◌+◌, ◌-◌, ◌<◌, ◌≤◌, Bool, true, false, List, [], ◌∷◌, length, refl, sym, ◌∙◌, ap, arith, ⊎_elim, Option, Some, suc}
 use Rattle.std.specs.Cmp.{IsEquivalence}
-use Rattle.std.specs.HashMap.{HashMap, get, get_by, PutsEntry, IsUnique, WritesThrough, values}
-use Rattle.std.specs.List.{All, IsDistinct, slice_get, sum, sum_by}
+use Rattle.std.specs.HashMap.{HashMap, get, get_by, PutsEntry, IsUnique, WritesThrough}
+use Rattle.std.specs.List.{All, slice_get, sum}
 use Rattle.std.specs.List.Sorted.{IsPermutation}
-use Rattle.std.specs.Map.{lookup, keys_of, values_of, remove_entry, set_value}
-use Rattle.std.specs.Option.{unwrap_or, option_map}
+use Rattle.std.specs.Map.{lookup, keys_of, values_of, remove_entry}
+use Rattle.std.specs.Option.{unwrap_or}
 use Rattle.std.proofs.lemmas.List.{nil_from_length}
 use Rattle.std.proofs.lemmas.List.Elements.{All-head, All-tail}
 use Rattle.std.proofs.lemmas.List.Sums.{sum_by-cons}
@@ -29,9 +29,9 @@ module _ {K S : Type 0} (eq : K → K → Bool) where
       record {
         counts_are = record {
           distinct = unique;
-          present = All-values-PutsEntry eq IsPresent m n k (before + 1) old puts t.counts_are.present (omega arith)
+          present = All-values-PutsEntry eq IsPresent m n k (before + 1) old puts t.counts_are.present (omega arith);
         };
-        total_is = omega arith
+        total_is = omega arith;
       }
 
   -- after a `remove` of the last
@@ -44,9 +44,9 @@ module _ {K S : Type 0} (eq : K → K → Bool) where
       record {
         counts_are = record {
           distinct = unique;
-          present = All-map-IsPermutation (λ e. e.1) IsPresent _ _ perm (All-map-remove_entry test (λ e. e.1) IsPresent m.entries t.counts_are.present)
+          present = All-map-IsPermutation (λ e. e.1) IsPresent _ _ perm (All-map-remove_entry test (λ e. e.1) IsPresent m.entries t.counts_are.present);
         };
-        total_is = omega arith
+        total_is = omega arith;
       }
 
   -- after a value is written that is one less
@@ -58,9 +58,9 @@ module _ {K S : Type 0} (eq : K → K → Bool) where
       record {
         counts_are = record {
           distinct = writes.4;
-          present = rw (writes.0) (All-values-set_value test IsPresent m.entries (before - 1) t.counts_are.present (omega arith))
+          present = rw (writes.0) (All-values-set_value test IsPresent m.entries (before - 1) t.counts_are.present (omega arith));
         };
-        total_is = omega arith
+        total_is = omega arith;
       }
 
 module _ {K : Type 0} where
@@ -82,10 +82,10 @@ module _ {K : Type 0} where
       let few = length-le-sum es (All-tail IsPresent e.1 (values_of es) present) in
       let first = All-head IsPresent e.1 (values_of es) present in
       let at : (b : Bool) → test e.0 ≡ b → length (e ∷ es) + unwrap_or (lookup test (e ∷ es)) 0 ≤ sum (values_of (e ∷ es)) + 1 =
-          λ b. elim b as (λ b. test e.0 ≡ b → length (e ∷ es) + unwrap_or (lookup test (e ∷ es)) 0 ≤ sum (values_of (e ∷ es)) + 1) [
-            true ↦ λ h. rw (lookup_head test e es h) (omega arith)
-            | false ↦ λ h. rw (lookup_tail test e es h) (omega arith)
-          ] in
+      λ b. elim b as (λ b. test e.0 ≡ b → length (e ∷ es) + unwrap_or (lookup test (e ∷ es)) 0 ≤ sum (values_of (e ∷ es)) + 1) [
+        | true ↦ λ h. rw (lookup_head test e es h) (omega arith)
+        | false ↦ λ h. rw (lookup_tail test e es h) (omega arith)
+      ] in
       at (test e.0) refl
 
   -- where the counts together are more than the things, one of them is more than 1
@@ -96,8 +96,8 @@ module _ {K : Type 0} where
       let first = All-head IsPresent e.1 (values_of es) present in
       ⊎_elim
       (λ (one : e.1 < 2).
-        let found = repeated_place es (All-tail IsPresent e.1 (values_of es) present) (omega arith) in
-        (suc found.0, found.1, found.2, found.3, found.4))
+      let found = repeated_place es (All-tail IsPresent e.1 (values_of es) present) (omega arith) in
+      (suc found.0, found.1, found.2, found.3, found.4))
       (λ (two : 2 ≤ e.1). (0, e.0, e.1, refl, two))
       (cases_lt e.1 2)
 
@@ -135,13 +135,12 @@ module _ {K : Type 0} where
     several (e ∷ []) t two = absurd (omega arith)
     several (e ∷ f ∷ es) t two =
         let rest = All-tail IsPresent e.1 (f.1 ∷ values_of es) t.present in
-        let found = lookup_from_place laws (e ∷ f ∷ es) 1 f.0 f.1 t.distinct refl in
-        (
+        let found = lookup_from_place laws (e ∷ f ∷ es) 1 f.0 f.1 t.distinct refl in (
           e.0,
           f.0,
           (IsDistinct-head eq e.0 (f.0 ∷ keys_of es) t.distinct).0,
           rw (lookup_head (eq e.0) e (f ∷ es) (laws.refl e.0)) (All-head IsPresent e.1 (f.1 ∷ values_of es) t.present),
-          rw found (All-head IsPresent f.1 (values_of es) rest)
+          rw found (All-head IsPresent f.1 (values_of es) rest),
         )
 
     -- a thing with a count is the one thing that is there

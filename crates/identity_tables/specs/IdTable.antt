@@ -1,12 +1,10 @@
 -- Ids and references to them: Structures 3.15.5.
-use Rattle.std.specs.Prelude.{◌≡◌, ◌≢◌, ℕ, ◌+◌, ◌≤◌, ◌==◌, ◌&&◌, Bool, nat_eq, nat_le, nat_lt, if◌then◌else◌, List, [], length, All, sum_by, string_bytes, bytes_eq, Option, None, Some}
-use Rattle.std.specs.List.{IsDistinct}
-use Rattle.std.specs.Map.{lookup, keys_of, values_of}
+use Rattle.std.specs.Prelude.{◌≡◌, ◌≢◌, ℕ, ◌+◌, ◌≤◌, ◌==◌, ◌&&◌, nat_eq, if◌then◌else◌, List, [], string_bytes, bytes_eq, Option, None, Some}
+use Rattle.std.specs.Map.{lookup}
 use Rattle.std.specs.declared.string.String.{String}
 use Rattle.std.specs.declared.alloc.Global.{Global}
-use Rattle.std.specs.String.{string_eq}
 use Rattle.identity_tables.specs.declared.id_table.Uses.{Uses}
-use Rattle.identity_tables.specs.Counts.{count_of, AreCounts}
+use Rattle.identity_tables.specs.Counts.{count_of}
 
 -- the bearers of an id with their counts, and how often it is referred to
 abbrev pub bearers_of : Option Uses → List (ℕ × ℕ)

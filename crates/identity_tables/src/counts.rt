@@ -8,7 +8,7 @@ use std::marker::Model;
 
 // How often each key was added and not dropped, at most 4,294,967,295 in all.
 #[derive(Drop)]
-pub struct Counts<K: Eq + Hash + Drop> {
+pub(crate) struct Counts<K: Eq + Hash + Drop> {
     counts: HashMap<K, u32>,
     total: u32,
 }
@@ -33,7 +33,7 @@ fn count_in<K: Eq + Hash>(counts: &HashMap<K, u32>, key: &K) -> u32
 
 impl<K: Eq + Hash + Drop> Counts<K> {
     // Nothing.
-    pub fn new(alloc: Global) -> Self
+    pub(crate) fn new(alloc: Global) -> Self
         ensures none { result ≡ [] }
         ensures sound { AreCounts K.eq result }
     {
@@ -44,14 +44,14 @@ impl<K: Eq + Hash + Drop> Counts<K> {
     }
 
     // The count of a key.
-    pub fn count(&self, key: &K) -> u32
+    pub(crate) fn count(&self, key: &K) -> u32
         ensures { result ≡ count_of K.eq self.now key.now }
     {
         count_in(&self.counts, key)
     }
 
     // Adds a key once more.
-    pub fn add(&mut self, key: K) -> Result<(), AllocError>
+    pub(crate) fn add(&mut self, key: K) -> Result<(), AllocError>
         ensures ok { OnOk result (IsOneMore K.eq self.old self.new key) }
         ensures err { OnErr result (self.new ≡ self.old) }
         ensures sound { OnOk result (AreCounts K.eq self.new) }
@@ -66,7 +66,7 @@ impl<K: Eq + Hash + Drop> Counts<K> {
     }
 
     // Drops a key once. It takes no memory.
-    pub fn drop_one(&mut self, key: &K)
+    pub(crate) fn drop_one(&mut self, key: &K)
         requires { 1 ≤ count_of K.eq self.old key.now }
         ensures one_less { IsOneMore K.eq self.new self.old key.now }
         ensures sound { AreCounts K.eq self.new }
@@ -80,7 +80,7 @@ impl<K: Eq + Hash + Drop> Counts<K> {
     }
 
     // Whether no key is there.
-    pub fn is_empty(&self) -> bool
+    pub(crate) fn is_empty(&self) -> bool
         ensures none { result ≡ (length self.now == 0) }
         ensures some { result ≡ false → (key : K) × (1 ≤ count_of K.eq self.now key) }
     {
@@ -88,14 +88,14 @@ impl<K: Eq + Hash + Drop> Counts<K> {
     }
 
     // Whether some key is there more than once.
-    pub fn has_repeated(&self) -> bool
+    pub(crate) fn has_repeated(&self) -> bool
         ensures { IsTrue result ↔ HasRepeated K.eq self.now }
     {
         self.counts.len() < self.total as usize
     }
 
     // Whether two different keys are there.
-    pub fn has_several(&self) -> bool
+    pub(crate) fn has_several(&self) -> bool
         ensures several { IsTrue result ↔ HasSeveral K.eq self.now }
         ensures length { result ≡ nat_lt 1 (length self.now) }
     {

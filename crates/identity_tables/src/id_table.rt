@@ -169,6 +169,26 @@ impl IdTable {
         self.forget_unused(id);
     }
 
+    /// How often the id was added for the element and not dropped.
+    pub fn id_count(&self, id: &str, bearer: u32) -> u32
+        ensures { result ≡ id_count self.now id.now bearer }
+    {
+        match self.ids.get(id) {
+            None => 0,
+            Some(uses) => uses.bearers.count(&bearer),
+        }
+    }
+
+    /// How often a reference to the id was added and not dropped.
+    pub fn reference_count(&self, id: &str) -> u32
+        ensures { result ≡ reference_count self.now id.now }
+    {
+        match self.ids.get(id) {
+            None => 0,
+            Some(uses) => uses.references,
+        }
+    }
+
     /// Whether some reference has no id (cvc-id.1), and whether some id has two different bearers (cvc-id.2).
     pub fn codes(&self) -> (bool, bool)
         ensures missing { IsTrue result.0 ↔ HasMissingId self.now }

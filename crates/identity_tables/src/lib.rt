@@ -3,5 +3,9 @@
 
 mod counts;
 mod id_table;
+mod key_tables;
+mod tuple;
 
-pub use counts::Counts;
+pub use id_table::IdTable;
+pub use key_tables::KeyTables;
+pub use tuple::Tuple;

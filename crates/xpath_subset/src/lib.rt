@@ -1,13 +1,6 @@
-// A library with one function.
+//! The paths of identity constraints: reading a selector or a field, and which nodes a path reaches.
 #![tactic(auto)]
 
-ghost use Rattle.std.specs.Prelude.{◌≡◌};
-ghost use Rattle.xpath_subset.specs.Echo.{echo_of};
+mod path;
 
-// The `ensures` clause is the contract: what `echo` returns is `echo_of` of its argument, a definition
-// in `specs/Echo.antt`, which a caller's clause can cite too.
-pub fn echo(x: usize) -> usize
-    ensures { result ≡ echo_of x }
-{
-    x
-}
+pub use path::{NameTest, Path, Paths, Step};

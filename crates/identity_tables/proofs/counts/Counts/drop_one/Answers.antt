@@ -1,4 +1,4 @@
-use Rattle.std.proofs.Common.{◌≡◌, ◌-◌, ◌≤◌, sym, ◌∙◌, ap, unwrap_or, arith}
+use Rattle.std.proofs.Common.{◌-◌, ◌≤◌, sym, ◌∙◌, ap, unwrap_or, arith}
 use Rattle.identity_tables.proofs.Tally.{tallied_without, tallied_less}
 use Rattle.identity_tables.proofs.counts.Counts.drop_one.Goals as goal
 

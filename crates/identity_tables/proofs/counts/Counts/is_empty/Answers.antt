@@ -1,4 +1,4 @@
-use Rattle.std.proofs.Common.{◌≤◌, arith, rules}
+use Rattle.std.proofs.Common.{arith}
 use Rattle.identity_tables.proofs.Tally.{something}
 use Rattle.identity_tables.proofs.counts.Counts.is_empty.Goals as goal
 

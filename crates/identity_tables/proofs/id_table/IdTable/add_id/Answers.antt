@@ -1,12 +1,11 @@
-use Rattle.std.proofs.Common.{◌≡◌, ◌≤◌, ◌-◌, ◌+◌, sym, ◌∙◌, ap, refl, rules, arith, Fits, w32, Some, None}
+use Rattle.std.proofs.Common.{sym, ◌∙◌, ap, refl, rules, arith, Some, None}
 use Rattle.std.specs.Map.{set_value}
 use Rattle.std.proofs.lemmas.Map.Steps.{set_value_same}
 use Rattle.std.proofs.lemmas.Map.Text.{hash_map_updates_text}
 use Rattle.std.specs.Str.{bytes_eq}
-use Rattle.std.specs.String.{string_bytes, string_eq}
+use Rattle.std.specs.String.{string_bytes}
 use Rattle.std.specs.declared.string.String.{String}
 use Rattle.std.specs.declared.alloc.Global.{Global}
-use Rattle.std.specs.HashMap.{get}
 use Rattle.identity_tables.specs.declared.id_table.Uses.{Uses}
 use Rattle.identity_tables.proofs.Census.{census_bearers, census_added, missing-le-all, more_id, no_reference, one_bearer, absent_key}
 use Rattle.identity_tables.proofs.id_table.IdTable.add_id.Goals as goal

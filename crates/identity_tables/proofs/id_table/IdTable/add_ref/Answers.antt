@@ -1,13 +1,8 @@
-use Rattle.std.proofs.Common.{◌≡◌, ◌≤◌, ◌-◌, ◌+◌, sym, ◌∙◌, ap, refl, rules, arith, Fits, w32, Some, None, nat_eq}
+use Rattle.std.proofs.Common.{◌+◌, sym, ◌∙◌, ap, refl, arith, Some, None}
 use Rattle.std.specs.Str.{bytes_eq}
-use Rattle.std.specs.String.{string_bytes, string_eq}
-use Rattle.std.specs.declared.string.String.{String}
-use Rattle.std.specs.declared.alloc.Global.{Global}
-use Rattle.std.specs.HashMap.{get}
+use Rattle.std.specs.String.{string_bytes}
 use Rattle.std.proofs.lemmas.Map.Text.{hash_map_updates_text}
 use Rattle.identity_tables.specs.declared.id_table.Uses.{Uses}
-use Rattle.identity_tables.specs.Counts.{count_of}
-use Rattle.identity_tables.specs.IdTable.{bearers_of, references_of}
 use Rattle.identity_tables.proofs.Census.{census_references, census_added, missing-le-all, weight-le, references_weight, more_reference, absent_key, no_counts, lone_reference}
 use Rattle.identity_tables.proofs.id_table.IdTable.add_ref.Goals as goal
 

@@ -1,13 +1,10 @@
-use Rattle.std.proofs.Common.{◌≡◌, ◌≤◌, ◌-◌, ◌+◌, sym, ◌∙◌, ap, refl, rules, arith, Fits, w32, Some, None, nat_eq}
+use Rattle.std.proofs.Common.{sym, ap, refl, arith, Some, nat_eq}
 use Rattle.std.specs.Str.{bytes_eq}
-use Rattle.std.specs.String.{string_bytes, string_eq}
-use Rattle.std.specs.declared.string.String.{String}
-use Rattle.std.specs.declared.alloc.Global.{Global}
-use Rattle.std.specs.HashMap.{get}
+use Rattle.std.specs.String.{string_bytes}
 use Rattle.std.proofs.lemmas.Map.Text.{hash_map_updates_text}
 use Rattle.identity_tables.specs.declared.id_table.Uses.{Uses}
 use Rattle.identity_tables.specs.Counts.{count_of}
-use Rattle.identity_tables.specs.IdTable.{bearers_of, references_of}
+use Rattle.identity_tables.specs.IdTable.{bearers_of}
 use Rattle.identity_tables.proofs.Census.{census_bearers, missing-le-all, shared-le, less_id, less_id_then}
 use Rattle.identity_tables.proofs.id_table.IdTable.drop_id.Goals as goal
 
