@@ -1,4 +1,3 @@
-pub mod FoldLaws
 pub mod Folded
 pub mod Holding
 pub mod Tested
