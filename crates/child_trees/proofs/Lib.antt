@@ -3,6 +3,7 @@ pub mod Along
 pub mod Building
 pub mod Celled
 pub mod Chains
+pub mod Counting
 pub mod Digits
 pub mod Keeping
 pub mod Reading

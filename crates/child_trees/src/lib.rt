@@ -2,7 +2,7 @@
 #![tactic(auto)]
 
 pub use crate::leaf::{ItemId, Leaf, SeqId};
-pub use crate::seqs::Seqs;
+pub use crate::seqs::{Seqs, Slots};
 pub use crate::summary::Summary;
 
 mod cells;

@@ -3,7 +3,7 @@
 ghost use Rattle.std.specs.Prelude.{◌≡◌, ℕ, ◌+◌, ◌*◌, ◌^◌, ◌<◌, ◌≤◌, Bool, List, [], length, map, filter, take, drop, insert, remove, slice_get, slice_set, Option, Some, None, All, MatchOption, IfOk, OnErr, vec_len};
 ghost use Rattle.std.specs.Option.{ForSome};
 ghost use Rattle.child_trees.specs.Bits.{bits};
-ghost use Rattle.child_trees.specs.Lists.{Entry, get, IsLive, IsUpTo, Updates, IsAt, HasItem, LiesOnce, entry, AreEntries, AreNew, items, acts_along, IsFirstDead, NoneIsDead};
+ghost use Rattle.child_trees.specs.Lists.{Entry, get, IsLive, IsUpTo, Updates, IsAt, HasItem, LiesOnce, entry, AreEntries, AreNew, items, acts_along, IsFirstDead, NoneIsDead, slots_used};
 
 use crate::cells::Cells;
 use crate::edits::{build_tree, insert_leaf, plant, remove_leaf, reserve, write_leaf};
@@ -16,6 +16,15 @@ use leaf_trees::Trees;
 use std::alloc::{AllocError, Global};
 use std::marker::Model;
 use xsv_steps::{Ledger, Steps};
+
+/// Slots, which hold the leaves of lists and the forks of their trees.
+#[derive(Clone, Copy, Debug, PartialEq, Eq)]
+pub struct Slots {
+    /// How many there are. The number of every item is below it.
+    pub count: usize,
+    /// How many hold nothing. A list of `n` leaves takes `2 * n - 1` slots, an empty one none.
+    pub free: usize,
+}
 
 /// Many lists of leaves, each seen under its number as its leaves with the maps that their sources gave their letters.
 ///
@@ -35,11 +44,11 @@ impl<M: Summary> Model for Seqs<M> {
     ghost Value = { Lists M.Shape M.Map };
 
     ghost use Rattle.child_trees.specs.Cells.{map_at};
-    ghost use Rattle.child_trees.specs.Kept.{lists_of, AreKept};
+    ghost use Rattle.child_trees.specs.Kept.{lists_of, IsSound};
 
     ghost view = { λ s. record { shape = s.cells.shape; lists = lists_of (map_at M.unit s.cells) s.trees.nodes s.tops } };
 
-    ghost invariant = { λ s. AreKept M.unit M.join s.cells s.trees.nodes s.tops };
+    ghost invariant = { λ s. IsSound M.unit M.join s.cells s.trees.nodes s.trees.spare s.tops };
 }
 
 impl<M: Summary> Seqs<M> {
@@ -176,13 +185,7 @@ impl<M: Summary> Seqs<M> {
         ensures steps { (q p : ℕ) (xs : List (Entry M.Map)) → IsAt self.old item q p xs → steps.new ≤ steps.old + 16 * (bits (length xs + 1) + 1) }
     {
         let at = find(&self.trees, &self.tops, item.number);
-        let rest = remove_leaf(
-            &mut self.trees,
-            &mut self.cells,
-            at.top,
-            at.place,
-            steps,
-        );
+        let rest = remove_leaf(&mut self.trees, &mut self.cells, at.top, at.place, steps);
         self.tops.set(at.list, rest);
     }
 
@@ -224,6 +227,18 @@ impl<M: Summary> Seqs<M> {
         self.tops.give(seq.number);
         if let Some(top) = top {
             self.trees.drop_tree(top);
+        }
+    }
+
+    /// How many slots there are, and how many of them are free. Slots that leaves gave back are taken again before new ones are
+    /// made.
+    pub fn slots(&self) -> Slots
+        ensures items { (i : ℕ) → HasItem self.now i → i < result.count }
+        ensures used { result.count ≡ result.free + slots_used self.now }
+    {
+        Slots {
+            count: self.trees.nodes().len(),
+            free: self.trees.spare() as usize,
         }
     }
 
@@ -387,15 +402,7 @@ impl<M: Summary> Seqs<M> {
     {
         match self.tops.top(seq.number) {
             None => state,
-            Some(top) => run_between(
-                &self.cells,
-                self.trees.nodes(),
-                top,
-                from,
-                to,
-                state,
-                steps,
-            ),
+            Some(top) => run_between(&self.cells, self.trees.nodes(), top, from, to, state, steps),
         }
     }
 }

@@ -41,7 +41,9 @@ pub fn run_between<M: Summary, L: Ledger>(
     let from_right = from.saturating_sub(before);
     let end_right = end.saturating_sub(before);
     let middle = run_between(cells, nodes, node.left, from, end, state, steps);
-    run_between(cells, nodes, node.right, from_right, end_right, middle, steps)
+    run_between(
+        cells, nodes, node.right, from_right, end_right, middle, steps,
+    )
 }
 
 /// The first place of the tree below `top` through which the leaves lead to a dead state, where all of them do.

@@ -18,7 +18,7 @@ run_between-requires-clause-tree g c =
     let M = g.M.Summary in let s = c.self.inside in let v = s.cells in let ns = s.trees.nodes in let n = c.seq.inside.number in
     let r = rw (← c.self.view_is, ← c.seq.view_is) at c.requires.live in
     let top_is = c.top.ensures ∙ ap Some c.in-Some.is in
-    let R = rooted M.unit M.join v ns s.tops c.self.invariant n c.in-Some.top r.0 top_is r.1 in
+    let R = rooted M.unit M.join v ns s.tops c.self.invariant.lists n c.in-Some.top r.0 top_is r.1 in
     rw c.nodes.ensures (R.tree, kept_sums M.unit M.join v ns n c.in-Some.top R.tree R.kept)
 
 pub run_between-requires-clause-state : goal.run_between-requires-clause-state
@@ -36,7 +36,7 @@ pub returns-in-Some-clause-value : goal.returns-in-Some-clause-value
 returns-in-Some-clause-value g c = rw (← c.self.view_is, ← c.seq.view_is) (λ xs e.
     let M = g.M.Summary in let s = c.self.inside in let v = s.cells in let ns = s.trees.nodes in let n = c.seq.inside.number in
     let top_is = c.top.ensures ∙ ap Some c.in-Some.is in
-    let R = rooted M.unit M.join v ns s.tops c.self.invariant n c.in-Some.top xs top_is e in
+    let R = rooted M.unit M.join v ns s.tops c.self.invariant.lists n c.in-Some.top xs top_is e in
     let h = subst (λ ks. HasSums M.unit M.join v ks c.in-Some.top R.tree) (sym c.nodes.ensures) (kept_sums M.unit M.join v ns n c.in-Some.top R.tree R.kept) in
     c.run_between.ensures.value R.tree h ∙ ap (λ ys. acts_along M.acts c.args.state (drop c.args.from (take c.args.to ys))) R.entries_are)
 
@@ -47,7 +47,7 @@ pub returns-in-Some-clause-steps : goal.returns-in-Some-clause-steps
 returns-in-Some-clause-steps g c = rw (← c.self.view_is, ← c.seq.view_is) (λ xs e.
     let M = g.M.Summary in let s = c.self.inside in let v = s.cells in let ns = s.trees.nodes in let n = c.seq.inside.number in
     let top_is = c.top.ensures ∙ ap Some c.in-Some.is in
-    let R = rooted M.unit M.join v ns s.tops c.self.invariant n c.in-Some.top xs top_is e in
+    let R = rooted M.unit M.join v ns s.tops c.self.invariant.lists n c.in-Some.top xs top_is e in
     let h = subst (λ ks. HasSums M.unit M.join v ks c.in-Some.top R.tree) (sym c.nodes.ensures) (kept_sums M.unit M.join v ns n c.in-Some.top R.tree R.kept) in
     let few = walk_bound R.tree (length xs) R.kept.tree.avl R.size_is in
     let all = (c.run_between.ensures.steps R.tree h).all in
@@ -62,5 +62,5 @@ pub returns-in-Some-clause-few : goal.returns-in-Some-clause-few
 returns-in-Some-clause-few g c = rw (← c.self.view_is, ← c.seq.view_is) (λ xs e.
     let M = g.M.Summary in let s = c.self.inside in let v = s.cells in let ns = s.trees.nodes in let n = c.seq.inside.number in
     let top_is = c.top.ensures ∙ ap Some c.in-Some.is in
-    let R = rooted M.unit M.join v ns s.tops c.self.invariant n c.in-Some.top xs top_is e in
+    let R = rooted M.unit M.join v ns s.tops c.self.invariant.lists n c.in-Some.top xs top_is e in
     omega (arith, R.size_is, R.kept.tree.has.few))
