@@ -33,8 +33,8 @@ impl SeqId {
 
 /// The number of a leaf, which stays the leaf's for as long as it lies in its list. Contracts see the number.
 ///
-/// It serves as an index: it is below the count of slots that `Seqs::slots` tells, which is at most twice the most leaves
-/// that ever lay in lists at once. A number whose leaf went may be given to a later leaf.
+/// It serves as an index: it is below the count of slots that `Seqs::slots` tells, and of these all but the free ones are taken,
+/// `2 * n - 1` by a list of `n` leaves. A number whose leaf went may be given to a later leaf.
 #[derive(Clone, Copy, Debug, PartialEq, Eq)]
 pub struct ItemId {
     pub(crate) number: u32,

@@ -4,7 +4,7 @@ ghost use Rattle.std.specs.Prelude.{◌≡◌, ℕ, true, Some, None, slice_inde
 ghost use Rattle.child_trees.specs.Lists.{IsLive, IsUpTo, HasItem};
 
 use crate::folds::{Fold, Keeper};
-use child_trees::{ItemId, Leaf, SeqId, Seqs};
+use child_trees::{ItemId, Leaf, SeqId, Seqs, Slots};
 use std::alloc::{AllocError, Global};
 use std::marker::Model;
 use xsv_steps::{Ledger, Steps};
@@ -120,6 +120,15 @@ impl<F: Fold> Held<F> {
         ensures { (i : ℕ) → result ≡ Some i → HasItem self.now i }
     {
         self.seqs.at(in_slot(&self.slots, slot)?, place)
+    }
+
+    pub fn slots(&self) -> Slots {
+        self.seqs.slots()
+    }
+
+    /// The number of the list in a slot.
+    pub fn number(&self, slot: usize) -> Option<u32> {
+        Some(in_slot(&self.slots, slot)?.number())
     }
 
     /// What `place_of` says of the item at a place.

@@ -2,7 +2,7 @@ use crate::both::Both;
 use crate::calls::{Call, Random};
 use crate::folds::{Digest, FiveStates, Fold};
 use crate::held::Held;
-use child_trees::Leaf;
+use child_trees::{Leaf, Slots};
 use std::alloc::AllocError;
 use std::process::Abort;
 use std::test::Fail;
@@ -71,6 +71,26 @@ fn five_states(rt: HostRuntime) -> Result<(), Fail> {
     assert_eq!(rt; held.descend(0, 2, &mut steps), Some(1));
     assert_eq!(rt; held.prefix(0, 1, 2, &mut steps), Some(3));
     assert_eq!(rt; held.from(0, 1, 1, &mut steps), Some(2));
+    Ok(())
+}
+
+#[test]
+fn slots_that_were_given_back_serve_again(rt: HostRuntime) -> Result<(), Fail> {
+    let mut held: Held<Digest> = Held::new(rt.alloc(), 1)?;
+    let mut steps = Steps::new(Silent);
+    let leaves = [UNIT; 4];
+    for _ in 0..3u32 {
+        held.build(0, Vec::from_slice(rt.alloc(), &leaves)?, 0, &mut steps)?;
+        held.remove(0, 1, &mut steps);
+        held.insert(0, 2, leaf(5, true, true), 0, &mut steps)?;
+        // Four leaves and three forks.
+        assert_eq!(rt; held.slots(), Slots { count: 8, free: 1 });
+        assert_eq!(rt; held.number(0), Some(0));
+        let item = held.at(0, 3).ok_or("no last leaf")?;
+        assert!(rt; (item.number() as usize) < held.slots().count);
+        held.close(0);
+        assert_eq!(rt; held.slots(), Slots { count: 8, free: 8 });
+    }
     Ok(())
 }
 

@@ -54,6 +54,7 @@ fn frees(rt: HostRuntime) -> Result<(), Fail> {
     let top = trees.build(3, &[PLAIN, MARKED, ELEMENT, PLAIN]);
     assert_eq!(rt; trees.nodes()[top as usize].counts.elements, 2);
     trees.drop_tree(top);
+    assert_eq!(rt; trees.spare(), 7);
     trees.reserve(7)?;
     assert_eq!(rt; trees.nodes().len(), 7);
     Ok(())
