@@ -17,7 +17,10 @@ impl Draw {
         requires { 0 < limit }
         ensures { result < limit }
     {
-        self.state = self.state.wrapping_mul(6364136223846793005).wrapping_add(1442695040888963407);
+        self.state = self
+            .state
+            .wrapping_mul(6364136223846793005)
+            .wrapping_add(1442695040888963407);
         (self.state >> 33) as u32 % limit
     }
 }
