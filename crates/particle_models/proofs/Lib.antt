@@ -1,0 +1,6 @@
+pub mod Unrolling
+pub mod Living
+pub mod Placing
+pub mod Ranging
+pub mod Reaching
+pub mod Marked

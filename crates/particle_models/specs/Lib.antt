@@ -1,0 +1,6 @@
+pub mod Particles
+pub mod Words
+pub mod Unrolled
+pub mod Numbered
+pub mod Reach
+pub mod Model
