@@ -1,0 +1,5 @@
+pub mod Table
+pub mod Lends
+pub mod Tables
+pub mod Changes
+pub mod Terms

@@ -1,0 +1,6 @@
+//! Namespace constraints of wildcards, as sets of namespaces.
+#![tactic(auto)]
+
+mod constraint;
+
+pub use constraint::{NsConstraint, NsIdList};
