@@ -4,3 +4,5 @@ pub mod Placing
 pub mod Ranging
 pub mod Reaching
 pub mod Marked
+pub mod Growing
+pub mod Shared

@@ -4,3 +4,5 @@ pub mod Unrolled
 pub mod Numbered
 pub mod Reach
 pub mod Model
+pub mod Nodes
+pub mod Sharing

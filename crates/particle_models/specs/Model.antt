@@ -2,16 +2,15 @@
 use Rattle.std.specs.Prelude.{◌≡◌, ℕ, Bool, IsTrue, List, [], map, slice_index, slice_index_or}
 use Rattle.xs_positions.specs.Positions.{Table, ArePositionsOf}
 use Rattle.particle_models.specs.Particles.{Particle, Place}
-use Rattle.particle_models.specs.Unrolled.{places, unrolled, HasNoAll}
+use Rattle.particle_models.specs.Unrolled.{places, unrolled}
 
 -- the numbers of the terms that have copies, in order; and the positions, whose symbols are places in that list
 pub record UnrolledModel : Type 0 where
   pub terms : List ℕ
   pub table : Table
 
--- These are the terms and the positions of a model that is no all. A term is inhabited where it accepts some name.
+-- These are the terms and the positions of a model without an all. A term is inhabited where it accepts some name.
 pub record IsUnrolled (inhabited : ℕ → Bool) (model : Particle) (u : UnrolledModel) : Type 0 where
-  pub no_all : HasNoAll model
   pub terms : u.terms ≡ map (λ (place : Place). place.number) (places model [])
   pub positions : ArePositionsOf (unrolled inhabited model 0) u.table
 
