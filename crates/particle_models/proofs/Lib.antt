@@ -6,3 +6,7 @@ pub mod Reaching
 pub mod Marked
 pub mod Growing
 pub mod Shared
+pub mod Flags
+pub mod Walking
+pub mod Entering
+pub mod Alike

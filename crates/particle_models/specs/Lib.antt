@@ -6,3 +6,4 @@ pub mod Reach
 pub mod Model
 pub mod Nodes
 pub mod Sharing
+pub mod Numbering
