@@ -10,3 +10,5 @@ pub mod Flags
 pub mod Walking
 pub mod Entering
 pub mod Alike
+pub mod Rooting
+pub mod Outcome
