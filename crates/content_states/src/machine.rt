@@ -16,10 +16,10 @@ use crate::ends::{ends_of, has_word};
 use crate::states::find_states;
 use crate::stop::Stop;
 use crate::terms::{terms_of, two_terms_of_one};
+use particle_models::Unrolled;
 use std::alloc::Global;
 use std::marker::Model;
 use xs_lists::Listed;
-use xs_positions::Positions;
 
 /// The states of a model, the steps between them by symbols, and the terms that names end in.
 #[derive(Debug, Drop)]
@@ -51,38 +51,38 @@ impl Machine {
     /// `TooManyStates` where there are more than 2,048 states, `Memory` when memory runs out.
     pub fn build(
         alloc: Global,
-        positions: &Positions,
+        form: &Unrolled,
         accepted: &[Listed<u32>],
         symbols: u32,
     ) -> Result<Machine, Stop>
-        requires positions { (tree : Tree) × ArePositionsOf tree positions.now }
+        requires positions { (tree : Tree) × ArePositionsOf tree form.now.table }
         requires rises { All IsStrictlyIncreasing accepted.now }
         requires below { All (All (λ n. n < symbols)) accepted.now }
         ensures symbols { IfOk result (λ a. a.symbols ≡ symbols) }
-        ensures language { IfOk result (λ a. (tree : Tree) → ArePositionsOf tree positions.now → Speaks tree positions.now accepted.now a) }
-        ensures count { IfOk result (λ a. (tree : Tree) → ArePositionsOf tree positions.now → IsStateCount tree positions.now accepted.now symbols a.count) }
+        ensures language { IfOk result (λ a. (tree : Tree) → ArePositionsOf tree form.now.table → Speaks tree form.now.table accepted.now a) }
+        ensures count { IfOk result (λ a. (tree : Tree) → ArePositionsOf tree form.now.table → IsStateCount tree form.now.table accepted.now symbols a.count) }
         ensures few { IfOk result (λ a. a.count ≤ 2048) }
-        ensures too_many { IfErr result (λ stop. WhereTooMany stop ((tree : Tree) → ArePositionsOf tree positions.now → (count : ℕ) → IsStateCount tree positions.now accepted.now symbols count → 2048 < count)) }
-        ensures terms { IfOk result (λ a. (tree : Tree) → ArePositionsOf tree positions.now → AreReachedApart tree positions.now accepted.now symbols →
-            (names : List ℕ) → All (λ n. n < symbols) names → (p : ℕ) → Reach (Accepts positions.now accepted.now) (IsWord tree 0) names p →
-            term_of a (run a 0 names) ≡ Some (symbol_at positions.now p)) }
-        ensures pair { IfOk result (λ a. (tree : Tree) → ArePositionsOf tree positions.now → MatchOption a.pair
-            (AreReachedApart tree positions.now accepted.now symbols)
-            (λ pair. AreReachedTogether tree positions.now accepted.now symbols pair.0 pair.1)) }
+        ensures too_many { IfErr result (λ stop. WhereTooMany stop ((tree : Tree) → ArePositionsOf tree form.now.table → (count : ℕ) → IsStateCount tree form.now.table accepted.now symbols count → 2048 < count)) }
+        ensures terms { IfOk result (λ a. (tree : Tree) → ArePositionsOf tree form.now.table → AreReachedApart tree form.now.table accepted.now symbols →
+            (names : List ℕ) → All (λ n. n < symbols) names → (p : ℕ) → Reach (Accepts form.now.table accepted.now) (IsWord tree 0) names p →
+            term_of a (run a 0 names) ≡ Some (symbol_at form.now.table p)) }
+        ensures pair { IfOk result (λ a. (tree : Tree) → ArePositionsOf tree form.now.table → MatchOption a.pair
+            (AreReachedApart tree form.now.table accepted.now symbols)
+            (λ pair. AreReachedTogether tree form.now.table accepted.now symbols pair.0 pair.1)) }
     {
-        let found = match find_states(alloc, positions, accepted, symbols) {
+        let found = match find_states(alloc, form, accepted, symbols) {
             Ok(found) => found,
             Err(stop) => return Err(stop),
         };
         let states = found.states.as_slice();
-        let ends = ends_of(alloc, positions, states)?;
-        let terms = terms_of(alloc, positions, states)?;
-        let pair = two_terms_of_one(positions, states);
+        let ends = ends_of(alloc, form, states)?;
+        let terms = terms_of(alloc, form, states)?;
+        let pair = two_terms_of_one(form, states);
         Ok(Machine {
             cells: found.cells,
             symbols,
             ends,
-            lives: has_word(positions),
+            lives: has_word(form),
             terms,
             pair,
         })

@@ -1,30 +1,30 @@
-//! Sets of positions, as rising lists.
+//! Sets of form, as rising lists.
 
 ghost use Rattle.std.specs.Prelude.{◌≡◌, ℕ, ◌<◌, ◌↔◌, [], map, length, filter, slice_index_or, All, Contains, IfOk, OnOk};
 ghost use Rattle.std.specs.List.Sorted.{IsStrictlyIncreasing};
 ghost use Rattle.content_states.specs.Moves.{takes, Comes, ArePut};
 
+use particle_models::Unrolled;
 use std::alloc::{AllocError, Global};
 use xs_lists::Listed;
-use xs_positions::Positions;
 
 /// The positions that come next after those of a set, and at the start those that come first.
 pub(crate) fn coming(
     alloc: Global,
-    positions: &Positions,
+    form: &Unrolled,
     set: &[u32],
     starts: bool,
 ) -> Result<Vec<u32>, AllocError>
-    requires { All (λ p. p < length positions.now.symbols) set.now }
-    ensures members { IfOk result (λ next. (q : ℕ) → Contains next.items q ↔ Comes positions.now starts set.now q) }
+    requires { All (λ p. p < length form.now.table.symbols) set.now }
+    ensures members { IfOk result (λ next. (q : ℕ) → Contains next.items q ↔ Comes form.now.table starts set.now q) }
     ensures rises { IfOk result (λ next. IsStrictlyIncreasing next.items) }
 {
     let mut next = Vec::new(alloc);
     if starts {
-        next.extend_from_slice(positions.first())?;
+        next.extend_from_slice(form.first())?;
     }
     for p in set {
-        next.extend_from_slice(positions.follow(*p))?;
+        next.extend_from_slice(form.follow(*p))?;
     }
     sort_unique(&mut next);
     Ok(next)
@@ -42,15 +42,15 @@ fn sort_unique(set: &mut Vec<u32>)
 /// For each symbol the positions of the set whose terms accept it.
 pub(crate) fn by_symbol(
     alloc: Global,
-    positions: &Positions,
+    form: &Unrolled,
     accepted: &[Listed<u32>],
     symbols: u32,
     set: &[u32],
 ) -> Result<Vec<Vec<u32>>, AllocError>
-    requires set { All (λ p. p < length positions.now.symbols) set.now }
+    requires set { All (λ p. p < length form.now.table.symbols) set.now }
     requires rises { All IsStrictlyIncreasing accepted.now }
     requires below { All (All (λ n. n < symbols)) accepted.now }
-    ensures sets { IfOk result (λ sets. (n : ℕ) → n < symbols → slice_index_or (map (λ set. set.items) sets.items) n [] ≡ filter (λ p. takes positions.now accepted.now p n) set.now) }
+    ensures sets { IfOk result (λ sets. (n : ℕ) → n < symbols → slice_index_or (map (λ set. set.items) sets.items) n [] ≡ filter (λ p. takes form.now.table accepted.now p n) set.now) }
     ensures count { IfOk result (λ sets. length sets.items ≡ symbols) }
 {
     let mut sets = Vec::new(alloc);
@@ -58,7 +58,7 @@ pub(crate) fn by_symbol(
         sets.push(Vec::new(alloc))?;
     }
     for p in set {
-        if let Some(row) = accepted.get(positions.symbol_of(*p) as usize) {
+        if let Some(row) = accepted.get(form.term_of(*p) as usize) {
             put_at(&mut sets, row.as_slice(), *p)?;
         }
     }

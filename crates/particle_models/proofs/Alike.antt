@@ -55,10 +55,18 @@ repeat_alike : (s u : Tree) (least : ℕ) (most : Option ℕ) → AreAlike s u �
 repeat_alike s u least most x = record {
   sizes = ap (λ k. copies least most * k) x.sizes;
   words = λ b w. (
-    (λ h. (h.0, h.1, rounds_alike (λ j v. IsWord s (place b (copies least most) (size s) j) v) (λ j v. IsWord u (place b (copies least most) (size u) j) v)
-        (λ j v y. subst (λ (k : ℕ). IsWord u (place b (copies least most) k j) v) x.sizes ((x.words (place b (copies least most) (size s) j) v).0 y)) h.0 0 w h.2)),
-    (λ h. (h.0, h.1, rounds_alike (λ j v. IsWord u (place b (copies least most) (size u) j) v) (λ j v. IsWord s (place b (copies least most) (size s) j) v)
-        (λ j v y. subst (λ (k : ℕ). IsWord s (place b (copies least most) k j) v) (sym x.sizes) ((x.words (place b (copies least most) (size u) j) v).1 y)) h.0 0 w h.2)),
+    (λ h. (
+      h.0,
+      h.1,
+      rounds_alike (λ j v. IsWord s (place b (copies least most) (size s) j) v) (λ j v. IsWord u (place b (copies least most) (size u) j) v)
+          (λ j v y. subst (λ (k : ℕ). IsWord u (place b (copies least most) k j) v) x.sizes ((x.words (place b (copies least most) (size s) j) v).0 y)) h.0 0 w h.2,
+    )),
+    (λ h. (
+      h.0,
+      h.1,
+      rounds_alike (λ j v. IsWord u (place b (copies least most) (size u) j) v) (λ j v. IsWord s (place b (copies least most) (size s) j) v)
+          (λ j v y. subst (λ (k : ℕ). IsWord s (place b (copies least most) k j) v) (sym x.sizes) ((x.words (place b (copies least most) (size u) j) v).1 y)) h.0 0 w h.2,
+    )),
   );
 }
 

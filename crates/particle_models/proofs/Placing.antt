@@ -96,7 +96,7 @@ module _ (d : Place) where
   at_middle before after x = get_or-append_right before (x ∷ after) (length before) (length before) d refl (omega arith) ∙ ap (λ k. get_or (x ∷ after) k d) (let z : length before - length before ≡ 0 = omega arith in z)
 
   mutual
-    length_places : (model : Particle) (path : Path) → length (places model path) ≡ count model
+    pub length_places : (model : Particle) (path : Path) → length (places model path) ≡ count model
     length_places (term number) path = refl
     length_places (sequence members) path = length_places_in members path 0
     length_places (choice members) path = length_places_in members path 0

@@ -171,9 +171,10 @@ module _ (nodes : List Node) (id : ℕ) (ts : List Task) (s : State) where
         (ap (λ p. numbers_of p (length s.terms)) (model (Occurs part least None) e) ∙ ap (λ k. times k (numbers_of (model_in nodes part) (length s.terms))) k, ap terms_of (model (Occurs part least None) e))
     occurs_cases part least (Some zero) more e h m = absurd (false≢true (sym h ∙ ap has_no_terms (model (Occurs part least (Some zero)) e)))
     occurs_cases part least (Some (suc most)) more e h m =
-        let k : suc most ≡ suc more = omega arith in
-        (ap (λ p. numbers_of p (length s.terms)) (model (Occurs part least (Some (suc most))) e) ∙ ap (λ k. times k (numbers_of (model_in nodes part) (length s.terms))) k,
-            ap terms_of (model (Occurs part least (Some (suc most))) e))
+        let k : suc most ≡ suc more = omega arith in (
+          ap (λ p. numbers_of p (length s.terms)) (model (Occurs part least (Some (suc most))) e) ∙ ap (λ k. times k (numbers_of (model_in nodes part) (length s.terms))) k,
+          ap terms_of (model (Occurs part least (Some (suc most))) e),
+        )
 
     pub occurs_entered : (part least : ℕ) (most : Option ℕ) (more from : ℕ) (ts' ts'' : List Task) → node ≡ Occurs part least most → has_no_terms (model_in nodes id) ≡ false →
         more ≡ unwrap_or most (max least 1) - 1 → from ≡ length s.numbers → ts' ≡ ts ++ Copy from more ∷ [] → ts'' ≡ ts' ++ Enter part ∷ [] → outcome nodes ts'' s ≡ outcome nodes ts (entered nodes id s)

@@ -6,7 +6,6 @@ ghost use Rattle.particle_models.specs.Nodes.{models_from, model_in, PartsBelow,
 ghost use Rattle.particle_models.specs.Unrolled.{is_never, count};
 ghost use Rattle.particle_models.specs.Sharing.{numbers_of, terms_of};
 ghost use Rattle.particle_models.specs.Numbering.{State, entered, all_entered, done, outcome, IsTaskWithin, weight, task_weight, weight_of, members_weight, has_no_terms, all_flags, node_flag};
-
 ghost use Rattle.particle_models.specs.declared.node.Node.{Node as NodeData};
 
 use crate::node::Node;

@@ -17,11 +17,7 @@ pub(crate) struct Shared {
 }
 
 /// An expression for each node, whose symbols are the numbers of particles.
-pub(crate) fn share(
-    alloc: Global,
-    nodes: &[Node],
-    inhabited: &[bool],
-) -> Result<Shared, AllocError>
+pub(crate) fn share(alloc: Global, nodes: &[Node], inhabited: &[bool]) -> Result<Shared, AllocError>
     requires { IsOrdered nodes.now }
     ensures ids { IfOk result (λ s. All (λ e. e < length s.expr) s.ids.items) }
     ensures trees { IfOk result (λ s. map (tree_at s.expr) s.ids.items ≡ map (shared (inhabited_of inhabited.now)) (models_from [] nodes.now)) }

@@ -3,4 +3,4 @@ use Rattle.std.specs.Prelude.{Contains}
 use Rattle.content_states.proofs.ends.ends_in.Given as goal
 
 abbrev pub invariant-loop-p : goal.invariant-loop-p
-invariant-loop-p l = (p : ℕ) → Contains (take l.p-index l.set) p → Contains l.positions.last p → ⊥
+invariant-loop-p l = (p : ℕ) → Contains (take l.p-index l.set) p → Contains l.form.table.last p → ⊥

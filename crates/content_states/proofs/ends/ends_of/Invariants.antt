@@ -6,6 +6,6 @@ use Rattle.content_states.proofs.ends.ends_of.Given as goal
 
 abbrev pub invariant-loop-number : goal.invariant-loop-number
 invariant-loop-number l = record {
-  ends : (s : ℕ) → s < l.number → IsTrue (slice_index_or l.ends.items s false) ↔ MayEnd l.positions (s == 0) (set_of (map (λ state. state.items) l.states) s);
+  ends : (s : ℕ) → s < l.number → IsTrue (slice_index_or l.ends.items s false) ↔ MayEnd l.form.table (s == 0) (set_of (map (λ state. state.items) l.states) s);
   count : length l.ends.items ≡ l.number;
 }

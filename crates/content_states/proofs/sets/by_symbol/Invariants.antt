@@ -12,6 +12,6 @@ invariant-loop l = record {
 
 abbrev pub invariant-loop-p : goal.invariant-loop-p
 invariant-loop-p l = record {
-  sets : AreSplit (λ set. set.items) (takes l.positions l.accepted) l.set l.sets.items l.p-index;
+  sets : AreSplit (λ set. set.items) (takes l.form.table l.accepted) l.set l.sets.items l.p-index;
   count : length l.sets.items ≡ l.symbols;
 }

@@ -23,7 +23,7 @@ loop-set-init c =
 
 pub returns-in-Err-clause-too_many : goal.returns-in-Err-clause-too_many
 returns-in-Err-clause-too_many c =
-    where_both _ _ (AreTooMany c.args.positions.now c.args.accepted.now c.args.symbols) c.in-Err.stop c.in-Err.ensures.too_many c.in-Err.ensures.full
+    where_both _ _ (AreTooMany c.args.form.now.table c.args.accepted.now c.args.symbols) c.in-Err.stop c.in-Err.ensures.too_many c.in-Err.ensures.full
     (turns_too_many _ _ _ _ c.requires.within _ _ _ _ _ _ c.loop-set.invariant c.in-Some.set _ c.in-Some.ensures.steps.0 c.in_ok-next.ensures.rises)
 
 pub loop-set-preserved : goal.loop-set-preserved

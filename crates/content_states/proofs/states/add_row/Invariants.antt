@@ -4,4 +4,4 @@ use Rattle.content_states.proofs.states.add_row.Given as goal
 
 abbrev pub invariant-loop-set : goal.invariant-loop-set
 invariant-loop-set l =
-    IsTurn l.positions l.accepted l.symbols (λ set. set.items) (map (λ state. state.items) l.states.keys) l.cells.items l.state l.next.items (length l.initial.states.keys) l.set-iterator.rest.items
+    IsTurn l.form.table l.accepted l.symbols (λ set. set.items) (map (λ state. state.items) l.states.keys) l.cells.items l.state l.next.items (length l.initial.states.keys) l.set-iterator.rest.items

@@ -4,10 +4,10 @@ use Rattle.content_states.proofs.states.find_states.Given as goal
 
 abbrev pub invariant-loop-state : goal.invariant-loop-state
 invariant-loop-state l = record {
-  states : AreStates l.positions l.accepted l.symbols (map (λ state. state.items) l.states.keys);
+  states : AreStates l.form.table l.accepted l.symbols (map (λ state. state.items) l.states.keys);
   few : length l.states.keys ≤ 2048;
   here : l.state ≤ length l.states.keys;
-  steps : AreSteps l.positions l.accepted l.symbols (map (λ state. state.items) l.states.keys) l.cells.items;
+  steps : AreSteps l.form.table l.accepted l.symbols (map (λ state. state.items) l.states.keys) l.cells.items;
   cells : length l.cells.items ≡ l.state * l.symbols;
 }
 

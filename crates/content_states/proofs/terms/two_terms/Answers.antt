@@ -3,7 +3,7 @@ use Rattle.content_states.proofs.terms.two_terms.Goals as goal
 
 pub loop-p-preserved : goal.loop-p-preserved
 loop-p-preserved c =
-    one_term_more c.args.positions.now c.args.set.now c.loop-p.p-index c.symbol_of-term.result c.symbol_of-other.result c.loop-p-test.true c.symbol_of-other.ensures c.if-other-term.false c.loop-p.invariant
+    one_term_more c.args.form.now.table c.args.set.now c.loop-p.p-index c.term_of-term.result c.term_of-other.result c.loop-p-test.true c.term_of-other.ensures c.if-other-term.false c.loop-p.invariant
 
 pub returns : goal.returns
-returns c = one_term_all c.args.positions.now c.args.set.now c.loop-p.p-index c.symbol_of-term.result c.loop-p-test.false c.loop-p.invariant
+returns c = one_term_all c.args.form.now.table c.args.set.now c.loop-p.p-index c.term_of-term.result c.loop-p-test.false c.loop-p.invariant
