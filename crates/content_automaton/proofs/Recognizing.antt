@@ -1,5 +1,5 @@
 -- Names and their symbols.
-use Rattle.std.proofs.Common.{◌≡◌, ◌≢◌, ◌==◌, ℕ, zero, suc, ◌+◌, ◌<◌, ◌↔◌, Bool, List, [], ◌∷◌, ◌++◌, Option, Some, map, length, get_or, refl, ap, sym, ◌∙◌, inl, inr, arith, append_assoc, append-nil, ◌⊎◌}
+use Rattle.std.proofs.Common.{◌≡◌, ◌≢◌, ◌==◌, ℕ, zero, suc, ◌+◌, ◌<◌, ◌↔◌, Bool, List, [], ◌∷◌, ◌++◌, Option, Some, map, length, get_or, refl, ap, subst, sym, ◌∙◌, inl, inr, arith, append_assoc, append-nil, ◌⊎◌}
 use Rattle.std.specs.Prelude.{All, Contains, slice_index}
 use Rattle.std.specs.List.{list_any}
 use Rattle.std.proofs.lemmas.List.{length-map}
@@ -71,7 +71,7 @@ module _ (accepts : ℕ → ExpandedName → Bool) (inhabited : ℕ → Bool) (m
   word_within : (front rest : List ℕ) → Word (front ++ rest) → AreWithin front
   word_within front rest w k d l =
       let s = split front k d l in
-      is.positions.within (get_or front k d) (s.0, s.1 ++ rest, rw (← append_assoc) (rw s.2 at w))
+      is.positions.within (get_or front k d) (s.0, s.1 ++ rest, subst Word (ap (λ f. f ++ rest) s.2 ∙ append_assoc s.0 (get_or front k d ∷ s.1) rest) w)
     where
       split : (xs : List ℕ) (k d : ℕ) → k < length xs → (a b : List ℕ) × (xs ≡ a ++ get_or xs k d ∷ b)
       split [] k d l = absurd (omega arith)
