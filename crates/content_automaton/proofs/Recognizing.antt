@@ -1,19 +1,16 @@
 -- Names and their symbols.
-use Rattle.std.proofs.Common.{◌≡◌, ◌≢◌, ◌==◌, ℕ, zero, suc, ◌+◌, ◌<◌, ◌↔◌, Bool, List, [], ◌∷◌, ◌++◌, Option, Some, map, length, get_or, refl, ap, subst, sym, ◌∙◌, inl, inr, arith, append_assoc, append-nil, ◌⊎◌}
-use Rattle.std.specs.Prelude.{All, Contains, slice_index}
-use Rattle.std.specs.List.{list_any}
+use Rattle.std.proofs.Common.{◌≡◌, ◌≢◌, ℕ, zero, suc, ◌<◌, ◌↔◌, Bool, List, [], ◌∷◌, ◌++◌, Some, map, length, get_or, refl, ap, subst, sym, ◌∙◌, inl, inr, arith, append_assoc, append-nil, ◌⊎◌}
+use Rattle.std.specs.Prelude.{All, slice_index}
 use Rattle.std.proofs.lemmas.List.{length-map}
 use Rattle.std.proofs.lemmas.List.Elements.{All-tail, All-nil, All-cons, Contains-get_or}
 use Rattle.xs_positions.specs.Tree.{size, symbols}
 use Rattle.xs_positions.specs.Words.{IsWord}
-use Rattle.xs_positions.specs.Positions.{Table}
 use Rattle.particle_models.specs.Particles.{Particle, Place}
-use Rattle.particle_models.specs.Words.{EndsIn, IsAmbiguous}
+use Rattle.particle_models.specs.Words.{IsAmbiguous}
 use Rattle.particle_models.specs.Unrolled.{places, unrolled, count, HasNoAll}
 use Rattle.particle_models.specs.Model.{blank, place_of, UnrolledModel, IsUnrolled, IsInhabitedBy}
 use Rattle.particle_models.specs.Model as models
 use Rattle.particle_models.specs.Reach.{Reads, Reach}
-use Rattle.particle_models.proofs.Reaching.{last_of}
 use Rattle.particle_models.proofs.Placing.{length_places}
 use Rattle.particle_models.proofs.Ranging.{symbols_within}
 use Rattle.particle_models.proofs.Marked.{names_word, names_begin, ends_reach, reach_ends, places_differ}
@@ -113,12 +110,12 @@ module _ (accepts : ℕ → ExpandedName → Bool) (inhabited : ℕ → Bool) (m
   ambiguous_at names i j x y d = elim (last_name names) [
     | inl e ↦ absurd (no_read x.0 i (rw e at x.3))
     | inr l ↦ record {
-        names = l.0;
-        name = l.1;
-        one = reach_ends accepts inhabited model u.table no_all is.positions by l.0 l.1 i (rw l.2 at x);
-        other = reach_ends accepts inhabited model u.table no_all is.positions by l.0 l.1 j (rw l.2 at y);
-        differ = λ e. d (places_differ accepts inhabited model u.table no_all is.positions by i j (inside names i x) (inside names j y) e);
-      }
+      names = l.0;
+      name = l.1;
+      one = reach_ends accepts inhabited model u.table no_all is.positions by l.0 l.1 i (rw l.2 at x);
+      other = reach_ends accepts inhabited model u.table no_all is.positions by l.0 l.1 j (rw l.2 at y);
+      differ = λ e. d (places_differ accepts inhabited model u.table no_all is.positions by i j (inside names i x) (inside names j y) e);
+    }
   ]
     where
       last_name : (xs : List ExpandedName) → (xs ≡ []) ⊎ ((front : List ExpandedName) × (n : ExpandedName) × (xs ≡ front ++ n ∷ []))
@@ -164,8 +161,9 @@ module _ (accepts : ℕ → ExpandedName → Bool) (inhabited : ℕ → Bool) (m
       term_of a (run a 0 names) ≡ Some (symbol_at u.table p)) → GivesTerms accepts model symbol a
   gives_terms terms names name place ends =
       let r = ends_reach accepts inhabited model u.table no_all is.positions by names name place ends in
-      let all : List ExpandedName = names ++ name ∷ [] in
-      (symbol_at u.table r.0,
+      let all : List ExpandedName = names ++ name ∷ [] in (
+        symbol_at u.table r.0,
         terms (map symbol all) (all_below accepts inhabited model u accepted symbol a.symbols no_all is by are all) r.0
-        ((reach_symbols accepts inhabited model u accepted symbol a.symbols no_all is by are all r.0).0 r.1),
-        r.2)
+            ((reach_symbols accepts inhabited model u accepted symbol a.symbols no_all is by are all r.0).0 r.1),
+        r.2,
+      )

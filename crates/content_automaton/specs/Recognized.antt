@@ -1,5 +1,5 @@
 -- What an automaton says of the words of a content model.
-use Rattle.std.specs.Prelude.{◌≡◌, ◌==◌, ℕ, ◌<◌, ◌↔◌, Bool, IsTrue, List, [], ◌∷◌, ◌++◌, Option, Some, map, length, slice_index, slice_index_or}
+use Rattle.std.specs.Prelude.{◌≡◌, ◌==◌, ℕ, ◌<◌, ◌↔◌, Bool, IsTrue, List, [], ◌∷◌, ◌++◌, Some, map, length, slice_index, slice_index_or}
 use Rattle.std.specs.List.{list_any}
 use Rattle.particle_models.specs.Particles.{Particle, Place}
 use Rattle.particle_models.specs.Words.{IsWordOfNames, BeginsWord, EndsIn, IsAmbiguous}

@@ -28,6 +28,6 @@ pub fn words_of_models()
     ensures terms { (accepts : ℕ → ExpandedName → Bool) (inhabited : ℕ → Bool) (model : Particle) (u : UnrolledModel) (accepted : List (List ℕ)) (symbol : ExpandedName → ℕ) (a : Automaton) →
         HasNoAll model → IsUnrolled inhabited model u → IsInhabitedBy accepts inhabited → AreSymbols accepts u.terms accepted a.symbols symbol →
         ((names : List ℕ) → All (λ n. n < a.symbols) names → (p : ℕ) → Reach (Accepts u.table accepted) (IsWord (unrolled inhabited model 0) 0) names p →
-            term_of a (run a 0 names) ≡ Some (symbol_at u.table p)) →
+        term_of a (run a 0 names) ≡ Some (symbol_at u.table p)) →
         GivesTerms accepts model symbol a }
 {}

@@ -1,5 +1,5 @@
 -- What was found is an automaton.
-use Rattle.std.proofs.Common.{◌≡◌, ℕ, ◌*◌, ◌<◌, ◌≤◌, ◌↔◌, ◌⊎◌, ◌==◌, Bool, false, IsTrue, List, [], Option, None, length, map, get_or, refl, ap, subst, sym, ◌∙◌, arith}
+use Rattle.std.proofs.Common.{◌≡◌, ℕ, ◌*◌, ◌<◌, ◌≤◌, ◌↔◌, ◌⊎◌, ◌==◌, Bool, false, IsTrue, List, Option, None, length, map, get_or, refl, ap, subst, sym, ◌∙◌, arith}
 use Rattle.std.specs.Prelude.{Contains, All, MatchOption}
 use Rattle.std.proofs.lemmas.List.{length-map}
 use Rattle.xs_positions.specs.Tree.{Tree}

@@ -1,5 +1,5 @@
 -- The states of an automaton are all the sets that are reached, each once.
-use Rattle.std.proofs.Common.{◌≡◌, ◌≢◌, ℕ, zero, suc, ◌+◌, ◌<◌, ◌≤◌, ◌↔◌, Bool, List, [], ◌∷◌, length, get_or, refl, ap, subst, sym, ◌∙◌, inl, inr, arith, nat_eq}
+use Rattle.std.proofs.Common.{◌≡◌, ◌≢◌, ℕ, zero, suc, ◌+◌, ◌<◌, ◌≤◌, ◌↔◌, List, [], ◌∷◌, length, get_or, refl, ap, subst, sym, ◌∙◌, inl, inr, arith, nat_eq}
 use Rattle.std.specs.Prelude.{Contains, All}
 use Rattle.std.specs.List.{AllPairs}
 use Rattle.std.specs.List.Sorted.{IsStrictlyIncreasing}
@@ -15,7 +15,7 @@ use Rattle.std.proofs.lemmas.Map.Made.{length-le_from_is_member, IsDistinct-from
 use Rattle.std.proofs.lemmas.Slice.Eq.{slice_eq-Decides}
 use Rattle.xs_positions.specs.Tree.{Tree}
 use Rattle.xs_positions.specs.Positions.{Table, ArePositionsOf}
-use Rattle.content_states.specs.Moves.{takes, symbol_at, term_in, IsOfOneTerm, HasTerms}
+use Rattle.content_states.specs.Moves.{takes}
 use Rattle.content_states.specs.Built.{set_of, IsState, AreStates, AreTooMany}
 use Rattle.content_states.specs.Automaton.{Automaton, run, IsAutomaton}
 use Rattle.content_states.specs.Count.{IsReachSet, IsStateCount}

@@ -1,5 +1,5 @@
 -- What an automaton's states say of the words.
-use Rattle.std.proofs.Common.{◌≡◌, ◌≢◌, ℕ, ◌<◌, ◌≤◌, ◌↔◌, Bool, true, false, IsTrue, List, [], ◌∷◌, ◌++◌, length, refl, ap, sym, ◌∙◌, inl, inr, arith, eqb-true, append_assoc, append-nil, if◌then◌else◌}
+use Rattle.std.proofs.Common.{◌≡◌, ◌≢◌, ℕ, ◌<◌, ◌≤◌, ◌↔◌, Bool, true, false, IsTrue, List, [], ◌∷◌, ◌++◌, refl, ap, sym, ◌∙◌, inl, inr, arith, eqb-true, append_assoc, append-nil, if◌then◌else◌}
 use Rattle.std.specs.Prelude.{Contains, All}
 use Rattle.std.proofs.lemmas.Bool.{cases_lt, both_ways, false≢true}
 use Rattle.std.proofs.lemmas.List.{get_or_past}
@@ -8,7 +8,7 @@ use Rattle.xs_positions.specs.Words.{IsWord, HasWord}
 use Rattle.xs_positions.specs.Positions.{Table, ArePositionsOf}
 use Rattle.particle_models.specs.Reach.{Reads, Reach}
 use Rattle.particle_models.proofs.Reaching.{reach_word, reach_begins}
-use Rattle.content_states.specs.Moves.{takes, symbol_at, term_in, IsOfOneTerm, HasTerms}
+use Rattle.content_states.specs.Moves.{takes}
 use Rattle.content_states.specs.Built.{set_of}
 use Rattle.content_states.specs.Automaton.{Automaton, dead_of, run, state_of, accepts_at, IsAutomaton, Speaks}
 use Rattle.content_states.proofs.Members.{none_contained, some_of}

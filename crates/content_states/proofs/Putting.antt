@@ -1,11 +1,11 @@
 -- A position put into the sets of some symbols, and the positions of a set by symbol.
-use Rattle.std.proofs.Common.{◌≡◌, ◌≢◌, ℕ, zero, suc, ◌+◌, ◌<◌, ◌≤◌, ◌==◌, ◌||◌, Bool, true, false, List, [], ◌∷◌, ◌++◌, Option, None, Some, length, map, get_or, take, set, refl, ap, sym, ◌∙◌, inl, inr, arith, append-nil, append_assoc, if◌then◌else◌, eq-eqb, take_all}
-use Rattle.std.specs.Prelude.{filter, All, slice_get}
+use Rattle.std.proofs.Common.{◌≡◌, ◌≢◌, ℕ, zero, suc, ◌+◌, ◌<◌, ◌≤◌, ◌==◌, ◌||◌, Bool, true, false, List, [], ◌∷◌, ◌++◌, length, map, get_or, take, set, refl, ap, sym, ◌∙◌, inl, inr, arith, append-nil, if◌then◌else◌, eq-eqb, take_all}
+use Rattle.std.specs.Prelude.{filter, All}
 use Rattle.std.specs.List.{list_any}
 use Rattle.std.specs.List.Sorted.{IsStrictlyIncreasing}
 use Rattle.std.proofs.lemmas.Bool.{cases_eq}
 use Rattle.std.proofs.lemmas.Bool.Decides.{nat_tests}
-use Rattle.std.proofs.lemmas.List.{map-set, map-append, get_or-map, get_or-take, get_or_past, length-map, length-set, take_more, length_push, get_or_push, get_or_append_left, get_or-set_same, get_or-set_other, length-take-le}
+use Rattle.std.proofs.lemmas.List.{map-set, get_or-map, get_or-take, length-map, length-set, take_more, get_or-set_same, get_or-set_other, length-take-le}
 use Rattle.std.proofs.lemmas.List.Folds.{list_any-append, list_any_none}
 use Rattle.std.proofs.lemmas.List.Elements.{filter-append}
 use Rattle.std.proofs.lemmas.List.Kept.{AllPairs-from_increasing}

@@ -1,5 +1,5 @@
 -- Where an automaton is after some names.
-use Rattle.std.proofs.Common.{◌≡◌, ◌≢◌, ℕ, suc, ◌+◌, ◌*◌, ◌<◌, ◌≤◌, ◌↔◌, ◌==◌, min, Bool, true, false, IsTrue, List, [], ◌∷◌, length, refl, ap, subst, sym, ◌∙◌, inl, inr, arith, eqb-true, eq-eqb, suc-mul}
+use Rattle.std.proofs.Common.{◌≡◌, ◌≢◌, ℕ, suc, ◌+◌, ◌*◌, ◌<◌, ◌≤◌, ◌↔◌, ◌==◌, min, true, false, IsTrue, List, [], ◌∷◌, length, refl, ap, subst, sym, ◌∙◌, inl, inr, arith, eqb-true, eq-eqb, suc-mul}
 use Rattle.std.specs.Prelude.{Contains, All, slice_index, nat_lt}
 use Rattle.std.proofs.Math.Nat.{mul-le-mul_right}
 use Rattle.std.proofs.lemmas.Bool.{cases_lt}

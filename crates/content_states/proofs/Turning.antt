@@ -1,8 +1,7 @@
 -- A row of cells, one symbol after another, with the sets of the symbols that are left.
-use Rattle.std.proofs.Common.{◌≡◌, ◌≢◌, ℕ, ◌+◌, ◌-◌, ◌*◌, ◌<◌, ◌≤◌, ◌↔◌, ◌==◌, List, [], ◌∷◌, ◌++◌, length, map, get_or, refl, ap, subst, sym, ◌∙◌, arith}
+use Rattle.std.proofs.Common.{◌≡◌, ℕ, ◌+◌, ◌-◌, ◌*◌, ◌<◌, ◌≤◌, ◌↔◌, ◌==◌, List, [], ◌∷◌, ◌++◌, length, map, get_or, refl, ap, subst, ◌∙◌, arith}
 use Rattle.std.specs.Prelude.{Contains, filter}
 use Rattle.std.specs.List.Sorted.{IsStrictlyIncreasing}
-use Rattle.std.proofs.lemmas.List.{length-map}
 use Rattle.xs_positions.specs.Positions.{Table}
 use Rattle.content_states.specs.Moves.{IsWithin, takes, Comes}
 use Rattle.content_states.specs.Built.{IsNew, IsNumbered, AreStates, AreTooMany, AreSteps, IsRow}

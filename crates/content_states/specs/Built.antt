@@ -1,5 +1,5 @@
 -- The states that were found so far, and the steps between them.
-use Rattle.std.specs.Prelude.{◌≡◌, ◌≢◌, ℕ, ◌+◌, ◌*◌, ◌<◌, ◌≤◌, ◌↔◌, ◌⊎◌, ◌==◌, Bool, IsTrue, List, [], ◌∷◌, ◌++◌, slice_index, slice_index_or, length, Contains, All}
+use Rattle.std.specs.Prelude.{◌≡◌, ◌≢◌, ℕ, ◌+◌, ◌*◌, ◌<◌, ◌≤◌, ◌↔◌, ◌⊎◌, ◌==◌, IsTrue, List, [], ◌∷◌, ◌++◌, slice_index, slice_index_or, length, Contains, All}
 use Rattle.std.specs.List.Sorted.{IsStrictlyIncreasing}
 use Rattle.xs_positions.specs.Positions.{Table}
 use Rattle.content_states.specs.Moves.{takes, Comes, Ends}

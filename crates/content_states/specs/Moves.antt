@@ -1,5 +1,5 @@
 -- Sets of positions, and what comes after them.
-use Rattle.std.specs.Prelude.{◌≡◌, ◌≢◌, ℕ, ◌<◌, ◌⊎◌, ◌==◌, Bool, false, IsTrue, List, [], ◌∷◌, ◌++◌, Option, Some, None, slice_index, slice_index_or, length, Contains, if◌then◌else◌}
+use Rattle.std.specs.Prelude.{◌≡◌, ◌≢◌, ℕ, ◌<◌, ◌⊎◌, ◌==◌, Bool, IsTrue, List, [], ◌∷◌, ◌++◌, Option, Some, None, slice_index, slice_index_or, length, Contains, if◌then◌else◌}
 use Rattle.std.specs.List.{list_any}
 use Rattle.xs_positions.specs.Sets.{row}
 use Rattle.xs_positions.specs.Positions.{Table}

@@ -1,15 +1,13 @@
 -- A model unrolled has the words of positions of its expression over particles.
-use Rattle.std.proofs.Common.{◌≡◌, ℕ, zero, suc, ◌+◌, ◌*◌, ◌<◌, ◌≤◌, ◌↔◌, Option, Bool, true, false, List, [], ◌∷◌, ◌++◌, map, length, refl, sym, ap, subst, ◌∙◌, inl, inr, arith, if◌then◌else◌}
-use Rattle.std.specs.Prelude.{Contains}
+use Rattle.std.proofs.Common.{◌≡◌, ℕ, zero, suc, ◌+◌, ◌*◌, ◌↔◌, Option, Bool, true, false, List, [], ◌∷◌, ◌++◌, length, refl, sym, ap, subst, ◌∙◌, inl, inr, arith, if◌then◌else◌}
 use Rattle.xs_positions.specs.Tree.{Tree, one, empty, chain, nothing, either, repeat, copies, size, times, symbols}
-use Rattle.xs_positions.specs.Words.{IsWord, Rounds, place, Begins, Ends, Follows, Passes, Exchanges}
-use Rattle.xs_positions.specs.Sets.{row}
+use Rattle.xs_positions.specs.Words.{IsWord, Rounds, place}
 use Rattle.xs_positions.specs.Positions.{Table, ArePositionsOf}
 use Rattle.xs_positions.proofs.Spelling.{spelling_is}
 use Rattle.xs_positions.proofs.Walking.{length-symbols}
 use Rattle.particle_models.specs.Particles.{Particle, Particles, term, sequence, choice, all_of, occurs, none, member}
 use Rattle.particle_models.specs.Unrolled.{count, wordless, positions_of, positions_in, unrolled, unrolled_chain, unrolled_either}
-use Rattle.particle_models.specs.Sharing.{shared, shared_chain, shared_either, term_tree, numbers_of, numbers_in}
+use Rattle.particle_models.specs.Sharing.{shared, shared_chain, shared_either, numbers_of, numbers_in}
 
 -- the trees have the same size, and the same words of positions
 pub record AreAlike (t u : Tree) : Type 0 where

@@ -1,5 +1,5 @@
 -- The flags of nodes, as the walk reads them.
-use Rattle.std.proofs.Common.{◌≡◌, ℕ, ◌<◌, Bool, true, false, List, [], map, length, get_or, sym, ap, ◌∙◌, arith}
+use Rattle.std.proofs.Common.{◌≡◌, ℕ, ◌<◌, Bool, List, [], map, length, get_or, sym, ap, ◌∙◌, arith}
 use Rattle.std.specs.Prelude.{Result, Ok, Err, OnOk, All}
 use Rattle.std.proofs.lemmas.List.{get_or-map, length-map}
 use Rattle.particle_models.specs.Particles.{choice, none}

@@ -1,9 +1,9 @@
 -- Which models have no term that has copies.
-use Rattle.std.proofs.Common.{◌≡◌, ℕ, zero, suc, ◌+◌, ◌<◌, ◌==◌, ◌||◌, ◌&&◌, Option, None, Some, Bool, true, false, List, [], ◌∷◌, ◌++◌, map, length, get_or, take, drop, refl, sym, ap, ◌∙◌, arith}
+use Rattle.std.proofs.Common.{◌≡◌, ℕ, zero, suc, ◌+◌, ◌<◌, ◌==◌, ◌&&◌, None, Some, Bool, true, List, [], ◌∷◌, ◌++◌, map, length, get_or, take, drop, refl, sym, ap, ◌∙◌, arith}
 use Rattle.std.proofs.lemmas.Bool.Decides.{nat_tests}
 use Rattle.std.proofs.lemmas.List.{map-append, take_more, drop_more}
-use Rattle.particle_models.specs.Particles.{Particle, Particles, sequence, choice, all_of, occurs, none, member}
-use Rattle.particle_models.specs.Unrolled.{is_never, count, count_in}
+use Rattle.particle_models.specs.Particles.{Particle}
+use Rattle.particle_models.specs.Unrolled.{count, count_in}
 use Rattle.particle_models.specs.Nodes.{members_of, model_at, model_of, models_from}
 use Rattle.particle_models.specs.Numbering.{has_no_terms, all_flags, node_flag}
 use Rattle.particle_models.specs.declared.node.Node.{Node}

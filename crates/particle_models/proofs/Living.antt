@@ -1,5 +1,5 @@
 -- Each text of an unrolled expression can be marked with names.
-use Rattle.std.proofs.Common.{◌≡◌, ℕ, zero, suc, ◌+◌, ◌≤◌, ◌⊎◌, Bool, true, false, IsTrue, List, [], ◌∷◌, ◌++◌, Option, None, Some, refl, sym, ap, inl, inr, arith, if◌then◌else◌}
+use Rattle.std.proofs.Common.{◌≡◌, ℕ, zero, suc, ◌+◌, ◌≤◌, ◌⊎◌, Bool, true, false, IsTrue, List, [], ◌∷◌, ◌++◌, None, Some, refl, sym, inl, inr, arith, if◌then◌else◌}
 use Rattle.xs_positions.specs.Tree.{Tree, one}
 use Rattle.xs_positions.specs.Words.{Spells, Rounds}
 use Rattle.particle_models.specs.Particles.{Particle, Particles, term, sequence, choice, all_of, occurs, none, member, Path, Place, Mark}

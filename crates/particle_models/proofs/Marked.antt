@@ -1,15 +1,15 @@
 -- The marked words of a model against the words of its positions.
-use Rattle.std.proofs.Common.{◌≡◌, ◌≢◌, ℕ, ◌+◌, ◌<◌, ◌↔◌, Bool, IsTrue, List, [], ◌∷◌, ◌++◌, map, length, get_or, refl, sym, ap, subst, ◌∙◌, arith, append-nil}
+use Rattle.std.proofs.Common.{◌≡◌, ℕ, ◌+◌, ◌<◌, ◌↔◌, Bool, List, [], ◌∷◌, ◌++◌, map, length, get_or, refl, sym, ap, subst, arith, append-nil}
 use Rattle.std.specs.Prelude.{slice_index}
 use Rattle.xs_positions.specs.Tree.{size, symbols}
 use Rattle.xs_positions.specs.Words.{IsWord}
 use Rattle.xs_positions.specs.Positions.{Table, ArePositionsOf}
 use Rattle.particle_models.specs.Particles.{Particle, Place, Mark}
-use Rattle.particle_models.specs.Words.{Words, names_of, IsWordOfNames, BeginsWord, EndsIn, IsAmbiguous}
+use Rattle.particle_models.specs.Words.{Words, names_of, IsWordOfNames, BeginsWord, EndsIn}
 use Rattle.particle_models.specs.Unrolled.{places, unrolled, count, HasNoAll}
 use Rattle.particle_models.specs.Numbered.{AreNumbered, Marks}
 use Rattle.particle_models.specs.Reach.{Reads, Reach}
-use Rattle.particle_models.specs.Model.{blank, place_of, Accepts, UnrolledModel, IsUnrolled, IsInhabitedBy}
+use Rattle.particle_models.specs.Model.{blank, place_of, Accepts, IsInhabitedBy}
 use Rattle.std.proofs.lemmas.List.Elements.{Contains-get_or}
 use Rattle.particle_models.proofs.Ranging.{symbols_within}
 use Rattle.particle_models.proofs.Unrolling.{gives, spelled, marks_append, marks_split}

@@ -1,6 +1,5 @@
 -- What a model is unrolled to.
-use Rattle.std.proofs.Common.{◌≡◌, ℕ, ◌<◌, ◌≤◌, Bool, List, [], map, length, get_or, refl, sym, ap, subst, ◌∙◌, arith}
-use Rattle.std.specs.Prelude.{Result, Ok, IfOk}
+use Rattle.std.proofs.Common.{◌≡◌, ℕ, Bool, List, [], length, ap, subst, ◌∙◌, arith}
 use Rattle.xs_positions.specs.Tree.{Tree}
 use Rattle.xs_positions.specs.Positions.{Table, ArePositionsOf}
 use Rattle.particle_models.specs.Particles.{Particle}

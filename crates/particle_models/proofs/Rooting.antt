@@ -1,10 +1,10 @@
 -- The expression and the terms of the node that is unrolled.
-use Rattle.std.proofs.Common.{◌≡◌, ℕ, zero, suc, ◌+◌, ◌*◌, ◌<◌, ◌≤◌, ◌^◌, ◌↔◌, Option, None, Some, max, Bool, true, false, List, [], ◌∷◌, ◌++◌, map, length, get_or, refl, sym, ap, ◌∙◌, inl, inr, arith}
-use Rattle.std.specs.Prelude.{All, Result, Ok, Err, IsErr}
+use Rattle.std.proofs.Common.{◌≡◌, ℕ, zero, suc, ◌*◌, ◌<◌, ◌≤◌, ◌^◌, ◌↔◌, None, Some, max, Bool, true, false, List, [], ◌∷◌, ◌++◌, map, length, get_or, refl, sym, ap, ◌∙◌, inl, inr, arith}
+use Rattle.std.specs.Prelude.{Result, Ok, Err, IsErr}
 use Rattle.std.proofs.Math.Nat.{mul-le-mul_right}
 use Rattle.std.proofs.lemmas.Bool.{false≢true, cases_lt}
 use Rattle.std.proofs.lemmas.List.{length-map, get_or-map, map-append}
-use Rattle.xs_positions.specs.Tree.{Tree, nothing, size, copies}
+use Rattle.xs_positions.specs.Tree.{Tree, nothing, size}
 use Rattle.xs_positions.specs.Nodes.{tree_at}
 use Rattle.particle_models.specs.Particles.{Particle, Particles, Place, Path, term, sequence, choice, all_of, occurs, none, member}
 use Rattle.particle_models.specs.Unrolled.{places, places_in, count, count_in, positions_of, positions_in}

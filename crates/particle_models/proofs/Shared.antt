@@ -1,16 +1,16 @@
 -- The expressions of nodes.
-use Rattle.std.proofs.Common.{◌≡◌, ℕ, zero, suc, ◌+◌, ◌<◌, ◌≤◌, Bool, List, [], ◌∷◌, ◌++◌, map, length, get_or, take, drop, refl, sym, ap, ◌∙◌, arith, take_all}
+use Rattle.std.proofs.Common.{◌≡◌, ℕ, zero, suc, ◌+◌, ◌<◌, Bool, List, [], ◌∷◌, ◌++◌, map, length, get_or, take, refl, sym, ap, ◌∙◌, arith}
 use Rattle.std.specs.Prelude.{All, Result, Ok, Err, IfOk, OnOk}
 use Rattle.std.proofs.lemmas.List.{map-append, take_more, get_or_push, get_or_append_left, length_push, get_or-map}
 use Rattle.std.proofs.lemmas.List.Elements.{All-push}
 use Rattle.xs_positions.specs.Tree.{Tree, nothing, chain, either, repeat, sequence_of, choice_of}
 use Rattle.xs_positions.specs.Nodes.{tree_at}
-use Rattle.particle_models.specs.Particles.{Particle, Particles, sequence, choice, all_of, occurs, none, member}
+use Rattle.particle_models.specs.Particles.{Particle}
 use Rattle.particle_models.specs.Nodes.{members_of, model_at, model_of, models_from, IsOrdered, PartsBelow}
 use Rattle.particle_models.specs.Sharing.{shared, shared_chain, shared_either, node_tree, Keeps}
 use Rattle.particle_models.specs.declared.node.Node.{Node}
 use Rattle.particle_models.specs.declared.node.Node.TheVariants.{Term, Sequence, Choice, Each, Occurs}
-use Rattle.particle_models.proofs.Growing.{models_of_all-push, length-models_of_all}
+use Rattle.particle_models.proofs.Growing.{models_of_all-push}
 
 pub keeps_then : (a b c : List Tree) → Keeps a b → Keeps b c → Keeps a c
 keeps_then a b c h k = record {

@@ -6,7 +6,7 @@ use Rattle.xs_positions.specs.Words.{Spells, Rounds, Allows}
 use Rattle.particle_models.specs.Particles.{Particle, Particles, term, sequence, choice, all_of, occurs, none, member, Path, Place, Mark}
 use Rattle.particle_models.specs.Words.{OneThenOther, Times, Words, WordsInOrder, WordsOfOne}
 use Rattle.particle_models.specs.Unrolled.{count, wordless, unrolled, unrolled_chain, unrolled_either, HasNoAll, HaveNoAll}
-use Rattle.particle_models.specs.Numbered.{AreNumbered, AreNumberedIn, Marks, UnlessNever}
+use Rattle.particle_models.specs.Numbered.{AreNumbered, AreNumberedIn, Marks}
 
 module _ {Name : Type 0} (place_of : ℕ → Place) (accepts : ℕ → Name → Bool) where
   pub marks_append : (s t : List ℕ) (u v : List (Mark Name)) → Marks place_of accepts s u → Marks place_of accepts t v → Marks place_of accepts (s ++ t) (u ++ v)

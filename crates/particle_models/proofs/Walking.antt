@@ -1,14 +1,13 @@
 -- The walk that numbers the terms: what its tasks come to.
-use Rattle.std.proofs.Common.{◌≡◌, ◌≢◌, ℕ, zero, suc, ◌+◌, ◌-◌, ◌*◌, ◌<◌, ◌≤◌, ◌^◌, ◌==◌, max, min, Option, None, Some, Bool, true, false, List, [], ◌∷◌, ◌++◌, map, length, get_or, take, drop, refl, sym, ap, subst, ◌∙◌, inl, inr, arith, append_assoc, append-nil, length-append, take_all, if◌then◌else◌, eqb-true}
+use Rattle.std.proofs.Common.{◌≡◌, ℕ, zero, suc, ◌+◌, ◌-◌, ◌<◌, ◌≤◌, ◌^◌, max, min, Option, None, Some, true, false, List, [], ◌∷◌, ◌++◌, map, length, get_or, take, drop, refl, sym, ap, subst, ◌∙◌, inl, inr, arith, append_assoc, append-nil, length-append, take_all, eqb-true}
 use Rattle.std.specs.Prelude.{All, unwrap_or}
 use Rattle.std.proofs.lemmas.Bool.{false≢true, cases_lt}
-use Rattle.std.proofs.lemmas.Bool.Decides.{nat_tests}
 use Rattle.std.proofs.lemmas.List.{drop_more, length-drop, get_or_append_left}
 use Rattle.std.proofs.lemmas.List.Elements.{All-push}
 use Rattle.xs_positions.specs.Tree.{copies, times}
 use Rattle.particle_models.specs.Particles.{Particle, Particles, term, sequence, choice, all_of, occurs, none, member}
-use Rattle.particle_models.specs.Unrolled.{is_never, count, count_in}
-use Rattle.particle_models.specs.Nodes.{members_of, model_at, model_of, models_from, model_in, IsOrdered}
+use Rattle.particle_models.specs.Unrolled.{count, count_in}
+use Rattle.particle_models.specs.Nodes.{members_of, model_of, models_from, model_in, IsOrdered}
 use Rattle.particle_models.specs.Sharing.{numbers_of, numbers_in, terms_of, terms_in}
 use Rattle.particle_models.specs.Numbering.{State, no_terms, entered, all_entered, done, outcome, IsTaskWithin, weight, weight_in, task_weight, weight_of, members_weight, has_no_terms}
 use Rattle.particle_models.specs.declared.node.Node.{Node}

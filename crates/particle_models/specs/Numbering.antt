@@ -1,5 +1,5 @@
 -- The walk that numbers the terms of a model along its positions.
-use Rattle.std.specs.Prelude.{◌≡◌, ℕ, zero, suc, ◌+◌, ◌-◌, ◌<◌, ◌==◌, ◌||◌, ◌&&◌, ⊤, Bool, true, false, List, [], ◌∷◌, ◌++◌, length, map, drop, slice_index_or, All}
+use Rattle.std.specs.Prelude.{ℕ, ◌+◌, ◌<◌, ◌==◌, ◌||◌, ◌&&◌, ⊤, Bool, true, false, List, [], ◌∷◌, ◌++◌, length, drop, slice_index_or}
 use Rattle.xs_positions.specs.Tree.{times}
 use Rattle.particle_models.specs.Particles.{Particle, Particles, term, sequence, choice, all_of, occurs, none, member}
 use Rattle.particle_models.specs.Unrolled.{is_never, count}

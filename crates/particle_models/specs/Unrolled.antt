@@ -1,7 +1,7 @@
 -- A content model as an expression of positions: its terms are numbered, and each has so many copies.
-use Rattle.std.specs.Prelude.{◌≡◌, ℕ, zero, suc, ◌+◌, ◌*◌, Bool, true, false, IsTrue, List, [], ◌∷◌, ◌++◌, Option, Some, None, ⊤, if◌then◌else◌}
+use Rattle.std.specs.Prelude.{ℕ, zero, suc, ◌+◌, ◌*◌, Bool, true, false, List, [], ◌∷◌, ◌++◌, Option, Some, None, ⊤, if◌then◌else◌}
 use Rattle.xs_positions.specs.Tree.{Tree, one, empty, chain, nothing, either, repeat, copies}
-use Rattle.particle_models.specs.Particles.{Particle, Particles, term, sequence, choice, all_of, occurs, none, member, Path, Place, Mark}
+use Rattle.particle_models.specs.Particles.{Particle, Particles, term, sequence, choice, all_of, occurs, none, member, Path, Place}
 
 -- a particle with these bounds has no copy
 abbrev pub is_never : Option ℕ → Bool

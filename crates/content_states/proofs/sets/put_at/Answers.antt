@@ -1,4 +1,4 @@
-use Rattle.content_states.proofs.Putting.{put_step, put_done}
+use Rattle.content_states.proofs.Putting.{put_step}
 use Rattle.content_states.proofs.sets.put_at.Goals as goal
 
 pub loop-n-preserved : goal.loop-n-preserved

@@ -1,5 +1,4 @@
 use Rattle.std.proofs.Common.{◌∙◌, sym, ap, refl, length}
-use Rattle.std.specs.Prelude.{Result, Ok, Err, OnOk}
 use Rattle.particle_models.specs.Numbering.{State, outcome, all_entered}
 use Rattle.particle_models.proofs.Walking.{none_entered, weight_less, term_fits, term_entered, each_entered, sequence_entered, choice_entered, sequence_weight, choice_weight, some_copy, occurs_entered, occurs_weight}
 use Rattle.particle_models.proofs.Entering.{flag_read, empty_bound, on_ok, when_ok, sequence_within, choice_within}

@@ -1,4 +1,4 @@
-use Rattle.std.proofs.Common.{◌≡◌, ◌<◌, ◌≤◌, ◌+◌, ℕ, List, length, drop}
+use Rattle.std.proofs.Common.{◌≡◌, ◌<◌, ◌≤◌, ◌+◌, List, length, drop}
 use Rattle.std.specs.Prelude.{All}
 use Rattle.particle_models.specs.Numbering.{State, all_entered, outcome, IsTaskWithin, weight_of, members_weight}
 use Rattle.particle_models.specs.declared.node.Node.{Node}

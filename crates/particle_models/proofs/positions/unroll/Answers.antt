@@ -1,11 +1,8 @@
-use Rattle.std.proofs.Common.{◌∙◌, sym, ap, length, arith}
-use Rattle.xs_positions.specs.Nodes.{tree_at}
-use Rattle.xs_positions.specs.Positions.{Table, ArePositionsOf}
+use Rattle.std.proofs.Common.{arith}
 use Rattle.particle_models.specs.Nodes.{model_in}
 use Rattle.particle_models.specs.Unrolled.{positions_of}
-use Rattle.particle_models.specs.Numbering.{State}
 use Rattle.particle_models.specs.Sharing.{inhabited_of}
-use Rattle.particle_models.proofs.Rooting.{ids_count, root_size, root_tree, too_many_is, few_is, not_too_many, terms_fit, terms_are}
+use Rattle.particle_models.proofs.Rooting.{ids_count, root_size, root_tree, too_many_is, few_is, not_too_many, terms_fit}
 use Rattle.particle_models.proofs.Outcome.{is_unrolled, numbers_count}
 use Rattle.particle_models.proofs.positions.unroll.Goals as goal
 
