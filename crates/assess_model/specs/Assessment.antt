@@ -1,7 +1,7 @@
 -- Schema-validity assessment of a tree, by one recursion from its root (Structures 5.2).
 use Rattle.std.specs.Prelude.{ℕ, ◌+◌, List, [], ◌∷◌, ◌++◌, Bool, true, false, ◌==◌, ◌&&◌, ◌||◌, not, length, Option, Some, None, if◌then◌else◌}
 use Rattle.tree_rows.specs.Forest.{Forest, none, text, element}
-use Rattle.tree_rows.specs.White.{is_white}
+use Rattle.xs_names.specs.White.{is_white}
 use Rattle.tree_rows.specs.Naming.{clark_name}
 use Rattle.assess_model.specs.Tables.{Tables}
 use Rattle.assess_model.specs.Schema.{global_type, local_type, stuck_place}
@@ -46,18 +46,29 @@ abbrev pub type_of : Option TypeId → TypeId
 type_of None = AnyType
 type_of (Some of) = of
 
--- the content of an element-only type: no characters, and child elements that are a word of the content model
+-- cvc-elt.1 (Structures 3.3.4): the root has no declaration.
+abbrev pub undeclared_codes : Bool → List Code
+undeclared_codes root = if root then Undeclared ∷ [] else []
+
+-- cvc-type.3.1.2 (Structures 3.3.4): an element of a simple type has child elements.
+abbrev pub simple_type_codes : Forest → List Code
+simple_type_codes children = if length (child_names children) == 0 then [] else HasElements ∷ []
+
+-- cvc-complex-type.2.3 (Structures 3.4.4): an element of element-only content has characters other than white space.
+abbrev pub character_codes : Forest → List Code
+character_codes children = if has_characters children then HasCharacters ∷ [] else []
+
+-- cvc-complex-type.2.4 (Structures 3.4.4): the child elements are stuck at a place of the content model.
 abbrev pub stuck_codes : Option ℕ → List Code
 stuck_codes None = []
 stuck_codes (Some place) = Stuck place ∷ []
 
--- the codes of an element, in order, by what governs it and by its children (Structures 3.3.4, 3.4.4)
+-- the codes of an element, in order, by what governs it and by its children
 abbrev pub codes_of : Tables → Bool → Option TypeId → Forest → List Code
-codes_of s root None children = if root then Undeclared ∷ [] else []
+codes_of s root None children = undeclared_codes root
 codes_of s root (Some AnyType) children = []
-codes_of s root (Some StringType) children = if length (child_names children) == 0 then [] else HasElements ∷ []
-codes_of s root (Some (ComplexType place)) children =
-    (if has_characters children then HasCharacters ∷ [] else []) ++ stuck_codes (stuck_place s place (child_names children))
+codes_of s root (Some StringType) children = simple_type_codes children
+codes_of s root (Some (ComplexType place)) children = character_codes children ++ stuck_codes (stuck_place s place (child_names children))
 
 -- invalid with a code; with a declaration, by the child elements; else not known (Structures 3.3.5)
 abbrev pub validity_of : List Code → Option TypeId → ChildSummary → Validity

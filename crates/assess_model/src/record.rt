@@ -1,8 +1,4 @@
-ghost use Rattle.std.specs.Prelude.{◌≡◌, ◌∷◌, ◌++◌, [], length, OnOk, OnErr};
-ghost use Rattle.assess_model.specs.declared.record.Code.{Code};
-
-use std::alloc::{AllocError, Global};
-use std::marker::Model;
+use xs_lists::Listed;
 
 /// A type that governs an element.
 #[derive(Clone, Copy, Debug, PartialEq, Eq)]
@@ -45,47 +41,8 @@ pub enum Code {
     Stuck(usize),
 }
 
-/// Codes in their order. Contracts see their list.
-#[derive(Debug, Drop)]
-pub struct Codes {
-    inner: Vec<Code>,
-}
-
-impl Model for Codes {
-    ghost use Rattle.std.specs.Prelude.{List};
-    ghost use Rattle.assess_model.specs.declared.record.Code.{Code};
-
-    ghost Value = { List Code };
-
-    ghost view = { λ codes. codes.inner.items };
-}
-
-impl Codes {
-    /// No codes.
-    pub fn new(alloc: Global) -> Self
-        ensures { result ≡ [] }
-    {
-        Codes {
-            inner: Vec::new(alloc),
-        }
-    }
-
-    /// Puts a code at the end. Where memory is wanting, the codes stay.
-    pub fn push(&mut self, code: Code) -> Result<(), AllocError>
-        ensures ok { OnOk result (self.new ≡ self.old ++ code ∷ []) }
-        ensures err { OnErr result (self.new ≡ self.old) }
-    {
-        self.inner.push(code)?;
-        Ok(())
-    }
-
-    /// The codes in order.
-    pub fn as_slice(&self) -> &[Code]
-        ensures { result.now ≡ self.now }
-    {
-        self.inner.as_slice()
-    }
-}
+/// Codes in their order.
+pub type Codes = Listed<Code>;
 
 /// What is known of an element.
 #[derive(Debug, Drop)]

@@ -1,6 +1,6 @@
 -- The states along the leaves of a tree whose forks are sums.
-use Rattle.std.proofs.Common.{◌≡◌, ℕ, zero, suc, ◌+◌, ◌-◌, ◌≤◌, Bool, true, false, List, [], ◌∷◌, ◌++◌, length, take, drop, refl, sym, ap, ◌∙◌, subst, inl, inr, arith, length-append}
-use Rattle.std.proofs.lemmas.List.{map-append, length-map, take-append-le, take_all, drop-append-le, drop_all}
+use Rattle.std.proofs.Common.{◌≡◌, ℕ, zero, suc, ◌+◌, ◌-◌, ◌≤◌, min, Bool, true, false, List, [], ◌∷◌, ◌++◌, length, take, drop, refl, sym, ap, ◌∙◌, subst, inl, inr, arith, length-append}
+use Rattle.std.proofs.lemmas.List.{map-append, length-map, take-append-le, take_all, take_min, length-take, drop_all}
 use Rattle.std.proofs.lemmas.Bool.{cases_lt}
 use Rattle.leaf_trees.specs.Tree.{Tree, leaf, fork, root, size, leaves, Has}
 use Rattle.leaf_trees.proofs.Balanced.{length-leaves}
@@ -25,10 +25,30 @@ take_past n [] ys l = ap (λ k. take k ys) (let e : n ≡ n - 0 = omega arith in
 take_past zero (x ∷ xs) ys l = absurd (omega arith)
 take_past (suc n) (x ∷ xs) ys l = ap (λ zs. x ∷ zs) (take_past n xs ys (omega arith) ∙ ap (λ k. xs ++ take k ys) (let e : n - length xs ≡ suc n - suc (length xs) = omega arith in e))
 
-pub drop_past : {X : Type 0} (n : ℕ) (xs ys : List X) → length xs ≤ n → drop n (xs ++ ys) ≡ drop (n - length xs) ys
-drop_past n [] ys l = ap (λ k. drop k ys) (let e : n ≡ n - 0 = omega arith in e)
-drop_past zero (x ∷ xs) ys l = absurd (omega arith)
-drop_past (suc n) (x ∷ xs) ys l = drop_past n xs ys (omega arith) ∙ ap (λ k. drop k ys) (let e : n - length xs ≡ suc n - suc (length xs) = omega arith in e)
+-- what lies in two lists from a place on, up to another
+pub between_append : {X : Type 0} (from to : ℕ) (xs ys : List X) → drop from (take to (xs ++ ys)) ≡ drop from (take to xs) ++ drop (from - length xs) (take (to - length xs) ys)
+between_append {X = X} from to [] ys =
+    ap (λ k. drop k (take to ys)) (let e : from ≡ from - 0 = omega arith in e)
+    ∙ ap (λ k. drop (from - 0) (take k ys)) (let e : to ≡ to - 0 = omega arith in e)
+    ∙ ap (λ zs. zs ++ drop (from - 0) (take (to - 0) ys)) (sym (drop_all from (take to none) (let e = length-take to none in omega (arith, e))))
+  where
+    none : List X
+    none = []
+between_append {X = X} from zero (x ∷ xs) ys =
+    let a = drop_all from none (omega arith) in
+    let b = drop_all (from - suc (length xs)) (take (0 - suc (length xs)) ys) (let e = length-take (0 - suc (length xs)) ys in omega (arith, e)) in
+    a ∙ sym (λ k. a k ++ b k)
+  where
+    none : List X
+    none = []
+between_append zero (suc to) (x ∷ xs) ys =
+    ap (λ zs. x ∷ zs) (between_append zero to xs ys)
+    ∙ ap (λ k. x ∷ (take to xs ++ drop k (take (to - length xs) ys))) (let e : 0 - length xs ≡ 0 - suc (length xs) = omega arith in e)
+    ∙ ap (λ k. x ∷ (take to xs ++ drop (0 - suc (length xs)) (take k ys))) (let e : to - length xs ≡ suc to - suc (length xs) = omega arith in e)
+between_append (suc from) (suc to) (x ∷ xs) ys =
+    between_append from to xs ys
+    ∙ ap (λ k. drop from (take to xs) ++ drop k (take (to - length xs) ys)) (let e : from - length xs ≡ suc from - suc (length xs) = omega arith in e)
+    ∙ ap (λ k. drop from (take to xs) ++ drop (suc from - suc (length xs)) (take k ys)) (let e : to - length xs ≡ suc to - suc (length xs) = omega arith in e)
 
 module _ {Shape Map State : Type 0} (is_state : Shape → State → Type 0) (is_map : Shape → Map → Type 0) (unit : Shape → Map) (join : Map → Map → Map) (acts : Map → State → State) (is_dead : Shape → State → Bool) (laws : SummaryLaws is_state is_map unit join acts is_dead) (h : Shape) (f : ℕ → Map) where
   -- the root of a tree of sums has a map of the summary's, and acts as the leaves do
@@ -119,24 +139,21 @@ module _ {Map : Type 0} (f : ℕ → Map) (t : Tree) (i : ℕ) (l r : Tree) (is 
   pub entries-sides : entries f t ≡ entries f l ++ entries f r
   entries-sides = ap (entries f) is ∙ entries-fork f i l r
 
-  pub take_left : (place : ℕ) → place ≤ size l → take place (entries f t) ≡ take place (entries f l)
-  take_left place le = ap (take place) entries-sides ∙ take-append-le place (entries f l) (entries f r) (omega (arith, le, length-entries f l))
-
-  pub take_right : (place n : ℕ) → n ≡ size l → n ≤ place → take place (entries f t) ≡ entries f l ++ take (place - n) (entries f r)
-  take_right place n e le =
+  -- the entries from a place on, up to another, on both sides
+  pub between_sides : (from to n p q : ℕ) → n ≡ size l → p ≡ from - n → q ≡ to - n → drop from (take to (entries f t)) ≡ drop from (take to (entries f l)) ++ drop p (take q (entries f r))
+  between_sides from to n p q e ep eq =
       let m : length (entries f l) ≡ n = length-entries f l ∙ sym e in
-      ap (take place) entries-sides ∙ take_past place (entries f l) (entries f r) (omega (arith, le, m)) ∙ ap (λ k. entries f l ++ take (place - k) (entries f r)) m
+      ap (λ zs. drop from (take to zs)) entries-sides ∙ between_append from to (entries f l) (entries f r)
+      ∙ ap (λ k. drop from (take to (entries f l)) ++ drop (from - k) (take (to - k) (entries f r))) m
+      ∙ (λ k. drop from (take to (entries f l)) ++ drop (sym ep k) (take (sym eq k) (entries f r)))
 
-  pub drop_left : (place : ℕ) → place ≤ size l → drop place (entries f t) ≡ drop place (entries f l) ++ entries f r
-  drop_left place le = ap (drop place) entries-sides ∙ drop-append-le place (entries f l) (entries f r) (omega (arith, le, length-entries f l))
+module _ {Map : Type 0} (f : ℕ → Map) (t : Tree) where
+  -- none past the last
+  pub between_upto : (from to : ℕ) → drop from (take (min to (size t)) (entries f t)) ≡ drop from (take to (entries f t))
+  between_upto from to = ap (λ n. drop from (take (min to n) (entries f t))) (sym (length-entries f t)) ∙ ap (drop from) (take_min to (entries f t))
 
-  pub drop_right : (place n : ℕ) → n ≡ size l → n ≤ place → drop place (entries f t) ≡ drop (place - n) (entries f r)
-  drop_right place n e le =
-      let m : length (entries f l) ≡ n = length-entries f l ∙ sym e in
-      ap (drop place) entries-sides ∙ drop_past place (entries f l) (entries f r) (omega (arith, le, m)) ∙ ap (λ k. drop (place - k) (entries f r)) m
+  pub between_none : (from to : ℕ) → to ≤ from → drop from (take to (entries f t)) ≡ []
+  between_none from to le = drop_all from (take to (entries f t)) (omega (arith, le, length-take to (entries f t)))
 
-pub take_entries : {Map : Type 0} (f : ℕ → Map) (t : Tree) (place : ℕ) → size t ≤ place → take place (entries f t) ≡ entries f t
-take_entries f t place le = take_all place (entries f t) (omega (arith, le, length-entries f t))
-
-pub drop_entries : {Map : Type 0} (f : ℕ → Map) (t : Tree) (place : ℕ) → size t ≤ place → drop place (entries f t) ≡ []
-drop_entries f t place le = drop_all place (entries f t) (omega (arith, le, length-entries f t))
+  pub between_all : (from to : ℕ) → from ≡ 0 → size t ≤ to → drop from (take to (entries f t)) ≡ entries f t
+  between_all from to e le = ap (λ k. drop k (take to (entries f t))) e ∙ take_all to (entries f t) (omega (arith, le, length-entries f t))

@@ -15,7 +15,7 @@ pub bits_bound : (n : ℕ) → n < 2 ^ bits n
 bits_bound n = digits_bound n n (omega arith)
 
 -- a walk down a tree
-pub walk_bound : (t : Tree) (n : ℕ) → IsAvl t → size t ≡ n → height t + 1 ≤ 8 * (bits (n + 1) + 1)
+pub walk_bound : (t : Tree) (n : ℕ) → IsAvl t → size t ≡ n → 2 * height t + 1 ≤ 8 * (bits (n + 1) + 1)
 walk_bound t n avl e =
     let b = bits_bound (n + 1) in
     let h = height_bound (bits (n + 1)) t avl (omega (arith, b, e)) in

@@ -3,11 +3,11 @@ pub mod Along
 pub mod Building
 pub mod Celled
 pub mod Chains
+pub mod Counting
 pub mod Digits
-pub mod Folded
-pub mod Holding
 pub mod Keeping
 pub mod Reading
+pub mod Spending
 pub mod Split
 pub mod Summing
 pub mod Viewing

@@ -1,7 +1,7 @@
 -- What the readers of a list find.
 use Rattle.std.proofs.Common.{◌≡◌, ℕ, zero, suc, ◌<◌, ◌≤◌, true, false, cond, List, [], ◌∷◌, length, take, drop, map, filter, insert, Option, Some, None, refl, sym, ap, ◌∙◌, arith}
 use Rattle.std.specs.Prelude.{slice_get, slice_index}
-use Rattle.std.proofs.lemmas.List.{take-map}
+use Rattle.std.proofs.lemmas.List.{take-map, length-take, drop_all}
 use Rattle.leaf_trees.specs.declared.node.Node.{Node}
 use Rattle.leaf_trees.specs.Tree.{Item, Tree, leaves, elements_before}
 use Rattle.child_trees.specs.Cells.{CellMaps}
@@ -28,13 +28,8 @@ no_top {Map = Map} unit join v ns tops q xs e g = same xs [] (sym g ∙ get_top 
     same : (ys zs : List (Entry Map)) → Some ys ≡ Some zs → ys ≡ zs
     same ys zs z = cc
 
-pub along_none : {Map State : Type 0} (acts : Map → State → State) (s : State) (p : ℕ) (xs : List (Entry Map)) → xs ≡ [] → s ≡ acts_along acts s (take p xs)
-along_none acts s zero xs e = refl
-along_none acts s (suc p) xs e = sym (ap (λ ys. acts_along acts s (take (suc p) ys)) e)
-
-pub along_none_from : {Map State : Type 0} (acts : Map → State → State) (s : State) (p : ℕ) (xs : List (Entry Map)) → xs ≡ [] → s ≡ acts_along acts s (drop p xs)
-along_none_from acts s zero xs e = sym (ap (acts_along acts s) e)
-along_none_from acts s (suc p) xs e = sym (ap (λ ys. acts_along acts s (drop (suc p) ys)) e)
+pub along_none : {Map State : Type 0} (acts : Map → State → State) (s : State) (from to : ℕ) (xs : List (Entry Map)) → xs ≡ [] → s ≡ acts_along acts s (drop from (take to xs))
+along_none acts s from to xs e = sym (ap (acts_along acts s) (drop_all from (take to xs) (omega (arith, ap length e, length-take to xs))))
 
 -- the marked leaves, by their entries
 pub marked_are : {Map : Type 0} (f : ℕ → Map) (xs : List Item) → lists.items (filter (λ e. e.marked) (map (entry_of f) xs)) ≡ map (λ x. x.number) (filter (λ x. x.marked) xs)

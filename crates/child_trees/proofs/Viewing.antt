@@ -1,19 +1,21 @@
 -- The lists that contracts see, and the trees that stand for them.
 use Rattle.std.proofs.Common.{◌≡◌, ◌≢◌, ◌⊎◌, ℕ, zero, suc, ◌+◌, ◌<◌, ◌≤◌, Bool, true, false, cond, List, [], ◌∷◌, ◌++◌, length, get_or, map, Option, Some, None, refl, sym, ap, ◌∙◌, subst, inl, inr, arith}
-use Rattle.std.specs.Prelude.{slice_index, ◌==◌, MatchOption}
+use Rattle.std.specs.Prelude.{slice_index, sum_by, ◌==◌, MatchOption}
 use Rattle.std.specs.Option.{option_map}
 use Rattle.std.proofs.lemmas.Bool.{cases_eq}
 use Rattle.std.proofs.lemmas.Bool.Decides.{nat_tests}
 use Rattle.leaf_trees.specs.declared.node.Node.{Node}
 use Rattle.leaf_trees.specs.Tree.{Item, Tree, leaf, fork, root, size, height, leaves, items, bit, IsItemAt}
 use Rattle.leaf_trees.specs.Arena.{at, Holds, IsTreeOf, IsFreeSlot}
+use Rattle.leaf_trees.proofs.Forest.{has_within}
 use Rattle.leaf_trees.proofs.Held.{height_at}
 use Rattle.child_trees.specs.Cells.{CellMaps, map_at}
-use Rattle.child_trees.specs.Lists.{Entry, Lists, get, IsAt, HasItem, Updates, IsLive}
+use Rattle.child_trees.specs.Lists.{Entry, Lists, get, IsAt, LiesOnce, HasItem, Updates, IsLive, list_slots, slots_used}
 use Rattle.child_trees.specs.Lists as lists
+use Rattle.child_trees.specs.declared.find.Location.{Location}
 use Rattle.child_trees.specs.Sums.{entry_of, entries, HasSums}
-use Rattle.child_trees.specs.Tops.{Top, top_at, Writes}
-use Rattle.child_trees.specs.Kept.{leaf_at, leaves_below, list_of, lists_of, IsKept, HasList, KeepsLists, AreKept}
+use Rattle.child_trees.specs.Tops.{Top, top_at, Writes, LiesIn}
+use Rattle.child_trees.specs.Kept.{leaf_at, leaves_below, list_of, lists_of, IsKept, HasList, KeepsLists, AreKept, IsSound}
 use Rattle.child_trees.proofs.Along.{length-entries}
 use Rattle.child_trees.proofs.Keeping.{item_has, kept_not_free, kept_stays}
 
@@ -129,6 +131,51 @@ module _ {Shape Map : Type 0} (unit : Shape → Map) (join : Map → Map → Map
               is = ap (λ ys. slice_index ys p) (sym (numbers_are (map_at unit v) (leaves r.tree)) ∙ ap (map (λ e. e.item)) r.entries_are) ∙ i.item_is;
             };
           }
+
+  -- the item was found where it lies
+  pub record Home (item q p : ℕ) (xs : List (Entry Map)) (z : Location) : Type 0 where
+    pub list_is : z.list ≡ q
+    pub place_is : z.place ≡ p
+    pub top_is : top_at tops z.list ≡ Some (Some z.top)
+    pub tree : Tree
+    pub kept : IsKept unit join v ns q z.top tree
+    pub place : IsItemAt tree z.place item
+    pub entries_are : entries (map_at unit v) tree ≡ xs
+    pub size_is : size tree ≡ length xs
+
+  pub lies : (item q p : ℕ) (xs : List (Entry Map)) (F : Found item q p xs) → LiesIn ns tops q F.top p F.rooted.tree item
+  lies item q p xs F = record { tree = F.rooted.kept.tree; top_is = F.top_is; at = F.place }
+
+  pub home : AreKept unit join v ns tops → (item q p : ℕ) (xs : List (Entry Map)) → IsAt (seen unit v ns tops) item q p xs → (z : Location) → ((list top place : ℕ) (t : Tree) → LiesIn ns tops list top place t item → z ≡ record { list = list; top = top; place = place }) → Home item q p xs z
+  home a item q p xs i z is =
+      let F = found a item q p xs i in
+      let e = is q F.top p F.rooted.tree (lies item q p xs F) in
+      let list : z.list ≡ q = ap (λ y. y.list) e in
+      let top : z.top ≡ F.top = ap (λ y. y.top) e in
+      let place : z.place ≡ p = ap (λ y. y.place) e in
+      record {
+        list_is = list;
+        place_is = place;
+        top_is = ap (top_at tops) list ∙ F.top_is ∙ ap (λ b. Some (Some b)) (sym top);
+        tree = F.rooted.tree;
+        kept = subst (λ b. IsKept unit join v ns q b F.rooted.tree) (sym top) F.rooted.kept;
+        place = subst (λ k. IsItemAt F.rooted.tree k item) (sym place) F.place;
+        entries_are = F.rooted.entries_are;
+        size_is = F.rooted.size_is;
+      }
+
+  -- an item is a slot
+  pub item_within : AreKept unit join v ns tops → (item : ℕ) → HasItem (seen unit v ns tops) item → item < length ns
+  item_within a item h =
+      let F = found a item h.0 h.1 h.2 h.3 in
+      has_within ns F.rooted.tree F.rooted.kept.tree.has.holds item (item_has F.rooted.tree h.1 item F.place.within F.place.is)
+
+  -- an item that is found in one place lies in no other
+  pub lies_once : AreKept unit join v ns tops → (item : ℕ) (z : Location) → ((list top place : ℕ) (t : Tree) → LiesIn ns tops list top place t item → z ≡ record { list = list; top = top; place = place }) → LiesOnce (seen unit v ns tops) item
+  lies_once a item z is = record {
+    list = λ q p r k xs ys i j. sym (home a item q p xs i z is).list_is ∙ (home a item r k ys j z is).list_is;
+    place = λ q p r k xs ys i j. sym (home a item q p xs i z is).place_is ∙ (home a item r k ys j z is).place_is;
+  }
 
   -- a free slot is no item of a list
   pub free_absent : AreKept unit join v ns tops → (item : ℕ) → IsFreeSlot ns item → ¬ HasItem (seen unit v ns tops) item
@@ -265,3 +312,25 @@ module _ {Shape Map : Type 0} (unit : Shape → Map) (join : Map → Map → Map
   -- the top of a list stays
   pub writes_same : (tops : List (Option Top)) (q : ℕ) (x : Option Top) → top_at tops q ≡ x → Writes tops tops q x
   writes_same tops q x e = record { changed = e; others = λ p n. refl }
+
+  -- a number that is free has no list
+  pub get_free : (v : CellMaps Shape Map) (ns : List Node) (tops : List (Option Top)) (q : ℕ) → top_at tops q ≡ None → get (seen unit v ns tops) q ≡ None
+  get_free v ns tops q e = get_is (map_at unit v) ns tops q ∙ ap (option_map (list_of (map_at unit v) ns)) e
+
+  -- more free slots, and all lists stay
+  pub sound_all : (v w : CellMaps Shape Map) (ns ms : List Node) (spare spare' : ℕ) (tops : List (Option Top)) → IsSound unit join v ns spare tops → KeepsLists unit join v ns w ms (λ _. ⊥) → length ms ≤ length w.maps → length ms + spare ≡ length ns + spare' → IsSound unit join w ms spare' tops
+  sound_all v w ns ms spare spare' tops a k room more = record {
+    lists = kept_all unit join v w ns ms tops a.lists k room;
+    slots = (let h = a.slots in let e = ap slots_used (same_seen unit join v w ns ms tops a.lists k) in omega (arith, h, e, more));
+  }
+
+-- what is no top is none
+pub none_is : (x : Top) → ((top : ℕ) → x ≡ Some top → ⊥) → x ≡ None
+none_is None n = refl
+none_is (Some top) n = absurd (n top refl)
+
+-- no lists take no slots
+pub none_used : {Map : Type 0} (f : ℕ → Map) (ns : List Node) (tops : List (Option Top)) (spare : ℕ) → ns ≡ [] → spare ≡ 0 → tops ≡ [] → length ns ≡ spare + sum_by list_slots (lists_of f ns tops)
+none_used f ns tops spare e z h =
+    let a = ap length e in let b = ap (λ ts. sum_by list_slots (lists_of f ns ts)) h in
+    omega (arith, a, b, z)

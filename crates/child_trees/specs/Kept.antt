@@ -1,11 +1,11 @@
 -- How nodes, the maps of their cells, and the tops of lists stand for lists.
-use Rattle.std.specs.Prelude.{◌≡◌, ℕ, zero, suc, ◌+◌, ◌<◌, ◌≤◌, ◌==◌, if◌then◌else◌, List, [], ◌∷◌, ◌++◌, length, map, slice_index, Option, Some, None}
+use Rattle.std.specs.Prelude.{◌≡◌, ℕ, zero, suc, ◌+◌, ◌<◌, ◌≤◌, ◌==◌, if◌then◌else◌, List, [], ◌∷◌, ◌++◌, length, map, sum_by, slice_index, Option, Some, None}
 use Rattle.std.specs.Option.{option_map}
 use Rattle.leaf_trees.specs.declared.node.Node.{Node}
 use Rattle.leaf_trees.specs.Tree.{Item, Tree, Has}
 use Rattle.leaf_trees.specs.Arena.{at, IsTreeOf, IsFreeSlot}
 use Rattle.child_trees.specs.Cells.{CellMaps, map_at}
-use Rattle.child_trees.specs.Lists.{Entry, items}
+use Rattle.child_trees.specs.Lists.{Entry, items, list_slots}
 use Rattle.child_trees.specs.Sums.{entry_of, entries, AreSums}
 use Rattle.child_trees.specs.Tops.{Top, top_at}
 
@@ -55,3 +55,8 @@ module _ {Shape Map : Type 0} (unit : Shape → Map) (join : Map → Map → Map
   pub record AreKept (v : CellMaps Shape Map) (ns : List Node) (tops : List (Option Top)) : Type 0 where
     pub kept : (q top : ℕ) → top_at tops q ≡ Some (Some top) → (t : Tree) × IsKept v ns q top t
     pub cells : length ns ≤ length v.maps
+
+  -- and each slot that no list takes is free
+  pub record IsSound (v : CellMaps Shape Map) (ns : List Node) (spare : ℕ) (tops : List (Option Top)) : Type 0 where
+    pub lists : AreKept v ns tops
+    pub slots : length ns ≡ spare + sum_by list_slots (lists_of (map_at unit v) ns tops)

@@ -1,7 +1,5 @@
 pub mod Bits
 pub mod Cells
-pub mod FoldLaws
-pub mod Folds
 pub mod Kept
 pub mod Laws
 pub mod Lists

@@ -1,5 +1,5 @@
 -- What a contract sees of many lists.
-use Rattle.std.specs.Prelude.{◌≡◌, ◌≢◌, ℕ, ◌+◌, ◌<◌, ◌≤◌, Bool, true, false, List, [], ◌∷◌, length, map, take, Option, Some, None, slice_index_or, slice_index}
+use Rattle.std.specs.Prelude.{◌≡◌, ◌≢◌, ℕ, ◌+◌, ◌-◌, ◌*◌, ◌<◌, ◌≤◌, Bool, true, false, List, [], ◌∷◌, length, map, take, sum_by, Option, Some, None, slice_index_or, slice_index}
 use Rattle.child_trees.specs.declared.leaf.Leaf.{Leaf}
 
 -- a leaf in a list: its number, whether it is an element, whether it is marked, and its map
@@ -39,9 +39,23 @@ module _ {Shape Map : Type 0} where
     pub within : p < length xs
     pub item_is : slice_index (map (λ e. e.item) xs) p ≡ item
 
+  -- the item lies at one place of one list
+  pub record LiesOnce (v : Lists Shape Map) (item : ℕ) : Type 0 where
+    pub list : (q p r k : ℕ) (xs ys : List (Entry Map)) → IsAt v item q p xs → IsAt v item r k ys → q ≡ r
+    pub place : (q p r k : ℕ) (xs ys : List (Entry Map)) → IsAt v item q p xs → IsAt v item r k ys → p ≡ k
+
   -- the item lies in some list
   abbrev pub HasItem : Lists Shape Map → ℕ → Type 0
   HasItem v item = (q : ℕ) × (p : ℕ) × (xs : List (Entry Map)) × IsAt v item q p xs
+
+-- the slots that a list takes: one for each leaf, and one for each fork between two
+abbrev pub list_slots : {Map : Type 0} → Option (List (Entry Map)) → ℕ
+list_slots None = 0
+list_slots (Some xs) = 2 * length xs - 1
+
+-- and those that all lists take
+abbrev pub slots_used : {Shape Map : Type 0} → Lists Shape Map → ℕ
+slots_used v = sum_by list_slots v.lists
 
 -- the map of a letter, or the unit where there is none
 abbrev pub map_by : {Letter Map : Type 0} → Map → (Letter → Map) → Option Letter → Map

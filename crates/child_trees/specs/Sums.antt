@@ -1,7 +1,7 @@
 -- Sums at the forks of trees: at each fork the map is the left side's and then the right side's.
-use Rattle.std.specs.Prelude.{◌≡◌, ◌⊎◌, ℕ, ◌-◌, ◌<◌, nat_lt, MatchBool, List, length, map}
+use Rattle.std.specs.Prelude.{◌≡◌, ◌⊎◌, ℕ, ◌+◌, ◌-◌, ◌*◌, ◌<◌, ◌≤◌, nat_lt, MatchBool, List, length, map}
 use Rattle.leaf_trees.specs.declared.node.Node.{Node}
-use Rattle.leaf_trees.specs.Tree.{Item, Tree, leaf, fork, root, size, leaves, Has}
+use Rattle.leaf_trees.specs.Tree.{Item, Tree, leaf, fork, root, size, height, leaves, Has}
 use Rattle.leaf_trees.specs.Arena.{HasTree}
 use Rattle.child_trees.specs.Cells.{CellMaps, map_at}
 use Rattle.child_trees.specs.Lists.{Entry}
@@ -53,3 +53,11 @@ pub record KeepsMaps {Shape Map : Type 0} (unit : Shape → Map) (old new : Cell
 pub record SameSlots {Shape Map : Type 0} (old new : CellMaps Shape Map) : Type 0 where
   pub size : length new.maps ≡ length old.maps
   pub shape : new.shape ≡ old.shape
+
+-- so many steps are spent on the leaves from a place up to another: none where there are none, one where they are all, and at
+-- most two a level
+pub record TakesFew (t : Tree) (from to spent : ℕ) : Type 0 where
+  pub none : ((to ≤ from) ⊎ (size t ≤ from)) → spent ≡ 0
+  pub whole : from ≡ 0 → size t ≤ to → spent ≤ 1
+  pub ends : ((from ≡ 0) ⊎ (size t ≤ to)) → spent ≤ height t + 1
+  pub all : spent ≤ 2 * height t + 1

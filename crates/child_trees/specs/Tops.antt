@@ -1,5 +1,8 @@
 -- The numbers of lists, and the top of each list's tree.
 use Rattle.std.specs.Prelude.{◌≡◌, ◌≢◌, ◌⊎◌, ℕ, ◌^◌, ◌<◌, List, [], ◌∷◌, length, Option, Some, None, slice_index_or}
+use Rattle.leaf_trees.specs.declared.node.Node.{Node}
+use Rattle.leaf_trees.specs.Tree.{Tree, IsItemAt}
+use Rattle.leaf_trees.specs.Arena.{IsTreeOf}
 use Rattle.child_trees.specs.declared.tops.Slot.{Slot}
 use Rattle.child_trees.specs.declared.tops.Slot.TheVariants.{Taken, Free}
 
@@ -48,3 +51,9 @@ pub record AreLinked (ss : List Slot) (free : Option ℕ) : Type 0 where
   pub chain : List ℕ
   pub linked : IsChain ss free chain
   pub few : length ss < 2 ^ 32
+
+-- the item is at this place of the tree of this list
+pub record LiesIn (ns : List Node) (tops : List (Option Top)) (list top place : ℕ) (t : Tree) (item : ℕ) : Type 0 where
+  pub tree : IsTreeOf ns list top t
+  pub top_is : top_at tops list ≡ Some (Some top)
+  pub at : IsItemAt t place item

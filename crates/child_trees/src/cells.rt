@@ -73,6 +73,7 @@ impl<M: Summary> Cells<M> {
         requires slot { slot < length self.old.maps }
         requires fits { ForSome letter (M.fits self.old.shape source.now) }
         ensures map { SetsMap M.unit self.old self.new slot (map_by (M.unit self.old.shape) (M.leaf source.now) letter) }
+        ensures least { steps.old ≤ steps.new }
         ensures steps { steps.new ≤ steps.old + 1 }
     {
         let cell = self.cells[slot as usize];
@@ -90,6 +91,7 @@ impl<M: Summary> Cells<M> {
         requires not_left { into ≢ left }
         requires not_right { into ≢ right }
         ensures map { SetsMap M.unit self.old self.new into (M.join (map_at M.unit self.old left) (map_at M.unit self.old right)) }
+        ensures least { steps.old ≤ steps.new }
         ensures steps { steps.new ≤ steps.old + 1 }
     {
         let a = self.cells[left as usize];
@@ -105,6 +107,7 @@ impl<M: Summary> Cells<M> {
         ensures value { result ≡ M.acts (map_at M.unit self.now slot) state }
         ensures state { M.is_state self.now.shape result }
         ensures maps { AreMaps M.is_map self.now }
+        ensures least { steps.old ≤ steps.new }
         ensures steps { steps.new ≤ steps.old + 1 }
     {
         self.summary.act(&self.cells[slot as usize], state, steps)

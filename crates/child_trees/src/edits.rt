@@ -1,6 +1,6 @@
 //! Changes of a list's tree together with the maps of its nodes.
 
-ghost use Rattle.std.specs.Prelude.{◌≡◌, ℕ, ◌+◌, ◌*◌, ◌^◌, ◌<◌, ◌≤◌, List, [], ◌∷◌, length, map, insert, remove, set, MatchOption, OnOk, All};
+ghost use Rattle.std.specs.Prelude.{◌≡◌, ℕ, ◌+◌, ◌-◌, ◌*◌, ◌^◌, ◌<◌, ◌≤◌, List, [], ◌∷◌, length, map, insert, remove, set, MatchOption, OnOk, All};
 ghost use Rattle.std.specs.Option.{ForSome};
 ghost use Rattle.leaf_trees.specs.Tree.{Tree, size, IsItemAt};
 ghost use Rattle.leaf_trees.specs.Arena.{IsFreeSlot};
@@ -25,10 +25,12 @@ pub fn reserve<M: Summary>(
 ) -> Result<(), AllocError>
     requires { length trees.old.nodes ≤ length cells.old.maps }
     ensures ok { OnOk result (slots ≤ trees.new.spare) }
+    ensures in_use { length trees.new.nodes + trees.old.spare ≡ length trees.old.nodes + trees.new.spare }
     ensures lists { KeepsLists M.unit M.join cells.old trees.old.nodes cells.new trees.new.nodes (λ _. ⊥) }
     ensures cells { length trees.new.nodes ≤ length cells.new.maps }
 {
-    fill(cells, trees.nodes().len() + slots as usize)?;
+    let missing = slots.saturating_sub(trees.spare());
+    fill(cells, trees.nodes().len() + missing as usize)?;
     trees.reserve(slots)
 }
 
@@ -58,7 +60,9 @@ pub fn plant<M: Summary, L: Ledger>(
     ensures fresh { IsFreeSlot trees.old.nodes result }
     ensures list { HasList M.unit M.join cells.new trees.new.nodes list result (entry (M.unit cells.old.shape) (M.leaf source.now) result leaf ∷ []) }
     ensures lists { KeepsLists M.unit M.join cells.old trees.old.nodes cells.new trees.new.nodes (λ _. ⊥) }
+    ensures slots { (trees.new.spare + 1 ≡ trees.old.spare) × (length trees.new.nodes ≡ length trees.old.nodes) }
     ensures cells { length trees.new.nodes ≤ length cells.new.maps }
+    ensures least { steps.old ≤ steps.new }
     ensures steps { steps.new ≤ steps.old + 1 }
 {
     let item = trees.plant(list, leaf.flags());
@@ -86,7 +90,9 @@ pub fn insert_leaf<M: Summary, L: Ledger>(
         (insert (entries (map_at M.unit cells.old) t) place (entry (M.unit cells.old.shape) (M.leaf source.now) result.item leaf)) }
     ensures lists { (list : ℕ) (t : Tree) → IsKept M.unit M.join cells.old trees.old.nodes list top t → place ≤ size t
         → KeepsLists M.unit M.join cells.old trees.old.nodes cells.new trees.new.nodes (λ p. p ≡ list) }
+    ensures slots { (trees.new.spare + 2 ≡ trees.old.spare) × (length trees.new.nodes ≡ length trees.old.nodes) }
     ensures cells { length trees.new.nodes ≤ length cells.new.maps }
+    ensures least { steps.old ≤ steps.new }
     ensures steps { (list : ℕ) (t : Tree) → IsKept M.unit M.join cells.old trees.old.nodes list top t → place ≤ size t
         → (k : ℕ) → size t + 1 < 2 ^ k → steps.new ≤ steps.old + 4 * k }
 {
@@ -111,7 +117,10 @@ pub fn remove_leaf<M: Summary, L: Ledger>(
         (λ rest. HasList M.unit M.join cells.new trees.new.nodes list rest (remove (entries (map_at M.unit cells.old) t) place)) }
     ensures lists { (list : ℕ) (t : Tree) → IsKept M.unit M.join cells.old trees.old.nodes list top t → place < size t
         → KeepsLists M.unit M.join cells.old trees.old.nodes cells.new trees.new.nodes (λ p. p ≡ list) }
+    ensures slots { (list : ℕ) (t : Tree) → IsKept M.unit M.join cells.old trees.old.nodes list top t → place < size t
+        → (trees.new.spare + (2 * (size t - 1) - 1) ≡ trees.old.spare + (2 * size t - 1)) × (length trees.new.nodes ≡ length trees.old.nodes) }
     ensures cells { length trees.new.nodes ≤ length cells.new.maps }
+    ensures least { steps.old ≤ steps.new }
     ensures steps { (list : ℕ) (t : Tree) → IsKept M.unit M.join cells.old trees.old.nodes list top t → place < size t
         → (k : ℕ) → size t < 2 ^ k → steps.new ≤ steps.old + 4 * k }
 {
@@ -139,7 +148,9 @@ pub fn write_leaf<M: Summary, L: Ledger>(
         (set (entries (map_at M.unit cells.old) t) place (entry (M.unit cells.old.shape) (M.leaf source.now) item leaf)) }
     ensures lists { (list : ℕ) (t : Tree) → IsKept M.unit M.join cells.old trees.old.nodes list top t → IsItemAt t place item
         → KeepsLists M.unit M.join cells.old trees.old.nodes cells.new trees.new.nodes (λ p. p ≡ list) }
+    ensures slots { (trees.new.spare ≡ trees.old.spare) × (length trees.new.nodes ≡ length trees.old.nodes) }
     ensures cells { length trees.new.nodes ≤ length cells.new.maps }
+    ensures least { steps.old ≤ steps.new }
     ensures steps { (list : ℕ) (t : Tree) → IsKept M.unit M.join cells.old trees.old.nodes list top t → IsItemAt t place item
         → (k : ℕ) → size t < 2 ^ k → steps.new ≤ steps.old + 4 * k }
 {
@@ -166,7 +177,9 @@ pub fn build_tree<M: Summary, L: Ledger>(
     requires fits { All (λ l. ForSome l.letter (M.fits cells.old.shape source.now)) leaves.now }
     ensures list { (xs : List (Entry M.Map)) × AreEntries (M.unit cells.old.shape) (M.leaf source.now) leaves.now xs × AreOfFree trees.old.nodes xs × HasList M.unit M.join cells.new trees.new.nodes list result xs }
     ensures lists { KeepsLists M.unit M.join cells.old trees.old.nodes cells.new trees.new.nodes (λ _. ⊥) }
+    ensures slots { (trees.new.spare + 2 * length leaves.now ≡ trees.old.spare + 1) × (length trees.new.nodes ≡ length trees.old.nodes) }
     ensures cells { length trees.new.nodes ≤ length cells.new.maps }
+    ensures least { steps.old ≤ steps.new }
     ensures steps { steps.new ≤ steps.old + 2 * length leaves.now }
 {
     let top = trees.build(list, flags);

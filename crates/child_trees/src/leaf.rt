@@ -6,7 +6,7 @@ use leaf_trees::Flags;
 use std::alloc::{AllocError, Global};
 use std::marker::Model;
 
-/// The number of a list.
+/// The number of a list. Contracts see the number.
 #[derive(Clone, Copy, Debug, PartialEq, Eq)]
 pub struct SeqId {
     pub(crate) number: u32,
@@ -22,7 +22,19 @@ impl Model for SeqId {
     ghost inverse = { λ n. record { number = n } };
 }
 
-/// The number of a leaf, which stays the leaf's for as long as it lies in its list.
+impl SeqId {
+    /// The number.
+    pub fn number(&self) -> u32
+        ensures { result ≡ self.now }
+    {
+        self.number
+    }
+}
+
+/// The number of a leaf, which stays the leaf's for as long as it lies in its list. Contracts see the number.
+///
+/// It serves as an index: it is below the count of slots that `Seqs::slots` tells, and of these all but the free ones are taken,
+/// `2 * n - 1` by a list of `n` leaves. A number whose leaf went may be given to a later leaf.
 #[derive(Clone, Copy, Debug, PartialEq, Eq)]
 pub struct ItemId {
     pub(crate) number: u32,
@@ -36,6 +48,15 @@ impl Model for ItemId {
     ghost view = { λ i. i.number };
 
     ghost inverse = { λ n. record { number = n } };
+}
+
+impl ItemId {
+    /// The number.
+    pub fn number(&self) -> u32
+        ensures { result ≡ self.now }
+    {
+        self.number
+    }
 }
 
 /// A leaf of a list. No letter stands for the unit of the summary.

@@ -2,16 +2,15 @@
 #![tactic(auto)]
 
 pub use crate::leaf::{ItemId, Leaf, SeqId};
-pub use crate::seqs::Seqs;
+pub use crate::seqs::{Seqs, Slots};
 pub use crate::summary::Summary;
 
 mod cells;
 mod edits;
+mod find;
 mod leaf;
 mod seqs;
 mod summary;
 mod sums;
-#[cfg(test)]
-mod tests;
 mod tops;
 mod walks;

@@ -1,20 +1,30 @@
 //! Many lists under their numbers.
 
-ghost use Rattle.std.specs.Prelude.{◌≡◌, ℕ, ◌+◌, ◌*◌, ◌<◌, ◌≤◌, Bool, List, [], length, map, filter, take, drop, insert, remove, slice_get, slice_set, Option, Some, None, All, MatchOption, IfOk, OnErr, vec_len};
+ghost use Rattle.std.specs.Prelude.{◌≡◌, ℕ, ◌+◌, ◌*◌, ◌^◌, ◌<◌, ◌≤◌, Bool, List, [], length, map, filter, take, drop, insert, remove, slice_get, slice_set, Option, Some, None, All, MatchOption, IfOk, OnErr, vec_len};
 ghost use Rattle.std.specs.Option.{ForSome};
 ghost use Rattle.child_trees.specs.Bits.{bits};
-ghost use Rattle.child_trees.specs.Lists.{Entry, get, IsLive, IsUpTo, Updates, IsAt, HasItem, entry, AreEntries, AreNew, items, acts_along, IsFirstDead, NoneIsDead};
+ghost use Rattle.child_trees.specs.Lists.{Entry, get, IsLive, IsUpTo, Updates, IsAt, HasItem, LiesOnce, entry, AreEntries, AreNew, items, acts_along, IsFirstDead, NoneIsDead, slots_used};
 
 use crate::cells::Cells;
 use crate::edits::{build_tree, insert_leaf, plant, remove_leaf, reserve, write_leaf};
+use crate::find::find;
 use crate::leaf::{ItemId, Leaf, SeqId, flags_of};
 use crate::summary::Summary;
 use crate::tops::Tops;
-use crate::walks::{first_dead, run_from, run_upto};
+use crate::walks::{first_dead, run_between};
 use leaf_trees::Trees;
 use std::alloc::{AllocError, Global};
 use std::marker::Model;
 use xsv_steps::{Ledger, Steps};
+
+/// Slots, which hold the leaves of lists and the forks of their trees.
+#[derive(Clone, Copy, Debug, PartialEq, Eq)]
+pub struct Slots {
+    /// How many there are. The number of every item is below it.
+    pub count: usize,
+    /// How many hold nothing. A list of `n` leaves takes `2 * n - 1` slots, an empty one none.
+    pub free: usize,
+}
 
 /// Many lists of leaves, each seen under its number as its leaves with the maps that their sources gave their letters.
 ///
@@ -34,11 +44,11 @@ impl<M: Summary> Model for Seqs<M> {
     ghost Value = { Lists M.Shape M.Map };
 
     ghost use Rattle.child_trees.specs.Cells.{map_at};
-    ghost use Rattle.child_trees.specs.Kept.{lists_of, AreKept};
+    ghost use Rattle.child_trees.specs.Kept.{lists_of, IsSound};
 
     ghost view = { λ s. record { shape = s.cells.shape; lists = lists_of (map_at M.unit s.cells) s.trees.nodes s.tops } };
 
-    ghost invariant = { λ s. AreKept M.unit M.join s.cells s.trees.nodes s.tops };
+    ghost invariant = { λ s. IsSound M.unit M.join s.cells s.trees.nodes s.trees.spare s.tops };
 }
 
 impl<M: Summary> Seqs<M> {
@@ -81,6 +91,7 @@ impl<M: Summary> Seqs<M> {
         ensures fresh { IfOk result (λ q. ¬ IsLive self.old q) }
         ensures ok { IfOk result (λ q. (xs : List (Entry M.Map)) × AreEntries (M.unit self.old.shape) (M.leaf source.now) leaves.items xs × AreNew self.old xs × Updates self.old self.new q (Some xs)) }
         ensures err { OnErr result (self.new ≡ self.old) }
+        ensures least { steps.old ≤ steps.new }
         ensures steps { steps.new ≤ steps.old + 2 * vec_len leaves }
     {
         if leaves.len() > 0x7fff_ffff {
@@ -126,6 +137,7 @@ impl<M: Summary> Seqs<M> {
         ensures fresh { IfOk result (λ i. ¬ HasItem self.old i) }
         ensures ok { IfOk result (λ i. (xs : List (Entry M.Map)) → get self.old seq ≡ Some xs → Updates self.old self.new seq (Some (insert xs place (entry (M.unit self.old.shape) (M.leaf source.now) i leaf)))) }
         ensures err { OnErr result (self.new ≡ self.old) }
+        ensures least { steps.old ≤ steps.new }
         ensures steps { (xs : List (Entry M.Map)) → get self.old seq ≡ Some xs → steps.new ≤ steps.old + 16 * (bits (length xs + 2) + 1) }
     {
         reserve(&mut self.trees, &mut self.cells, 2)?;
@@ -169,13 +181,12 @@ impl<M: Summary> Seqs<M> {
     pub fn remove<L: Ledger>(&mut self, item: ItemId, steps: &mut Steps<L>)
         requires { HasItem self.old item }
         ensures change { (q p : ℕ) (xs : List (Entry M.Map)) → IsAt self.old item q p xs → Updates self.old self.new q (Some (remove xs p)) }
+        ensures least { steps.old ≤ steps.new }
         ensures steps { (q p : ℕ) (xs : List (Entry M.Map)) → IsAt self.old item q p xs → steps.new ≤ steps.old + 16 * (bits (length xs + 1) + 1) }
     {
-        let spot = self.trees.spot(item.number);
-        if let Some(top) = self.tops.top(spot.list) {
-            let rest = remove_leaf(&mut self.trees, &mut self.cells, top, spot.place, steps);
-            self.tops.set(spot.list, rest);
-        }
+        let at = find(&self.trees, &self.tops, item.number);
+        let rest = remove_leaf(&mut self.trees, &mut self.cells, at.top, at.place, steps);
+        self.tops.set(at.list, rest);
     }
 
     /// Writes another leaf in an item's place. The item keeps its number.
@@ -191,21 +202,20 @@ impl<M: Summary> Seqs<M> {
         requires item { HasItem self.old item }
         requires fits { ForSome leaf.letter (M.fits self.old.shape source.now) }
         ensures change { (q p : ℕ) (xs : List (Entry M.Map)) → IsAt self.old item q p xs → Updates self.old self.new q (Some (slice_set xs p (entry (M.unit self.old.shape) (M.leaf source.now) item leaf))) }
+        ensures least { steps.old ≤ steps.new }
         ensures steps { (q p : ℕ) (xs : List (Entry M.Map)) → IsAt self.old item q p xs → steps.new ≤ steps.old + 16 * (bits (length xs + 1) + 1) }
     {
-        let spot = self.trees.spot(item.number);
-        if let Some(top) = self.tops.top(spot.list) {
-            write_leaf(
-                &mut self.trees,
-                &mut self.cells,
-                top,
-                spot.place,
-                item.number,
-                leaf,
-                source,
-                steps,
-            );
-        }
+        let at = find(&self.trees, &self.tops, item.number);
+        write_leaf(
+            &mut self.trees,
+            &mut self.cells,
+            at.top,
+            at.place,
+            item.number,
+            leaf,
+            source,
+            steps,
+        );
     }
 
     /// Gives a list back, and the cells of its leaves for other lists to use. Its number, and those of its items, may be given out again.
@@ -220,12 +230,25 @@ impl<M: Summary> Seqs<M> {
         }
     }
 
-    /// The place of an item in its list.
+    /// How many slots there are, and how many of them are free. Slots that leaves gave back are taken again before new ones are
+    /// made.
+    pub fn slots(&self) -> Slots
+        ensures items { (i : ℕ) → HasItem self.now i → i < result.count }
+        ensures used { result.count ≡ result.free + slots_used self.now }
+    {
+        Slots {
+            count: self.trees.nodes().len(),
+            free: self.trees.spare() as usize,
+        }
+    }
+
+    /// The place of an item in its list. It lies at no other place, and in no other list.
     pub fn place_of(&self, item: ItemId) -> u32
         requires { HasItem self.now item }
-        ensures { (q p : ℕ) (xs : List (Entry M.Map)) → IsAt self.now item q p xs → result ≡ p }
+        ensures place { (q p : ℕ) (xs : List (Entry M.Map)) → IsAt self.now item q p xs → result ≡ p }
+        ensures once { LiesOnce self.now item }
     {
-        self.trees.spot(item.number).place
+        find(&self.trees, &self.tops, item.number).place
     }
 
     /// The item at a place, or none past the end.
@@ -274,6 +297,7 @@ impl<M: Summary> Seqs<M> {
         requires state { M.is_state self.now.shape state }
         ensures value { (xs : List (Entry M.Map)) → get self.now seq ≡ Some xs → result ≡ acts_along M.acts state xs }
         ensures state { M.is_state self.now.shape result }
+        ensures least { steps.old ≤ steps.new }
         ensures steps { steps.new ≤ steps.old + 1 }
         ensures none { get self.now seq ≡ Some [] → steps.new ≡ steps.old }
     {
@@ -289,11 +313,12 @@ impl<M: Summary> Seqs<M> {
         requires state { M.is_state self.now.shape state }
         ensures value { (q p : ℕ) (xs : List (Entry M.Map)) → IsAt self.now item q p xs → result ≡ acts_along M.acts state (take p xs) }
         ensures state { M.is_state self.now.shape result }
+        ensures least { steps.old ≤ steps.new }
         ensures steps { (q p : ℕ) (xs : List (Entry M.Map)) → IsAt self.now item q p xs → steps.new ≤ steps.old + 8 * (bits (length xs + 1) + 1) }
     {
-        let spot = self.trees.spot(item.number);
-        let list = SeqId { number: spot.list };
-        self.upto(list, spot.place, state, steps)
+        let at = find(&self.trees, &self.tops, item.number);
+        let list = SeqId { number: at.list };
+        self.upto(list, at.place, state, steps)
     }
 
     /// The state after all leaves before a place. It takes at most `8 * (bits(n + 1) + 1)` steps in a list of `n` leaves.
@@ -309,12 +334,10 @@ impl<M: Summary> Seqs<M> {
         requires state { M.is_state self.now.shape state }
         ensures value { (xs : List (Entry M.Map)) → get self.now seq ≡ Some xs → result ≡ acts_along M.acts state (take place xs) }
         ensures state { M.is_state self.now.shape result }
+        ensures least { steps.old ≤ steps.new }
         ensures steps { (xs : List (Entry M.Map)) → get self.now seq ≡ Some xs → steps.new ≤ steps.old + 8 * (bits (length xs + 1) + 1) }
     {
-        match self.tops.top(seq.number) {
-            None => state,
-            Some(top) => run_upto(&self.cells, self.trees.nodes(), top, place, state, steps),
-        }
+        self.between(seq, 0, place, state, steps)
     }
 
     /// The state after the leaves from a place on. It takes at most `8 * (bits(n + 1) + 1)` steps in a list of `n` leaves.
@@ -330,12 +353,10 @@ impl<M: Summary> Seqs<M> {
         requires state { M.is_state self.now.shape state }
         ensures value { (xs : List (Entry M.Map)) → get self.now seq ≡ Some xs → result ≡ acts_along M.acts state (drop place xs) }
         ensures state { M.is_state self.now.shape result }
+        ensures least { steps.old ≤ steps.new }
         ensures steps { (xs : List (Entry M.Map)) → get self.now seq ≡ Some xs → steps.new ≤ steps.old + 8 * (bits (length xs + 1) + 1) }
     {
-        match self.tops.top(seq.number) {
-            None => state,
-            Some(top) => run_from(&self.cells, self.trees.nodes(), top, place, state, steps),
-        }
+        self.between(seq, place, u32::MAX, state, steps)
     }
 
     /// The first place through which the leaves lead to a dead state, or none where they lead to no dead state.
@@ -350,6 +371,7 @@ impl<M: Summary> Seqs<M> {
         requires live { IsLive self.now seq }
         requires state { M.is_state self.now.shape state }
         ensures place { (xs : List (Entry M.Map)) → get self.now seq ≡ Some xs → MatchOption result (NoneIsDead M.acts (M.is_dead self.now.shape) state xs) (IsFirstDead M.acts (M.is_dead self.now.shape) state xs) }
+        ensures least { steps.old ≤ steps.new }
         ensures steps { (xs : List (Entry M.Map)) → get self.now seq ≡ Some xs → steps.new ≤ steps.old + 8 * (bits (length xs + 1) + 1) }
     {
         let top = self.tops.top(seq.number)?;
@@ -358,6 +380,29 @@ impl<M: Summary> Seqs<M> {
             Some(first_dead(&self.cells, self.trees.nodes(), top, state, steps))
         } else {
             None
+        }
+    }
+
+    /// The state after the leaves of a list from a place on, up to another place.
+    fn between<L: Ledger>(
+        &self,
+        seq: SeqId,
+        from: u32,
+        to: u32,
+        state: M::State,
+        steps: &mut Steps<L>,
+    ) -> M::State
+        requires live { IsLive self.now seq }
+        requires state { M.is_state self.now.shape state }
+        ensures value { (xs : List (Entry M.Map)) → get self.now seq ≡ Some xs → result ≡ acts_along M.acts state (drop from (take to xs)) }
+        ensures state { M.is_state self.now.shape result }
+        ensures few { (xs : List (Entry M.Map)) → get self.now seq ≡ Some xs → length xs < 2 ^ 32 }
+        ensures least { steps.old ≤ steps.new }
+        ensures steps { (xs : List (Entry M.Map)) → get self.now seq ≡ Some xs → steps.new ≤ steps.old + 8 * (bits (length xs + 1) + 1) }
+    {
+        match self.tops.top(seq.number) {
+            None => state,
+            Some(top) => run_between(&self.cells, self.trees.nodes(), top, from, to, state, steps),
         }
     }
 }

@@ -100,6 +100,7 @@ pub trait Summary: Drop {
         ensures value { map_of self.new cell.now ≡ leaf source.now letter }
         ensures shape { shape self.new ≡ shape self.old }
         ensures others { KeepsCells live map_of (λ c. c ≡ cell.now) self.old self.new }
+        ensures least { steps.old ≤ steps.new }
         ensures steps { steps.new ≤ steps.old + 1 };
 
     /// Makes a cell the left map and then the right one. It takes one step at most.
@@ -119,6 +120,7 @@ pub trait Summary: Drop {
         ensures value { map_of self.new into.now ≡ join (map_of self.old left.now) (map_of self.old right.now) }
         ensures shape { shape self.new ≡ shape self.old }
         ensures others { KeepsCells live map_of (λ c. c ≡ into.now) self.old self.new }
+        ensures least { steps.old ≤ steps.new }
         ensures steps { steps.new ≤ steps.old + 1 };
 
     /// The state after the cell's map. It takes one step at most.
@@ -131,6 +133,7 @@ pub trait Summary: Drop {
         requires live { live self.now cell.now }
         requires state { is_state (shape self.now) state }
         ensures value { result ≡ acts (map_of self.now cell.now) state }
+        ensures least { steps.old ≤ steps.new }
         ensures steps { steps.new ≤ steps.old + 1 };
 
     /// Whether the state is dead. A dead state stays dead under every map.

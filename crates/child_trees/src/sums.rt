@@ -25,6 +25,7 @@ fn sum_sides<M: Summary, L: Ledger>(
         → AreSidesSums M.join (map_at M.unit cells.old) t → AreSums M.join (map_at M.unit cells.new) t }
     ensures maps { (t : Tree) → HasCells (length cells.old.maps) nodes.now top t → KeepsMaps M.unit cells.old cells.new t }
     ensures slots { SameSlots cells.old cells.new }
+    ensures least { steps.old ≤ steps.new }
     ensures steps { steps.new ≤ steps.old + 1 }
 {
     let node = nodes[top as usize];
@@ -46,6 +47,7 @@ pub fn sum_along<M: Summary, L: Ledger>(
         → AreSumsBut M.join (map_at M.unit cells.old) place t → AreSums M.join (map_at M.unit cells.new) t }
     ensures maps { (t : Tree) → HasCells (length cells.old.maps) nodes.now top t → KeepsMaps M.unit cells.old cells.new t }
     ensures slots { SameSlots cells.old cells.new }
+    ensures least { steps.old ≤ steps.new }
     ensures steps { (t : Tree) → HasCells (length cells.old.maps) nodes.now top t → steps.new ≤ steps.old + 2 * height t }
 {
     let node = nodes[top as usize];
@@ -82,6 +84,7 @@ pub fn write_leaves<M: Summary, L: Ledger>(
     ensures others { (t : Tree) → HasCells (length cells.old.maps) nodes.now top t → (j : ℕ) → ¬ Has t j
         → map_at M.unit cells.new j ≡ map_at M.unit cells.old j }
     ensures slots { SameSlots cells.old cells.new }
+    ensures least { steps.old ≤ steps.new }
     ensures steps { steps.new + 1 ≤ steps.old + 2 * length leaves.now }
 {
     let node = nodes[top as usize];

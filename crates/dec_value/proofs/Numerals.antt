@@ -1,9 +1,10 @@
 -- What decimal digits write, and the lowest form of what they write.
-use Rattle.std.proofs.Common.{◌≡◌, ℕ, suc, ◌+◌, ◌-◌, ◌*◌, ◌/◌, ◌%◌, ◌^◌, ◌<◌, ◌≤◌, ◌≢◌, List, [], ◌∷◌, ◌++◌, length, refl, arith, append_assoc, length-append, add-one, eqb, Bool, ◌&&◌, true, false, IsTrue, drop, get_or, drop-cons, length-drop, lit<, lit≤, ◌↔◌}
-use Rattle.std.proofs.lemmas.Nat.{pow-add, mul-le}
+use Rattle.std.proofs.Common.{◌≡◌, ℕ, suc, ◌+◌, ◌-◌, ◌*◌, ◌/◌, ◌%◌, ◌^◌, ◌<◌, ◌≤◌, ◌≢◌, List, [], ◌∷◌, ◌++◌, length, refl, sym, ap, ◌∙◌, arith, append_assoc, length-append, add-one, eqb, Bool, ◌&&◌, true, false, IsTrue, drop, get_or, drop-cons, length-drop, lit<, lit≤, ◌↔◌}
+use Rattle.std.proofs.lemmas.Nat.{mul-le}
 use Rattle.std.proofs.Math.Nat.{pow-suc, pow-le-pow_right, one-le-pow}
-use Rattle.std.proofs.lemmas.Int.Digits.{length-digits_of-le, length-digits_of_step, number_lt, number_digits_of, all_below_base_digits_of}
-use Rattle.std.specs.Char.{is_ascii_digit}
+use Rattle.std.proofs.lemmas.Int.Digits.{length-digits_of-le, length-digits_of_step, number_lt, number_digits_of, digits_value_push, all_below_base_digits_of}
+use Rattle.std.specs.Char.{is_ascii_digit, digit_value}
+use Rattle.std.specs.Str.Parse.{digits_value_after}
 use Rattle.std.specs.Int.Digits.{digits_of, number_from_digits}
 use Rattle.std.specs.Int.RustNames.{unsigned_abs}
 use Rattle.std.specs.List.{list_all}
@@ -11,13 +12,24 @@ use Rattle.dec_value.specs.Decimal.{Decimal, digit_count, total_digits_of, IsWit
 use Rattle.std.proofs.lemmas.Bool.Decides.{nat_tests}
 use Rattle.dec_value.specs.Literal.{number, lowest}
 
-pub number-append : (xs ys : List ℕ) → number (xs ++ ys) ≡ number xs * 10 ^ length ys + number ys
-number-append [] ys = omega arith
-number-append (d ∷ ds) ys =
-    rw (length-append ds ys, number-append ds ys, pow-add 10 (length ds) (length ys)) (omega arith)
+-- digits behind a number move it up
+value_after : (n : ℕ) (ds : List ℕ) → digits_value_after 10 n ds ≡ n * 10 ^ length ds + number ds
+value_after n [] = omega arith
+value_after n (d ∷ ds) =
+    let more = value_after (n * 10 + digit_value d) ds in
+    let own = value_after (0 * 10 + digit_value d) ds in
+    rw (more, own, pow-suc 10 (length ds)) (omega arith)
 
-pub number-push : (xs : List ℕ) (d : ℕ) → number (xs ++ d ∷ []) ≡ 10 * number xs + (d - 48)
-number-push xs d = omega (arith, number-append xs (d ∷ []))
+value_after-append : (n : ℕ) (xs ys : List ℕ) → digits_value_after 10 n (xs ++ ys) ≡ digits_value_after 10 (digits_value_after 10 n xs) ys
+value_after-append n [] ys = refl
+value_after-append n (x ∷ xs) ys = value_after-append (n * 10 + digit_value x) xs ys
+
+pub number-append : (xs ys : List ℕ) → number (xs ++ ys) ≡ number xs * 10 ^ length ys + number ys
+number-append xs ys = value_after-append 0 xs ys ∙ value_after (number xs) ys
+
+-- what a digit is worth
+digit_worth : (d : ℕ) → 48 ≤ d → d ≤ 57 → digit_value d ≡ d - 48
+digit_worth d low high = grind (arith, nat_tests)
 
 pub lowest-ten : (n m s : ℕ) → m ≡ 10 * n → lowest m (suc s) ≡ lowest n s
 lowest-ten n m s is = let e : eqb (m % 10) 0 ≡ true = grind (arith, nat_tests) in let q : m / 10 ≡ n = omega (arith, is) in rw (e, q) refl
@@ -31,10 +43,15 @@ pub and_right : (a b : Bool) → IsTrue (a && b) → IsTrue b
 and_right true b h = h
 and_right false b h = absurd (let e : false ≡ true = h in cc)
 
-pub number-step : (v : ℕ) (ds : List ℕ) (i : ℕ) → i < length ds
+pub number-step : (v : ℕ) (ds : List ℕ) (i : ℕ) → i < length ds → 48 ≤ get_or ds i 0 → get_or ds i 0 ≤ 57
     → (v * 10 + (get_or ds i 0 - 48)) * 10 ^ length (drop (i + 1) ds) + number (drop (i + 1) ds)
     ≡ v * 10 ^ length (drop i ds) + number (drop i ds)
-number-step v ds i h = rw (add-one, drop-cons ds i 0, pow-suc 10 (length (drop (suc i) ds))) (omega arith)
+number-step v ds i h low high =
+    let d = get_or ds i 0 in
+    let rest = drop (i + 1) ds in
+    let front : drop i ds ≡ d ∷ rest = rw add-one (drop-cons ds i 0 h) in
+    let worth : v * 10 + (d - 48) ≡ v * 10 + digit_value d = ap (λ n. v * 10 + n) (sym (digit_worth d low high)) in
+    ap (λ n. n * 10 ^ length rest + number rest) worth ∙ sym (value_after (v * 10 + digit_value d) rest) ∙ ap (digits_value_after 10 v) (sym front) ∙ value_after v (drop i ds)
 
 pub and_left : (a b : Bool) → IsTrue (a && b) → IsTrue a
 and_left true b h = refl
@@ -100,14 +117,14 @@ total-admits d r e n h = (
 pub trimmed : (rest front : List ℕ) (last : ℕ) → rest ≡ front ++ last ∷ [] → last ≡ 48
     → (whole : List ℕ) → lowest (number (whole ++ rest)) (length rest) ≡ lowest (number (whole ++ front)) (length front)
 trimmed rest front last e z whole =
-    let n : number ((whole ++ front) ++ last ∷ []) ≡ 10 * number (whole ++ front) = omega (arith, number-push (whole ++ front) last, z) in
+    let n : number ((whole ++ front) ++ last ∷ []) ≡ 10 * number (whole ++ front) = omega (arith, digits_value_push 10 (whole ++ front) last, ap digit_value z) in
     rw (e, ← append_assoc whole front (last ∷ []), length-append front (last ∷ []), add-one)
     (lowest-ten (number (whole ++ front)) (number ((whole ++ front) ++ last ∷ [])) (length front) n)
 
 pub untrimmed : (rest front : List ℕ) (last : ℕ) → rest ≡ front ++ last ∷ [] → last ≢ 48 → 48 ≤ last → last ≤ 57
     → (whole : List ℕ) → lowest (number (whole ++ rest)) (length rest) ≡ record { over = number (whole ++ rest); scale = length rest }
 untrimmed rest front last e z low high whole =
-    let n : number ((whole ++ front) ++ last ∷ []) % 10 ≢ 0 = λ zero. z (omega (arith, number-push (whole ++ front) last)) in
+    let n : number ((whole ++ front) ++ last ∷ []) % 10 ≢ 0 = λ zero. z (omega (arith, digits_value_push 10 (whole ++ front) last, digit_worth last low high)) in
     rw (e, ← append_assoc whole front (last ∷ []), length-append front (last ∷ []), add-one)
     (lowest-other (number ((whole ++ front) ++ last ∷ [])) (length front) n)
 

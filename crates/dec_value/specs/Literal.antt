@@ -1,8 +1,9 @@
 -- The literals of `decimal` (Datatypes 3.2.3.1), by the bytes of their text: an optional sign, then decimal
 -- digits with at most one point among, before or behind them, and at least one digit.
-use Rattle.std.specs.Prelude.{◌≡◌, ℕ, zero, suc, ◌+◌, ◌-◌, ◌*◌, ◌/◌, ◌%◌, ◌^◌, ◌==◌, not, Bool, false, ◌&&◌, ◌||◌, if◌then◌else◌, List, [], ◌∷◌, ◌++◌, length, ℤ, pos, negsuc, neg_ℤ, Result, Ok, Err, codes, refl}
+use Rattle.std.specs.Prelude.{◌≡◌, ℕ, zero, suc, ◌/◌, ◌%◌, ◌==◌, not, Bool, false, ◌&&◌, ◌||◌, if◌then◌else◌, List, [], ◌∷◌, ◌++◌, length, ℤ, pos, negsuc, neg_ℤ, Result, Ok, Err, codes, refl}
 use Rattle.std.specs.List.{before_first, after_first, list_all}
 use Rattle.std.specs.Char.{is_ascii_digit}
+use Rattle.std.specs.Str.Parse.{digits_value}
 use Rattle.dec_value.specs.Decimal.{Decimal, is_too_wide}
 use Rattle.dec_value.specs.declared.decimal.DecFault.{DecFault}
 use Rattle.dec_value.specs.declared.decimal.DecFault.TheVariants.{NotDecimal, TooWide}
@@ -34,10 +35,9 @@ are_digits whole fraction = (list_all is_ascii_digit whole && list_all is_ascii_
 abbrev pub is_literal : List ℕ → Bool
 is_literal text = are_digits (whole_part text) (fraction_part text)
 
--- the number that decimal digits write: each counts for the power of ten of its place
+-- the number that decimal digits write
 abbrev pub number : List ℕ → ℕ
-number [] = 0
-number (d ∷ ds) = (d - 48) * 10 ^ length ds + number ds
+number digits = digits_value 10 digits
 
 abbrev pub signed : Bool → ℕ → ℤ
 signed negative n = if negative then neg_ℤ (pos n) else pos n

@@ -5,6 +5,8 @@ ghost use Rattle.dec_value.specs.Decimal.{IsWithinTotalDigits, order_of, total_d
 ghost use Rattle.dec_value.specs.Grammar.{Reads};
 ghost use Rattle.dec_value.specs.Literal.{decimal_of};
 
+mod whole;
+
 use super::digits::{
     digit_count, is_literal, magnitude_of, power_of_ten, signed, split_at_point, split_sign,
     without_trailing_zeros,

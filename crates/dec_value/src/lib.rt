@@ -8,6 +8,3 @@ mod decimal;
 mod digits;
 
 pub use decimal::{Dec, DecFault};
-
-#[cfg(test)]
-mod tests;

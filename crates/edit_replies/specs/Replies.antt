@@ -1,5 +1,5 @@
 -- The replies to the lines of an edit script, as a fold over the tree.
-use Rattle.std.specs.Prelude.{◌≡◌, ℕ, List, [], ◌∷◌, ◌++◌, Bool, false, Option, Some, None, Result, Ok, Err, codes}
+use Rattle.std.specs.Prelude.{◌≡◌, ℕ, List, [], ◌∷◌, ◌++◌, false, Option, Some, None, Result, Ok, Err, codes}
 use Rattle.std.specs.Fmt.{decimal}
 use Rattle.tree_rows.specs.Forest.{Document}
 use Rattle.tree_edits.specs.Edits.{after}
@@ -14,7 +14,6 @@ use Rattle.session_model.specs.Asking.{entry_of}
 use Rattle.tree_rows.specs.Kinds.{kind_of}
 use Rattle.tree_rows.specs.declared.row.NodeKind.{NodeKind}
 use Rattle.tree_rows.specs.declared.row.NodeKind.TheVariants.{Element, Chars}
-use Rattle.edit_script.specs.Commands.{command}
 use Rattle.edit_script.specs.Faults as faults
 use Rattle.edit_script.specs.declared.command.Command.{Command}
 use Rattle.edit_script.specs.declared.command.Command.TheVariants as commands

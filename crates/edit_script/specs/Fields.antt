@@ -1,5 +1,7 @@
 -- The fields of a line.
-use Rattle.std.specs.Prelude.{ℕ, ◌+◌, ◌-◌, ◌*◌, List, [], ◌∷◌, Bool, ◌==◌, ◌&&◌, nat_le, nat_lt, length, Option, Some, None, Result, Ok, Err, if◌then◌else◌}
+use Rattle.std.specs.Prelude.{ℕ, List, Bool, ◌==◌, ◌&&◌, nat_le, nat_lt, length, Option, Some, None, Result, Ok, Err, if◌then◌else◌}
+use Rattle.std.specs.Char.{is_ascii_digit}
+use Rattle.std.specs.Str.Parse.{digits_value}
 use Rattle.std.specs.List.{before_first, after_first, position_or_len, list_all, list_any}
 use Rattle.edit_script.specs.declared.command.ScriptFault.{ScriptFault}
 use Rattle.edit_script.specs.declared.command.ScriptFault.TheVariants.{WrongFields, BadNumber}
@@ -25,18 +27,9 @@ needed (Some x) = Ok x
 abbrev pub last : List ℕ → Result (List ℕ) ScriptFault
 last field = if list_any is_space field then Err WrongFields else Ok field
 
--- from 0 to 9
-abbrev pub is_digit : ℕ → Bool
-is_digit b = nat_le 48 b && nat_le b 57
-
--- the number that decimal digits write when they follow those of n
-abbrev pub value_after : ℕ → List ℕ → ℕ
-value_after n [] = n
-value_after n (b ∷ bytes) = value_after (n * 10 + (b - 48)) bytes
-
--- decimal digits, of a number up to 4,294,967,295
+-- decimal digits, at least one, of a number up to 4,294,967,295
 abbrev pub is_number : List ℕ → Bool
-is_number field = nat_lt 0 (length field) && (list_all is_digit field && nat_le (value_after 0 field) 4294967295)
+is_number field = nat_lt 0 (length field) && (list_all is_ascii_digit field && nat_le (digits_value 10 field) 4294967295)
 
 abbrev pub number : List ℕ → Result ℕ ScriptFault
-number field = if is_number field then Ok (value_after 0 field) else Err BadNumber
+number field = if is_number field then Ok (digits_value 10 field) else Err BadNumber

@@ -1,5 +1,6 @@
 ghost use Rattle.std.specs.Prelude.{◌≡◌, Some, None, Ok, Err, MatchOption};
-ghost use Rattle.std.specs.List.{list_any};
+ghost use Rattle.std.specs.Char.{is_ascii_digit};
+ghost use Rattle.std.specs.List.{list_all, list_any};
 ghost use Rattle.edit_script.specs.Fields as fields;
 
 use crate::ScriptFault;
@@ -18,23 +19,22 @@ pub fn has_space(field: &str) -> bool
     field.as_bytes().iter().any(|b| *b == b' ')
 }
 
+/// Whether a field is decimal digits alone.
+fn is_digits(field: &str) -> bool
+    ensures { result ≡ list_all is_ascii_digit field.now }
+{
+    field.as_bytes().iter().all(|b| b.is_ascii_digit())
+}
+
 /// The number that decimal digits write.
 pub fn number(field: &str) -> Result<u32, ScriptFault>
     ensures { result ≡ fields.number field.now }
 {
-    if field.is_empty() {
+    if !is_digits(field) {
         return Err(ScriptFault::BadNumber);
     }
-    let bytes = field.as_bytes();
-    let mut value: u64 = 0;
-    for byte in bytes {
-        if *byte < b'0' || *byte > b'9' {
-            return Err(ScriptFault::BadNumber);
-        }
-        value = value * 10 + (*byte - b'0') as u64;
-        if value > u32::MAX as u64 {
-            return Err(ScriptFault::BadNumber);
-        }
+    match field.parse() {
+        Ok(number) => Ok(number),
+        Err(_) => Err(ScriptFault::BadNumber),
     }
-    Ok(value as u32)
 }

@@ -7,8 +7,6 @@ mod block;
 mod command;
 mod fields;
 mod script;
-#[cfg(test)]
-mod tests;
 
 pub use command::{Command, ScriptFault};
 pub use script::read_command;

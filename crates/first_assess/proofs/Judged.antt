@@ -1,5 +1,5 @@
 -- One turn from the last row to the first.
-use Rattle.std.proofs.Common.{◌≡◌, ℕ, ◌+◌, ◌-◌, ◌<◌, ◌≤◌, zero, suc, List, [], ◌∷◌, ◌++◌, Option, None, length, take, drop, get_or, reverse, slice_index_or, refl, sym, ap, ◌∙◌, arith, subst, add-one, drop-cons, length-drop, append_assoc}
+use Rattle.std.proofs.Common.{◌≡◌, ℕ, ◌+◌, ◌-◌, ◌<◌, ◌≤◌, zero, suc, List, [], ◌∷◌, ◌++◌, Option, None, length, take, drop, get_or, reverse, slice_index_or, sym, ap, ◌∙◌, arith, subst, drop-cons, length-drop, append_assoc}
 use Rattle.std.proofs.lemmas.List.{take_all, reverse-append}
 use Rattle.tree_rows.specs.Forest.{Forest, none, text, element}
 use Rattle.tree_rows.specs.Rows.{rows_of}

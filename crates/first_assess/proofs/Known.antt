@@ -1,5 +1,5 @@
 -- What is known of the siblings of each depth, with one more row in front.
-use Rattle.std.proofs.Common.{◌≡◌, ℕ, ◌+◌, ◌-◌, ◌≤◌, List, ◌∷◌, Bool, true, false, ◌==◌, nat_lt, Option, None, Some, slice_index_or, if◌then◌else◌, refl, sym, ap, ◌∙◌, arith, subst}
+use Rattle.std.proofs.Common.{◌≡◌, ℕ, ◌+◌, ◌-◌, ◌≤◌, List, ◌∷◌, Bool, true, false, ◌==◌, nat_lt, Some, slice_index_or, if◌then◌else◌, refl, sym, ap, ◌∙◌, arith, subst}
 use Rattle.std.proofs.lemmas.Bool.Decides.{nat_tests}
 use Rattle.tree_rows.specs.Rows.{siblings}
 use Rattle.tree_rows.specs.declared.row.Attribute.{Attribute}
@@ -11,7 +11,6 @@ use Rattle.tree_rows.specs.declared.name.Expanded.{Expanded}
 use Rattle.tree_rows.specs.declared.row.Binding.{Binding}
 use Rattle.assess_model.specs.Tables.{Tables}
 use Rattle.assess_model.specs.Assessment.{governing, summary, nothing_below, with_child, record_from, codes_of}
-use Rattle.assess_model.specs.declared.record.TypeId.{TypeId}
 use Rattle.assess_model.specs.declared.record.ChildSummary.{ChildSummary}
 use Rattle.first_assess.specs.Paths.{Path, opened, row_type}
 use Rattle.first_assess.specs.Rows.{record_by, row_record, with_node}

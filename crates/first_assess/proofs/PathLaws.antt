@@ -1,5 +1,5 @@
 -- The path to a row, one row at a time.
-use Rattle.std.proofs.Common.{◌≡◌, ℕ, ◌+◌, ◌<◌, zero, suc, List, [], ◌∷◌, ◌++◌, Option, length, take, drop, get_or, refl, sym, ap, ◌∙◌, arith, add-one, drop-cons, append_assoc}
+use Rattle.std.proofs.Common.{◌≡◌, ℕ, ◌+◌, ◌<◌, zero, suc, List, [], ◌∷◌, ◌++◌, Option, length, take, drop, get_or, sym, ap, ◌∙◌, arith, add-one, drop-cons, append_assoc}
 use Rattle.tree_rows.specs.declared.row.Row.{Row}
 use Rattle.assess_model.specs.Tables.{Tables}
 use Rattle.assess_model.specs.declared.record.TypeId.{TypeId}

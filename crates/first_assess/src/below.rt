@@ -3,8 +3,8 @@ ghost use Rattle.tree_rows.specs.Rows.{siblings};
 ghost use Rattle.assess_model.specs.Assessment.{child_names, has_characters};
 
 use std::alloc::{AllocError, Global};
-use tree_rows::{Content, Row, is_white_space};
-use xs_names::Texts;
+use tree_rows::{Content, Row};
+use xs_names::{Texts, is_white_space};
 
 /// The names of the child elements of an element of this depth, by the rows behind it.
 pub fn read_child_names(alloc: Global, depth: u32, later: &[Row]) -> Result<Texts, AllocError>

@@ -9,8 +9,8 @@ use crate::govern::govern_rows;
 use crate::judge::{judge, judge_codes, put_child};
 use assess_model::{ChildSummary, ElementRecord, Schema, TypeId};
 use std::alloc::{AllocError, Global};
-use std::marker::Model;
 use tree_rows::{Content, Row};
+use xs_lists::Listed;
 
 const NOTHING_BELOW: ChildSummary = ChildSummary {
     any_invalid: false,
@@ -18,29 +18,8 @@ const NOTHING_BELOW: ChildSummary = ChildSummary {
     all_none: true,
 };
 
-/// The records of a tree's nodes in document order, none for a text. Contracts see their list.
-#[derive(Debug, Drop)]
-pub struct Records {
-    inner: Vec<Option<ElementRecord>>,
-}
-
-impl Model for Records {
-    ghost use Rattle.std.specs.Prelude.{List, Option};
-    ghost use Rattle.assess_model.specs.declared.record.ElementRecord.{ElementRecord};
-
-    ghost Value = { List (Option ElementRecord) };
-
-    ghost view = { λ records. records.inner.items };
-}
-
-impl Records {
-    /// The records in order.
-    pub fn as_slice(&self) -> &[Option<ElementRecord>]
-        ensures { result.now ≡ self.now }
-    {
-        self.inner.as_slice()
-    }
-}
+/// The records of a tree's nodes in document order, none for a text.
+pub type Records = Listed<Option<ElementRecord>>;
 
 /// What governs the row of a place.
 fn own_type(types: &[Option<TypeId>], place: usize) -> Option<TypeId>
@@ -146,5 +125,5 @@ pub fn assess(alloc: Global, schema: &Schema, rows: &[Row]) -> Result<Records, A
     let types = govern_rows(alloc, schema, rows)?;
     let mut records = judge_rows(alloc, schema, &types, rows)?;
     records.reverse();
-    Ok(Records { inner: records })
+    Ok(Records::from_vec(records))
 }

@@ -1,5 +1,5 @@
 -- What an element of a schema document says by itself, where it is of the first form.
-use Rattle.std.specs.Prelude.{ℕ, List, Bool, true, false, ◌&&◌, not, Option, Some, None, is_none, option_and_then, codes, if◌then◌else◌}
+use Rattle.std.specs.Prelude.{ℕ, List, Bool, false, ◌&&◌, not, Option, Some, None, is_none, option_and_then, codes, if◌then◌else◌}
 use Rattle.std.specs.Str.{bytes_eq}
 use Rattle.tree_rows.specs.declared.row.Row.{Row}
 use Rattle.tree_rows.specs.declared.row.Content.{Content}

@@ -4,7 +4,6 @@ use Rattle.std.specs.Option.{option_map}
 use Rattle.tree_rows.specs.declared.row.Row.{Row}
 use Rattle.first_models.specs.Members.{Content as GroupContent, all_differ}
 use Rattle.assess_model.specs.Tables.{Tables}
-use Rattle.assess_model.specs.declared.record.TypeId.{TypeId}
 use Rattle.assess_model.specs.declared.tables.Declaration.{Declaration}
 use Rattle.assess_model.specs.declared.tables.DeclaredType.{DeclaredType}
 use Rattle.assess_model.specs.declared.tables.ComplexType.{ComplexType}

@@ -1,5 +1,5 @@
 -- The rows of a schema document, each read in its scope.
-use Rattle.std.specs.Prelude.{ℕ, List, [], ◌∷◌, ◌++◌, nat_lt, map, filter, Option, Some, None}
+use Rattle.std.specs.Prelude.{List, [], ◌∷◌, ◌++◌, nat_lt, map, filter, Option, Some, None}
 use Rattle.std.specs.Option.{option_map}
 use Rattle.tree_rows.specs.declared.row.Row.{Row}
 use Rattle.first_form.specs.declared.scope.Held.{Held}

@@ -6,8 +6,6 @@ mod laws;
 mod node;
 mod occurs;
 mod particles;
-#[cfg(test)]
-mod tests;
 
 pub use content_model::ContentModel;
 pub use laws::stuck_places;

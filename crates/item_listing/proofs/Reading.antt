@@ -4,7 +4,8 @@ use Rattle.std.specs.Option.{option_or}
 use Rattle.std.specs.List.{position_or_len, before_first, after_first}
 use Rattle.std.proofs.lemmas.Bool.Decides.{nat_tests}
 use Rattle.item_listing.specs.Lines.{Cut, cut, without_return}
-use Rattle.item_listing.specs.Limits.{most_bytes, past_limit, feed_past, byte_after_end}
+use Rattle.item_listing.specs.declared.limits.TheConstants.{MOST_BYTES}
+use Rattle.item_listing.specs.Limits.{past_limit, feed_past, byte_after_end}
 use Rattle.item_listing.specs.State.{Reading}
 use Rattle.item_listing.specs.Items.{item}
 use Rattle.item_listing.specs.Listing.{and_line, unless, whole_line, after_end, begun_line, at_next, read_whole, read_begun, next_of, next, after, fed, bytes_taken, IsDrained, IsFault, GivesBegun}
@@ -167,11 +168,11 @@ or_left : (a b : Option Reason) → option_or a b ≡ None → a ≡ None
 or_left None b e = refl
 or_left (Some x) b e = cc
 
-few_by : (p : Past) (held : List ℕ) (closed : Bool) (t : Bool) → p.ended ≡ t → p.bytes ≤ most_bytes → begun_line p held closed ≡ None → p.bytes + length held ≤ most_bytes
+few_by : (p : Past) (held : List ℕ) (closed : Bool) (t : Bool) → p.ended ≡ t → p.bytes ≤ MOST_BYTES → begun_line p held closed ≡ None → p.bytes + length held ≤ MOST_BYTES
 few_by p held closed true e few h = let none = after_end-none p held (rw e at h) in omega (arith, none)
 few_by p held closed false e few h = past_limit-none p.bytes 0 held few (or_left (past_limit p.bytes 0 held) _ (rw e at h))
 
-pub drained : (r : Reading) → next r ≡ Ok None → r.past.bytes ≤ most_bytes → ((cut r.held).whole ≡ []) × (bytes_taken r ≤ most_bytes)
+pub drained : (r : Reading) → next r ≡ Ok None → r.past.bytes ≤ MOST_BYTES → ((cut r.held).whole ≡ []) × (bytes_taken r ≤ MOST_BYTES)
 drained r e few =
     let b = is_begun r e in
     (ap (λ (c : Cut). c.whole) (cut-none r.held b.absent), few_by r.past r.held r.finished r.past.ended refl few b.allowed)
@@ -192,7 +193,7 @@ pub reads_on : (old new : Reading) (o : Option Item) → next old ≡ Ok o → n
 reads_on old new None e left = reads-none old e
 reads_on old new (Some it) e left = λ more closed. reads-item old it e more closed ∙ ap (λ r. gives it (listed r more closed)) (sym left)
 
-pub drained_if : (r : Reading) (o : Option Item) → next r ≡ Ok o → r.past.bytes ≤ most_bytes → IsDrained r (Ok o)
+pub drained_if : (r : Reading) (o : Option Item) → next r ≡ Ok o → r.past.bytes ≤ MOST_BYTES → IsDrained r (Ok o)
 drained_if r None e few = drained r e few
 drained_if r (Some it) e few = tt
 

@@ -3,7 +3,8 @@ use Rattle.std.specs.Prelude.{◌≡◌, ℕ, ◌+◌, ◌≤◌, List, [], ◌�
 use Rattle.std.specs.Option.{option_or}
 use Rattle.std.specs.List.{before_first, after_first}
 use Rattle.item_listing.specs.Lines.{cut, without_return}
-use Rattle.item_listing.specs.Limits.{most_bytes, past_limit, whole_past, byte_after_end}
+use Rattle.item_listing.specs.declared.limits.TheConstants.{MOST_BYTES}
+use Rattle.item_listing.specs.Limits.{past_limit, whole_past, byte_after_end}
 use Rattle.item_listing.specs.State.{Reading}
 use Rattle.item_listing.specs.Items.{item}
 use Rattle.item_listing.specs.declared.item.Item.{Item}
@@ -106,7 +107,7 @@ Leaves old (Err fault) new = new ≡ old
 
 -- nothing was read: no whole line is held, and no more bytes were taken than a stream has
 abbrev pub IsDrained : Reading → Result (Option Item) ListingFault → Type 0
-IsDrained r (Ok None) = ((cut r.held).whole ≡ []) × (bytes_taken r ≤ most_bytes)
+IsDrained r (Ok None) = ((cut r.held).whole ≡ []) × (bytes_taken r ≤ MOST_BYTES)
 IsDrained r (Ok (Some it)) = Unit {0}
 IsDrained r (Err fault) = Unit {0}
 

@@ -1,3 +1,4 @@
+use xs_lists::Listed;
 use xs_names::{Text, Texts};
 
 /// The locations of a schema section.
@@ -29,6 +30,9 @@ pub enum Item {
     /// Any other line that begins with a letter from `a` to `z`, whole.
     Command(Text),
 }
+
+/// Items in the order of their lines.
+pub type Items = Listed<Item>;
 
 /// Why a line is refused.
 #[derive(Clone, Copy, Debug, PartialEq, Eq)]

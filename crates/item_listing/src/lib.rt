@@ -8,18 +8,15 @@
 
 mod escape;
 mod item;
-mod items;
 mod limits;
 mod line;
 mod listing;
 mod locations;
 mod past;
-#[cfg(test)]
-mod tests;
 
 pub use escape::unescape;
-pub use item::{Item, Locations, Reason};
-pub use items::Items;
+pub use item::{Item, Items, Locations, Reason};
+pub use limits::{MOST_BYTES, MOST_LINE};
 pub use line::read_item;
 pub use listing::{Listing, faults_stay, lines_are_cut};
 pub use past::ListingFault;

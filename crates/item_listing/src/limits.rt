@@ -1,5 +1,5 @@
 ghost use Rattle.std.specs.Prelude.{◌≡◌, ℕ, ◌≤◌, List, length};
-ghost use Rattle.item_listing.specs.Limits.{most_bytes, past_limit, whole_past, byte_after_end};
+ghost use Rattle.item_listing.specs.Limits.{past_limit, whole_past, byte_after_end};
 
 use crate::Reason;
 
@@ -11,7 +11,7 @@ pub const MOST_LINE: usize = 1_048_576;
 
 /// The limit that so many bytes of a line pass, its line feed apart, behind so many bytes of the stream.
 pub fn begun_limit(before: usize, count: usize) -> Option<Reason>
-    requires { before ≤ most_bytes }
+    requires { before ≤ MOST_BYTES }
     ensures { (line : List ℕ) → length line ≡ count → result ≡ past_limit before 0 line }
 {
     let room = MOST_BYTES - before;
@@ -30,7 +30,7 @@ pub fn begun_limit(before: usize, count: usize) -> Option<Reason>
 
 /// The limit that a line of so many bytes passes with its line feed, behind so many bytes of the stream.
 pub fn whole_limit(before: usize, count: usize) -> Option<Reason>
-    requires { before ≤ most_bytes }
+    requires { before ≤ MOST_BYTES }
     ensures { (line : List ℕ) → length line ≡ count → result ≡ whole_past before line }
 {
     match begun_limit(before, count) {

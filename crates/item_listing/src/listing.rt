@@ -1,7 +1,7 @@
 ghost use Rattle.std.specs.Prelude.{◌≡◌, [], ◌≤◌, ◌-◌, ◌==◌, ◌++◌, false, true, List, ℕ, Bool, length, take, drop, position, vec_len, OnOk, OnErr, IfOk, IfErr};
 ghost use Rattle.std.specs.List.{list_any};
 ghost use Rattle.item_listing.specs.Items.{Gives};
-ghost use Rattle.item_listing.specs.Limits.{most_bytes};
+ghost use Rattle.item_listing.specs.declared.limits.TheConstants.{MOST_BYTES};
 ghost use Rattle.item_listing.specs.Lines.{cut, joined, HaveNoFeed, without_return};
 ghost use Rattle.item_listing.specs.Listing.{whole_line, begun_line, next, after, fed, bytes_taken, IsFault, GivesBegun, Leaves, IsDrained};
 ghost use Rattle.item_listing.specs.Listed.{listed, ReadsOn};
@@ -89,7 +89,7 @@ fn drop_front(bytes: &mut Vec<u8>, at: usize)
 
 /// What a whole line says, without its line feed.
 fn read_whole(alloc: Global, past: Past, line: &[u8]) -> Result<Item, LineError>
-    requires { past.bytes ≤ most_bytes }
+    requires { past.bytes ≤ MOST_BYTES }
     ensures { Gives result (whole_line past line.now) }
 {
     if past.ended {
@@ -103,7 +103,7 @@ fn read_whole(alloc: Global, past: Past, line: &[u8]) -> Result<Item, LineError>
 
 /// Why the bytes of a begun line, or none, are refused without its line feed.
 fn refuse_begun(past: Past, begun: &[u8], finished: bool) -> Option<Reason>
-    requires { past.bytes ≤ most_bytes }
+    requires { past.bytes ≤ MOST_BYTES }
     ensures { result ≡ begun_line past begun.now finished }
 {
     if past.ended {
@@ -121,7 +121,7 @@ fn refuse_begun(past: Past, begun: &[u8], finished: bool) -> Option<Reason>
 
 /// Nothing, unless the bytes of a begun line, or none, are refused.
 fn read_begun(past: Past, begun: &[u8], finished: bool) -> Result<Option<Item>, ListError>
-    requires bytes { past.bytes ≤ most_bytes }
+    requires bytes { past.bytes ≤ MOST_BYTES }
     requires lines { past.lines ≤ past.bytes }
     ensures { GivesBegun result past (begun_line past begun.now finished) }
 {
@@ -190,7 +190,7 @@ impl Listing {
         ensures item { IfOk result (λ it. next self.old ≡ Ok it) }
         ensures after { IfOk result (λ it. self.new ≡ after self.old it) }
         ensures fault { IfErr result (IsFault self.old) }
-        ensures few { self.old.past.bytes ≤ most_bytes }
+        ensures few { self.old.past.bytes ≤ MOST_BYTES }
         ensures err { OnErr result (self.new ≡ self.old) }
     {
         let rest = &self.bytes[self.at..];

@@ -1,5 +1,5 @@
 ghost use Rattle.std.specs.Prelude.{◌≡◌, ℕ, ◌+◌, ◌≤◌, ◌<◌, List, length};
-ghost use Rattle.item_listing.specs.Limits.{most_bytes};
+ghost use Rattle.item_listing.specs.declared.limits.TheConstants.{MOST_BYTES};
 ghost use Rattle.item_listing.specs.Listing.{and_line, at_next, opens, ends};
 ghost use Rattle.item_listing.specs.State.{nothing_past};
 
@@ -48,7 +48,7 @@ impl Past {
 
     /// A further line, of this many bytes before its line feed.
     pub fn and_line(self, count: usize, item: &Item) -> Self
-        requires bytes { self.bytes + count < most_bytes }
+        requires bytes { self.bytes + count < MOST_BYTES }
         requires lines { self.lines ≤ self.bytes }
         ensures { (line : List ℕ) → length line ≡ count → result ≡ and_line self line item.now }
     {
@@ -62,7 +62,7 @@ impl Past {
 
     /// A fault of the line that comes next.
     pub fn at_next(self, reason: Reason) -> ListingFault
-        requires bytes { self.bytes ≤ most_bytes }
+        requires bytes { self.bytes ≤ MOST_BYTES }
         requires lines { self.lines ≤ self.bytes }
         ensures { result ≡ at_next self reason }
     {

@@ -1,16 +1,16 @@
 -- A leaf with other flags.
-use Rattle.std.proofs.Common.{◌≡◌, ℕ, zero, suc, ◌+◌, ◌-◌, ◌<◌, ◌≤◌, max, true, false, cond, List, ◌++◌, length, get_or, set, refl, sym, ap, ◌∙◌, subst, inl, inr, arith}
+use Rattle.std.proofs.Common.{◌≡◌, ℕ, zero, suc, ◌+◌, ◌-◌, ◌<◌, ◌≤◌, max, true, false, cond, List, ◌++◌, get_or, set, refl, sym, ap, ◌∙◌, subst, inl, inr, arith}
 use Rattle.std.specs.Prelude.{nat_lt}
-use Rattle.std.proofs.lemmas.Bool.{cases_lt, cases_eq}
+use Rattle.std.proofs.lemmas.Bool.{cases_lt}
 use Rattle.leaf_trees.specs.declared.node.Node.{Node}
 use Rattle.leaf_trees.specs.declared.node.Flags.{Flags}
-use Rattle.leaf_trees.specs.Tree.{Item, Tree, leaf, fork, root, size, height, counted, leaves, items, item_of, IsAvl}
+use Rattle.leaf_trees.specs.Tree.{Item, Tree, leaf, fork, size, height, leaves, items, item_of, IsAvl}
 use Rattle.leaf_trees.specs.Balance.{flag_at}
-use Rattle.leaf_trees.specs.Arena.{at, IsTaken, IsUsed, HasTree}
-use Rattle.leaf_trees.specs.Change.{Sides, Becomes, Recounts}
+use Rattle.leaf_trees.specs.Arena.{at}
+use Rattle.leaf_trees.specs.Change.{Sides, Becomes}
 use Rattle.leaf_trees.proofs.Turns.{new_left, new_right}
 use Rattle.leaf_trees.proofs.Lean.{lt_is, ge_is, then_left, then_right, beside_left, beside_right}
-use Rattle.leaf_trees.proofs.Parts.{Parts, leaf_of, top_height, top_within}
+use Rattle.leaf_trees.proofs.Parts.{Parts}
 use Rattle.leaf_trees.proofs.Balanced.{length-leaves}
 use Rattle.leaf_trees.proofs.Items.{items_left, items_right}
 use Rattle.std.proofs.lemmas.List.{set-append_left, set-append_right}

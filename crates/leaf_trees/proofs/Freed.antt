@@ -2,12 +2,12 @@
 use Rattle.std.proofs.Common.{◌≡◌, ℕ, ◌<◌, List, length, get_or, sym, ap, ◌∙◌, subst, inl, inr, arith}
 use Rattle.std.proofs.lemmas.List.{get_or_read}
 use Rattle.leaf_trees.specs.declared.node.Node.{Node}
-use Rattle.leaf_trees.specs.Tree.{Tree, root, Has}
+use Rattle.leaf_trees.specs.Tree.{Tree, Has}
 use Rattle.leaf_trees.specs.Arena.{at, IsTaken, IsUsed, HasTree, IsTreeOf, IsInUse}
 use Rattle.leaf_trees.specs.Change.{Slots, KeepsOthers}
 use Rattle.leaf_trees.specs.Slots.{Gives, Frees}
 use Rattle.leaf_trees.proofs.Held.{has_top, Holds-same}
-use Rattle.leaf_trees.proofs.Parts.{Parts, leaf_of, top_height}
+use Rattle.leaf_trees.proofs.Parts.{Parts}
 use Rattle.leaf_trees.proofs.Forest.{tree_kept}
 use Rattle.leaf_trees.proofs.Changed.{kept_apart}
 

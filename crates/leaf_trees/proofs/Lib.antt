@@ -17,4 +17,3 @@ pub mod Told
 pub mod Climb
 pub mod Freed
 pub mod Built
-pub mod Tested

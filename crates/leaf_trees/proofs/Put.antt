@@ -10,7 +10,7 @@ use Rattle.leaf_trees.specs.Arena.{at, IsTaken, IsUsed}
 use Rattle.leaf_trees.specs.Change.{Sides, Becomes, Ready, HasRoom, WritesLeaf}
 use Rattle.leaf_trees.proofs.Held.{positive, height_of_top, counts_of_top, Holds-same}
 use Rattle.leaf_trees.proofs.Turns.{new_left, new_right, forked, flip}
-use Rattle.leaf_trees.proofs.Lean.{le_is, gt_is, lt_is, ge_is, then_left, then_right}
+use Rattle.leaf_trees.proofs.Lean.{le_is, gt_is, then_left, then_right}
 use Rattle.leaf_trees.proofs.Balanced.{size-balanced, leaves-balanced, length-leaves, balances}
 
 pub size-put_in : (i : ℕ) (x : Item) (k : ℕ) (t : Tree) → size (put_in i x k t) ≡ size t + 1

@@ -15,7 +15,7 @@ use Rattle.leaf_trees.proofs.Held.{positive, has_top}
 use Rattle.leaf_trees.proofs.Turns.{new_left, new_right}
 use Rattle.leaf_trees.proofs.Lean.{lt_is, ge_is, then_left, then_right, beside_left, beside_right}
 use Rattle.leaf_trees.proofs.Balanced.{size-balanced, leaves-balanced, length-leaves, balances}
-use Rattle.leaf_trees.proofs.Parts.{Parts, leaf_of}
+use Rattle.leaf_trees.proofs.Parts.{Parts}
 
 -- how many leaves are left, and which
 pub rest_size : Option Tree → ℕ

@@ -1,14 +1,13 @@
 -- What a tree tells of its items.
-use Rattle.std.proofs.Common.{◌≡◌, ℕ, zero, suc, ◌+◌, ◌-◌, ◌<◌, ◌≤◌, Bool, true, false, cond, List, [], ◌∷◌, ◌++◌, map, filter, take, length, get_or, refl, sym, ap, ◌∙◌, subst, arith, length-append}
-use Rattle.std.proofs.lemmas.List.{map-append, get_or_append_left, get_or-append_right, take-append-le, take_all, length-take}
+use Rattle.std.proofs.Common.{◌≡◌, ℕ, suc, ◌+◌, ◌-◌, ◌<◌, ◌≤◌, true, false, cond, List, [], ◌∷◌, ◌++◌, map, filter, take, length, get_or, refl, sym, ap, ◌∙◌, subst, arith, length-append}
+use Rattle.std.proofs.lemmas.List.{map-append, get_or_append_left, get_or-append_right, take-append-le, length-take}
 use Rattle.std.proofs.Math.Seq.{take-append-add}
 use Rattle.std.proofs.lemmas.List.Elements.{filter-append}
 use Rattle.leaf_trees.specs.declared.node.Node.{Node}
-use Rattle.leaf_trees.specs.Tree.{Item, Tree, leaf, fork, root, size, counts, leaves, bit, marked_items, elements_before, IsItemAt}
-use Rattle.leaf_trees.specs.Arena.{at, HasTree}
+use Rattle.leaf_trees.specs.Tree.{Item, Tree, leaf, fork, size, counts, leaves, bit, marked_items, elements_before, IsItemAt}
 use Rattle.leaf_trees.proofs.Balanced.{length-leaves}
 use Rattle.leaf_trees.proofs.Items.{items_left, items_right}
-use Rattle.leaf_trees.proofs.Parts.{Parts, leaf_of, top_height}
+use Rattle.leaf_trees.proofs.Parts.{Parts}
 
 pub item_on_left : (ns : List Node) (top place item : ℕ) (t : Tree) (P : Parts ns top t) → IsItemAt P.l place item → IsItemAt t place item
 item_on_left ns top place item t P A = subst (λ (x : Tree). IsItemAt x place item) (sym P.is) (record { within = (let w = A.within in omega arith); is = items_left P.l P.r place A.within ∙ A.is })

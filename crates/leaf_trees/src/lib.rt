@@ -35,7 +35,5 @@ mod edit;
 mod link;
 mod node;
 mod read;
-#[cfg(test)]
-mod tests;
 mod trees;
 mod whole;

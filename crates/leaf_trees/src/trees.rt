@@ -1,6 +1,6 @@
 //! The trees of many lists.
 
-ghost use Rattle.std.specs.Prelude.{◌≡◌, ℕ, ◌+◌, ◌*◌, ◌^◌, ◌<◌, ◌≤◌, List, [], length, map, insert, remove, set, slice_index, MatchOption, OnOk, OnErr, is_some, if◌then◌else◌};
+ghost use Rattle.std.specs.Prelude.{◌≡◌, ℕ, ◌+◌, ◌-◌, ◌*◌, ◌^◌, ◌<◌, ◌≤◌, List, [], length, map, insert, remove, set, slice_index, MatchOption, OnOk, OnErr, is_some, if◌then◌else◌};
 ghost use Rattle.leaf_trees.specs.Tree.{Tree, leaf, size, leaves, leaves as leaves_of, items, item_of, flags_of, marked_items, elements_before, IsItemAt};
 ghost use Rattle.leaf_trees.specs.Arena.{IsTreeOf, HasTree, IsFreeSlot, IsInUse};
 ghost use Rattle.leaf_trees.specs.Slots.{Takes, Gives, Builds, Frees};
@@ -78,7 +78,14 @@ impl Trees {
         self.nodes.as_slice()
     }
 
-    /// Makes sure of so many free slots.
+    /// How many slots are free.
+    pub fn spare(&self) -> u32
+        ensures { result ≡ self.now.spare }
+    {
+        self.spare
+    }
+
+    /// Makes sure of so many free slots. It makes no more slots than are missing.
     ///
     /// # Errors
     /// When memory runs out, or slot numbers do. There may be more free slots then, too.
@@ -86,7 +93,8 @@ impl Trees {
         ensures ok { OnOk result (slots ≤ self.new.spare) }
         ensures grows { Grows self.old.nodes self.new.nodes }
         ensures others { KeepsAll self.old.nodes self.new.nodes }
-        ensures most { length self.new.nodes ≤ length self.old.nodes + slots }
+        ensures in_use { length self.new.nodes + self.old.spare ≡ length self.old.nodes + self.new.spare }
+        ensures most { length self.new.nodes ≤ length self.old.nodes + (slots - self.old.spare) }
     {
         while self.spare < slots {
             self.grow()?;

@@ -1,9 +1,10 @@
 pub mod Apart
 pub mod Chains
+pub mod Fillings
 pub mod Frames
-pub mod Holding
 pub mod Keeping
 pub mod Lists
+pub mod Made
 pub mod Marking
 pub mod Places
 pub mod Said

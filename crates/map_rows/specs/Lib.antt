@@ -1,5 +1,5 @@
+pub mod Filling
 pub mod Free
-pub mod Held
 pub mod Kept
 pub mod Marks
 pub mod Memory

@@ -1,18 +1,19 @@
 //! Rows under their numbers.
 
 ghost use Rattle.std.specs.Prelude.{◌≡◌, ◌≢◌, ℕ, ◌+◌, ◌-◌, ◌<◌, ◌≤◌, List, [], Some, None, replicate, slice_index, slice_set, IfOk, OnErr};
+ghost use Rattle.map_rows.specs.Filling.{CanFill, CanPair, plain_row, pair_row};
 ghost use Rattle.map_rows.specs.Rows.{RowMap, get, IsLive, IsRow, AreRows, Updates, identity, composed, added};
 
 use crate::block::Block;
 use crate::live::Live;
 use crate::place::{clear_link, find, read, write};
 use crate::spare::Spare;
-use crate::whole::{write_composition, write_identity, write_sums, write_zeros};
+use crate::whole::{Filling, Operation, Plain, write_row};
 use std::alloc::{AllocError, Global};
 use std::marker::Model;
 use xsv_steps::{Ledger, Steps};
 
-/// The number of a row.
+/// The number of a row in a `Rows`. A number that was given back comes again. Contracts see the number.
 #[derive(Clone, Copy, Debug, PartialEq, Eq)]
 pub struct RowId {
     number: u32,
@@ -26,6 +27,15 @@ impl Model for RowId {
     ghost view = { λ r. r.number };
 
     ghost inverse = { λ n. record { number = n } };
+}
+
+impl RowId {
+    /// The number.
+    pub fn number(&self) -> u32
+        ensures { result ≡ self.now }
+    {
+        self.number
+    }
 }
 
 /// Many rows of numbers. Each row has `width` cells, and no cell is above the cap.
@@ -141,8 +151,7 @@ impl Rows {
         ensures row { Updates self.old self.new row (Some (replicate self.old.width 0)) }
         ensures rows { AreRows self.new }
     {
-        let place = find(&self.blocks, self.width, row.number);
-        write_zeros(&mut self.blocks, place, self.width);
+        self.fill(row, Plain::Zeros);
     }
 
     /// Writes into each cell its own place.
@@ -152,8 +161,7 @@ impl Rows {
         ensures row { Updates self.old self.new row (Some (identity self.old.width)) }
         ensures rows { AreRows self.new }
     {
-        let place = find(&self.blocks, self.width, row.number);
-        write_identity(&mut self.blocks, place, self.width);
+        self.fill(row, Plain::Places);
     }
 
     /// Makes a row the second map after the first. It takes one step.
@@ -175,10 +183,7 @@ impl Rows {
         ensures steps { steps.new ≡ steps.old + 1 }
     {
         steps.tick(); // a composition
-        let first = find(&self.blocks, self.width, first.number);
-        let second = find(&self.blocks, self.width, second.number);
-        let out = find(&self.blocks, self.width, out.number);
-        write_composition(&mut self.blocks, first, second, out, self.width);
+        self.combine(Operation::Composition, first, second, out);
     }
 
     /// Makes a row the sum of two, cell by cell, with the cap where a sum is above it. It takes one step.
@@ -199,10 +204,7 @@ impl Rows {
         ensures steps { steps.new ≡ steps.old + 1 }
     {
         steps.tick(); // a sum
-        let first = find(&self.blocks, self.width, first.number);
-        let second = find(&self.blocks, self.width, second.number);
-        let out = find(&self.blocks, self.width, out.number);
-        write_sums(&mut self.blocks, first, second, out, self.width, self.cap);
+        self.combine(Operation::Sum { cap: self.cap }, first, second, out);
     }
 
     /// What the map has at a number. It takes one step.
@@ -217,9 +219,35 @@ impl Rows {
         steps.tick(); // an application
         self.cell(row, state)
     }
-}
 
-#[cfg(test)]
-mod held;
-#[cfg(test)]
-mod tests;
+    /// Writes a row that is made from no other.
+    fn fill(&mut self, row: RowId, plain: Plain)
+        requires row { IsLive self.old row }
+        requires plain { CanFill self.old plain }
+        ensures row { Updates self.old self.new row (Some (plain_row self.old.width plain)) }
+        ensures rows { AreRows self.new }
+    {
+        let place = find(&self.blocks, self.width, row.number);
+        write_row(&mut self.blocks, place, self.width, Filling::Alone(plain));
+    }
+
+    /// Writes the row that two others give together.
+    fn combine(&mut self, operation: Operation, first: RowId, second: RowId, out: RowId)
+        requires operation { CanPair self.old operation }
+        requires first { IsLive self.old first }
+        requires second { IsLive self.old second }
+        requires out { IsLive self.old out }
+        requires not_first { out ≢ first }
+        requires not_second { out ≢ second }
+        ensures row { (xs ys : List ℕ) → get self.old first ≡ Some xs → get self.old second ≡ Some ys → Updates self.old self.new out (Some (pair_row operation xs ys)) }
+        ensures rows { AreRows self.new }
+    {
+        let place = find(&self.blocks, self.width, out.number);
+        let filling = Filling::Pair {
+            operation,
+            first: find(&self.blocks, self.width, first.number),
+            second: find(&self.blocks, self.width, second.number),
+        };
+        write_row(&mut self.blocks, place, self.width, filling);
+    }
+}

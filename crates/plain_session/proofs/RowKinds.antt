@@ -1,5 +1,5 @@
 -- What the row of a number is, in the rows of a tree.
-use Rattle.std.proofs.Common.{◌≡◌, ℕ, ◌+◌, List, [], ◌∷◌, ◌++◌, Bool, true, false, ◌==◌, Option, Some, None, refl, sym, ap, ◌∙◌, append_assoc, append-nil}
+use Rattle.std.proofs.Common.{◌≡◌, ℕ, ◌+◌, List, [], ◌++◌, Bool, true, false, ◌==◌, Option, Some, None, refl, sym, ap, ◌∙◌, append_assoc, append-nil}
 use Rattle.tree_rows.specs.Forest.{Forest, none, text, element}
 use Rattle.tree_rows.specs.Rows.{rows_of}
 use Rattle.tree_rows.specs.declared.name.Expanded.{Expanded}

@@ -1,5 +1,5 @@
 -- What is known of a tree.
-use Rattle.std.specs.Prelude.{◌≡◌, ℕ, List, map}
+use Rattle.std.specs.Prelude.{◌≡◌, map}
 use Rattle.tree_rows.specs.Forest.{Forest}
 use Rattle.tree_rows.specs.Rows.{rows_of}
 use Rattle.assess_model.specs.Tables.{Tables}

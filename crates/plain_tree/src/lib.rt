@@ -5,8 +5,6 @@
 mod builder;
 mod nodes;
 mod putting;
-#[cfg(test)]
-mod tests;
 mod tree;
 
 pub use builder::{Builder, fragment, read_tree};

@@ -7,7 +7,7 @@ ghost use Rattle.tree_edits.specs.EditRows.{is_numbered};
 ghost use Rattle.tree_edits.specs.Edits.{deepest_of};
 ghost use Rattle.tree_rows.specs.Forest.{none};
 ghost use Rattle.tree_rows.specs.Kinds.{kind_of};
-ghost use Rattle.tree_rows.specs.Limits.{max_depth};
+ghost use Rattle.tree_rows.specs.declared.limits.TheConstants.{MAX_DEPTH};
 ghost use Rattle.tree_rows.specs.Rows.{siblings, node as node_of};
 ghost use Rattle.tree_rows.specs.declared.row.Content.TheVariants as contents;
 ghost use Rattle.tree_rows.specs.declared.row.NodeKind.TheVariants as kinds;
@@ -71,7 +71,7 @@ pub(crate) fn put_last(
 ) -> Result<(), AllocError>
     requires sound { AreSound rows.old.items }
     requires parent { kind_of parent (siblings rows.old.items 1) ≡ Some kinds.Element }
-    requires shallow { deepest_of (depth_of parent (siblings rows.old.items 1) + 1) (node_of number content [] [] none none) ≤ max_depth }
+    requires shallow { deepest_of (depth_of parent (siblings rows.old.items 1) + 1) (node_of number content [] [] none none) ≤ MAX_DEPTH }
     ensures ok { OnOk result (Changes rows.old.items rows.new.items parent (with_last (node_of number content [] [] none none))) }
     ensures err { OnErr result (rows.new.items ≡ rows.old.items) }
 {

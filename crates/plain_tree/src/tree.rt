@@ -42,7 +42,7 @@ impl Tree {
     ghost use Rattle.tree_edits.specs.Edits.{has};
     ghost use Rattle.tree_rows.specs.Forest.{none, text as text_node, element, count};
     ghost use Rattle.tree_rows.specs.Kinds.{kind_of};
-    ghost use Rattle.tree_rows.specs.Limits.{max_depth, max_nodes};
+    ghost use Rattle.tree_rows.specs.declared.limits.TheConstants.{MAX_ATTRIBUTES, MAX_DEPTH, MAX_NODES};
     ghost use Rattle.tree_rows.specs.declared.row.NodeKind.TheVariants.{Element};
 
     /// The tree of rows in document order.
@@ -107,8 +107,8 @@ impl Tree {
         requires above_0 { 0 < node }
         requires fresh { has node self.old.forest ≡ false }
         requires below_next { node < self.old.next_free }
-        requires few { count self.old.forest < max_nodes }
-        requires shallow { depth_of parent self.old.forest < max_depth }
+        requires few { count self.old.forest < MAX_NODES }
+        requires shallow { depth_of parent self.old.forest < MAX_DEPTH }
         ensures ok { OnOk result (self.new ≡ changed parent (with_last (element node name [] [] none none)) self.old) }
         ensures err { OnErr result (self.new ≡ self.old) }
     {
@@ -132,7 +132,7 @@ impl Tree {
         requires above_0 { 0 < node }
         requires fresh { has node self.old.forest ≡ false }
         requires below_next { node < self.old.next_free }
-        requires few { count self.old.forest < max_nodes }
+        requires few { count self.old.forest < MAX_NODES }
         ensures ok { OnOk result (self.new ≡ changed parent (with_last (text_node node text none)) self.old) }
         ensures err { OnErr result (self.new ≡ self.old) }
     {
@@ -148,7 +148,7 @@ impl Tree {
     pub fn put_attr(&mut self, node: u32, attr: Attribute) -> Result<(), AllocError>
         requires element { kind_of node self.old.forest ≡ Some Element }
         requires lacks { has_name attr.name (attributes_of node self.old.forest) ≡ false }
-        requires few { length (attributes_of node self.old.forest) + length (bindings_of node self.old.forest) < 256 }
+        requires few { length (attributes_of node self.old.forest) + length (bindings_of node self.old.forest) < MAX_ATTRIBUTES }
         ensures ok { OnOk result (self.new ≡ changed node (with_attribute attr) self.old) }
         ensures err { OnErr result (self.new ≡ self.old) }
     {
@@ -164,7 +164,7 @@ impl Tree {
     pub fn put_binding(&mut self, node: u32, binding: Binding) -> Result<(), AllocError>
         requires element { kind_of node self.old.forest ≡ Some Element }
         requires lacks { has_prefix binding.prefix (bindings_of node self.old.forest) ≡ false }
-        requires few { length (attributes_of node self.old.forest) + length (bindings_of node self.old.forest) < 256 }
+        requires few { length (attributes_of node self.old.forest) + length (bindings_of node self.old.forest) < MAX_ATTRIBUTES }
         ensures ok { OnOk result (self.new ≡ changed node (with_binding binding) self.old) }
         ensures err { OnErr result (self.new ≡ self.old) }
     {

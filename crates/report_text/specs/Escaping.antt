@@ -1,5 +1,5 @@
 -- Escapes in what is written.
-use Rattle.std.specs.Prelude.{◌≡◌, ℕ, List, [], ◌∷◌, ◌++◌, ◌==◌, codes, if◌then◌else◌, refl}
+use Rattle.std.specs.Prelude.{◌≡◌, ℕ, List, [], ◌∷◌, ◌++◌, ◌==◌, if◌then◌else◌, refl}
 use Rattle.std.specs.Str.{chars}
 use lib.Utf8.{encodes}
 

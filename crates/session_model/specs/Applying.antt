@@ -1,8 +1,7 @@
 -- What an edit does to a session.
-use Rattle.std.specs.Prelude.{◌≡◌, ◌≢◌, ℕ, ◌+◌, ◌-◌, ◌^◌, min, Bool, true, false, Result, Ok, Err}
+use Rattle.std.specs.Prelude.{◌≡◌, ◌≢◌, ℕ, ◌+◌, ◌-◌, ◌^◌, min, true, false, Result, Ok, Err}
 use Rattle.tree_edits.specs.Edits.{after}
 use Rattle.tree_edits.specs.declared.edit.Edit.{Edit}
-use Rattle.tree_edits.specs.declared.edit.EditError.{EditError}
 use Rattle.tree_edits.specs.declared.edit.EditError.TheVariants as edit_errors
 use Rattle.session_model.specs.State.{State}
 use Rattle.session_model.specs.declared.session.SessionError.{SessionError}

@@ -108,12 +108,12 @@ kind_is kinds.Day kinds.Day e = refl
 kind_is kinds.Month kinds.Month e = refl
 kind_is j k e = absurd (false≢true e)
 
-name_is : (a b : ExpandedName) → ((a.namespace.number == b.namespace.number) && bytes_eq a.local b.local) ≡ true → a ≡ b
+name_is : (a b : ExpandedName) → ((a.namespace == b.namespace) && bytes_eq a.local b.local) ≡ true → a ≡ b
 name_is a b e =
-    let h = both (a.namespace.number == b.namespace.number) (bytes_eq a.local b.local) e in
-    let p : a.namespace.number ≡ b.namespace.number = eqb-true _ _ h.0 in
+    let h = both (a.namespace == b.namespace) (bytes_eq a.local b.local) e in
+    let p : a.namespace ≡ b.namespace = eqb-true _ _ h.0 in
     let q : a.local ≡ b.local = (bytes_eq-Decides a.local b.local).0 h.1 in
-    λ i. record { namespace = record { number = p i }; local = q i }
+    λ i. record { namespace = p i; local = q i }
 
 number_is : (a b : Decimal) → (int_eq a.unscaled b.unscaled && (a.scale == b.scale)) ≡ true → a ≡ b
 number_is a b e =

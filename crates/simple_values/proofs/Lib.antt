@@ -1,4 +1,5 @@
 pub mod Integers
 pub mod Keys
 pub mod LanguageParts
+pub mod Named
 pub mod Pointwise

@@ -1,16 +1,11 @@
 -- Language tags, Datatypes 3.3.3: [a-zA-Z]{1,8}(-[a-zA-Z0-9]{1,8})*
-use Rattle.std.specs.Prelude.{◌≡◌, ℕ, Bool, true, false, not, ◌&&◌, ◌||◌, ◌==◌, nat_le, List, [], ◌∷◌, length, codes, refl}
+use Rattle.std.specs.Prelude.{◌≡◌, ℕ, Bool, true, false, ◌&&◌, ◌==◌, nat_le, if◌then◌else◌, List, [], ◌∷◌, length, codes, refl}
 use Rattle.std.specs.List.{list_all, slice_split}
-
-abbrev pub is_letter : ℕ → Bool
-is_letter c = (nat_le 0x61 c && nat_le c 0x7A) || (nat_le 0x41 c && nat_le c 0x5A)
-
-abbrev pub is_digit : ℕ → Bool
-is_digit c = nat_le 0x30 c && nat_le c 0x39
+use Rattle.std.specs.Char.{is_ascii_alphabetic, is_ascii_alphanumeric}
 
 -- [a-zA-Z], and in later parts [a-zA-Z0-9]
 abbrev pub is_part_char : Bool → ℕ → Bool
-is_part_char is_first c = is_letter c || (not is_first && is_digit c)
+is_part_char is_first c = if is_first then is_ascii_alphabetic c else is_ascii_alphanumeric c
 
 -- one to eight of these
 abbrev pub is_part_length : ℕ → Bool

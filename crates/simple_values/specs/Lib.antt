@@ -1,3 +1,5 @@
+pub mod Bounds
+pub mod Builtins
 pub mod Grammar
 pub mod Language
 pub mod Literals

@@ -22,10 +22,8 @@ use Rattle.simple_values.specs.declared.fault.ValueFault.{ValueFault}
 use Rattle.simple_values.specs.declared.fault.ValueFault.TheVariants.{NotLexical, Limit}
 use Rattle.simple_values.specs.declared.atom.Atom.{Atom}
 use Rattle.simple_values.specs.declared.atom.Atom.TheVariants as atoms
-use Rattle.simple_values.specs.declared.range.IntegerRange.{IntegerRange}
 use Rattle.simple_values.specs.declared.grammar.Grammar.{Grammar}
 use Rattle.simple_values.specs.declared.grammar.Grammar.TheVariants as forms
-use Rattle.simple_values.specs.Grammar.{is_in}
 use Rattle.simple_values.specs.Language.{is_language}
 
 -- the text itself, where it is a literal
@@ -36,7 +34,7 @@ text_where false text = Err NotLexical
 -- 3.2.18: the literals are QNames whose prefix, if there is one, is bound; a name without one is in the default namespace
 abbrev pub in_namespace : List ℕ → Option ℕ → Result Atom ValueFault
 in_namespace local None = Err NotLexical
-in_namespace local (Some space) = Ok (atoms.Name (record { namespace = record { number = space }; local = local }))
+in_namespace local (Some space) = Ok (atoms.Name (record { namespace = space; local = local }))
 
 abbrev pub expanded : List (List ℕ × ℕ) → Option (Option (List ℕ) × List ℕ) → Result Atom ValueFault
 expanded scope None = Err NotLexical
@@ -72,10 +70,10 @@ is_integer_literal text = are_digits (decimals.unsigned text)
 abbrev pub integer_of : List ℕ → ℤ
 integer_of text = decimals.signed (decimals.is_negative text) (decimals.number (decimals.unsigned text))
 
--- 3.3.13 to 3.3.25: the literals of integers in the range
-abbrev pub integer_value : IntegerRange → List ℕ → Result Decimal ValueFault
-integer_value range text =
-    if is_integer_literal text && is_in range (integer_of text)
+-- 3.3.13: the integer of a literal, whatever the range of the type is, unless it has more than 38 digits
+abbrev pub integer_value : List ℕ → Result Decimal ValueFault
+integer_value text =
+    if is_integer_literal text
     then limited (decimals.narrow (record { unscaled = integer_of text; scale = 0 }))
     else Err NotLexical
 
@@ -124,26 +122,8 @@ atom_value forms.NcName scope text = text_where (names.is_ncname (chars text)) t
 atom_value forms.QName scope text = name_value scope text
 atom_value forms.Boolean scope text = boolean_value text
 atom_value forms.Decimal scope text = number (decimal_value text)
-atom_value (forms.Integer range) scope text = number (integer_value range text)
+atom_value forms.Integer scope text = number (integer_value text)
 atom_value forms.Hex scope text = hex (hex_octets text)
 atom_value forms.Base64 scope text = base64 (base64_octets text)
 atom_value (forms.Moment kind) scope text = moment_value kind text
 atom_value forms.Duration scope text = duration_value text
-
--- What the reader of integers finds step by step.
-
--- the number, where it is an integer of the range
-abbrev pub whole_in : IntegerRange → Decimal → Option ℤ → Result Decimal ValueFault
-whole_in range d None = Err NotLexical
-whole_in range d (Some n) = if is_in range n then Ok d else Err NotLexical
-
-abbrev pub in_range : IntegerRange → Decimal → Result Decimal ValueFault
-in_range range d = whole_in range d (if d.scale == 0 then Some d.unscaled else None)
-
--- a number that is too wide is in the range where that is open on its side
-abbrev pub beyond : Option ℤ → Result Decimal ValueFault
-beyond None = Err Limit
-beyond (Some n) = Err NotLexical
-
-abbrev pub past_limit : IntegerRange → Bool → Result Decimal ValueFault
-past_limit range negative = beyond (if negative then range.least else range.greatest)

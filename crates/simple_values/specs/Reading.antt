@@ -15,9 +15,9 @@ abbrev pub typed : Builtin → Result Atom ValueFault → Result Value ValueFaul
 typed kind (Ok atom) = Ok (values.Atom kind atom)
 typed kind (Err fault) = Err fault
 
--- an atomic type treats white space first, and then reads a literal
+-- a literal of an atomic type
 abbrev pub atomic_value : Builtin → List (List ℕ × ℕ) → List ℕ → Result Value ValueFault
-atomic_value kind scope text = typed kind (atom_value (grammar_of kind) scope (normalized (white_space_of kind) text))
+atomic_value kind scope text = typed kind (atom_value (grammar_of kind) scope text)
 
 -- an item in front of others: the first fault counts
 abbrev pub in_front : Builtin → Result Atom ValueFault → Result (List TypedAtom) ValueFault → Result (List TypedAtom) ValueFault
@@ -45,9 +45,13 @@ abbrev pub by_item : Option Builtin → Builtin → List (List ℕ × ℕ) → L
 by_item None kind scope text = atomic_value kind scope text
 by_item (Some item) kind scope text = list_value item scope text
 
--- what a text reads to as a literal of the type
+-- what a text reads to as a literal of the type, its white space being treated
+abbrev pub literal_value : Builtin → List (List ℕ × ℕ) → List ℕ → Result Value ValueFault
+literal_value kind scope text = by_item (item_type kind) kind scope text
+
+-- 4.3.6: white space is treated as the type asks, and then a literal is read
 abbrev pub value_of : Builtin → List (List ℕ × ℕ) → List ℕ → Result Value ValueFault
-value_of kind scope text = by_item (item_type kind) kind scope text
+value_of kind scope text = literal_value kind scope (normalized (white_space_of kind) text)
 
 -- items in front of those that are still to come
 abbrev pub behind : List TypedAtom → Result (List TypedAtom) ValueFault → Result (List TypedAtom) ValueFault

@@ -38,7 +38,7 @@ abbrev pub same_atom : Atom → Atom → Bool
 same_atom (Untyped a) (Untyped b) = bytes_eq a b
 same_atom (Text a) (Text b) = bytes_eq a b
 same_atom (Uri a) (Uri b) = bytes_eq a b
-same_atom (Name a) (Name b) = (a.namespace.number == b.namespace.number) && bytes_eq a.local b.local
+same_atom (Name a) (Name b) = (a.namespace == b.namespace) && bytes_eq a.local b.local
 same_atom (Boolean a) (Boolean b) = same_truth a b
 same_atom (Number a) (Number b) = int_eq a.unscaled b.unscaled && (a.scale == b.scale)
 same_atom (Hex a) (Hex b) = bytes_eq a b

@@ -1,8 +1,8 @@
 //! The values of atomic types.
-ghost use Rattle.std.specs.Prelude.{◌≡◌, IfOk};
+ghost use Rattle.std.specs.Prelude.{◌≡◌};
 
 use dec_value::Dec;
-use std::alloc::{AllocError, Global};
+use std::alloc::AllocError;
 use time_value::{Moment, MomentKind, Span};
 use value_strings::{Characters, Octets};
 use xs_names::NsId;
@@ -33,6 +33,29 @@ pub enum Atom {
     Duration(Span),
 }
 
+/// A clone is the same value.
+impl Clone for Atom {
+    ghost is_clone = { λ atom made. made ≡ atom };
+
+    fn clone(&self) -> Result<Self, AllocError> {
+        Ok(match self {
+            Atom::Untyped(text) => Atom::Untyped(text.clone()?),
+            Atom::Text(text) => Atom::Text(text.clone()?),
+            Atom::Uri(text) => Atom::Uri(text.clone()?),
+            Atom::Name(name) => Atom::Name(name.clone()?),
+            Atom::Boolean(truth) => Atom::Boolean(*truth),
+            Atom::Number(number) => Atom::Number(*number),
+            Atom::Hex(octets) => Atom::Hex(octets.clone()?),
+            Atom::Base64(octets) => Atom::Base64(octets.clone()?),
+            Atom::Instant { kind, moment } => Atom::Instant {
+                kind: *kind,
+                moment: *moment,
+            },
+            Atom::Duration(span) => Atom::Duration(*span),
+        })
+    }
+}
+
 /// A value of `QName`: a namespace by its number in the `Names` that the scope was made over, and a local name
 /// (Datatypes 3.2.18).
 #[derive(Debug, Drop, PartialEq, Eq, Hash)]
@@ -41,14 +64,14 @@ pub struct ExpandedName {
     pub local: Characters,
 }
 
-impl ExpandedName {
-    /// A copy with memory of its own.
-    pub fn try_clone(&self, alloc: Global) -> Result<Self, AllocError>
-        ensures { IfOk result (λ copy. copy ≡ self.now) }
-    {
+/// A clone is the same name.
+impl Clone for ExpandedName {
+    ghost is_clone = { λ name made. made ≡ name };
+
+    fn clone(&self) -> Result<Self, AllocError> {
         Ok(ExpandedName {
             namespace: self.namespace,
-            local: self.local.try_clone(alloc)?,
+            local: self.local.clone()?,
         })
     }
 }

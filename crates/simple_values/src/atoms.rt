@@ -5,6 +5,7 @@ use crate::Atom;
 use std::alloc::{AllocError, Global};
 use std::marker::Model;
 use xs_codes::Builtin;
+use xs_lists::Listed;
 
 /// An atom, and the built-in type that accepted it, or the nearest one that the accepting type is derived from.
 #[derive(Debug, Drop)]
@@ -13,10 +14,22 @@ pub struct TypedAtom {
     pub atom: Atom,
 }
 
+/// A clone is the same atom of the same type.
+impl Clone for TypedAtom {
+    ghost is_clone = { λ item made. made ≡ item };
+
+    fn clone(&self) -> Result<Self, AllocError> {
+        Ok(TypedAtom {
+            builtin: self.builtin,
+            atom: self.atom.clone()?,
+        })
+    }
+}
+
 /// The items of a list value, at most 4,294,967,295. Contracts see the list of them.
 #[derive(Debug, Drop)]
 pub struct Atoms {
-    inner: Vec<TypedAtom>,
+    inner: Listed<TypedAtom>,
 }
 
 impl Model for Atoms {
@@ -25,9 +38,9 @@ impl Model for Atoms {
 
     ghost Value = { List TypedAtom };
 
-    ghost view = { λ s. s.inner.items };
+    ghost view = { λ s. s.inner };
 
-    ghost invariant = { λ s. length s.inner.items < 2 ^ 32 };
+    ghost invariant = { λ s. length s.inner < 2 ^ 32 };
 }
 
 impl Atoms {
@@ -36,7 +49,7 @@ impl Atoms {
         ensures { result ≡ [] }
     {
         Atoms {
-            inner: Vec::new(alloc),
+            inner: Listed::new(alloc),
         }
     }
 
@@ -71,5 +84,16 @@ impl Atoms {
         ensures { result ≡ (length self.now == 0) }
     {
         self.inner.is_empty()
+    }
+}
+
+/// A clone has the same items.
+impl Clone for Atoms {
+    ghost is_clone = { λ items made. made ≡ items };
+
+    fn clone(&self) -> Result<Self, AllocError> {
+        Ok(Atoms {
+            inner: self.inner.clone()?,
+        })
     }
 }

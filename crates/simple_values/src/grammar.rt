@@ -1,8 +1,7 @@
 //! Which literals a built-in type has, and what it does with white space.
-ghost use Rattle.std.specs.Prelude.{◌≡◌, IsTrue};
+ghost use Rattle.std.specs.Prelude.{◌≡◌};
 ghost use Rattle.simple_values.specs.Grammar as spec;
 
-use crate::IntegerRange;
 use time_value::MomentKind;
 use white_space::WhiteSpace;
 use xs_codes::Builtin;
@@ -30,8 +29,8 @@ pub enum Grammar {
     Boolean,
     /// Decimal numbers (Datatypes 3.2.3).
     Decimal,
-    /// Integers of a range (Datatypes 3.3.13 to 3.3.25).
-    Integer(IntegerRange),
+    /// Integers, whatever the range of the type is, which is its bounds (Datatypes 3.3.13).
+    Integer,
     /// Pairs of hexadecimal digits (Datatypes 3.2.15).
     Hex,
     /// Base64 (Datatypes 3.2.16).
@@ -44,8 +43,7 @@ pub enum Grammar {
 
 /// The literals of a type; of a list type, those of its items.
 pub fn grammar_of(kind: Builtin) -> Grammar
-    ensures value { result ≡ spec.grammar_of kind }
-    ensures narrow { IsTrue (spec.is_narrow_grammar result) }
+    ensures { result ≡ spec.grammar_of kind }
 {
     match kind {
         Builtin::AnySimpleType => Grammar::Untyped,
@@ -75,25 +73,19 @@ pub fn grammar_of(kind: Builtin) -> Grammar
         Builtin::GDay => Grammar::Moment(MomentKind::Day),
         Builtin::GMonth => Grammar::Moment(MomentKind::Month),
         Builtin::Duration => Grammar::Duration,
-        Builtin::Integer => Grammar::Integer(IntegerRange::ALL),
-        Builtin::Byte => Grammar::Integer(IntegerRange::between(i8::MIN as i128, i8::MAX as i128)),
-        Builtin::Short => Grammar::Integer(IntegerRange::between(
-            i16::MIN as i128,
-            i16::MAX as i128,
-        )),
-        Builtin::Int => Grammar::Integer(IntegerRange::between(i32::MIN as i128, i32::MAX as i128)),
-        Builtin::Long => Grammar::Integer(IntegerRange::between(
-            i64::MIN as i128,
-            i64::MAX as i128,
-        )),
-        Builtin::UnsignedByte => Grammar::Integer(IntegerRange::between(0, u8::MAX as i128)),
-        Builtin::UnsignedShort => Grammar::Integer(IntegerRange::between(0, u16::MAX as i128)),
-        Builtin::UnsignedInt => Grammar::Integer(IntegerRange::between(0, u32::MAX as i128)),
-        Builtin::UnsignedLong => Grammar::Integer(IntegerRange::between(0, u64::MAX as i128)),
-        Builtin::NonPositiveInteger => Grammar::Integer(IntegerRange::at_most(0)),
-        Builtin::NegativeInteger => Grammar::Integer(IntegerRange::at_most(-1)),
-        Builtin::NonNegativeInteger => Grammar::Integer(IntegerRange::at_least(0)),
-        Builtin::PositiveInteger => Grammar::Integer(IntegerRange::at_least(1)),
+        Builtin::Integer => Grammar::Integer,
+        Builtin::Byte => Grammar::Integer,
+        Builtin::Short => Grammar::Integer,
+        Builtin::Int => Grammar::Integer,
+        Builtin::Long => Grammar::Integer,
+        Builtin::UnsignedByte => Grammar::Integer,
+        Builtin::UnsignedShort => Grammar::Integer,
+        Builtin::UnsignedInt => Grammar::Integer,
+        Builtin::UnsignedLong => Grammar::Integer,
+        Builtin::NonPositiveInteger => Grammar::Integer,
+        Builtin::NegativeInteger => Grammar::Integer,
+        Builtin::NonNegativeInteger => Grammar::Integer,
+        Builtin::PositiveInteger => Grammar::Integer,
     }
 }
 

@@ -1,10 +1,11 @@
 //! Keys of values.
-ghost use Rattle.std.specs.Prelude.{◌≡◌, ◌++◌, ◌∷◌, [], OnOk, OnErr};
+ghost use Rattle.std.specs.Prelude.{◌≡◌, ◌↔◌, ◌++◌, ◌∷◌, [], IsTrue, OnOk, OnErr};
 
 use crate::Atom;
 use std::alloc::{AllocError, Global};
 use std::hash::{Hash, Hasher};
 use std::marker::Model;
+use xs_lists::Listed;
 
 /// What a value is, whatever type accepted it. Two values are the same exactly where their keys are equal, and a key may
 /// be one of a hashed map.
@@ -16,10 +17,30 @@ pub enum Key {
     List(KeyItems),
 }
 
+/// A clone is the same key.
+impl Clone for Key {
+    ghost is_clone = { λ key made. made ≡ key };
+
+    fn clone(&self) -> Result<Self, AllocError> {
+        match self {
+            Key::Atom(atom) => Ok(Key::Atom(atom.clone()?)),
+            Key::List(items) => Ok(Key::List(items.clone()?)),
+        }
+    }
+}
+
+/// Whether two keys are one, which is what `==` answers.
+pub fn same_key(a: &Key, b: &Key) -> bool
+    ensures compared { result ≡ ⟦<Key as PartialEq>⟧.eq a.now b.now }
+    ensures equal { IsTrue result ↔ (a.now ≡ b.now) }
+{
+    a == b
+}
+
 /// The items of a list's key.
 #[derive(Debug, Drop)]
 pub struct KeyItems {
-    inner: Vec<Atom>,
+    inner: Listed<Atom>,
 }
 
 impl Model for KeyItems {
@@ -28,7 +49,7 @@ impl Model for KeyItems {
 
     ghost Value = { List Atom };
 
-    ghost view = { λ s. s.inner.items };
+    ghost view = { λ s. s.inner };
 }
 
 impl KeyItems {
@@ -37,7 +58,7 @@ impl KeyItems {
         ensures { result ≡ [] }
     {
         KeyItems {
-            inner: Vec::new(alloc),
+            inner: Listed::new(alloc),
         }
     }
 
@@ -48,6 +69,17 @@ impl KeyItems {
     {
         self.inner.push(item)?;
         Ok(())
+    }
+}
+
+/// A clone has the same items.
+impl Clone for KeyItems {
+    ghost is_clone = { λ items made. made ≡ items };
+
+    fn clone(&self) -> Result<Self, AllocError> {
+        Ok(KeyItems {
+            inner: self.inner.clone()?,
+        })
     }
 }
 

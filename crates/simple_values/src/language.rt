@@ -35,17 +35,9 @@ fn are_part_chars(is_first: bool, part: &str) -> bool
 fn is_part_char(is_first: bool, b: u8) -> bool
     ensures { result ≡ spec.is_part_char is_first b }
 {
-    is_letter(b) || (!is_first && is_digit(b))
-}
-
-fn is_letter(b: u8) -> bool
-    ensures { result ≡ spec.is_letter b }
-{
-    matches!(b, b'a'..=b'z' | b'A'..=b'Z')
-}
-
-fn is_digit(b: u8) -> bool
-    ensures { result ≡ spec.is_digit b }
-{
-    matches!(b, b'0'..=b'9')
+    if is_first {
+        b.is_ascii_alphabetic()
+    } else {
+        b.is_ascii_alphanumeric()
+    }
 }

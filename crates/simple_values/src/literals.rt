@@ -1,6 +1,5 @@
 //! The literals of atomic types, once their white space is treated.
-ghost use Rattle.std.specs.Prelude.{◌≡◌, IfOk, IsTrue};
-ghost use Rattle.simple_values.specs.Grammar.{is_narrow_grammar};
+ghost use Rattle.std.specs.Prelude.{◌≡◌, IfOk};
 ghost use Rattle.simple_values.specs.Literals as spec;
 
 use crate::language::is_language;
@@ -22,7 +21,6 @@ pub fn read_atom(
     text: &str,
     scope: &Scope,
 ) -> Result<Reading, AllocError>
-    requires { IsTrue (is_narrow_grammar grammar) }
     ensures { IfOk result (λ read. read ≡ spec.atom_value grammar scope.now text.now) }
 {
     match grammar {
@@ -36,7 +34,7 @@ pub fn read_atom(
         Grammar::QName => read_name(alloc, text, scope),
         Grammar::Boolean => Ok(read_boolean(text)),
         Grammar::Decimal => Ok(number(read_decimal(text))),
-        Grammar::Integer(range) => Ok(number(read_integer(range, text))),
+        Grammar::Integer => Ok(number(read_integer(text))),
         Grammar::Hex => Ok(hex(read_hex(alloc, text)?)),
         Grammar::Base64 => Ok(base64(read_base64(alloc, text)?)),
         Grammar::Moment(kind) => Ok(read_moment(kind, text)),

@@ -1,5 +1,8 @@
 //! From a text to a value.
 ghost use Rattle.std.specs.Prelude.{◌≡◌, IfOk};
+ghost use Rattle.white_space.specs.WhiteSpace.{normalized};
+ghost use Rattle.white_space.specs.declared.handling.WhiteSpace.{WhiteSpace};
+ghost use Rattle.simple_values.specs.Grammar.{white_space_of};
 ghost use Rattle.simple_values.specs.Reading as spec;
 
 use crate::grammar::{grammar_of, item_type, white_space_of};
@@ -10,8 +13,11 @@ use white_space::{items, normalized};
 use xs_codes::Builtin;
 use xs_names::Scope;
 
+/// What a text reads to, or why it has no value.
+pub type ReadValue = Result<Value, ValueFault>;
+
 /// The value of a text as a literal of a built-in type, once its white space is treated as the type does (Datatypes 3.2
-/// and 3.3). The scope gives the namespaces of prefixes.
+/// and 3.3). The scope gives the namespaces of prefixes. The bounds of the types of integers are facets, and not looked at.
 ///
 /// # Errors
 ///
@@ -23,8 +29,32 @@ pub fn read_builtin(
     kind: Builtin,
     text: &str,
     scope: &Scope,
-) -> Result<Result<Value, ValueFault>, AllocError>
+) -> Result<ReadValue, AllocError>
     ensures { IfOk result (λ read. read ≡ spec.value_of kind scope.now text.now) }
+{
+    match item_type(kind) {
+        None => {
+            let treated = normalized(alloc, white_space_of(kind), text)?;
+            read_atomic(alloc, kind, treated.as_str(), scope)
+        }
+        Some(item) => read_list(alloc, item, text, scope),
+    }
+}
+
+/// The same of a text whose white space has been treated, by the type's way or by a stronger one, as a type derived from
+/// it may ask for (Datatypes 4.3.6): it is not treated once more.
+///
+/// # Errors
+///
+/// As those of [`read_builtin`].
+pub fn read_normalized(
+    alloc: Global,
+    kind: Builtin,
+    text: &str,
+    scope: &Scope,
+) -> Result<ReadValue, AllocError>
+    ensures value { IfOk result (λ read. read ≡ spec.literal_value kind scope.now text.now) }
+    ensures treated { IfOk result (λ read. normalized (white_space_of kind) text.now ≡ text.now → read ≡ spec.value_of kind scope.now text.now) }
 {
     match item_type(kind) {
         None => read_atomic(alloc, kind, text, scope),
@@ -38,11 +68,10 @@ fn read_atomic(
     kind: Builtin,
     text: &str,
     scope: &Scope,
-) -> Result<Result<Value, ValueFault>, AllocError>
+) -> Result<ReadValue, AllocError>
     ensures { IfOk result (λ read. read ≡ spec.atomic_value kind scope.now text.now) }
 {
-    let text = normalized(alloc, white_space_of(kind), text)?;
-    match read_atom(alloc, grammar_of(kind), text.as_str(), scope)? {
+    match read_atom(alloc, grammar_of(kind), text, scope)? {
         Ok(atom) => Ok(Ok(Value::Atom {
             builtin: kind,
             atom,
@@ -51,14 +80,15 @@ fn read_atomic(
     }
 }
 
-// The value of a text as a list with at least one item.
+// The value of a text as a list with at least one item, the same however its white space is treated.
 fn read_list(
     alloc: Global,
     item: Builtin,
     text: &str,
     scope: &Scope,
-) -> Result<Result<Value, ValueFault>, AllocError>
-    ensures { IfOk result (λ read. read ≡ spec.list_value item scope.now text.now) }
+) -> Result<ReadValue, AllocError>
+    ensures value { IfOk result (λ read. read ≡ spec.list_value item scope.now text.now) }
+    ensures treated { IfOk result (λ read. (handling : WhiteSpace) → read ≡ spec.list_value item scope.now (normalized handling text.now)) }
 {
     let texts = items(alloc, text)?;
     if texts.is_empty() {

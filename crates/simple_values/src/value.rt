@@ -17,6 +17,21 @@ pub enum Value {
     List(Atoms),
 }
 
+/// A clone is the same value, and of the same type.
+impl Clone for Value {
+    ghost is_clone = { λ value made. made ≡ value };
+
+    fn clone(&self) -> Result<Self, AllocError> {
+        match self {
+            Value::Atom { builtin, atom } => Ok(Value::Atom {
+                builtin: *builtin,
+                atom: atom.clone()?,
+            }),
+            Value::List(items) => Ok(Value::List(items.clone()?)),
+        }
+    }
+}
+
 /// Whether two values are the same, whatever types accepted them. Values of different primitive types never are, nor a
 /// list and an atom (Datatypes 2.2 and 3.2).
 pub fn same(a: &Value, b: &Value) -> bool
@@ -116,37 +131,17 @@ fn atom_length(atom: &Atom) -> Option<u32>
     }
 }
 
-/// The key of a value: two values are the same exactly where their keys are equal.
+/// The key of a value: two values are the same exactly where their keys are equal, and `==` of any two keys is that.
 pub fn key_of(alloc: Global, value: &Value) -> Result<Key, AllocError>
     ensures value { IfOk result (λ key. key ≡ spec.key_value value.now) }
     ensures equal { IfOk result (λ key. (other : Value) → ⟦<Key as PartialEq>⟧.eq key (spec.key_value other) ≡ spec.same value.now other) }
+    ensures decides { (a b : Key) → IsTrue (⟦<Key as PartialEq>⟧.eq a b) ↔ (a ≡ b) }
     ensures identical { IfOk result (λ key. (other : Value) → IsTrue (spec.same value.now other) ↔ (key ≡ spec.key_value other)) }
 {
     match value {
-        Value::Atom { atom, .. } => Ok(Key::Atom(copied(alloc, atom)?)),
+        Value::Atom { atom, .. } => Ok(Key::Atom(atom.clone()?)),
         Value::List(items) => Ok(Key::List(copied_items(alloc, items.as_slice())?)),
     }
-}
-
-// A copy of an atom.
-fn copied(alloc: Global, atom: &Atom) -> Result<Atom, AllocError>
-    ensures { IfOk result (λ copy. copy ≡ atom.now) }
-{
-    Ok(match atom {
-        Atom::Untyped(text) => Atom::Untyped(text.try_clone(alloc)?),
-        Atom::Text(text) => Atom::Text(text.try_clone(alloc)?),
-        Atom::Uri(text) => Atom::Uri(text.try_clone(alloc)?),
-        Atom::Name(name) => Atom::Name(name.try_clone(alloc)?),
-        Atom::Boolean(truth) => Atom::Boolean(*truth),
-        Atom::Number(number) => Atom::Number(*number),
-        Atom::Hex(octets) => Atom::Hex(octets.try_clone(alloc)?),
-        Atom::Base64(octets) => Atom::Base64(octets.try_clone(alloc)?),
-        Atom::Instant { kind, moment } => Atom::Instant {
-            kind: *kind,
-            moment: *moment,
-        },
-        Atom::Duration(span) => Atom::Duration(*span),
-    })
 }
 
 // Copies of the items' atoms.
@@ -155,7 +150,7 @@ fn copied_items(alloc: Global, items: &[TypedAtom]) -> Result<KeyItems, AllocErr
 {
     let mut copies = KeyItems::new(alloc);
     for item in items {
-        copies.push(copied(alloc, &item.atom)?)?;
+        copies.push(item.atom.clone()?)?;
     }
     Ok(copies)
 }

@@ -1,13 +1,11 @@
 -- What is written for a stream, as a fold over its lines.
 use Rattle.std.specs.Prelude.{ℕ, ◌+◌, List, [], ◌++◌, Option, Some, None}
 use Rattle.item_listing.specs.Listed.{Listed, gives, refused, goes_on, done}
-use Rattle.item_listing.specs.declared.item.Reason.TheVariants.{EndMissing}
 use Rattle.stream_answers.specs.Turns.{Turned, goes, ends, turned, end_line, status_of}
 use Rattle.stream_answers.specs.Refusals.{refusal_line, refusal_status}
 use Rattle.stream_answers.specs.declared.place.Asked.{Asked}
 use Rattle.stream_answers.specs.declared.place.Place.{Place}
 use Rattle.stream_answers.specs.declared.place.Place.TheVariants as places
-use Rattle.stream_answers.specs.declared.place.Verdict.{Verdict}
 use Rattle.stream_answers.specs.declared.refusal.Refusal.TheVariants as refusals
 use Rattle.stream_answers.specs.declared.status.Status.{Status}
 use Rattle.stream_answers.specs.declared.status.Status.TheVariants.{Valid, Words}

@@ -1,5 +1,5 @@
 -- What a turn of the code has done.
-use Rattle.std.specs.Prelude.{◌≡◌, ℕ, List, ◌++◌, false, Option, Some, None, Result, Ok, Err}
+use Rattle.std.specs.Prelude.{◌≡◌, ℕ, List, ◌++◌, false, Some, None, Result, Ok, Err}
 use Rattle.tree_rows.specs.Forest.{Document}
 use Rattle.tree_rows.specs.Rows.{rows_of}
 use Rattle.assess_model.specs.Tables.{Tables}

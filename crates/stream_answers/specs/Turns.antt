@@ -1,11 +1,11 @@
 -- What is written for the items of a stream, one after another.
-use Rattle.std.specs.Prelude.{◌≡◌, ℕ, ◌+◌, List, [], ◌∷◌, ◌++◌, Bool, true, false, ◌==◌, nat_le, not, length, Option, Some, None, Result, Ok, Err, codes, if◌then◌else◌}
+use Rattle.std.specs.Prelude.{ℕ, ◌+◌, List, [], ◌∷◌, ◌++◌, Bool, false, ◌==◌, nat_le, not, length, Option, Some, None, Result, Ok, Err, codes, if◌then◌else◌}
 use Rattle.std.specs.List.{before_first, list_any}
 use Rattle.std.specs.Str.{bytes_eq}
 use Rattle.std.specs.Fmt.{decimal}
 use Rattle.item_listing.specs.declared.item.Item.{Item}
 use Rattle.item_listing.specs.declared.item.Item.TheVariants as items
-use Rattle.tree_rows.specs.Forest.{Forest, Document}
+use Rattle.tree_rows.specs.Forest.{Document}
 use Rattle.tree_rows.specs.Rows.{rows_of}
 use Rattle.tree_rows.specs.declared.row.Row.{Row}
 use Rattle.tag_names.specs.Scopes.{first_scope}
@@ -25,6 +25,7 @@ use Rattle.session_model.specs.State.{State}
 use Rattle.edit_script.specs.Commands.{command}
 use Rattle.edit_replies.specs.Replies.{Standing, Reply, made, reply, total_line}
 use Rattle.stream_answers.specs.Refusals.{refusal_line, refusal_status}
+use Rattle.stream_answers.specs.declared.schema.TheConstants.{MOST_SCHEMAS}
 use Rattle.stream_answers.specs.declared.place.Asked.{Asked}
 use Rattle.stream_answers.specs.declared.place.Asked.TheVariants.{Check, Assess, Session}
 use Rattle.stream_answers.specs.declared.place.Block.{Block}
@@ -109,7 +110,7 @@ schema_begun line count first = places.Schema (record { count = count; first = f
 
 abbrev pub next_schema : ℕ → SchemaSection → Turned
 next_schema line p =
-    if nat_le 256 p.count then refused line refusals.TooManySchemas
+    if nat_le MOST_SCHEMAS p.count then refused line refusals.TooManySchemas
     else with_tree p.start (tree_of p.builder) (λ d. goes [] (schema_begun line (p.count + 1) (Some (first_or p.first d))))
 
 -- the last schema section ends, and the schema is judged

@@ -2,9 +2,10 @@
 use Rattle.std.specs.Prelude.{ℕ, List, [], ◌∷◌, Bool, false, ◌==◌, ◌&&◌, ◌||◌, not, nat_lt, length, Option, Some, None, is_none, codes, if◌then◌else◌}
 use Rattle.std.specs.List.{list_any}
 use Rattle.std.specs.Str.{bytes_eq}
-use Rattle.xs_names.specs.Names.{xml_name}
+use Rattle.xs_names.specs.Names.{xml_name, xmlns_name}
 use Rattle.xs_names.specs.QName.{qname}
 use Rattle.tree_rows.specs.Naming.{same_name}
+use Rattle.tree_rows.specs.declared.limits.TheConstants.{MAX_ATTRIBUTES}
 use Rattle.tree_rows.specs.declared.row.Attribute.{Attribute}
 use Rattle.tree_rows.specs.declared.row.Binding.{Binding}
 use Rattle.tag_names.specs.Scopes.{of_prefix}
@@ -13,10 +14,6 @@ use Rattle.tag_names.specs.declared.lines.AttributeLine.{AttributeLine}
 use Rattle.tag_names.specs.declared.lines.Tag.{Tag}
 use Rattle.tag_names.specs.declared.fault.NameReason.{NameReason}
 use Rattle.tag_names.specs.declared.fault.NameReason.TheVariants.{BadName, ReservedName, UnboundPrefix, DoubleAttribute, TooManyAttributes}
-
--- the namespace that the prefix xmlns is bound to, and no other prefix may be (Namespaces in XML 1.0, 3)
-abbrev pub xmlns_name : List ℕ
-xmlns_name = codes "http://www.w3.org/2000/xmlns/"
 
 -- a name is no QName (Namespaces in XML 1.0, 4)
 abbrev pub is_no_qname : List ℕ → Bool
@@ -76,7 +73,7 @@ has_double scope tag =
 
 -- more than 256 attributes and bindings
 abbrev pub has_too_many : Tag → Bool
-has_too_many tag = nat_lt 256 (length tag.attributes)
+has_too_many tag = nat_lt MAX_ATTRIBUTES (length tag.attributes)
 
 -- the first reason, in this order, why the names of a tag are refused that stands in this scope
 abbrev pub name_fault : List Binding → Tag → Option NameReason

@@ -9,12 +9,8 @@ use crate::named::{attributes_in, bindings_in, of_prefix};
 use crate::parts::{bound_prefix, is_no_qname, prefix_of};
 use crate::{AttributeLine, NameReason, Prefixes, Tag};
 use std::alloc::{AllocError, Global};
-
-const MAX_ATTRIBUTES: usize = 256;
-
-const XML_NAMESPACE: &str = "http://www.w3.org/XML/1998/namespace";
-
-const XMLNS_NAMESPACE: &str = "http://www.w3.org/2000/xmlns/";
+use tree_rows::MAX_ATTRIBUTES;
+use xs_names::{XML_NAMESPACE, XMLNS_NAMESPACE};
 
 /// Whether a binding of this prefix to this namespace is reserved.
 fn is_reserved(prefix: &str, namespace: &str) -> bool

@@ -8,8 +8,6 @@ mod lines;
 mod named;
 mod parts;
 mod prefixes;
-#[cfg(test)]
-mod tests;
 
 pub use fault::NameReason;
 pub use lines::{AttributeLine, AttributeLines, Tag};

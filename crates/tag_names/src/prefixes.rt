@@ -10,9 +10,7 @@ use indexmap::IndexMap;
 use std::alloc::{AllocError, Global};
 use std::marker::Model;
 use tree_rows::Binding;
-use xs_names::Text;
-
-const XML_NAMESPACE: &str = "http://www.w3.org/XML/1998/namespace";
+use xs_names::{Text, XML_NAMESPACE};
 
 /// A copy of a binding.
 fn copy_of(alloc: Global, binding: &Binding) -> Result<Binding, AllocError>

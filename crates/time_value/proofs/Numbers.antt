@@ -1,8 +1,7 @@
 -- What digits write: the first digits and the rest.
-use Rattle.std.proofs.Common.{◌≡◌, ℕ, zero, suc, ◌+◌, ◌-◌, ◌*◌, ◌^◌, ◌<◌, ◌≤◌, ◌%◌, pos, ◌++◌, inl, inr, true, List, [], ◌∷◌, length, get_or, take, drop, min, refl, sym, ap, ◌∙◌, arith, length-append, length-take, length-drop}
-use Rattle.std.proofs.lemmas.Nat.{pow-add}
-use Rattle.std.proofs.Math.Nat.{pow-suc, one-le-pow, pow-le-pow_right, mul-le-mul_right, mul-le-mul_left, add-mul, mul_assoc}
-use Rattle.std.proofs.lemmas.List.{at_drop_more, get_or-take, take_more, take-append-drop, take_all, drop_all}
+use Rattle.std.proofs.Common.{◌≡◌, ℕ, suc, ◌+◌, ◌-◌, ◌*◌, ◌^◌, ◌<◌, ◌≤◌, ◌%◌, pos, ◌++◌, inl, inr, true, List, [], ◌∷◌, length, get_or, take, drop, min, refl, sym, ap, ◌∙◌, arith, length-take, length-drop}
+use Rattle.std.proofs.Math.Nat.{pow-suc, pow-le-pow_right}
+use Rattle.std.proofs.lemmas.List.{get_or-take, take-append-drop, take_all, drop_all}
 use Rattle.std.proofs.lemmas.List.Sums.{prefix_len_passes}
 use Rattle.std.proofs.lemmas.List.Folds.{length-prefix_len}
 use Rattle.std.proofs.lemmas.Bool.{cases_lt}
@@ -10,15 +9,23 @@ use Rattle.std.proofs.lemmas.Bool.Decides.{nat_tests}
 use Rattle.std.specs.List.{prefix_len}
 use Rattle.std.proofs.lemmas.List.Elements.{All-take}
 use Rattle.jiff_core.specs.Calendar.{is_leap_year}
-use Rattle.std.specs.Char.{is_ascii_digit, IsAsciiDigit}
-use Rattle.time_value.specs.Digits.{AreDigits, number, decimal_places}
+use Rattle.std.specs.Char.{is_ascii_digit, IsAsciiDigit, digit_value}
+use Rattle.std.specs.Str.Parse.{AllDigits, digits_value_after}
+use Rattle.std.proofs.lemmas.Int.Digits.{digits_value-lt, digits_value_more}
+use Rattle.time_value.specs.Digits.{AreDigits, number}
 
 is_digit : (c : ℕ) → is_ascii_digit c ≡ true → IsAsciiDigit c
 is_digit c passes = grind (arith, nat_tests)
 
 pub number-nil : number [] ≡ 0
-unfolding number
 number-nil = refl
+
+-- what a character is worth as a digit
+pub worth_is : (d : ℕ) → 48 ≤ d → d ≤ 57 → digit_value d ≡ d - 48
+worth_is d low high = grind (arith, nat_tests)
+
+pub pair_value : (a b : ℕ) → 48 ≤ a → a ≤ 57 → 48 ≤ b → b ≤ 57 → number (a ∷ b ∷ []) ≡ (a - 48) * 10 + (b - 48)
+pair_value a b a_low a_high b_low b_high = omega (arith, worth_is a a_low a_high, worth_is b b_low b_high)
 
 -- what stands before the first other character is digits
 pub AreDigits-prefix : (text : List ℕ) → AreDigits (take (prefix_len is_ascii_digit text) text)
@@ -33,40 +40,37 @@ AreDigits-tail digit digits all k d within = all (suc k) d (omega arith)
 pub digit_worth : (digits : List ℕ) (i : ℕ) → AreDigits digits → i < length digits → (48 ≤ get_or digits i 0) × (get_or digits i 0 - 48 ≤ 9)
 digit_worth digits i all within = let digit = all i 0 within in (digit.0, omega arith)
 
-split : (x q p n rest : ℕ) → x * (q * p) + (n * p + rest) ≡ (x * q + n) * p + rest
-split x q p n rest = omega (arith, add-mul (x * q) n p, mul_assoc x q p)
+-- digits behind a number move it up
+value_after : (n : ℕ) (ds : List ℕ) → digits_value_after 10 n ds ≡ n * 10 ^ length ds + number ds
+value_after n [] = omega arith
+value_after n (d ∷ ds) =
+    let more = value_after (n * 10 + digit_value d) ds in
+    let own = value_after (0 * 10 + digit_value d) ds in
+    rw (more, own, pow-suc 10 (length ds)) (omega arith)
+
+value_after-append : (n : ℕ) (xs ys : List ℕ) → digits_value_after 10 n (xs ++ ys) ≡ digits_value_after 10 (digits_value_after 10 n xs) ys
+value_after-append n [] ys = refl
+value_after-append n (x ∷ xs) ys = value_after-append (n * 10 + digit_value x) xs ys
 
 -- digits behind others move those up
 pub number-append : (xs ys : List ℕ) → number (xs ++ ys) ≡ number xs * 10 ^ length ys + number ys
-unfolding number
-number-append [] ys = omega arith
-number-append (x ∷ xs) ys =
-    let e : 10 ^ length (xs ++ ys) ≡ 10 ^ length xs * 10 ^ length ys = ap (λ n. 10 ^ n) (length-append xs ys) ∙ pow-add 10 (length xs) (length ys) in
-    rw (e, number-append xs ys) (split (x - 48) (10 ^ length xs) (10 ^ length ys) (number xs) (number ys))
+number-append xs ys = value_after-append 0 xs ys ∙ value_after (number xs) ys
 
 -- one digit more
-pub number-more : (digits : List ℕ) (i : ℕ) → i < length digits → number (take (i + 1) digits) ≡ number (take i digits) * 10 + (get_or digits i 0 - 48)
-unfolding number
-number-more digits i within =
-    rw (take_more digits i 0 within) (number-append (take i digits) (get_or digits i 0 ∷ []) ∙ omega arith)
+pub number-more : (digits : List ℕ) (i : ℕ) → AreDigits digits → i < length digits → number (take (i + 1) digits) ≡ number (take i digits) * 10 + (get_or digits i 0 - 48)
+number-more digits i all within =
+    let digit = all i 0 within in
+    digits_value_more 10 digits i within ∙ ap (λ w. number (take i digits) * 10 + w) (worth_is (get_or digits i 0) digit.0 digit.1)
 
--- the first digits write no more than all do
-pub number-take-le : (digits : List ℕ) (i : ℕ) → number (take i digits) ≤ number digits
-number-take-le digits i =
-    let whole = ap number (sym (take-append-drop i digits)) ∙ number-append (take i digits) (drop i digits) in
-    let one = one-le-pow (length (drop i digits)) 10 (omega arith) in
-    let more = mul-le-mul_left {m = 1} {n = 10 ^ length (drop i digits)} (number (take i digits)) one in
-    omega arith
+all_digits : (digits : List ℕ) → AreDigits digits → AllDigits 10 digits
+all_digits [] all = tt
+all_digits (d ∷ ds) all =
+    let digit = all 0 0 (omega arith) in
+    (omega (arith, worth_is d digit.0 digit.1), all_digits ds (AreDigits-tail d ds all))
 
 -- n digits write a number below 10 ^ n
 pub number-bound : (digits : List ℕ) → AreDigits digits → number digits < 10 ^ length digits
-unfolding number
-number-bound [] all = omega arith
-number-bound (x ∷ xs) all =
-    let worth : x - 48 ≤ 9 = (digit_worth (x ∷ xs) 0 all (omega arith)).1 in
-    let high = mul-le-mul_right (10 ^ length xs) worth in
-    let rest = number-bound xs (AreDigits-tail x xs all) in
-    omega (arith, pow-suc 10 (length xs))
+number-bound digits all = digits_value-lt 10 digits (all_digits digits all)
 
 AreDigits-take : (i : ℕ) (digits : List ℕ) → AreDigits digits → AreDigits (take i digits)
 AreDigits-take i digits all = All-take IsAsciiDigit i digits all
@@ -100,23 +104,6 @@ is_leap_year-last_four n front last e =
     let hundred : n % 100 ≡ last % 100 = omega arith in
     let most : n % 400 ≡ last % 400 = omega arith in
     rw (four, hundred, most) refl
-
-pub decimal_places-nil : (places : ℕ) → decimal_places places [] ≡ 0
-unfolding decimal_places
-decimal_places-nil zero = refl
-decimal_places-nil (suc more) = refl
-
-pub decimal_places-drop : (places more : ℕ) (digits : List ℕ) (i : ℕ) → places ≡ suc more → i < length digits
-    → decimal_places places (drop i digits) ≡ (get_or digits i 0 - 48) * 10 ^ more + decimal_places more (drop (i + 1) digits)
-unfolding decimal_places
-decimal_places-drop places more digits i e within = rw e (at_drop_more (decimal_places (suc more)) digits i 0 within)
-
--- only the first places count
-pub decimal_places-take : (places : ℕ) (digits : List ℕ) → decimal_places places (take places digits) ≡ decimal_places places digits
-unfolding decimal_places
-decimal_places-take zero digits = refl
-decimal_places-take (suc more) [] = refl
-decimal_places-take (suc more) (digit ∷ digits) = rw (decimal_places-take more digits) refl
 
 pub tenth : (places more : ℕ) → places ≡ suc more → 10 ^ places ≡ 10 * 10 ^ more
 tenth places more e = rw e (omega (arith, pow-suc 10 more))

@@ -1,5 +1,5 @@
 -- What is written is read: the readers of the pieces, and then those of the literals.
-use Rattle.std.proofs.Common.{◌≡◌, ℕ, suc, ◌+◌, ◌-◌, ◌*◌, ◌/◌, ◌%◌, ◌<◌, ◌≤◌, ◌++◌, Bool, true, false, not, nat_eq, nat_le, nat_lt, List, [], ◌∷◌, length, Option, Some, None, refl, arith}
+use Rattle.std.proofs.Common.{◌≡◌, ℕ, suc, ◌+◌, ◌*◌, ◌/◌, ◌%◌, ◌<◌, ◌≤◌, ◌++◌, Bool, true, false, not, nat_eq, nat_le, nat_lt, List, [], ◌∷◌, length, Option, Some, None, refl, ◌∙◌, arith}
 use Rattle.std.specs.Prelude.{is_none, if◌then◌else◌}
 use Rattle.std.specs.Char.{is_ascii_digit}
 use Rattle.std.specs.List.{prefix_len}
@@ -9,9 +9,10 @@ use Rattle.time_value.specs.declared.literal.LiteralDate.{LiteralDate}
 use Rattle.time_value.specs.declared.literal.LiteralTime.{LiteralTime}
 use Rattle.time_value.specs.declared.literal.MomentKind.{MomentKind}
 use Rattle.time_value.specs.declared.literal.MomentKind.TheVariants as kinds
-use Rattle.time_value.specs.Digits.{AreDigits, after, minus_at, two_digits, digits_at, fraction_at}
-use Rattle.time_value.specs.Literal.{begins_with, is_year, is_hour, year_value, year_of, year_at, month_at, below_sixty, date_at, time_at, zone_minutes, zone_of, in_zone, date_time, date, time, year_month, year, two_dashes, month_day, day, month, literal}
-use Rattle.time_value.specs.Spelling.{Zone, NoZone, Utc, Ahead, Behind, Written, IsWritten, IsZone, IsZoneTime, IsFractionText, pair, year_text, date_text, fraction_text, time_text, zone_text, text_of, is_written_hour, fraction_value, zone_value, written_time, literal_of}
+use Rattle.time_value.specs.Digits.{AreDigits, number, after, minus_at, two_digits, digits_at, fraction_at}
+use Rattle.time_value.proofs.Numbers.{pair_value}
+use Rattle.time_value.specs.Literal.{begins_with, is_year, is_hour, year_value, year_of, year_at, month_at, below_sixty, time_at, zone_minutes, zone_of, in_zone, year_part, month_part, day_part, time_part, literal_at, literal}
+use Rattle.time_value.specs.Spelling.{Zone, NoZone, Utc, Ahead, Behind, Written, IsWritten, IsZone, IsZoneTime, IsFractionText, pair, year_text, fraction_text, time_text, zone_text, text_of, is_written_hour, fraction_value, zone_value, written_time, literal_of}
 
 digit_of : (n : ℕ) → n ≤ 9 → is_ascii_digit (48 + n) ≡ true
 digit_of n high = grind (arith, nat_tests)
@@ -21,7 +22,7 @@ unfolding two_digits
 two_digits-pair n rest below =
     let tens : is_ascii_digit (48 + n / 10) ≡ true = digit_of (n / 10) (omega arith) in
     let ones : is_ascii_digit (48 + n % 10) ≡ true = digit_of (n % 10) (omega arith) in
-    let whole : (48 + n / 10 - 48) * 10 + (48 + n % 10 - 48) ≡ n = omega arith in
+    let whole : number ((48 + n / 10) ∷ (48 + n % 10) ∷ []) ≡ n = pair_value (48 + n / 10) (48 + n % 10) (omega arith) (omega arith) (omega arith) (omega arith) ∙ omega arith in
     rw (tens, ones, whole) refl
 
 month_at-pair : (n : ℕ) (rest : List ℕ) → 1 ≤ n → n ≤ 12 → month_at (pair n rest) ≡ Some (n, rest)
@@ -81,11 +82,6 @@ year_at-text : (w : Written) (rest : List ℕ) → IsWritten w → begins_with_d
 unfolding year_at
 year_at-text w rest is other =
     rw (minus_at-text w.negative w.year rest is.digits is.year, digits_at-run w.year rest is.digits other, year_of-digits w.negative w.year is.year) refl
-
-date_at-text : (w : Written) (rest : List ℕ) → IsWritten w → date_at (date_text w rest) ≡ Some (record { year = year_value w.negative w.year; month = w.month; day = w.day }, rest)
-unfolding date_at after
-date_at-text w rest is =
-    rw (year_at-text w (45 ∷ pair w.month (45 ∷ pair w.day rest)) is refl, month_at-pair w.month (45 ∷ pair w.day rest) is.month_low is.month_high, two_digits-pair w.day rest is.day) refl
 
 pub fraction_at-text : (fraction : Option (List ℕ)) (rest : List ℕ) → IsFractionText fraction → begins_with_digit rest ≡ false → begins_with 46 rest ≡ false
     → fraction_at (fraction_text fraction rest) ≡ Some (fraction_value fraction, rest)
@@ -148,10 +144,16 @@ in_zone-text date time zone is = rw (zone_of-text zone is) refl
 
 -- each literal is read to its fields
 pub literal-text : (kind : MomentKind) (w : Written) → IsWritten w → literal kind (text_of kind w) ≡ Some (literal_of kind w)
-unfolding date_time date time year_month year month_day day month two_dashes after
+unfolding literal_at year_part month_part day_part time_part after
 literal-text kinds.DateTime w is =
-    rw (date_at-text w (84 ∷ time_text w (zone_text w.zone)) is, time_at-text w (zone_text w.zone) is (no_digit w.zone) (no_point w.zone)) (in_zone-text _ _ w.zone is.zone)
-literal-text kinds.Date w is = rw (date_at-text w (zone_text w.zone) is) (in_zone-text _ _ w.zone is.zone)
+    rw (
+      year_at-text w (45 ∷ pair w.month (45 ∷ pair w.day (84 ∷ time_text w (zone_text w.zone)))) is refl,
+      month_at-pair w.month (45 ∷ pair w.day (84 ∷ time_text w (zone_text w.zone))) is.month_low is.month_high,
+      two_digits-pair w.day (84 ∷ time_text w (zone_text w.zone)) is.day,
+      time_at-text w (zone_text w.zone) is (no_digit w.zone) (no_point w.zone),
+    ) (in_zone-text _ _ w.zone is.zone)
+literal-text kinds.Date w is =
+    rw (year_at-text w (45 ∷ pair w.month (45 ∷ pair w.day (zone_text w.zone))) is refl, month_at-pair w.month (45 ∷ pair w.day (zone_text w.zone)) is.month_low is.month_high, two_digits-pair w.day (zone_text w.zone) is.day) (in_zone-text _ _ w.zone is.zone)
 literal-text kinds.Time w is = rw (time_at-text w (zone_text w.zone) is (no_digit w.zone) (no_point w.zone)) (in_zone-text _ _ w.zone is.zone)
 literal-text kinds.YearMonth w is =
     rw (year_at-text w (45 ∷ pair w.month (zone_text w.zone)) is refl, month_at-pair w.month (zone_text w.zone) is.month_low is.month_high) (in_zone-text _ _ w.zone is.zone)

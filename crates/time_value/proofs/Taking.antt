@@ -6,10 +6,10 @@ use Rattle.std.specs.List.{prefix_len}
 use Rattle.std.proofs.lemmas.List.{take-append-drop}
 use Rattle.std.proofs.lemmas.Bool.Decides.{nat_tests}
 use Rattle.time_value.specs.declared.literal.Year.{Year}
-use Rattle.time_value.specs.Digits.{◌>>=◌, AreDigits, after, minus_at, two_digits, digits_at, nanoseconds, nanoseconds_of, fraction_at}
+use Rattle.time_value.specs.Digits.{◌>>=◌, AreDigits, number, after, minus_at, two_digits, digits_at, nanoseconds, nanoseconds_of, fraction_at}
 use Rattle.time_value.specs.Literal.{begins_with, is_year, year_value, year_of, year_at, month_at, below_sixty, zone_minutes, zone_of}
 use Rattle.time_value.specs.Spelling.{Zone, NoZone, Utc, Ahead, Behind, IsZone, IsZoneTime, IsFractionText, pair, fraction_text, zone_text, fraction_value, zone_value}
-use Rattle.time_value.proofs.Numbers.{AreDigits-prefix}
+use Rattle.time_value.proofs.Numbers.{AreDigits-prefix, pair_value}
 
 -- a step that comes to a value
 pub bind_some : {A B : Type 0} (r : Option A) (f : A → Option B) (y : B) → (r >>= f) ≡ Some y → (x : A) × (r ≡ Some x) × (f x ≡ Some y)
@@ -55,11 +55,11 @@ unfolding two_digits
 two_digits-takes [] found e = absurd (cc)
 two_digits-takes (a ∷ []) found e = absurd (cc)
 two_digits-takes (a ∷ b ∷ rest) found e =
-    let g = guard_some (is_ascii_digit a && is_ascii_digit b) ((a - 48) * 10 + (b - 48), rest) found e in
+    let g = guard_some (is_ascii_digit a && is_ascii_digit b) (number (a ∷ b ∷ []), rest) found e in
     let digits = both_true (is_ascii_digit a) (is_ascii_digit b) g.0 in
     let tens = digit_bounds a digits.0 in
     let ones = digit_bounds b digits.1 in
-    let taken = pair_taken a b ((a - 48) * 10 + (b - 48)) rest tens.0 tens.1 ones.0 ones.1 refl in
+    let taken = pair_taken a b (number (a ∷ b ∷ [])) rest tens.0 tens.1 ones.0 ones.1 (pair_value a b tens.0 tens.1 ones.0 ones.1) in
     let P : ℕ × List ℕ → Type 0 = λ found. PairTaken (a ∷ b ∷ rest) found.0 found.1 in
     subst P g.1 taken
 

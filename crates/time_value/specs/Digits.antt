@@ -1,7 +1,8 @@
 -- The pieces of literals: what stands at the front of a text, and the text after it.
-use Rattle.std.specs.Prelude.{ℕ, zero, suc, ◌+◌, ◌-◌, ◌*◌, ◌^◌, ◌&&◌, ◌==◌, Bool, true, false, List, [], ◌∷◌, length, take, drop, All, Option, Some, None, option_map, if◌then◌else◌, nat_le}
+use Rattle.std.specs.Prelude.{ℕ, ◌-◌, ◌*◌, ◌^◌, ◌&&◌, ◌==◌, Bool, true, false, List, [], ◌∷◌, length, take, drop, All, Option, Some, None, option_map, if◌then◌else◌, nat_le}
 use Rattle.std.specs.List.{prefix_len, list_all}
 use Rattle.std.specs.Char.{is_ascii_digit, IsAsciiDigit}
+use Rattle.std.specs.Str.Parse.{digits_value}
 use Rattle.std.specs.Borrow.{Bor}
 
 -- a piece and the text after it, where the piece stands at the front
@@ -35,11 +36,15 @@ unfoldable pub minus_at : List ℕ → Bool × List ℕ
 minus_at [] = (false, [])
 minus_at (c ∷ rest) = if c == 45 then (true, rest) else (false, c ∷ rest)
 
+-- the number that decimal digits write
+abbrev pub number : List ℕ → ℕ
+number digits = digits_value 10 digits
+
 -- two digits
 unfoldable pub two_digits : List ℕ → Front ℕ
 two_digits (tens ∷ ones ∷ rest) =
     if is_ascii_digit tens && is_ascii_digit ones
-    then Some ((tens - 48) * 10 + (ones - 48), rest)
+    then Some (number (tens ∷ ones ∷ []), rest)
     else None
 two_digits _ = None
 
@@ -50,22 +55,15 @@ digits_at text = let count = prefix_len is_ascii_digit text in (take count text,
 abbrev pub AreDigits : List ℕ → Type 0
 AreDigits = All IsAsciiDigit
 
--- the number that digits write
-unfoldable pub number : List ℕ → ℕ
-number [] = 0
-number (digit ∷ digits) = (digit - 48) * 10 ^ length digits + number digits
-
--- the first of the digits behind a point, as that many decimal places
-unfoldable pub decimal_places : ℕ → List ℕ → ℕ
-decimal_places zero digits = 0
-decimal_places (suc more) [] = 0
-decimal_places (suc more) (digit ∷ digits) = (digit - 48) * 10 ^ more + decimal_places more digits
+-- at most nine digits behind a point, as nanoseconds
+unfoldable pub decimal_places : List ℕ → ℕ
+decimal_places digits = number digits * 10 ^ (9 - length digits)
 
 -- the digits behind a point as nanoseconds, and none where there is more to them than nine places:
 -- past the ninth digit there are zeros alone
 unfoldable pub nanoseconds : List ℕ → Option ℕ
 nanoseconds digits =
-    if list_all (λ digit. digit == 48) (drop 9 digits) then Some (decimal_places 9 digits) else None
+    if list_all (λ digit. digit == 48) (drop 9 digits) then Some (decimal_places (take 9 digits)) else None
 
 -- at least one digit behind a point: nanoseconds, where nine places hold them
 abbrev pub nanoseconds_of : List ℕ × List ℕ → Front (Option ℕ)

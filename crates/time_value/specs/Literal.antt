@@ -6,6 +6,7 @@ use Rattle.time_value.specs.declared.literal.Year.{Year}
 use Rattle.time_value.specs.declared.literal.LiteralDate.{LiteralDate}
 use Rattle.time_value.specs.declared.literal.LiteralTime.{LiteralTime}
 use Rattle.time_value.specs.declared.literal.Literal.{Literal}
+use Rattle.time_value.specs.declared.literal.Shape.{Shape}
 use Rattle.time_value.specs.declared.literal.MomentKind.{MomentKind}
 use Rattle.time_value.specs.declared.literal.MomentKind.TheVariants as kinds
 use Rattle.time_value.specs.Digits.{Front, ◌>>=◌, after, minus_at, two_digits, digits_at, number, fraction_at}
@@ -51,16 +52,6 @@ unfoldable pub below_sixty : List ℕ → Front ℕ
 below_sixty text = do
   count ← two_digits text
   if nat_lt count.0 60 then Some count else None
-
--- CCYY-MM-DD
-unfoldable pub date_at : List ℕ → Front LiteralDate
-date_at text = do
-  year ← year_at text
-  past_year ← after 45 year.1
-  month ← month_at past_year
-  past_month ← after 45 month.1
-  day ← two_digits past_month
-  Some (record { year = year.0; month = month.0; day = day.0 }, day.1)
 
 -- the hours are below 24, or it is 24:00:00 and no fraction follows
 abbrev pub is_hour : ℕ → ℕ → ℕ → List ℕ → Bool
@@ -116,77 +107,50 @@ in_zone date time rest = do
 abbrev pub first_midnight : LiteralTime → LiteralTime
 first_midnight time = if time.hour == 24 then midnight else time
 
--- 3.2.7: CCYY-MM-DDThh:mm:ss(.s+)?
-unfoldable pub date_time : List ℕ → Option Literal
-date_time text = do
-  date ← date_at text
-  past_date ← after 84 date.1
-  time ← time_at past_date
-  in_zone date.0 time.0 time.1
+-- which fields the literals of a type write: 3.2.7 to 3.2.14
+abbrev pub shape_of : MomentKind → Shape
+shape_of kinds.DateTime = record { year = true; month = true; day = true; time = true }
+shape_of kinds.Date = record { year = true; month = true; day = true; time = false }
+shape_of kinds.Time = record { year = false; month = false; day = false; time = true }
+shape_of kinds.YearMonth = record { year = true; month = true; day = false; time = false }
+shape_of kinds.Year = record { year = true; month = false; day = false; time = false }
+shape_of kinds.MonthDay = record { year = false; month = true; day = true; time = false }
+shape_of kinds.Day = record { year = false; month = false; day = true; time = false }
+shape_of kinds.Month = record { year = false; month = true; day = false; time = false }
 
--- 3.2.9: CCYY-MM-DD
-unfoldable pub date : List ℕ → Option Literal
-date text = do
-  date ← date_at text
-  in_zone date.0 midnight date.1
+-- CCYY, or a dash in its place before a month or a day
+unfoldable pub year_part : Bool → Bool → List ℕ → Front Year
+year_part is_written is_before text =
+    if is_written then year_at text
+    else (if is_before then (after 45 text >>= λ rest. Some (year_1972, rest)) else Some (year_1972, text))
 
--- 3.2.8: hh:mm:ss(.s+)?
-unfoldable pub time : List ℕ → Option Literal
-time text = do
-  time ← time_at text
-  in_zone (record { year = year_1972; month = 1; day = 1 }) (first_midnight time.0) time.1
+-- -MM, or a dash in its place before a day
+unfoldable pub month_part : Bool → Bool → List ℕ → Front ℕ
+month_part is_written is_before text =
+    if is_written then (after 45 text >>= λ rest. month_at rest)
+    else (if is_before then (after 45 text >>= λ rest. Some (1, rest)) else Some (1, text))
 
--- 3.2.10: CCYY-MM
-unfoldable pub year_month : List ℕ → Option Literal
-year_month text = do
-  year ← year_at text
-  past_year ← after 45 year.1
-  month ← month_at past_year
-  in_zone (record { year = year.0; month = month.0; day = 1 }) midnight month.1
+-- -DD
+unfoldable pub day_part : Bool → List ℕ → Front ℕ
+day_part is_written text = if is_written then (after 45 text >>= λ rest. two_digits rest) else Some (1, text)
 
--- 3.2.11: CCYY
-unfoldable pub year : List ℕ → Option Literal
-year text = do
-  year ← year_at text
-  in_zone (record { year = year.0; month = 1; day = 1 }) midnight year.1
+-- hh:mm:ss(.s+)?, behind a T where a date stands before it
+unfoldable pub time_part : Bool → Bool → List ℕ → Front LiteralTime
+time_part is_written is_behind text =
+    if is_written then
+    (if is_behind then (after 84 text >>= λ rest. time_at rest)
+    else (time_at text >>= λ time. Some (first_midnight time.0, time.1)))
+    else Some (midnight, text)
 
--- two dashes
-unfoldable pub two_dashes : List ℕ → Option (List ℕ)
-two_dashes text = do
-  past_dash ← after 45 text
-  after 45 past_dash
-
--- 3.2.12: --MM-DD
-unfoldable pub month_day : List ℕ → Option Literal
-month_day text = do
-  past_dashes ← two_dashes text
-  month ← month_at past_dashes
-  past_month ← after 45 month.1
-  day ← two_digits past_month
-  in_zone (record { year = year_1972; month = month.0; day = day.0 }) midnight day.1
-
--- 3.2.13: ---DD
-unfoldable pub day : List ℕ → Option Literal
-day text = do
-  past_dashes ← two_dashes text
-  past_dash ← after 45 past_dashes
-  day ← two_digits past_dash
-  in_zone (record { year = year_1972; month = 1; day = day.0 }) midnight day.1
-
--- 3.2.14: --MM
-unfoldable pub month : List ℕ → Option Literal
-month text = do
-  past_dashes ← two_dashes text
-  month ← month_at past_dashes
-  in_zone (record { year = year_1972; month = month.0; day = 1 }) midnight month.1
+-- the fields of a text as a literal that writes these, and nothing else
+unfoldable pub literal_at : Shape → List ℕ → Option Literal
+literal_at shape text = do
+  year ← year_part shape.year (shape.month || shape.day) text
+  month ← month_part shape.month shape.day year.1
+  day ← day_part shape.day month.1
+  time ← time_part shape.time shape.day day.1
+  in_zone (record { year = year.0; month = month.0; day = day.0 }) time.0 time.1
 
 -- the fields of a text as a literal of this type
 abbrev pub literal : MomentKind → List ℕ → Option Literal
-literal kinds.DateTime = date_time
-literal kinds.Date = date
-literal kinds.Time = time
-literal kinds.YearMonth = year_month
-literal kinds.Year = year
-literal kinds.MonthDay = month_day
-literal kinds.Day = day
-literal kinds.Month = month
+literal kind = literal_at (shape_of kind)

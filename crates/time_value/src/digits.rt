@@ -28,7 +28,7 @@ pub(crate) fn minus_at(text: &[u8]) -> (bool, &[u8])
 }
 
 /// Two digits.
-#[tactic(auto, unfolding(crate::specs::Digits::two_digits))]
+#[tactic(auto, unfolding(crate::specs::Digits::two_digits), using(crate::proofs::Numbers::pair_value))]
 pub(crate) fn two_digits(text: &[u8]) -> Option<(u8, &[u8])>
     ensures value { spec.seen result ≡ spec.two_digits text.now }
     ensures bound { IfSome result (λ found. found.0 < 100) }
@@ -83,7 +83,7 @@ fn are_zeros(digits: &[u8]) -> bool
 fn decimal_places(digits: &[u8]) -> u32
     requires short { length digits.now ≤ 9 }
     requires digits { spec.AreDigits digits.now }
-    ensures value { result ≡ spec.decimal_places 9 digits.now }
+    ensures value { result ≡ spec.decimal_places digits.now }
     ensures bound { result < 1_000_000_000 }
 {
     let mut nanosecond = 0;

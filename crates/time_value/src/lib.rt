@@ -8,8 +8,6 @@ mod literal;
 mod moment;
 mod reference;
 mod span;
-#[cfg(test)]
-mod tests;
 
 pub use fault::TimeFault;
 pub use literal::MomentKind;

@@ -1,5 +1,5 @@
 //! The literals of the eight types of moments, taken apart into their fields.
-ghost use Rattle.std.specs.Prelude.{◌≡◌, ◌<◌, ◌≤◌, IfSome, IsTrue, length, pos};
+ghost use Rattle.std.specs.Prelude.{◌≡◌, ◌<◌, ◌≤◌, ◌||◌, IfSome, IsTrue, length, pos};
 ghost use Rattle.jiff_core.specs.Calendar as calendar;
 ghost use Rattle.time_value.specs.Digits as pieces;
 ghost use Rattle.time_value.specs.Literal as spec;
@@ -160,19 +160,6 @@ fn below_sixty(text: &[u8]) -> Option<(u8, &[u8])>
     }
 }
 
-#[tactic(auto, unfolding(crate::specs::Literal::date_at))]
-fn date_at(text: &[u8]) -> Option<(LiteralDate, &[u8])>
-    ensures value { pieces.seen result ≡ spec.date_at text.now }
-    ensures bound { IfSome result (λ found. IsLiteralDate found.0) }
-{
-    let (year, rest) = year_at(text)?;
-    let rest = after(rest, b'-')?;
-    let (month, rest) = month_at(rest)?;
-    let rest = after(rest, b'-')?;
-    let (day, rest) = two_digits(rest)?;
-    Some((LiteralDate { year, month, day }, rest))
-}
-
 // Whether these are the hours of a time, before this text: hour 24 stands only in 24:00:00.
 fn is_hour(hour: u8, minute: u8, second: u8, rest: &[u8]) -> bool
     ensures value { result ≡ spec.is_hour hour minute second rest.now }
@@ -254,40 +241,6 @@ fn in_zone(date: LiteralDate, time: LiteralTime, rest: &[u8]) -> Option<Literal>
     Some(Literal { date, time, zone })
 }
 
-#[tactic(auto, unfolding(crate::specs::Literal::date_time))]
-fn date_time(text: &[u8]) -> Option<Literal>
-    ensures value { result ≡ spec.date_time text.now }
-    ensures bound { IfSome result IsLiteral }
-{
-    let (date, rest) = date_at(text)?;
-    let rest = after(rest, b'T')?;
-    let (time, rest) = time_at(rest)?;
-    in_zone(date, time, rest)
-}
-
-#[tactic(auto, unfolding(crate::specs::Literal::date))]
-fn date(text: &[u8]) -> Option<Literal>
-    ensures value { result ≡ spec.date text.now }
-    ensures bound { IfSome result IsLiteral }
-{
-    let (date, rest) = date_at(text)?;
-    in_zone(date, MIDNIGHT, rest)
-}
-
-#[tactic(auto, unfolding(crate::specs::Literal::time))]
-fn time(text: &[u8]) -> Option<Literal>
-    ensures value { result ≡ spec.time text.now }
-    ensures bound { IfSome result IsLiteral }
-{
-    let (time, rest) = time_at(text)?;
-    let date = LiteralDate {
-        year: YEAR_1972,
-        month: 1,
-        day: 1,
-    };
-    in_zone(date, first_midnight(time), rest)
-}
-
 // The time on the first day where it is 24:00:00.
 fn first_midnight(time: LiteralTime) -> LiteralTime
     requires { IsLiteralTime time }
@@ -297,105 +250,112 @@ fn first_midnight(time: LiteralTime) -> LiteralTime
     if time.hour == 24 { MIDNIGHT } else { time }
 }
 
-#[tactic(auto, unfolding(crate::specs::Literal::year_month))]
-fn year_month(text: &[u8]) -> Option<Literal>
-    ensures value { result ≡ spec.year_month text.now }
-    ensures bound { IfSome result IsLiteral }
+/// Which fields the literals of a type write.
+#[derive(Clone, Copy)]
+struct Shape {
+    year: bool,
+    month: bool,
+    day: bool,
+    time: bool,
+}
+
+/// The fields of each type, in their order: year, month, day, time (Datatypes 3.2.7 to 3.2.14).
+fn shape_of(kind: MomentKind) -> Shape
+    ensures { result ≡ spec.shape_of kind }
 {
-    let (year, rest) = year_at(text)?;
-    let rest = after(rest, b'-')?;
-    let (month, rest) = month_at(rest)?;
-    let date = LiteralDate {
+    let (year, month, day, time) = match kind {
+        MomentKind::DateTime => (true, true, true, true),
+        MomentKind::Date => (true, true, true, false),
+        MomentKind::Time => (false, false, false, true),
+        MomentKind::YearMonth => (true, true, false, false),
+        MomentKind::Year => (true, false, false, false),
+        MomentKind::MonthDay => (false, true, true, false),
+        MomentKind::Day => (false, false, true, false),
+        MomentKind::Month => (false, true, false, false),
+    };
+    Shape {
         year,
         month,
-        day: 1,
-    };
-    in_zone(date, MIDNIGHT, rest)
-}
-
-#[tactic(auto, unfolding(crate::specs::Literal::year))]
-fn year_alone(text: &[u8]) -> Option<Literal>
-    ensures value { result ≡ spec.year text.now }
-    ensures bound { IfSome result IsLiteral }
-{
-    let (year, rest) = year_at(text)?;
-    let date = LiteralDate {
-        year,
-        month: 1,
-        day: 1,
-    };
-    in_zone(date, MIDNIGHT, rest)
-}
-
-#[tactic(auto, unfolding(crate::specs::Literal::two_dashes))]
-fn two_dashes(text: &[u8]) -> Option<&[u8]>
-    ensures { pieces.seen_rest result ≡ spec.two_dashes text.now }
-{
-    let rest = after(text, b'-')?;
-    after(rest, b'-')
-}
-
-#[tactic(auto, unfolding(crate::specs::Literal::month_day))]
-fn month_day(text: &[u8]) -> Option<Literal>
-    ensures value { result ≡ spec.month_day text.now }
-    ensures bound { IfSome result IsLiteral }
-{
-    let rest = two_dashes(text)?;
-    let (month, rest) = month_at(rest)?;
-    let rest = after(rest, b'-')?;
-    let (day, rest) = two_digits(rest)?;
-    let date = LiteralDate {
-        year: YEAR_1972,
-        month,
         day,
-    };
-    in_zone(date, MIDNIGHT, rest)
+        time,
+    }
 }
 
-#[tactic(auto, unfolding(crate::specs::Literal::day))]
-fn day(text: &[u8]) -> Option<Literal>
-    ensures value { result ≡ spec.day text.now }
-    ensures bound { IfSome result IsLiteral }
+// The year, or a dash in its place before a month or a day. It is 1972 where it is not written.
+#[tactic(auto, unfolding(crate::specs::Literal::year_part))]
+fn year_part(shape: Shape, text: &[u8]) -> Option<(Year, &[u8])>
+    ensures value { pieces.seen result ≡ spec.year_part shape.year (shape.month || shape.day) text.now }
+    ensures bound { IfSome result (λ found. IfSome found.0.within (IsYearNumber found.0.leap)) }
 {
-    let rest = two_dashes(text)?;
-    let rest = after(rest, b'-')?;
-    let (day, rest) = two_digits(rest)?;
-    let date = LiteralDate {
-        year: YEAR_1972,
-        month: 1,
-        day,
-    };
-    in_zone(date, MIDNIGHT, rest)
+    if shape.year {
+        year_at(text)
+    } else if shape.month || shape.day {
+        let rest = after(text, b'-')?;
+        Some((YEAR_1972, rest))
+    } else {
+        Some((YEAR_1972, text))
+    }
 }
 
-#[tactic(auto, unfolding(crate::specs::Literal::month))]
-fn month(text: &[u8]) -> Option<Literal>
-    ensures value { result ≡ spec.month text.now }
-    ensures bound { IfSome result IsLiteral }
+// The month, or a dash in its place before a day. It is January where it is not written.
+#[tactic(auto, unfolding(crate::specs::Literal::month_part))]
+fn month_part(shape: Shape, text: &[u8]) -> Option<(u8, &[u8])>
+    ensures value { pieces.seen result ≡ spec.month_part shape.month shape.day text.now }
+    ensures bound { IfSome result (λ found. (1 ≤ found.0) × (found.0 ≤ 12)) }
 {
-    let rest = two_dashes(text)?;
-    let (month, rest) = month_at(rest)?;
-    let date = LiteralDate {
-        year: YEAR_1972,
-        month,
-        day: 1,
-    };
-    in_zone(date, MIDNIGHT, rest)
+    if shape.month {
+        let rest = after(text, b'-')?;
+        month_at(rest)
+    } else if shape.day {
+        let rest = after(text, b'-')?;
+        Some((1, rest))
+    } else {
+        Some((1, text))
+    }
+}
+
+// The day, which is the first where it is not written.
+#[tactic(auto, unfolding(crate::specs::Literal::day_part))]
+fn day_part(shape: Shape, text: &[u8]) -> Option<(u8, &[u8])>
+    ensures value { pieces.seen result ≡ spec.day_part shape.day text.now }
+    ensures bound { IfSome result (λ found. found.0 < 100) }
+{
+    if shape.day {
+        let rest = after(text, b'-')?;
+        two_digits(rest)
+    } else {
+        Some((1, text))
+    }
+}
+
+// The time, which is midnight where it is not written.
+#[tactic(auto, unfolding(crate::specs::Literal::time_part))]
+fn time_part(shape: Shape, text: &[u8]) -> Option<(LiteralTime, &[u8])>
+    ensures value { pieces.seen result ≡ spec.time_part shape.time shape.day text.now }
+    ensures bound { IfSome result (λ found. IsLiteralTime found.0) }
+{
+    if !shape.time {
+        return Some((MIDNIGHT, text));
+    }
+    if shape.day {
+        let rest = after(text, b'T')?;
+        time_at(rest)
+    } else {
+        let (time, rest) = time_at(text)?;
+        Some((first_midnight(time), rest))
+    }
 }
 
 /// The fields of a text as a literal of this type.
+#[tactic(auto, unfolding(crate::specs::Literal::literal_at))]
 pub(crate) fn fields(kind: MomentKind, text: &[u8]) -> Option<Literal>
     ensures value { result ≡ spec.literal kind text.now }
     ensures bound { IfSome result IsLiteral }
 {
-    match kind {
-        MomentKind::DateTime => date_time(text),
-        MomentKind::Date => date(text),
-        MomentKind::Time => time(text),
-        MomentKind::YearMonth => year_month(text),
-        MomentKind::Year => year_alone(text),
-        MomentKind::MonthDay => month_day(text),
-        MomentKind::Day => day(text),
-        MomentKind::Month => month(text),
-    }
+    let shape = shape_of(kind);
+    let (year, rest) = year_part(shape, text)?;
+    let (month, rest) = month_part(shape, rest)?;
+    let (day, rest) = day_part(shape, rest)?;
+    let (time, rest) = time_part(shape, rest)?;
+    in_zone(LiteralDate { year, month, day }, time, rest)
 }

@@ -1,9 +1,8 @@
 -- What a block builds.
-use Rattle.std.proofs.Common.{◌≡◌, List, true, false, true≢false, Result, Ok, Err, sym, ap, ◌∙◌}
+use Rattle.std.proofs.Common.{◌≡◌, List, true, true≢false, Ok, Err, sym, ap, ◌∙◌}
 use Rattle.std.specs.Result.{is_ok}
 use Rattle.item_listing.specs.declared.item.Item.{Item}
 use Rattle.tree_rows.specs.declared.row.Binding.{Binding}
-use Rattle.tree_rows.specs.declared.row.Row.{Row}
 use Rattle.tree_building.specs.Blocks.{one_element, IsBlock}
 use Rattle.tree_building.specs.Building.{built, forest_of}
 use Rattle.tree_building.specs.Rules.{block_rules}

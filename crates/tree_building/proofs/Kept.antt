@@ -8,9 +8,8 @@ use Rattle.tag_names.specs.declared.lines.AttributeLine.{AttributeLine}
 use Rattle.tag_names.specs.declared.lines.Tag.{Tag}
 use Rattle.tree_rows.specs.declared.row.Binding.{Binding}
 use Rattle.tree_rows.specs.declared.row.Row.{Row}
-use Rattle.tree_rows.specs.Rows.{siblings, rows_of}
 use Rattle.tree_building.specs.Building.{◌>>=◌, nothing, refused, text_row, element_row, with_row, with_element, fault_of, tag_by, tag_closed_by, settled_by, counted, started, lined, text_begun, text_by, ended, passed, took, finished, ended_all, after, after_all, built, is_empty, is_white}
-use Rattle.tree_building.specs.Nest.{OpenElement, scope_in, opened, closes, closed, without_first}
+use Rattle.tree_building.specs.Nest.{OpenElement, scope_in, closes, closed, without_first}
 use Rattle.tree_building.specs.Rules.{past, document_rules}
 use Rattle.tree_building.specs.Shape.{AreWhole, AreSound, AreUnder, deepest_row}
 use Rattle.tree_building.specs.declared.rules.Rules.{Rules}

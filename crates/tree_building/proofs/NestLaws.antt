@@ -1,8 +1,8 @@
 -- Open elements, and the marks that they are kept as.
-use Rattle.std.proofs.Common.{◌≡◌, ℕ, ◌+◌, ◌-◌, List, [], ◌∷◌, ◌++◌, length, drop, refl, sym, ap, ◌∙◌, arith}
+use Rattle.std.proofs.Common.{◌≡◌, ℕ, ◌-◌, List, [], ◌∷◌, ◌++◌, length, drop, refl, sym, ap, ◌∙◌, arith}
 use Rattle.std.proofs.lemmas.List.{length-append, drop_at}
 use Rattle.tree_rows.specs.declared.row.Binding.{Binding}
-use Rattle.tree_building.specs.Nest.{OpenElement, Opened, scope_in, opened}
+use Rattle.tree_building.specs.Nest.{scope_in, opened}
 use Rattle.tree_building.specs.Marks.{before, elements_of, outer_of, nest_of}
 use Rattle.tree_building.specs.declared.nest.Mark.{Mark}
 

@@ -1,5 +1,5 @@
 -- Rows in document order are those of a tree: each row stands at most one level below the element before it.
-use Rattle.std.proofs.Common.{◌≡◌, ℕ, ◌+◌, ◌≤◌, List, [], ◌∷◌, ◌++◌, Bool, true, false, ◌==◌, Option, Some, refl, sym, ap, ◌∙◌, arith, nat_lt, append_assoc, if◌then◌else◌}
+use Rattle.std.proofs.Common.{◌≡◌, ℕ, ◌+◌, ◌≤◌, List, [], ◌∷◌, ◌++◌, Bool, true, false, ◌==◌, Option, Some, refl, sym, ap, ◌∙◌, arith, nat_lt, if◌then◌else◌}
 use Rattle.std.proofs.lemmas.Bool.Decides.{nat_tests}
 use Rattle.tree_rows.specs.Rows.{siblings, rows_of, node}
 use Rattle.tree_rows.specs.declared.row.Attribute.{Attribute}

@@ -1,25 +1,22 @@
 -- A block is built exactly where its tags are those of one element.
-use Rattle.std.proofs.Common.{◌≡◌, ℕ, ◌+◌, ◌≤◌, List, [], ◌∷◌, ◌++◌, Bool, true, false, not, ◌==◌, ◌&&◌, Option, Some, None, Result, Ok, Err, length, map, refl, sym, ap, ◌∙◌, arith, cond}
+use Rattle.std.proofs.Common.{◌≡◌, ℕ, ◌+◌, ◌≤◌, List, [], ◌∷◌, ◌++◌, Bool, true, false, ◌==◌, ◌&&◌, Result, Ok, Err, length, refl, sym, ap, ◌∙◌, arith}
 use Rattle.std.specs.Prelude.{if◌then◌else◌}
 use Rattle.std.specs.Result.{is_ok}
 use Rattle.std.proofs.lemmas.Bool.Decides.{nat_tests}
-use Rattle.std.specs.Str.{bytes_eq}
 use Rattle.item_listing.specs.declared.item.Item.{Item}
 use Rattle.item_listing.specs.declared.item.Item.TheVariants as items
-use Rattle.tag_names.specs.declared.lines.Tag.{Tag}
-use Rattle.tree_rows.specs.White as white
+use Rattle.xs_names.specs.White as white
 use Rattle.tree_rows.specs.declared.row.Binding.{Binding}
 use Rattle.tree_rows.specs.declared.row.Row.{Row}
 use Rattle.tree_building.specs.Blocks.{ends, outer, one_from, one_element}
-use Rattle.tree_building.specs.Building.{◌>>=◌, nothing, refused, with_row, with_element, text_row, element_row, tag_closed_by, settled_by, counted, started, text_begun, text_by, ended, passed, took, finished, ended_all, after, after_all, built, is_empty}
-use Rattle.tree_building.specs.Nest.{OpenElement, Opened, closes, without_first}
+use Rattle.tree_building.specs.Building.{◌>>=◌, refused, with_row, with_element, text_row, element_row, settled_by, counted, started, text_begun, ended, finished, ended_all, after_all, built, is_empty}
+use Rattle.tree_building.specs.Nest.{OpenElement, closes, without_first}
 use Rattle.tree_building.specs.Rules.{block_rules}
 use Rattle.tree_building.specs.declared.pending.Pending.{Pending}
 use Rattle.tree_building.specs.declared.pending.Pending.TheVariants as pending
 use Rattle.tree_building.specs.declared.building.Building.{Building}
 use Rattle.tree_building.specs.declared.build.Built.{Built}
 use Rattle.tree_building.specs.declared.fault.TreeFault.{TreeFault}
-use Rattle.tree_building.specs.declared.fault.TreeReason.{TreeReason}
 use Rattle.tree_building.specs.declared.fault.TreeReason.TheVariants as reasons
 
 -- the names of the open elements

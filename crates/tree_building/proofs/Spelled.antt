@@ -1,5 +1,5 @@
 -- The items that spell a tree, tag by tag, build it.
-use Rattle.std.proofs.Common.{◌≡◌, ◌⊎◌, inl, inr, ℕ, ◌+◌, ◌-◌, ◌≤◌, List, [], ◌∷◌, ◌++◌, Bool, true, false, ◌==◌, ◌&&◌, Option, Some, None, Result, Ok, Err, length, map, refl, sym, ap, ◌∙◌, arith, nat_lt, append_assoc, append-nil, subst}
+use Rattle.std.proofs.Common.{◌≡◌, ◌⊎◌, inl, inr, ℕ, ◌+◌, ◌-◌, ◌≤◌, List, [], ◌∷◌, ◌++◌, true, false, ◌==◌, Option, Some, None, Ok, length, map, refl, sym, ap, ◌∙◌, arith, nat_lt, append_assoc, append-nil, subst}
 use Rattle.std.proofs.lemmas.Bool.Decides.{nat_tests}
 use Rattle.std.specs.Str.{bytes_eq}
 use Rattle.item_listing.specs.declared.item.Item.{Item}
@@ -18,7 +18,7 @@ use Rattle.tree_rows.specs.declared.row.Attribute.{Attribute}
 use Rattle.tree_rows.specs.declared.row.Binding.{Binding}
 use Rattle.tree_rows.specs.declared.row.Row.{Row}
 use Rattle.tree_rows.specs.declared.row.Content.TheVariants as contents
-use Rattle.tree_building.specs.Building.{◌>>=◌, with_row, with_element, text_row, element_row, tag_by, settled_by, started, text_begun, text_by, ended, took, finished, ended_all, after_all, built, document, tree, nothing}
+use Rattle.tree_building.specs.Building.{◌>>=◌, with_element, element_row, tag_by, settled_by, started, text_begun, text_by, ended, took, ended_all, after_all, built, document, tree, nothing}
 use Rattle.tree_building.specs.Nest.{OpenElement}
 use Rattle.tree_building.specs.Rules.{document_rules}
 use Rattle.tree_building.specs.Spelling.{line_item, SpellsElement, Spells, BeginsNoText, HasWholeTexts, IsWithinDepth, IsDocument}
@@ -26,7 +26,6 @@ use Rattle.tree_building.specs.Steps.{holds_chars}
 use Rattle.tree_building.specs.declared.pending.Pending.{Pending}
 use Rattle.tree_building.specs.declared.pending.Pending.TheVariants as pending
 use Rattle.tree_building.specs.declared.building.Building.{Building}
-use Rattle.tree_building.specs.declared.fault.TreeFault.{TreeFault}
 
 same_bytes : (xs : List ℕ) → bytes_eq xs xs ≡ true
 same_bytes [] = refl

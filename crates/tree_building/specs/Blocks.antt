@@ -4,7 +4,7 @@ use Rattle.std.specs.Str.{bytes_eq}
 use Rattle.item_listing.specs.declared.item.Item.{Item}
 use Rattle.item_listing.specs.declared.item.Item.TheVariants as items
 use Rattle.tree_rows.specs.Rows.{siblings}
-use Rattle.tree_rows.specs.White.{is_white}
+use Rattle.xs_names.specs.White.{is_white}
 use Rattle.tree_rows.specs.declared.row.Binding.{Binding}
 use Rattle.tree_rows.specs.declared.row.Row.{Row}
 use Rattle.tree_building.specs.Building.{block}

@@ -1,10 +1,10 @@
 -- Building a tree of a list of items, one item after another.
-use Rattle.std.specs.Prelude.{ℕ, ◌+◌, List, [], ◌∷◌, ◌++◌, Bool, true, false, ◌==◌, ◌&&◌, not, length, Result, Ok, Err, Option, Some, None, if◌then◌else◌}
+use Rattle.std.specs.Prelude.{ℕ, ◌+◌, List, [], ◌∷◌, ◌++◌, Bool, true, false, ◌==◌, ◌&&◌, length, Result, Ok, Err, Option, Some, None, if◌then◌else◌}
 use Rattle.item_listing.specs.declared.item.Item.{Item}
 use Rattle.item_listing.specs.declared.item.Item.TheVariants as items
 use Rattle.tree_rows.specs.Forest.{Forest, none, Document}
 use Rattle.tree_rows.specs.Rows.{siblings}
-use Rattle.tree_rows.specs.White as white
+use Rattle.xs_names.specs.White as white
 use Rattle.tree_rows.specs.declared.row.Binding.{Binding}
 use Rattle.tree_rows.specs.declared.row.Row.{Row}
 use Rattle.tree_rows.specs.declared.row.Content.TheVariants as contents
@@ -14,7 +14,7 @@ use Rattle.tag_names.specs.Faults.{name_fault}
 use Rattle.tag_names.specs.declared.fault.NameReason.{NameReason}
 use Rattle.tag_names.specs.declared.lines.AttributeLine.{AttributeLine}
 use Rattle.tag_names.specs.declared.lines.Tag.{Tag}
-use Rattle.tree_building.specs.Nest.{Opened, scope_in, opened, closes, closed}
+use Rattle.tree_building.specs.Nest.{scope_in, opened, closes, closed}
 use Rattle.tree_building.specs.Rules.{past, document_rules, block_rules}
 use Rattle.tree_building.specs.declared.rules.Rules.{Rules}
 use Rattle.tree_building.specs.declared.pending.Pending.{Pending}

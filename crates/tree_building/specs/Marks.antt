@@ -1,5 +1,5 @@
 -- Open elements, as they are kept: the bindings of all of them, and how many there were before each.
-use Rattle.std.specs.Prelude.{ℕ, ◌-◌, List, [], ◌∷◌, drop, length, reverse}
+use Rattle.std.specs.Prelude.{◌-◌, List, [], ◌∷◌, drop, length, reverse}
 use Rattle.tree_rows.specs.declared.row.Binding.{Binding}
 use Rattle.tree_building.specs.Nest.{OpenElement, Opened}
 use Rattle.tree_building.specs.declared.nest.Mark.{Mark}

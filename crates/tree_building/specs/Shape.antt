@@ -1,6 +1,6 @@
 -- The rows of trees.
 use Rattle.std.specs.Prelude.{◌≡◌, ℕ, ◌+◌, ◌≤◌, List, [], ◌∷◌, max}
-use Rattle.tree_rows.specs.Limits.{max_depth}
+use Rattle.tree_rows.specs.declared.limits.TheConstants.{MAX_DEPTH}
 use Rattle.tree_rows.specs.Rows.{rows_of, siblings}
 use Rattle.tree_rows.specs.declared.row.Row.{Row}
 use Rattle.tree_rows.specs.declared.row.Content.{Content}
@@ -27,4 +27,4 @@ AreWhole rows = rows ≡ rows_of 1 (siblings rows 1)
 -- rows of a tree that has no element that stands too deep
 pub record AreSound (rows : List Row) : Type 0 where
   pub whole : AreWhole rows
-  pub shallow : deepest_row 0 rows ≤ max_depth
+  pub shallow : deepest_row 0 rows ≤ MAX_DEPTH

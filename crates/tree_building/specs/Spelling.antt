@@ -1,5 +1,5 @@
 -- The items that spell a tree.
-use Rattle.std.specs.Prelude.{◌≡◌, ◌≢◌, ℕ, ◌+◌, ◌-◌, ◌≤◌, List, [], ◌∷◌, ◌++◌, Option, None, map}
+use Rattle.std.specs.Prelude.{◌≡◌, ◌≢◌, ℕ, ◌+◌, ◌-◌, ◌≤◌, List, [], ◌∷◌, ◌++◌, None, map}
 use Rattle.item_listing.specs.declared.item.Item.{Item}
 use Rattle.item_listing.specs.declared.item.Item.TheVariants as items
 use Rattle.tag_names.specs.Tags.{named, scope_within}
@@ -7,7 +7,7 @@ use Rattle.tag_names.specs.Faults.{name_fault}
 use Rattle.tag_names.specs.declared.lines.AttributeLine.{AttributeLine}
 use Rattle.tag_names.specs.declared.lines.Tag.{Tag}
 use Rattle.tag_names.specs.declared.named.Named.{Named}
-use Rattle.tree_rows.specs.Limits.{max_nodes}
+use Rattle.tree_rows.specs.declared.limits.TheConstants.{MAX_DEPTH, MAX_NODES}
 use Rattle.tree_rows.specs.Forest.{Forest, none, text, element, count, numbered}
 use Rattle.tree_rows.specs.declared.row.Binding.{Binding}
 
@@ -58,4 +58,4 @@ IsDocument none = ⊥
 IsDocument (text number chars next) = ⊥
 IsDocument (element number name bindings attributes children next) =
     (next ≡ none) × numbered 1 (element number name bindings attributes children none)
-    × HasWholeTexts children × IsWithinDepth 127 children × (1 + count children ≤ max_nodes)
+    × HasWholeTexts children × IsWithinDepth (MAX_DEPTH - 1) children × (1 + count children ≤ MAX_NODES)

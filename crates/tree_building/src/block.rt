@@ -3,8 +3,7 @@ ghost use Rattle.tree_building.specs.Blocks.{one_from, one_element};
 
 use item_listing::Item;
 use std::alloc::{AllocError, Global};
-use tree_rows::is_white_space;
-use xs_names::Text;
+use xs_names::{Text, is_white_space};
 
 /// The elements that are open while items come.
 #[derive(Drop)]

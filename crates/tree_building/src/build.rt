@@ -5,11 +5,15 @@ ghost use Rattle.tree_building.specs.Building as steps;
 ghost use Rattle.tree_building.specs.Rules.{document_rules};
 ghost use Rattle.tree_building.specs.Shape.{AreSound};
 
-use crate::{Builder, Rows, Rules, TreeFault};
+use crate::{Builder, Rules, TreeFault};
 use item_listing::Item;
 use std::alloc::{AllocError, Global};
 use tag_names::Prefixes;
 use tree_rows::Row;
+use xs_lists::Listed;
+
+/// The nodes that were made, in document order.
+pub type Rows = Listed<Row>;
 
 /// The nodes of a tree.
 #[derive(Debug, Drop)]

@@ -10,8 +10,8 @@ use crate::{Joined, Nest, Pending, Rows, Rules, TreeFault, TreeReason};
 use item_listing::Item;
 use std::alloc::{AllocError, Global};
 use tag_names::{AttributeLine, AttributeLines, Prefixes, Tag};
-use tree_rows::{Attributes, Bindings, Content, Row, is_white_space};
-use xs_names::Text;
+use tree_rows::{Attributes, Bindings, Content, Row};
+use xs_names::{Text, is_white_space};
 
 /// What was built of the items that came so far.
 #[derive(Debug, Drop)]

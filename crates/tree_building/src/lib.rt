@@ -9,18 +9,14 @@ mod fault;
 mod laws;
 mod nest;
 mod pending;
-mod rows;
 mod rules;
-#[cfg(test)]
-mod tests;
 
 pub use block::is_one_element;
-pub use build::{Built, build_block, build_document, build_fragment};
+pub use build::{Built, Rows, build_block, build_document, build_fragment};
 pub use builder::Builder;
 pub use building::Building;
 pub use fault::{TreeFault, TreeReason};
 pub use laws::{documents_are_sound, trees_are_read};
 pub use nest::Nest;
 pub use pending::{Joined, Pending};
-pub use rows::Rows;
 pub use rules::Rules;

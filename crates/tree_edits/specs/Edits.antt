@@ -1,6 +1,6 @@
 -- Edits of a tree: what a tree is after an edit, or the least reason why the edit is refused.
 use Rattle.std.specs.Prelude.{ℕ, ◌+◌, ◌-◌, List, [], ◌++◌, Bool, true, false, ◌==◌, ◌||◌, nat_lt, max, Option, Some, None, Result, Ok, Err, if◌then◌else◌}
-use Rattle.tree_rows.specs.Limits.{max_depth, max_nodes}
+use Rattle.tree_rows.specs.declared.limits.TheConstants.{MAX_DEPTH, MAX_NODES}
 use Rattle.tree_rows.specs.Forest.{Forest, none, text, element, Document, count}
 use Rattle.tree_rows.specs.declared.row.Binding.{Binding}
 use Rattle.item_listing.specs.declared.item.Item.{Item}
@@ -106,14 +106,14 @@ is_root key (element number name bindings attributes children next) = number == 
 
 -- so many more nodes would be too many, or one would get the number 4,294,967,295
 abbrev pub too_many_more : Document → ℕ → Bool
-too_many_more d more = nat_lt max_nodes (count d.forest + more) || nat_lt 4294967295 (d.next_free + more)
+too_many_more d more = nat_lt MAX_NODES (count d.forest + more) || nat_lt 4294967295 (d.next_free + more)
 
 -- new nodes are put into the children of an element of this depth, within the limits; they get the numbers from the next
 -- free one on, in document order
 abbrev pub put_within : Document → ℕ → ℕ → Forest → ℕ → Result Document EditError
 put_within d parent place new depth =
     if too_many_more d (count new) then Err TooManyNodes
-    else (if nat_lt max_depth (deepest_of (depth + 1) new) then Err TooDeep
+    else (if nat_lt MAX_DEPTH (deepest_of (depth + 1) new) then Err TooDeep
     else Ok (record {
       forest = replaced parent (with_children place (renumbered d.next_free new)) d.forest;
       next_free = d.next_free + count new;

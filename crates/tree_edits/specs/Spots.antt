@@ -1,6 +1,6 @@
 -- Where an edit changes the rows of a tree.
 use Rattle.std.specs.Prelude.{◌≡◌, ℕ, ◌+◌, ◌≤◌, ◌<◌, false, ◌||◌, nat_lt, slice_index_or, slice_set, List, [], ◌∷◌, ◌++◌, length, take, drop, reverse, Result, Ok}
-use Rattle.tree_rows.specs.Limits.{max_depth, max_nodes}
+use Rattle.tree_rows.specs.declared.limits.TheConstants.{MAX_DEPTH, MAX_NODES}
 use Rattle.tree_rows.specs.Forest.{Forest, Document}
 use Rattle.tree_rows.specs.Rows.{rows_of, siblings}
 use Rattle.tag_names.specs.Scopes.{first_scope}
@@ -31,7 +31,7 @@ CannotPut rows parent place error = (change : ℕ → Result Document EditError)
 -- what is put before this place among the children of this node stands at the spot
 pub record IsSpot (rows : List Row) (parent place : ℕ) (s : Spot) : Type 0 where
   pub within : s.place ≤ length rows
-  pub shallow : s.depth ≤ max_depth
+  pub shallow : s.depth ≤ MAX_DEPTH
   pub inside : s.parent < length rows
   pub scoped : (scope : List Binding) → scope_in parent scope (siblings rows 1) ≡ scope_above (s.depth + 1) scope (reverse (take (s.parent + 1) rows))
   pub puts : (change : ℕ → Result Document EditError) → put (siblings rows 1) parent place change ≡ change s.depth
@@ -54,8 +54,8 @@ IsText chars rows = rows ≡ record { number = 0; depth = 1; content = contents.
 
 -- new rows fit below an element of this depth
 pub record Fits (rows new : List Row) (next depth : ℕ) : Type 0 where
-  pub few : (nat_lt max_nodes (length rows + length new) || nat_lt 4294967295 (next + length new)) ≡ false
-  pub shallow : deepest_row depth new ≤ max_depth
+  pub few : (nat_lt MAX_NODES (length rows + length new) || nat_lt 4294967295 (next + length new)) ≡ false
+  pub shallow : deepest_row depth new ≤ MAX_DEPTH
 
 -- new rows do not fit there
 abbrev pub CannotFit : List Row → List Row → ℕ → ℕ → EditError → Type 0

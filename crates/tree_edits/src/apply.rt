@@ -3,7 +3,6 @@ ghost use Rattle.tree_rows.specs.declared.row.Row.{Row};
 ghost use Rattle.tree_rows.specs.declared.row.Content.TheVariants as contents;
 ghost use Rattle.tree_rows.specs.Rows.{siblings};
 ghost use Rattle.tree_building.specs.Blocks.{one_element};
-ghost use Rattle.tree_rows.specs.Limits.{max_depth, max_nodes};
 ghost use Rattle.tree_rows.specs.Forest.{none, text as text_node};
 ghost use Rattle.tree_edits.specs.Edits.{after, put, put_within, insert_within, reword, found, can_be_made};
 ghost use Rattle.tree_building.specs.Shape.{AreSound, AreWhole, AreUnder, deepest_row};
@@ -48,7 +47,7 @@ fn fit(rows: &[Row], next_free: u32, new: &[Row], depth: u32) -> Result<(), Edit
 fn are_too_many(live: usize, next_free: u32, more: usize) -> bool
     requires live { live < 2 ^ 63 }
     requires more { more < 2 ^ 63 }
-    ensures { result ≡ (nat_lt max_nodes (live + more) || nat_lt 4294967295 (next_free + more)) }
+    ensures { result ≡ (nat_lt MAX_NODES (live + more) || nat_lt 4294967295 (next_free + more)) }
 {
     live + more > MOST_NODES || next_free as usize + more > MAX_NUMBER
 }
@@ -62,7 +61,7 @@ fn put_fitting(
 ) -> Result<u32, AllocError>
     requires sound { AreSound rows.old.items }
     requires within { spot.place ≤ length rows.old.items }
-    requires shallow { spot.depth ≤ max_depth }
+    requires shallow { spot.depth ≤ MAX_DEPTH }
     requires whole { AreWhole new.items }
     requires under { AreUnder (deepest_row 0 new.items + 1) new.items }
     requires fits { Fits rows.old.items new.items next_free spot.depth }
@@ -86,7 +85,7 @@ fn put_block(
 ) -> Result<u32, EditError>
     requires sound { AreSound rows.old.items }
     requires within { spot.place ≤ length rows.old.items }
-    requires shallow { spot.depth ≤ max_depth }
+    requires shallow { spot.depth ≤ MAX_DEPTH }
     requires one { one_element items.now ≡ true }
     ensures ok { IfOk result (λ free. (parent index : ℕ) → IsSpot rows.old.items parent index spot → Inserts rows.old.items rows.new.items next_free free parent index spot.depth scope.now items.now) }
     ensures err { IfErr result (λ e. (parent index : ℕ) → IsWhy (insert_within (tree_of rows.old.items next_free) parent index scope.now items.now spot.depth) e) }

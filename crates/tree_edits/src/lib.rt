@@ -7,8 +7,6 @@ mod names;
 mod places;
 mod scope;
 mod shifts;
-#[cfg(test)]
-mod tests;
 
 pub use apply::edit_rows;
 pub use edit::{Edit, EditError};

@@ -1,6 +1,6 @@
 ghost use Rattle.std.specs.Prelude.{◌≡◌, ◌+◌, ◌<◌, ◌≤◌, List, IfOk, IfSome, MatchOption, length, reverse, take};
 ghost use Rattle.tree_rows.specs.declared.row.Binding.{Binding};
-ghost use Rattle.tree_rows.specs.Limits.{max_depth};
+ghost use Rattle.tree_rows.specs.declared.limits.TheConstants.{MAX_DEPTH};
 ghost use Rattle.tag_names.specs.Scopes.{first_scope};
 ghost use Rattle.tree_edits.specs.Places.{scope_above};
 ghost use Rattle.tree_edits.specs.Walks.{IsLastAbove};
@@ -43,7 +43,7 @@ fn scope_of(alloc: Global, rows: &[Row], depth: u32) -> Result<Prefixes, AllocEr
 /// The scope of what is put at a spot.
 pub fn scope_at(alloc: Global, rows: &[Row], spot: Spot) -> Result<Prefixes, AllocError>
     requires within { spot.parent < length rows.now }
-    requires shallow { spot.depth ≤ max_depth }
+    requires shallow { spot.depth ≤ MAX_DEPTH }
     ensures { IfOk result (λ scope. scope ≡ scope_above (spot.depth + 1) first_scope (reverse (take (spot.parent + 1) rows.now))) }
 {
     scope_of(alloc, &rows[..spot.parent + 1], spot.depth + 1)

@@ -1,5 +1,5 @@
 ghost use Rattle.std.specs.Prelude.{◌≡◌, ◌++◌, ◌+◌, ◌^◌, ◌<◌, ◌≤◌, OnOk, OnErr, length, take, drop};
-ghost use Rattle.tree_rows.specs.Limits.{max_depth};
+ghost use Rattle.tree_rows.specs.declared.limits.TheConstants.{MAX_DEPTH};
 ghost use Rattle.tree_building.specs.Shape.{deepest_row, AreUnder};
 ghost use Rattle.tree_edits.specs.EditRows.{raised};
 
@@ -23,7 +23,7 @@ pub fn deepest(rows: &[Row], levels: u32) -> u64
 fn raise_slice(rows: &mut [Row], free: u32, levels: u32)
     requires numbers { free + length rows.old < 2 ^ 32 }
     requires depths { AreUnder 129 rows.old }
-    requires levels { levels ≤ max_depth }
+    requires levels { levels ≤ MAX_DEPTH }
     ensures { rows.new ≡ raised free levels rows.old }
 {
     let mut at = 0;
@@ -39,7 +39,7 @@ fn raise_slice(rows: &mut [Row], free: u32, levels: u32)
 pub fn raise(rows: &mut Vec<Row>, free: u32, levels: u32)
     requires numbers { free + length rows.old.items < 2 ^ 32 }
     requires depths { AreUnder 129 rows.old.items }
-    requires levels { levels ≤ max_depth }
+    requires levels { levels ≤ MAX_DEPTH }
     ensures { rows.new.items ≡ raised free levels rows.old.items }
 {
     raise_slice(rows, free, levels);

@@ -2,15 +2,9 @@
 #![tactic(auto)]
 
 mod limits;
-mod lists;
 mod name;
 mod row;
-#[cfg(test)]
-mod tests;
-mod white;
 
-pub use limits::{MAX_DEPTH, MAX_NODES};
-pub use lists::{Attributes, Bindings};
+pub use limits::{MAX_ATTRIBUTES, MAX_DEPTH, MAX_NODES};
 pub use name::Expanded;
-pub use row::{Attribute, Binding, Content, NodeKind, Row};
-pub use white::is_white_space;
+pub use row::{Attribute, Attributes, Binding, Bindings, Content, NodeKind, Row};

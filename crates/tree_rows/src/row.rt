@@ -1,4 +1,5 @@
-use crate::{Attributes, Bindings, Expanded};
+use crate::Expanded;
+use xs_lists::Listed;
 use xs_names::Text;
 
 /// An attribute that is no binding.
@@ -15,6 +16,12 @@ pub struct Binding {
     pub prefix: Text,
     pub namespace: Text,
 }
+
+/// The attributes of an element, in order.
+pub type Attributes = Listed<Attribute>;
+
+/// The bindings of a start tag, in order.
+pub type Bindings = Listed<Binding>;
 
 /// What a node is.
 #[derive(Debug, Drop)]

@@ -62,12 +62,18 @@ impl Characters {
     {
         self.inner.is_empty()
     }
+}
 
-    /// A copy with memory of its own.
-    pub fn try_clone(&self, alloc: Global) -> Result<Self, AllocError>
-        ensures { IfOk result (λ s. s ≡ self.now) }
-    {
-        Characters::new(alloc, self.as_str())
+/// A clone is the same string.
+impl Clone for Characters {
+    ghost use Rattle.std.specs.Prelude.{◌≡◌};
+
+    ghost is_clone = { λ text made. made ≡ text };
+
+    fn clone(&self) -> Result<Self, AllocError> {
+        Ok(Characters {
+            inner: self.inner.clone()?,
+        })
     }
 }
 

@@ -5,8 +5,6 @@
 mod binary;
 mod characters;
 mod octets;
-#[cfg(test)]
-mod tests;
 
 pub use binary::{read_base64, read_hex};
 pub use characters::Characters;

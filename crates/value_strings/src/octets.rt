@@ -3,7 +3,7 @@ ghost use Rattle.std.specs.Prelude.{◌≡◌, ◌==◌, IfOk, length};
 ghost use Rattle.std.proofs.Common.{rules};
 ghost use Rattle.std.specs.Cmp.Rules.{comparing, hashing};
 
-use std::alloc::{AllocError, Global};
+use std::alloc::AllocError;
 use std::hash::{Hash, Hasher};
 use std::marker::Model;
 
@@ -57,12 +57,18 @@ impl Octets {
     {
         self.inner.is_empty()
     }
+}
 
-    /// A copy with memory of its own.
-    pub fn try_clone(&self, alloc: Global) -> Result<Self, AllocError>
-        ensures { IfOk result (λ s. s ≡ self.now) }
-    {
-        Octets::from_vec(self.inner.as_slice().to_vec(alloc)?)
+/// A clone is the same string.
+impl Clone for Octets {
+    ghost use Rattle.std.specs.Prelude.{◌≡◌};
+
+    ghost is_clone = { λ octets made. made ≡ octets };
+
+    fn clone(&self) -> Result<Self, AllocError> {
+        Ok(Octets {
+            inner: self.inner.clone()?,
+        })
     }
 }
 

@@ -37,6 +37,15 @@ normalized Preserve text = text
 normalized Replace text = replaced text
 normalized Collapse text = collapsed text
 
+-- 4.3.6: of two ways the one that leaves less, collapse before replace and replace before preserve; a type derived from
+-- another may not treat white space by a weaker one than that does
+abbrev pub stronger : WhiteSpace → WhiteSpace → WhiteSpace
+stronger Preserve b = b
+stronger Replace Preserve = Replace
+stronger Replace Replace = Replace
+stronger Replace Collapse = Collapse
+stronger Collapse b = Collapse
+
 -- for example
 pub example-collapsed : collapsed (codes "  to  be\n") ≡ codes "to be"
 example-collapsed = refl

@@ -1,6 +1,7 @@
 //! The white space of a text: kept, replaced or collapsed; and the items between it.
-ghost use Rattle.std.specs.Prelude.{◌≡◌, List, ℕ, ◌++◌, ◌∷◌, [], IfOk, OnOk, OnErr, string_bytes};
+ghost use Rattle.std.specs.Prelude.{◌≡◌, List, ℕ, ◌++◌, ◌∷◌, [], length, IfOk, OnOk, OnErr, string_bytes};
 ghost use Rattle.white_space.specs.WhiteSpace as spec;
+ghost use Rattle.white_space.specs.declared.handling.WhiteSpace.{WhiteSpace};
 
 use std::alloc::{AllocError, Global};
 use xs_names::{Text, Texts};
@@ -16,9 +17,28 @@ pub enum WhiteSpace {
     Collapse,
 }
 
-/// The text as a type of this handling of white space reads it.
+impl WhiteSpace {
+    /// Of two ways the one that leaves less: collapse before replace, and replace before preserve.
+    pub fn stronger(self, other: WhiteSpace) -> WhiteSpace
+        ensures { result ≡ spec.stronger self other }
+    {
+        match (self, other) {
+            (WhiteSpace::Collapse, _) | (_, WhiteSpace::Collapse) => WhiteSpace::Collapse,
+            (WhiteSpace::Replace, _) | (_, WhiteSpace::Replace) => WhiteSpace::Replace,
+            (WhiteSpace::Preserve, WhiteSpace::Preserve) => WhiteSpace::Preserve,
+        }
+    }
+}
+
+#[tactic(auto, using(crate::proofs::Again::again, crate::proofs::Again::same_items))]
+/// The text as a type of this handling of white space reads it (Datatypes 4.3.6).
+///
+/// To treat what comes out once more, in whatever way, is to treat the text once, in the stronger of the two; and it has
+/// the items that the text has.
 pub fn normalized(alloc: Global, handling: WhiteSpace, text: &str) -> Result<Text, AllocError>
-    ensures { IfOk result (λ t. t ≡ spec.normalized handling text.now) }
+    ensures value { IfOk result (λ t. t ≡ spec.normalized handling text.now) }
+    ensures again { IfOk result (λ t. (other : WhiteSpace) → spec.normalized other t ≡ spec.normalized (spec.stronger other handling) text.now) }
+    ensures items { IfOk result (λ t. spec.items t ≡ spec.items text.now) }
 {
     match handling {
         WhiteSpace::Preserve => Text::new(alloc, text),
@@ -28,8 +48,11 @@ pub fn normalized(alloc: Global, handling: WhiteSpace, text: &str) -> Result<Tex
 }
 
 /// The items of a list: what stands between the white space of the text, in order (Datatypes 4.2.1.2).
+///
+/// They are the same once the white space has been treated, in whatever way.
 pub fn items(alloc: Global, text: &str) -> Result<Texts, AllocError>
-    ensures { IfOk result (λ found. found ≡ spec.items text.now) }
+    ensures value { IfOk result (λ found. found ≡ spec.items text.now) }
+    ensures treated { IfOk result (λ found. (handling : WhiteSpace) → found ≡ spec.items (spec.normalized handling text.now)) }
 {
     let spaced = replaced(alloc, text)?;
     let mut found = Texts::new(alloc);
@@ -39,6 +62,23 @@ pub fn items(alloc: Global, text: &str) -> Result<Texts, AllocError>
         }
     }
     Ok(found)
+}
+
+/// How many items there are, before any is copied (Datatypes 4.2.1.2).
+pub fn count_items(text: &str) -> usize
+    ensures { result ≡ length (spec.items text.now) }
+{
+    text.as_bytes()
+        .split(|b| is_white(*b))
+        .filter(|item| !item.is_empty())
+        .count()
+}
+
+// Whether the byte is white space.
+fn is_white(b: u8) -> bool
+    ensures { result ≡ spec.is_space (spec.to_space b) }
+{
+    matches!(b, b' ' | b'\t' | b'\n' | b'\r')
 }
 
 // A tab, a line feed or a carriage return as a space; any other character as it is.

@@ -3,7 +3,5 @@
 #![tactic(auto)]
 
 mod handling;
-#[cfg(test)]
-mod tests;
 
-pub use handling::{WhiteSpace, items, normalized};
+pub use handling::{WhiteSpace, count_items, items, normalized};

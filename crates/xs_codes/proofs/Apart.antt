@@ -1,5 +1,5 @@
 -- Each code is read back from its text and from its place, so no two codes have one text.
-use Rattle.std.proofs.Common.{◌≡◌, ℕ, Bool, ◌&&◌, eqb, List, length, Option, Some, None, refl, sym, ap, ◌∙◌, nat_eq}
+use Rattle.std.proofs.Common.{◌≡◌, ℕ, Bool, ◌&&◌, eqb, List, length, Option, Some, refl, sym, ap, ◌∙◌, nat_eq}
 use Rattle.std.specs.List.{find, starts_with, slice_get}
 use Rattle.xs_codes.specs.Codes.{text_of, order_of, all_codes}
 use Rattle.xs_codes.specs.declared.code.Code.{Code}

@@ -13,6 +13,3 @@ pub use builtin::Builtin;
 pub use code::Code;
 pub use fault::{Fault, Found};
 pub use text::{code_order, code_text};
-
-#[cfg(test)]
-mod tests;

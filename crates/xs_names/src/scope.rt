@@ -95,6 +95,22 @@ impl Scope {
         Some(latest.ns)
     }
 
+    /// A copy with memory of its own.
+    pub fn try_clone(&self) -> Result<Self, AllocError>
+        ensures { IfOk result (λ scope. scope ≡ self.now) }
+    {
+        let alloc = *self.bindings.allocator();
+        let held = self.bindings.as_slice();
+        let mut bindings = Vec::new(alloc);
+        for binding in held {
+            bindings.push(Binding {
+                prefix: binding.prefix.try_clone(alloc)?,
+                ns: binding.ns,
+            })?;
+        }
+        Ok(Scope { bindings })
+    }
+
     /// The number of bindings.
     pub fn len(&self) -> usize
         ensures { result ≡ length self.now }

@@ -78,7 +78,7 @@ spells_rounds f t n m b l part (suc k) a w r = (
 )
 
 pub spells : (f : ℕ → ℕ) (t : Tree) (b : ℕ) → Labels f t b → (w : List ℕ) → IsWord t b w → Spells t (map f w)
-spells f (one s) b l w h = ap (map f) h ∙ ap (λ x. x ∷ []) (let e : b + 0 ≡ b = omega arith in rw e at (l 0 (omega arith)))
+spells f (one s) b l w h = (s, ap (map f) h ∙ ap (λ x. x ∷ []) (let e : b + 0 ≡ b = omega arith in rw e at (l 0 (omega arith))), refl)
 spells f empty b l w h = ap (map f) h
 spells f (chain s t) b l w h =
     (map f h.0, map f h.1, ap (map f) h.2 ∙ map-append f h.0 h.1, spells f s b (labels_left f s t b l) h.0 h.3, spells f t (b + size s) (labels_right f s t b l) h.1 h.4)
@@ -97,7 +97,7 @@ spelled_rounds f t n m b l part (suc k) a s r =
     (g.0, (suc k, a, g.1), g.2)
 
 pub spelled : (f : ℕ → ℕ) (t : Tree) (b : ℕ) → Labels f t b → (s : List ℕ) → Spells t s → (w : List ℕ) × IsWord t b w × (map f w ≡ s)
-spelled f (one s) b l text h = (b ∷ [], refl, ap (λ x. x ∷ []) (let e : b + 0 ≡ b = omega arith in rw e at (l 0 (omega arith))) ∙ sym h)
+spelled f (one s) b l text h = (b ∷ [], refl, ap (λ x. x ∷ []) (let e : b + 0 ≡ b = omega arith in rw e at (l 0 (omega arith))) ∙ sym (h.1 ∙ ap (λ x. x ∷ []) h.2))
 spelled f empty b l text h = ([], refl, sym h)
 spelled f (chain s t) b l text h =
     let u = spelled f s b (labels_left f s t b l) h.0 h.3 in

@@ -1,38 +1,10 @@
--- Expressions over numbered symbols, as plain trees, and the copies of their symbols.
-use Rattle.std.specs.Prelude.{◌≡◌, ℕ, zero, suc, ◌+◌, ◌*◌, max, List, [], ◌∷◌, ◌++◌, Option, Some, None, refl}
+-- Expressions over numbered symbols, and the symbols of their positions.
+use Rattle.std.specs.Prelude.{◌≡◌, ℕ, zero, suc, List, [], ◌∷◌, ◌++◌, None, refl}
+use Rattle.xs_words.specs.Expressions.{Expression, one, empty, chain, nothing, either, repeat, choice_of, copies}
+pub use Rattle.xs_words.specs.Expressions.{one, empty, chain, nothing, either, repeat, sequence_of, choice_of, copies, size}
 
--- An expression. A sequence is its first part and then the rest of it, and so is a choice.
-pub data Tree : Type 0 where
-  one : (symbol : ℕ) → Tree
-  empty : Tree
-  chain : (first rest : Tree) → Tree
-  nothing : Tree
-  either : (first rest : Tree) → Tree
-  repeat : (part : Tree) (least : ℕ) (most : Option ℕ) → Tree
-
--- the sequence of these parts
-abbrev pub sequence_of : List Tree → Tree
-sequence_of [] = empty
-sequence_of (part ∷ parts) = chain part (sequence_of parts)
-
--- the choice between these parts
-abbrev pub choice_of : List Tree → Tree
-choice_of [] = nothing
-choice_of (part ∷ parts) = either part (choice_of parts)
-
--- A part with bounds n to m has m copies, and one with no upper bound the greater of n and 1.
-abbrev pub copies : ℕ → Option ℕ → ℕ
-copies least None = max least 1
-copies least (Some most) = most
-
--- how many positions an expression has: the copies of its symbols
-abbrev pub size : Tree → ℕ
-size (one symbol) = 1
-size empty = 0
-size (chain first rest) = size first + size rest
-size nothing = 0
-size (either first rest) = size first + size rest
-size (repeat part least most) = copies least most * size part
+abbrev pub Tree : Type 0
+Tree = Expression ℕ
 
 -- a list, so many times over
 abbrev pub times : ℕ → List ℕ → List ℕ
@@ -51,7 +23,3 @@ symbols (repeat part least most) = times (copies least most) (symbols part)
 -- `(a|b){2,}` has two copies of a choice
 pub two_or_more : symbols (repeat (choice_of (one 97 ∷ one 98 ∷ [])) 2 None) ≡ 97 ∷ 98 ∷ 97 ∷ 98 ∷ []
 two_or_more = refl
-
--- `(a{0,2}){0,2}` has four copies of its symbol
-pub two_of_two : size (repeat (repeat (one 97) 0 (Some 2)) 0 (Some 2)) ≡ 4
-two_of_two = refl

@@ -1,17 +1,8 @@
 -- The words of an expression, as lists of positions.
-use Rattle.std.specs.Prelude.{◌≡◌, ℕ, zero, suc, ◌+◌, ◌-◌, ◌*◌, ◌≤◌, min, List, [], ◌∷◌, ◌++◌, Option, Some, None, ◌⊎◌}
+use Rattle.std.specs.Prelude.{◌≡◌, ℕ, ◌+◌, ◌-◌, ◌*◌, min, List, [], ◌∷◌, ◌++◌, ◌⊎◌}
+use Rattle.xs_words.specs.Words.{Allows, Rounds, IsWordOf}
 use Rattle.xs_positions.specs.Tree.{Tree, one, empty, chain, nothing, either, repeat, copies, size}
-
--- so many rounds lie within the bounds
-abbrev pub Allows : ℕ → Option ℕ → ℕ → Type 0
-Allows least None rounds = least ≤ rounds
-Allows least (Some most) rounds = (least ≤ rounds) × (rounds ≤ most)
-
--- so many words one after the other, the first of them of this round
-abbrev pub Rounds : (ℕ → List ℕ → Type 0) → ℕ → ℕ → List ℕ → Type 0
-Rounds Word zero round word = word ≡ []
-Rounds Word (suc more) round word =
-    (front back : List ℕ) × (word ≡ front ++ back) × Word round front × Rounds Word more (suc round) back
+pub use Rattle.xs_words.specs.Words.{Allows, Rounds}
 
 -- where copy j of a part lies, and the last copy for each round past it
 abbrev pub place : ℕ → ℕ → ℕ → ℕ → ℕ
@@ -57,13 +48,6 @@ abbrev pub Exchanges : (List ℕ → Type 0) → Type 0
 Exchanges Word =
     (front rest other more : List ℕ) (p : ℕ) → Word (front ++ p ∷ rest) → Word (other ++ p ∷ more) → Word (front ++ p ∷ more)
 
--- The text is a word of the expression over its symbols: one word of each part of a sequence, in order, one of some part
--- of a choice, so many words of a part as the bounds allow.
+-- the text is a word of the expression over its symbols
 abbrev pub Spells : Tree → List ℕ → Type 0
-Spells (one symbol) text = text ≡ symbol ∷ []
-Spells empty text = text ≡ []
-Spells (chain first rest) text = (front back : List ℕ) × (text ≡ front ++ back) × Spells first front × Spells rest back
-Spells nothing text = ⊥
-Spells (either first rest) text = Spells first text ⊎ Spells rest text
-Spells (repeat part least most) text =
-    (rounds : ℕ) × Allows least most rounds × Rounds (λ round front. Spells part front) rounds 0 text
+Spells tree text = IsWordOf (λ symbol letter. letter ≡ symbol) tree text

@@ -125,6 +125,3 @@ pub fn find_positions(
         nullable: measure.nullable,
     }))
 }
-
-#[cfg(test)]
-mod tests;

@@ -1,22 +1,13 @@
 //! Assesses a document by an XML Schema, both given as PYX lines on standard input.
 #![tactic(auto)]
 
-mod lines;
-mod next;
-mod piece;
-mod run;
-mod stream;
-#[cfg(test)]
-mod tests;
-mod words;
-
-use run::run as run_stream;
 use std::alloc::AllocError;
 use std::process::ExitCode;
 use std::{env, io};
 use stream_answers::Status;
 use xs_names::Text;
 use xsv_io::{StdSink, StdSource};
+use xsv_run::run;
 use xsv_steps::{Silent, Steps};
 
 /// The words behind the program's name.
@@ -39,7 +30,7 @@ fn main(rt: HostRuntime) -> ExitCode {
             let mut source = StdSource::new(rt.reader());
             let mut sink = StdSink::new(io::writer(&rt));
             let mut steps = Steps::new(Silent);
-            run_stream(rt.alloc(), &words, &mut source, &mut sink, &mut steps)
+            run(rt.alloc(), &words, &mut source, &mut sink, &mut steps)
         }
         Ok(Err(_)) => Status::Memory,
         Err(_) => Status::Words,

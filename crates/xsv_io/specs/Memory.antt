@@ -7,13 +7,17 @@ use Rattle.xsv_io.specs.declared.memory.MemSink.{MemSink}
 abbrev pub source_rest : MemSource → List ℕ
 source_rest s = drop s.at s.bytes.items
 
+-- the greatest number of bytes that a read gives
+abbrev pub source_piece : MemSource → ℕ
+source_piece s = s.piece
+
 -- the numbers of the calls that are to fail, counted from 1
 abbrev pub source_fails : MemSource → List ℕ
-source_fails s = s.fails.items
+source_fails s = s.script.fails.items
 
 -- how many calls were made, up to the last value
 abbrev pub source_calls : MemSource → ℕ
-source_calls s = s.calls
+source_calls s = s.script.calls
 
 -- the bytes that were taken
 abbrev pub sink_taken : MemSink → List ℕ
@@ -25,12 +29,16 @@ sink_room s = s.room
 
 -- the numbers of the calls that are to fail, counted from 1
 abbrev pub sink_fails : MemSink → List ℕ
-sink_fails s = s.fails.items
+sink_fails s = s.script.fails.items
 
 -- how many calls were made, up to the last value
 abbrev pub sink_calls : MemSink → ℕ
-sink_calls s = s.calls
+sink_calls s = s.script.calls
+
+-- the number of the call after so many others, up to the last value
+abbrev pub next_call : ℕ → ℕ
+next_call calls = min (calls + 1) (2 ^ 32 - 1)
 
 -- the call after so many others is to fail
 abbrev pub IsToFail : List ℕ → ℕ → Type 0
-IsToFail fails calls = Contains fails (min (calls + 1) (2 ^ 32 - 1))
+IsToFail fails calls = Contains fails (next_call calls)

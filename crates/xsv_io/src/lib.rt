@@ -8,6 +8,3 @@ mod stream;
 pub use memory::{MemSink, MemSource};
 pub use standard::{StdSink, StdSource};
 pub use stream::{Failed, Sink, Source, write_whole};
-
-#[cfg(test)]
-mod tests;

@@ -1,4 +1,4 @@
-ghost use Rattle.std.specs.Prelude.{◌≡◌, ◌↔◌, ◌⊎◌, ◌<◌, ◌≤◌, ◌-◌, [], length, drop, vec_len, vec_capacity, None, Some, IfOk, IsErr};
+ghost use Rattle.std.specs.Prelude.{◌≡◌, ◌↔◌, ◌⊎◌, ◌<◌, ◌≤◌, ◌-◌, [], length, drop, min, vec_len, vec_capacity, None, Some, IfOk, IsErr, IsTrue, OnOk};
 ghost use Rattle.std.specs.Io.{ReadsAtMost, WritesAtMost};
 ghost use Rattle.std.specs.Io.KnownBytes.{ReadConsumes, WriteAppends};
 ghost use Rattle.xsv_io.specs.Causes.{HasCause};
@@ -6,27 +6,47 @@ ghost use Rattle.xsv_io.specs.Causes.{HasCause};
 use crate::{Failed, Sink, Source};
 use std::alloc::{AllocError, Global};
 
+/// Which calls are to fail, by their numbers from 1 on, and how many were made.
+#[derive(Drop)]
+struct Script {
+    fails: Vec<u32>,
+    calls: u32,
+}
+
+impl Script {
+    ghost use Rattle.xsv_io.specs.Memory.{next_call, IsToFail};
+
+    /// Counts a call, and says whether it is to fail.
+    fn next_fails(&mut self) -> bool
+        ensures fails { IsTrue result ↔ IsToFail self.old.fails.items self.old.calls }
+        ensures counted { self.new ≡ record self.old { calls = next_call self.old.calls } }
+    {
+        self.calls = self.calls.saturating_add(1);
+        self.fails.contains(&self.calls)
+    }
+}
+
 /// A source over bytes in memory, which fails at stated calls.
 #[derive(Drop)]
 pub struct MemSource {
     bytes: Vec<u8>,
     at: usize,
     piece: usize,
-    fails: Vec<u32>,
-    calls: u32,
+    script: Script,
     faults: u64,
     ghost within: { at ≤ vec_len bytes },
     ghost moves: { 1 ≤ piece },
 }
 
 impl MemSource {
-    ghost use Rattle.xsv_io.specs.Memory.{source_rest, source_fails, source_calls};
+    ghost use Rattle.xsv_io.specs.Memory.{source_rest, source_piece, source_fails, source_calls};
 
     /// A source of these bytes, in pieces of at most `piece` bytes. The calls with these numbers, counted
     /// from 1, fail.
     pub fn new(bytes: Vec<u8>, piece: usize, fails: Vec<u32>) -> Self
         requires { 1 ≤ piece }
         ensures rest { source_rest result ≡ bytes.items }
+        ensures piece { source_piece result ≡ piece }
         ensures fails { source_fails result ≡ fails.items }
         ensures calls { source_calls result ≡ 0 }
         ensures faults { result.faults ≡ 0 }
@@ -35,8 +55,7 @@ impl MemSource {
             bytes,
             at: 0,
             piece,
-            fails,
-            calls: 0,
+            script: Script { fails, calls: 0 },
             faults: 0,
         }
     }
@@ -45,7 +64,7 @@ impl MemSource {
 impl Source for MemSource {
     ghost use Rattle.xsv_io.specs.Bounds.{bound_of};
     ghost use Rattle.xsv_io.specs.BoundLaws.{bound_of-bounds};
-    ghost use Rattle.xsv_io.specs.Memory.{source_rest, source_fails, source_calls, IsToFail};
+    ghost use Rattle.xsv_io.specs.Memory.{source_rest, source_piece, source_fails, source_calls, next_call, IsToFail};
 
     ghost rest = { λ s. Some (source_rest s) };
 
@@ -55,16 +74,21 @@ impl Source for MemSource {
 
     ghost bounded = { λ s. bound_of-bounds (source_fails s) s.faults };
 
-    /// Fails at exactly the calls that are to fail.
+    /// Fails at exactly the calls that are to fail. Any other call gives as many bytes as the buffer, the piece and what is
+    /// left allow, and leaves the count of faults as it was.
     fn read(&mut self, into: &mut [u8]) -> Result<usize, Failed>
         ensures bound { ReadsAtMost result into.new }
         ensures bytes { ReadConsumes (Some (source_rest self.old)) (Some (source_rest self.new)) result into.new }
         ensures cause { HasCause self.old.faults self.new.faults result }
         ensures kept { bound_of (source_fails self.new) self.new.faults ≡ bound_of (source_fails self.old) self.old.faults }
         ensures scripted { IsErr result ↔ IsToFail (source_fails self.old) (source_calls self.old) }
+        ensures size { IfOk result (λ n. n ≡ min (min (length into.old) (source_piece self.old)) (length (source_rest self.old))) }
+        ensures steady { OnOk result (self.new.faults ≡ self.old.faults) }
+        ensures counted { source_calls self.new ≡ next_call (source_calls self.old) }
+        ensures script { source_fails self.new ≡ source_fails self.old }
+        ensures piece { source_piece self.new ≡ source_piece self.old }
     {
-        self.calls = self.calls.saturating_add(1);
-        if self.fails.contains(&self.calls) {
+        if self.script.next_fails() {
             self.faults = self.faults.saturating_add(1);
             return Err(Failed);
         }
@@ -83,8 +107,7 @@ impl Source for MemSource {
 pub struct MemSink {
     taken: Vec<u8>,
     room: usize,
-    fails: Vec<u32>,
-    calls: u32,
+    script: Script,
     faults: u64,
     ghost fits: { room ≤ vec_capacity taken },
 }
@@ -107,8 +130,7 @@ impl MemSink {
         Ok(MemSink {
             taken: Vec::with_capacity(alloc, room)?,
             room,
-            fails,
-            calls: 0,
+            script: Script { fails, calls: 0 },
             faults: 0,
         })
     }
@@ -122,7 +144,7 @@ impl MemSink {
 }
 
 impl Sink for MemSink {
-    ghost use Rattle.xsv_io.specs.Memory.{sink_taken, sink_room, sink_fails, sink_calls, IsToFail};
+    ghost use Rattle.xsv_io.specs.Memory.{sink_taken, sink_room, sink_fails, sink_calls, next_call, IsToFail};
 
     ghost taken = { λ s. Some (sink_taken s) };
 
@@ -132,7 +154,8 @@ impl Sink for MemSink {
 
     ghost bounded = { λ _. tt };
 
-    /// Fails at exactly the calls that are to fail and at those whose piece is past the room that is left.
+    /// Fails at exactly the calls that are to fail and at those whose piece is past the room that is left. Any other call takes
+    /// the whole piece, and leaves the count of faults as it was.
     fn write(&mut self, piece: &[u8]) -> Result<usize, Failed>
         ensures bound { WritesAtMost result piece.now }
         ensures some { IfOk result (λ n. 0 < length piece.now → 0 < n) }
@@ -140,9 +163,13 @@ impl Sink for MemSink {
         ensures cause { HasCause self.old.faults self.new.faults result }
         ensures scripted { IsErr result ↔ (IsToFail (sink_fails self.old) (sink_calls self.old)
             ⊎ (sink_room self.old - length (sink_taken self.old) < length piece.now)) }
+        ensures whole { IfOk result (λ n. n ≡ length piece.now) }
+        ensures steady { OnOk result (self.new.faults ≡ self.old.faults) }
+        ensures counted { sink_calls self.new ≡ next_call (sink_calls self.old) }
+        ensures script { sink_fails self.new ≡ sink_fails self.old }
+        ensures room { sink_room self.new ≡ sink_room self.old }
     {
-        self.calls = self.calls.saturating_add(1);
-        if self.fails.contains(&self.calls) {
+        if self.script.next_fails() {
             self.faults = self.faults.saturating_add(1);
             return Err(Failed);
         }

@@ -1,4 +1,7 @@
-ghost use Rattle.std.specs.Prelude.{◌≡◌, None};
+ghost use Rattle.std.specs.Prelude.{◌≡◌, ◌<◌, None, length, IfOk, OnOk};
+ghost use Rattle.std.specs.Io.{ReadsAtMost, WritesAtMost};
+ghost use Rattle.std.specs.Io.KnownBytes.{ReadConsumes, WriteAppends};
+ghost use Rattle.xsv_io.specs.Causes.{HasCause};
 
 use crate::{Failed, Sink, Source};
 use std::io::{Read, Write};
@@ -29,7 +32,13 @@ impl<R: Read + Drop> Source for StdSource<R> {
 
     ghost bounded = { λ _. tt };
 
-    fn read(&mut self, into: &mut [u8]) -> Result<usize, Failed> {
+    /// A call that succeeds leaves the count of faults as it was.
+    fn read(&mut self, into: &mut [u8]) -> Result<usize, Failed>
+        ensures bound { ReadsAtMost result into.new }
+        ensures bytes { ReadConsumes (R.remaining self.old.reader) (R.remaining self.new.reader) result into.new }
+        ensures cause { HasCause self.old.faults self.new.faults result }
+        ensures steady { OnOk result (self.new.faults ≡ self.old.faults) }
+    {
         match self.reader.read(into) {
             Ok(count) => Ok(count),
             Err(_) => {
@@ -67,7 +76,14 @@ impl<W: Write + Drop> Sink for StdSink<W> {
 
     ghost bounded = { λ _. tt };
 
-    fn write(&mut self, piece: &[u8]) -> Result<usize, Failed> {
+    /// A call that succeeds leaves the count of faults as it was.
+    fn write(&mut self, piece: &[u8]) -> Result<usize, Failed>
+        ensures bound { WritesAtMost result piece.now }
+        ensures some { IfOk result (λ n. 0 < length piece.now → 0 < n) }
+        ensures bytes { WriteAppends (W.contents self.old.writer) (W.contents self.new.writer) result piece.now }
+        ensures cause { HasCause self.old.faults self.new.faults result }
+        ensures steady { OnOk result (self.new.faults ≡ self.old.faults) }
+    {
         if piece.is_empty() {
             return Ok(0);
         }

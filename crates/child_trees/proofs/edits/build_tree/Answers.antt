@@ -57,3 +57,8 @@ returns-clause-cells g c = omega (arith, c.build-top.ensures.len, c.requires.cel
 
 pub returns-clause-steps : goal.returns-clause-steps
 returns-clause-steps g c = omega (arith, c.write_leaves.ensures.steps)
+
+pub returns-clause-slots : goal.returns-clause-slots
+returns-clause-slots g c =
+    let n = many c.args.leaves.now c.args.flags.now c.requires.flags in
+    (omega (arith, c.build-top.ensures.spare, n), c.build-top.ensures.len)

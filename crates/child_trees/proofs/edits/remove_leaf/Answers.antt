@@ -2,11 +2,12 @@ use Rattle.std.proofs.Common.{◌≤◌, length, refl, sym, ◌∙◌, subst, ar
 use Rattle.std.proofs.lemmas.List.Edits.{length-remove}
 use Rattle.leaf_trees.specs.Tree.{leaves}
 use Rattle.leaf_trees.proofs.Balanced.{length-leaves}
+use Rattle.leaf_trees.proofs.Held.{positive}
 use Rattle.child_trees.specs.Cells.{map_at}
 use Rattle.child_trees.specs.Sums.{HasCells, entries, entry_of}
 use Rattle.child_trees.specs.Kept.{HasList}
 use Rattle.child_trees.proofs.Along.{length-entries}
-use Rattle.child_trees.proofs.Keeping.{now_cells, list_made, others_stay, now_low, along_sums, kept_stays, map-remove, removed_all}
+use Rattle.child_trees.proofs.Keeping.{now_cells, list_made, others_stay, now_low, along_sums, kept_stays, map-remove, removed_all, removed_size}
 use Rattle.child_trees.proofs.edits.remove_leaf.Goals as goal
 
 pub remove-requires : goal.remove-requires
@@ -63,3 +64,14 @@ returns-clause-steps g c = λ list t k lt b few.
     let l = length-remove (leaves t) c.args.place (omega (arith, lt, n)) in
     let low = now_low M.unit M.join ns ms v v v list top place t _ ch room b (omega (arith, l, n, few)) in
     omega (arith, low, c.sum_along.ensures.steps ch.now cells)
+
+pub returns-in_err-rest-clause-slots : goal.returns-in_err-rest-clause-slots
+returns-in_err-rest-clause-slots g c = λ list t k lt.
+    let one = c.in_err-rest.ensures.tree list t k.tree lt in
+    (omega (arith, one.0, c.in_err-rest.ensures.spare), c.remove.ensures.len)
+
+pub returns-clause-slots : goal.returns-clause-slots
+returns-clause-slots g c = λ list t k lt.
+    let ch = c.in_ok-rest.ensures.tree list t k.tree lt in
+    let fewer = removed_size t ch.now c.args.place ch.leaves_are lt in
+    (omega (arith, fewer, positive ch.now, c.in_ok-rest.ensures.spare), c.remove.ensures.len)

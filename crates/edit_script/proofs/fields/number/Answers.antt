@@ -1,8 +1,6 @@
 use Rattle.std.proofs.Common.{sym}
-use Rattle.edit_script.proofs.Numbers.{past_most}
+use Rattle.edit_script.proofs.Numbers.{not_parsed}
 use Rattle.edit_script.proofs.fields.number.Goals as goal
 
-pub returns-then-value : goal.returns-then-value
-returns-then-value c =
-    let large = past_most c.as_bytes-bytes.result.now c.loop-byte.byte-index c.loop-byte.value c.loop-byte-test.true c.loop-byte.invariant.valued c.if-value.true in
-    sym (rw c.as_bytes-bytes.ensures.value at large)
+pub returns-in-Err : goal.returns-in-Err
+returns-in-Err c = sym (not_parsed c.args.field.now _ _ c.parse.ensures.value.0 (sym c.if-not-is_digits.ensures) c.in-Err.is)

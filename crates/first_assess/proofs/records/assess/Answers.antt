@@ -1,5 +1,4 @@
 use Rattle.std.proofs.Common.{◌∙◌, ◌≤◌, ◌*◌, ap, sym, append-nil, arith, subst, [], true, None, length}
-use Rattle.tree_rows.specs.Rows.{rows_of}
 use Rattle.assess_model.specs.Assessment.{assessment, code_total}
 use Rattle.first_assess.specs.Paths.{none_open}
 use Rattle.first_assess.specs.Rows.{AreBelow, row_entries, row_records}
@@ -15,7 +14,7 @@ judge_rows-requires-clause-below c =
 pub returns-clause-entries : goal.returns-clause-entries
 returns-clause-entries c = λ f rows.
     let s = c.args.schema.now in
-    ap (row_entries c.args.rows.now) (c.reverse.ensures.items ∙ c.in_ok-records.ensures)
+    ap (row_entries c.args.rows.now) (c.from_vec.ensures ∙ c.reverse.ensures.items ∙ c.in_ok-records.ensures)
     ∙ ap (λ l. row_entries l (row_records s none_open l)) rows ∙ all_entries s f
 
 pub returns-clause-few : goal.returns-clause-few

@@ -1,8 +1,5 @@
-use Rattle.std.proofs.Common.{ap, ◌∙◌, subst, ◌++◌}
 use Rattle.std.specs.Prelude.{string_bytes}
-use Rattle.std.specs.declared.str.Chars.{Chars}
-use Rattle.report_text.specs.Escaping.{escaped}
-use Rattle.report_text.proofs.Escapes.{IsLeft, all_left, one_less, none_left}
+use Rattle.report_text.proofs.Escapes.{all_left, one_less, none_left}
 use Rattle.report_text.proofs.escape.write_escaped.Goals as goal
 
 pub loop-c-init : goal.loop-c-init

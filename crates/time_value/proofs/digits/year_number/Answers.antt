@@ -20,7 +20,7 @@ overflow_add-number c =
 
 pub digits-preserved : goal.digits-preserved
 digits-preserved c =
-    omega (arith, number-more c.args.digits.now c.digits.digit-index c.digits-test.true)
+    omega (arith, number-more c.args.digits.now c.digits.digit-index c.requires.digits c.digits-test.true)
 
 pub returns-clause-bound : goal.returns-clause-bound
 returns-clause-bound c =

@@ -1,4 +1,4 @@
-use Rattle.std.proofs.Common.{◌≡◌, sym, ap, ◌∙◌}
+use Rattle.std.proofs.Common.{ap, ◌∙◌}
 use Rattle.tag_names.specs.Scopes.{first_scope}
 use Rattle.tree_building.specs.Building.{built}
 use Rattle.tree_building.specs.Rules.{document_rules}

@@ -1,4 +1,4 @@
-use Rattle.std.proofs.Common.{◌≡◌, sym, ap, ◌∙◌}
+use Rattle.std.proofs.Common.{ap, ◌∙◌}
 use Rattle.tree_building.specs.Building.{built}
 use Rattle.tree_building.specs.Rules.{document_rules}
 use Rattle.tree_building.proofs.Kept.{sound_if}

@@ -29,7 +29,7 @@ bounds-nodes-top g c =
     let M = g.M.Summary in let s = c.self.inside in let v = s.cells in let ns = s.trees.nodes in let n = c.seq.inside.number in
     let r = rw (← c.self.view_is, ← c.seq.view_is) at c.requires in
     let top_is = c.top.ensures ∙ ap Some c.in_ok-top.was in let top = c.in_ok-top.top in
-    let R = rooted M.unit M.join v ns s.tops c.self.invariant n top r.0 top_is r.1 in
+    let R = rooted M.unit M.join v ns s.tops c.self.invariant.lists n top r.0 top_is r.1 in
     let h = (kept_sums M.unit M.join v ns n top R.tree R.kept).cells in
     rw c.nodes.ensures (top_within (length v.maps) ns top R.tree h)
 
@@ -38,7 +38,7 @@ item_at-number-requires g c =
     let M = g.M.Summary in let s = c.self.inside in let v = s.cells in let ns = s.trees.nodes in let n = c.seq.inside.number in
     let r = rw (← c.self.view_is, ← c.seq.view_is) at c.requires in
     let top_is = c.top.ensures ∙ ap Some c.in_ok-top.was in let top = c.in_ok-top.top in
-    let R = rooted M.unit M.join v ns s.tops c.self.invariant n top r.0 top_is r.1 in
+    let R = rooted M.unit M.join v ns s.tops c.self.invariant.lists n top r.0 top_is r.1 in
     let h = (kept_sums M.unit M.join v ns n top R.tree R.kept).cells in
     let same = ap (λ ks. (at ks top).counts.leaves) c.nodes.ensures in
     (n, R.tree, R.kept.tree, omega (arith, c.if-place-nodes.true, same, top_size (length v.maps) ns top R.tree h))
@@ -47,7 +47,7 @@ pub returns-then-place-nodes : goal.returns-then-place-nodes
 returns-then-place-nodes g c = rw (← c.self.view_is, ← c.seq.view_is) (λ xs e.
     let M = g.M.Summary in let s = c.self.inside in let v = s.cells in let ns = s.trees.nodes in let n = c.seq.inside.number in
     let top_is = c.top.ensures ∙ ap Some c.in_ok-top.was in let top = c.in_ok-top.top in
-    let R = rooted M.unit M.join v ns s.tops c.self.invariant n top xs top_is e in
+    let R = rooted M.unit M.join v ns s.tops c.self.invariant.lists n top xs top_is e in
     let h = (kept_sums M.unit M.join v ns n top R.tree R.kept).cells in
     let same = ap (λ ks. (at ks top).counts.leaves) c.nodes.ensures in
     let few : c.args.place < size R.tree = omega (arith, c.if-place-nodes.true, same, top_size (length v.maps) ns top R.tree h) in
@@ -59,7 +59,7 @@ pub returns-else-place-nodes : goal.returns-else-place-nodes
 returns-else-place-nodes g c = rw (← c.self.view_is, ← c.seq.view_is) (λ xs e.
     let M = g.M.Summary in let s = c.self.inside in let v = s.cells in let ns = s.trees.nodes in let n = c.seq.inside.number in
     let top_is = c.top.ensures ∙ ap Some c.in_ok-top.was in let top = c.in_ok-top.top in
-    let R = rooted M.unit M.join v ns s.tops c.self.invariant n top xs top_is e in
+    let R = rooted M.unit M.join v ns s.tops c.self.invariant.lists n top xs top_is e in
     let h = (kept_sums M.unit M.join v ns n top R.tree R.kept).cells in
     let same = ap (λ ks. (at ks top).counts.leaves) c.nodes.ensures in
     sym (get_none (items xs) c.args.place (omega (arith, c.if-place-nodes.false, same, top_size (length v.maps) ns top R.tree h, R.size_is, length-map xs (λ e. e.item)))))

@@ -28,7 +28,7 @@ act-after-requires-clause-slot g c =
     let M = g.M.Summary in let s = c.self.inside in let v = s.cells in let ns = s.trees.nodes in let n = c.seq.inside.number in
     let r = rw (← c.self.view_is, ← c.seq.view_is) at c.requires.live in
     let top_is = c.top.ensures ∙ ap Some c.in_ok-top.was in let top = c.in_ok-top.top in
-    let R = rooted M.unit M.join v ns s.tops c.self.invariant n top r.0 top_is r.1 in
+    let R = rooted M.unit M.join v ns s.tops c.self.invariant.lists n top r.0 top_is r.1 in
     let h = (kept_sums M.unit M.join v ns n top R.tree R.kept).cells in
     top_has_cell (length v.maps) ns top R.tree h
 
@@ -40,7 +40,7 @@ first_dead-requires-clause-tree g c =
     let M = g.M.Summary in let s = c.self.inside in let v = s.cells in let ns = s.trees.nodes in let n = c.seq.inside.number in
     let r = rw (← c.self.view_is, ← c.seq.view_is) at c.requires.live in
     let top_is = c.top.ensures ∙ ap Some c.in_ok-top.was in let top = c.in_ok-top.top in
-    let R = rooted M.unit M.join v ns s.tops c.self.invariant n top r.0 top_is r.1 in
+    let R = rooted M.unit M.join v ns s.tops c.self.invariant.lists n top r.0 top_is r.1 in
     let h = (kept_sums M.unit M.join v ns n top R.tree R.kept).cells in
     let hs = kept_sums M.unit M.join v ns n top R.tree R.kept in
     let state = rw (← c.self.view_is) at c.requires.state in
@@ -54,7 +54,7 @@ pub returns-then-dead-clause-place : goal.returns-then-dead-clause-place
 returns-then-dead-clause-place g c = rw (← c.self.view_is, ← c.seq.view_is) (λ xs e.
     let M = g.M.Summary in let s = c.self.inside in let v = s.cells in let ns = s.trees.nodes in let n = c.seq.inside.number in
     let top_is = c.top.ensures ∙ ap Some c.in_ok-top.was in let top = c.in_ok-top.top in
-    let R = rooted M.unit M.join v ns s.tops c.self.invariant n top xs top_is e in
+    let R = rooted M.unit M.join v ns s.tops c.self.invariant.lists n top xs top_is e in
     let h = (kept_sums M.unit M.join v ns n top R.tree R.kept).cells in
     let f = map_at M.unit v in
     let hs = kept_sums M.unit M.join v ns n top R.tree R.kept in
@@ -68,7 +68,7 @@ pub returns-then-dead-clause-steps : goal.returns-then-dead-clause-steps
 returns-then-dead-clause-steps g c = rw (← c.self.view_is, ← c.seq.view_is) (λ xs e.
     let M = g.M.Summary in let s = c.self.inside in let v = s.cells in let ns = s.trees.nodes in let n = c.seq.inside.number in
     let top_is = c.top.ensures ∙ ap Some c.in_ok-top.was in let top = c.in_ok-top.top in
-    let R = rooted M.unit M.join v ns s.tops c.self.invariant n top xs top_is e in
+    let R = rooted M.unit M.join v ns s.tops c.self.invariant.lists n top xs top_is e in
     let h = (kept_sums M.unit M.join v ns n top R.tree R.kept).cells in
     let ks = subst (λ ks. HasSums M.unit M.join v ks top R.tree) (sym c.nodes.ensures) (kept_sums M.unit M.join v ns n top R.tree R.kept) in
     let few = walk_bound R.tree (length xs) R.kept.tree.avl R.size_is in
@@ -78,7 +78,7 @@ pub returns-else-dead-clause-place : goal.returns-else-dead-clause-place
 returns-else-dead-clause-place g c = rw (← c.self.view_is, ← c.seq.view_is) (λ xs e.
     let M = g.M.Summary in let s = c.self.inside in let v = s.cells in let ns = s.trees.nodes in let n = c.seq.inside.number in
     let top_is = c.top.ensures ∙ ap Some c.in_ok-top.was in let top = c.in_ok-top.top in
-    let R = rooted M.unit M.join v ns s.tops c.self.invariant n top xs top_is e in
+    let R = rooted M.unit M.join v ns s.tops c.self.invariant.lists n top xs top_is e in
     let h = (kept_sums M.unit M.join v ns n top R.tree R.kept).cells in
     let f = map_at M.unit v in
     let hs = kept_sums M.unit M.join v ns n top R.tree R.kept in

@@ -16,7 +16,7 @@ elements_before-requires g c =
     let M = g.M.Summary in let s = c.self.inside in let v = s.cells in let ns = s.trees.nodes in let n = c.seq.inside.number in
     let r = rw (← c.self.view_is, ← c.seq.view_is) at c.requires.live in
     let top_is = c.top.ensures ∙ ap Some c.in-Some.is in
-    let R = rooted M.unit M.join v ns s.tops c.self.invariant n c.in-Some.top r.0 top_is r.1 in
+    let R = rooted M.unit M.join v ns s.tops c.self.invariant.lists n c.in-Some.top r.0 top_is r.1 in
     let le = rw (← c.self.view_is, ← c.seq.view_is) at c.requires.place in
     (n, R.tree, R.kept.tree, omega (arith, le r.0 r.1, R.size_is))
 
@@ -29,6 +29,6 @@ pub returns-in-Some : goal.returns-in-Some
 returns-in-Some g c = rw (← c.self.view_is, ← c.seq.view_is) (λ xs e.
     let M = g.M.Summary in let s = c.self.inside in let v = s.cells in let ns = s.trees.nodes in let n = c.seq.inside.number in
     let top_is = c.top.ensures ∙ ap Some c.in-Some.is in
-    let R = rooted M.unit M.join v ns s.tops c.self.invariant n c.in-Some.top xs top_is e in
+    let R = rooted M.unit M.join v ns s.tops c.self.invariant.lists n c.in-Some.top xs top_is e in
     let le = rw (← c.self.view_is, ← c.seq.view_is) at c.requires.place in
     c.elements_before.ensures n R.tree R.kept.tree (omega (arith, le xs e, R.size_is)) ∙ elements_upto_are (map_at M.unit v) R.tree c.args.place xs R.entries_are)

@@ -1,57 +1,9 @@
-use Rattle.std.proofs.Common.{length, drop, Some, sym, ap, ◌∙◌, subst, arith}
-use Rattle.child_trees.specs.Cells.{map_at}
+use Rattle.std.proofs.Common.{drop, ap, ◌∙◌, arith}
+use Rattle.std.proofs.lemmas.List.{take_all}
 use Rattle.child_trees.specs.Lists.{acts_along}
-use Rattle.child_trees.specs.Sums.{HasSums}
-use Rattle.child_trees.proofs.Digits.{walk_bound}
-use Rattle.child_trees.proofs.Reading.{no_top, along_none_from}
-use Rattle.child_trees.proofs.Viewing.{live_top, rooted, kept_sums}
 use Rattle.child_trees.proofs.seqs.Seqs.from.Goals as goal
 
-pub top-requires : goal.top-requires
-top-requires g c =
-    let M = g.M.Summary in let s = c.self.inside in let v = s.cells in let ns = s.trees.nodes in let n = c.seq.inside.number in
-    let r = rw (← c.self.view_is, ← c.seq.view_is) at c.requires.live in
-    let w = live_top M.unit M.join v ns s.tops n r.0 r.1 in
-    (w.0, w.1)
-
-pub run_from-requires-clause-tree : goal.run_from-requires-clause-tree
-run_from-requires-clause-tree g c =
-    let M = g.M.Summary in let s = c.self.inside in let v = s.cells in let ns = s.trees.nodes in let n = c.seq.inside.number in
-    let r = rw (← c.self.view_is, ← c.seq.view_is) at c.requires.live in
-    let top_is = c.top.ensures ∙ ap Some c.in-Some.is in
-    let R = rooted M.unit M.join v ns s.tops c.self.invariant n c.in-Some.top r.0 top_is r.1 in
-    let le = rw (← c.self.view_is, ← c.seq.view_is) at c.requires.place in
-    rw c.nodes.ensures (R.tree, kept_sums M.unit M.join v ns n c.in-Some.top R.tree R.kept, omega (arith, le r.0 r.1, R.size_is))
-
-pub run_from-requires-clause-state : goal.run_from-requires-clause-state
-run_from-requires-clause-state g c = rw (← c.self.view_is) at c.requires.state
-
-pub returns-in-None-clause-value : goal.returns-in-None-clause-value
-returns-in-None-clause-value g c = rw (← c.self.view_is, ← c.seq.view_is) (λ xs e.
-    let M = g.M.Summary in let s = c.self.inside in let v = s.cells in let ns = s.trees.nodes in let n = c.seq.inside.number in
-    along_none_from M.acts c.args.state c.args.place xs (no_top M.unit M.join v ns s.tops n xs (c.top.ensures ∙ ap Some c.in-None.is) e))
-
-pub returns-in-None-clause-state : goal.returns-in-None-clause-state
-returns-in-None-clause-state g c = c.requires.state
-
-pub returns-in-Some-clause-value : goal.returns-in-Some-clause-value
-returns-in-Some-clause-value g c = rw (← c.self.view_is, ← c.seq.view_is) (λ xs e.
-    let M = g.M.Summary in let s = c.self.inside in let v = s.cells in let ns = s.trees.nodes in let n = c.seq.inside.number in
-    let top_is = c.top.ensures ∙ ap Some c.in-Some.is in
-    let R = rooted M.unit M.join v ns s.tops c.self.invariant n c.in-Some.top xs top_is e in
-    let f = map_at M.unit v in
-    let le = rw (← c.self.view_is, ← c.seq.view_is) at c.requires.place in
-    let h = subst (λ ks. HasSums M.unit M.join v ks c.in-Some.top R.tree) (sym c.nodes.ensures) (kept_sums M.unit M.join v ns n c.in-Some.top R.tree R.kept) in
-    c.run_from.ensures.value R.tree h (omega (arith, le xs e, R.size_is)) ∙ ap (λ ys. acts_along M.acts c.args.state (drop c.args.place ys)) R.entries_are)
-
-pub returns-in-Some-clause-state : goal.returns-in-Some-clause-state
-returns-in-Some-clause-state g c = rw (← c.self.view_is) c.run_from.ensures.state
-
-pub returns-in-Some-clause-steps : goal.returns-in-Some-clause-steps
-returns-in-Some-clause-steps g c = rw (← c.self.view_is, ← c.seq.view_is) (λ xs e.
-    let M = g.M.Summary in let s = c.self.inside in let v = s.cells in let ns = s.trees.nodes in let n = c.seq.inside.number in
-    let top_is = c.top.ensures ∙ ap Some c.in-Some.is in
-    let R = rooted M.unit M.join v ns s.tops c.self.invariant n c.in-Some.top xs top_is e in
-    let h = subst (λ ks. HasSums M.unit M.join v ks c.in-Some.top R.tree) (sym c.nodes.ensures) (kept_sums M.unit M.join v ns n c.in-Some.top R.tree R.kept) in
-    let few = walk_bound R.tree (length xs) R.kept.tree.avl R.size_is in
-    omega (arith, c.run_from.ensures.steps R.tree h, few))
+pub returns-clause-value : goal.returns-clause-value
+returns-clause-value g c = λ xs e.
+    let M = g.M.Summary in
+    c.between.ensures.value xs e ∙ ap (λ ys. acts_along M.acts c.args.state (drop c.args.place ys)) (take_all 4294967295 xs (omega (arith, c.between.ensures.few xs e)))

@@ -26,7 +26,7 @@ bounds-nodes-top g c =
     let M = g.M.Summary in let s = c.self.inside in let v = s.cells in let ns = s.trees.nodes in let n = c.seq.inside.number in
     let r = rw (← c.self.view_is, ← c.seq.view_is) at c.requires in
     let top_is = c.top.ensures ∙ ap Some c.in_ok-top.was in let top = c.in_ok-top.top in
-    let R = rooted M.unit M.join v ns s.tops c.self.invariant n top r.0 top_is r.1 in
+    let R = rooted M.unit M.join v ns s.tops c.self.invariant.lists n top r.0 top_is r.1 in
     let h = (kept_sums M.unit M.join v ns n top R.tree R.kept).cells in
     rw c.nodes.ensures (top_within (length v.maps) ns top R.tree h)
 
@@ -35,7 +35,7 @@ nth_marked-number-requires g c =
     let M = g.M.Summary in let s = c.self.inside in let v = s.cells in let ns = s.trees.nodes in let n = c.seq.inside.number in
     let r = rw (← c.self.view_is, ← c.seq.view_is) at c.requires in
     let top_is = c.top.ensures ∙ ap Some c.in_ok-top.was in let top = c.in_ok-top.top in
-    let R = rooted M.unit M.join v ns s.tops c.self.invariant n top r.0 top_is r.1 in
+    let R = rooted M.unit M.join v ns s.tops c.self.invariant.lists n top r.0 top_is r.1 in
     let h = (kept_sums M.unit M.join v ns n top R.tree R.kept).cells in
     let same = ap (λ ks. (at ks top).counts.marked) c.nodes.ensures in
     (n, R.tree, R.kept.tree, omega (arith, c.if-k-nodes.true, same, top_marked (length v.maps) ns top R.tree h))
@@ -44,7 +44,7 @@ pub returns-then-k-nodes : goal.returns-then-k-nodes
 returns-then-k-nodes g c = rw (← c.self.view_is, ← c.seq.view_is) (λ xs e.
     let M = g.M.Summary in let s = c.self.inside in let v = s.cells in let ns = s.trees.nodes in let n = c.seq.inside.number in
     let top_is = c.top.ensures ∙ ap Some c.in_ok-top.was in let top = c.in_ok-top.top in
-    let R = rooted M.unit M.join v ns s.tops c.self.invariant n top xs top_is e in
+    let R = rooted M.unit M.join v ns s.tops c.self.invariant.lists n top xs top_is e in
     let h = (kept_sums M.unit M.join v ns n top R.tree R.kept).cells in
     let same = ap (λ ks. (at ks top).counts.marked) c.nodes.ensures in
     let few : c.args.k < length (marked_items R.tree) = omega (arith, c.if-k-nodes.true, same, top_marked (length v.maps) ns top R.tree h) in
@@ -55,7 +55,7 @@ pub returns-else-k-nodes : goal.returns-else-k-nodes
 returns-else-k-nodes g c = rw (← c.self.view_is, ← c.seq.view_is) (λ xs e.
     let M = g.M.Summary in let s = c.self.inside in let v = s.cells in let ns = s.trees.nodes in let n = c.seq.inside.number in
     let top_is = c.top.ensures ∙ ap Some c.in_ok-top.was in let top = c.in_ok-top.top in
-    let R = rooted M.unit M.join v ns s.tops c.self.invariant n top xs top_is e in
+    let R = rooted M.unit M.join v ns s.tops c.self.invariant.lists n top xs top_is e in
     let h = (kept_sums M.unit M.join v ns n top R.tree R.kept).cells in
     let same = ap (λ ks. (at ks top).counts.marked) c.nodes.ensures in
     let is = ap (λ ys. items (filter (λ e. e.marked) ys)) (sym R.entries_are) ∙ marked_are (map_at M.unit v) (leaves R.tree) in

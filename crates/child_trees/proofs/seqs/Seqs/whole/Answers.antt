@@ -19,7 +19,7 @@ act-requires-clause-slot g c =
     let M = g.M.Summary in let s = c.self.inside in let v = s.cells in let ns = s.trees.nodes in let n = c.seq.inside.number in
     let r = rw (← c.self.view_is, ← c.seq.view_is) at c.requires.live in
     let top_is = c.top.ensures ∙ ap Some c.in-Some.is in
-    let R = rooted M.unit M.join v ns s.tops c.self.invariant n c.in-Some.top r.0 top_is r.1 in
+    let R = rooted M.unit M.join v ns s.tops c.self.invariant.lists n c.in-Some.top r.0 top_is r.1 in
     top_has_cell (length v.maps) ns c.in-Some.top R.tree (kept_sums M.unit M.join v ns n c.in-Some.top R.tree R.kept).cells
 
 pub act-requires-clause-state : goal.act-requires-clause-state
@@ -37,7 +37,7 @@ pub returns-in-Some-clause-value : goal.returns-in-Some-clause-value
 returns-in-Some-clause-value g c = rw (← c.self.view_is, ← c.seq.view_is) (λ xs e.
     let M = g.M.Summary in let s = c.self.inside in let v = s.cells in let ns = s.trees.nodes in let n = c.seq.inside.number in
     let top_is = c.top.ensures ∙ ap Some c.in-Some.is in
-    let R = rooted M.unit M.join v ns s.tops c.self.invariant n c.in-Some.top xs top_is e in
+    let R = rooted M.unit M.join v ns s.tops c.self.invariant.lists n c.in-Some.top xs top_is e in
     let state = rw (← c.self.view_is) at c.requires.state in
     node_acts g.met.M.Summary.laws v ns c.in-Some.top R.tree (kept_sums M.unit M.join v ns n c.in-Some.top R.tree R.kept) c.act.ensures.maps c.args.state state c.act.result c.act.ensures.value
     ∙ ap (acts_along M.acts c.args.state) R.entries_are)
@@ -49,5 +49,5 @@ pub returns-in-Some-clause-none : goal.returns-in-Some-clause-none
 returns-in-Some-clause-none g c = rw (← c.self.view_is, ← c.seq.view_is) (λ e.
     let M = g.M.Summary in let s = c.self.inside in let v = s.cells in let ns = s.trees.nodes in let n = c.seq.inside.number in
     let top_is = c.top.ensures ∙ ap Some c.in-Some.is in
-    let R = rooted M.unit M.join v ns s.tops c.self.invariant n c.in-Some.top [] top_is e in
+    let R = rooted M.unit M.join v ns s.tops c.self.invariant.lists n c.in-Some.top [] top_is e in
     let p = positive R.tree in absurd (omega (arith, p, R.size_is)))

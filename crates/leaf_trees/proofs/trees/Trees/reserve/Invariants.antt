@@ -6,7 +6,7 @@ abbrev pub invariant-loop-self : goal.invariant-loop-self
 invariant-loop-self l = record {
   grows : Grows l.initial.self.nodes l.self.nodes;
   balance : length l.self.nodes + l.initial.self.spare ≡ length l.initial.self.nodes + l.self.spare;
-  few : l.self.spare ≤ l.slots + l.initial.self.spare;
+  few : length l.self.nodes ≤ length l.initial.self.nodes + (l.slots - l.initial.self.spare);
 }
 
 abbrev pub decreases-loop-self : goal.decreases-loop-self

@@ -1,0 +1,13 @@
+//! Tests of the public calls from lines to trees: items, names of tags, building, and content models.
+#![tactic(auto)]
+
+#[cfg(test)]
+mod building;
+#[cfg(test)]
+mod items;
+#[cfg(test)]
+mod models;
+#[cfg(test)]
+mod names;
+#[cfg(test)]
+mod tags;

@@ -1,0 +1,189 @@
+use std::alloc::Global;
+use std::test::Fail;
+use tag_names::{AttributeLine, AttributeLines, NameReason, Prefixes, Tag};
+use tree_rows::{Binding, Expanded};
+use xs_names::{Text, XML_NAMESPACE, XMLNS_NAMESPACE};
+
+/// A tag of this name with these attribute lines.
+fn tag_of(alloc: Global, name: &str, lines: &[(&str, &str)]) -> Result<Tag, Fail> {
+    let mut attributes = AttributeLines::new(alloc);
+    for (name, value) in lines {
+        attributes.push(AttributeLine {
+            name: Text::new(alloc, name)?,
+            value: Text::new(alloc, value)?,
+        })?;
+    }
+    Ok(Tag {
+        name: Text::new(alloc, name)?,
+        attributes,
+    })
+}
+
+fn binding(alloc: Global, prefix: &str, namespace: &str) -> Result<Binding, Fail> {
+    Ok(Binding {
+        prefix: Text::new(alloc, prefix)?,
+        namespace: Text::new(alloc, namespace)?,
+    })
+}
+
+/// Whether a name is written so.
+fn is_named(alloc: Global, name: &Expanded, text: &str) -> Result<bool, Fail> {
+    Ok(name.clark_name(alloc)?.as_str() == text)
+}
+
+/// Whether the prefix is bound to this namespace.
+fn is_bound_to(scope: &Prefixes, prefix: &str, namespace: &str) -> bool {
+    match scope.of_prefix(prefix) {
+        None => false,
+        Some(space) => space.as_str() == namespace,
+    }
+}
+
+#[test]
+fn shows_hidden_bindings_again(rt: HostRuntime) -> Result<(), Fail> {
+    let alloc = rt.alloc();
+    let mut scope = Prefixes::new(alloc)?;
+    scope.bind(binding(alloc, "p", "u")?)?;
+    let copy = scope.try_clone(alloc)?;
+    let lines = [("xmlns:p", "v"), ("xmlns:p", "w"), ("xmlns", "d")];
+    let tag = tag_of(alloc, "a", &lines)?;
+    scope.bind_all(tag.bindings(alloc)?.as_slice())?;
+    assert!(rt; is_bound_to(&scope, "p", "v") && is_bound_to(&scope, "", "d"));
+    scope.truncate(4);
+    assert!(rt; is_bound_to(&scope, "p", "w"));
+    scope.truncate(3);
+    assert!(rt; is_bound_to(&scope, "p", "u") && is_bound_to(&scope, "", "d"));
+    scope.truncate(1);
+    assert!(rt; scope.of_prefix("p").is_none() && scope.of_prefix("").is_none());
+    scope.bind(binding(alloc, "q", "y")?)?;
+    assert!(rt; is_bound_to(&scope, "q", "y"));
+    assert!(rt; is_bound_to(&copy, "p", "u") && copy.len() == 2);
+    Ok(())
+}
+
+#[test]
+fn names_an_element(rt: HostRuntime) -> Result<(), Fail> {
+    let alloc = rt.alloc();
+    let scope = Prefixes::new(alloc)?;
+    let lines = [
+        ("xmlns", "d"),
+        ("a", "1"),
+        ("p:b", "2"),
+        ("xmlns:p", "u"),
+        ("xml:lang", "en"),
+    ];
+    let tag = tag_of(alloc, "r", &lines)?;
+    assert_eq!(rt; tag.name_fault(alloc, &scope)?, None);
+    let named = tag.named(alloc, &scope)?;
+    assert!(rt; is_named(alloc, &named.name, "{d}r")?);
+    assert_eq!(rt; named.bindings.as_slice().len(), 2);
+    assert_eq!(rt; named.attributes.as_slice().len(), 3);
+    for (attribute, text) in named.attributes.as_slice().iter().zip([
+        "a",
+        "{u}b",
+        "{http://www.w3.org/XML/1998/namespace}lang",
+    ]) {
+        assert!(rt; is_named(alloc, &attribute.name, text)?);
+    }
+    Ok(())
+}
+
+/// The first reason against such a tag, with no prefix bound around it.
+fn fault_of(alloc: Global, name: &str, lines: &[(&str, &str)]) -> Result<Option<NameReason>, Fail> {
+    let scope = Prefixes::new(alloc)?;
+    Ok(tag_of(alloc, name, lines)?.name_fault(alloc, &scope)?)
+}
+
+#[test]
+fn refuses_names_by_their_first_reason(rt: HostRuntime) -> Result<(), Fail> {
+    let alloc = rt.alloc();
+    let bad = Some(NameReason::BadName);
+    let reserved = Some(NameReason::ReservedName);
+    let unbound = Some(NameReason::UnboundPrefix);
+    let double = Some(NameReason::DoubleAttribute);
+    let cases: [(&str, &[(&str, &str)], Option<NameReason>); 16] = [
+        ("a:b:c", &[], bad),
+        ("a", &[("xmlns:", "u")], bad),
+        ("xmlns:a", &[], reserved),
+        ("a", &[("xmlns:xmlns", "u")], reserved),
+        ("a", &[("xmlns:xml", "u")], reserved),
+        ("a", &[("xmlns", XMLNS_NAMESPACE)], reserved),
+        ("a", &[("xmlns:p", XML_NAMESPACE)], reserved),
+        ("p:a", &[("xmlns:p", "")], reserved),
+        ("xml:a", &[("xmlns:xml", XML_NAMESPACE)], None),
+        ("a", &[("xmlns", "")], None),
+        ("a", &[("p:b", "1")], unbound),
+        ("p:a", &[("b", "1"), ("b", "2")], unbound),
+        (
+            "a",
+            &[("xmlns", "u"), ("xmlns:p", "u"), ("b", "1"), ("p:b", "1")],
+            None,
+        ),
+        (
+            "a",
+            &[
+                ("xmlns:q", "u"),
+                ("xmlns:p", "u"),
+                ("q:b", "1"),
+                ("p:b", "1"),
+            ],
+            double,
+        ),
+        ("a", &[("xmlns:p", "u"), ("xmlns:p", "v")], double),
+        ("a", &[("b", "1"), ("b", "1")], double),
+    ];
+    for (name, lines, fault) in cases {
+        assert_eq!(rt; fault_of(alloc, name, lines)?, fault, "{name}");
+    }
+    Ok(())
+}
+
+/// Puts an attribute line at the end.
+fn push_line(alloc: Global, tag: &mut Tag, name: &str) -> Result<(), Fail> {
+    tag.attributes.push(AttributeLine {
+        name: Text::new(alloc, name)?,
+        value: Text::new(alloc, "u")?,
+    })?;
+    Ok(())
+}
+
+/// A tag that binds 10,000 prefixes to namespaces of their own, with an attribute of each prefix.
+fn long_tag(alloc: Global) -> Result<Tag, Fail> {
+    let mut attributes = AttributeLines::new(alloc);
+    for i in 0..10_000u32 {
+        let text = format!(in alloc; "xmlns:p{i}")?;
+        attributes.push(AttributeLine {
+            name: Text::new(alloc, text.as_str())?,
+            value: Text::new(alloc, text.as_str())?,
+        })?;
+        let text = format!(in alloc; "p{i}:a")?;
+        attributes.push(AttributeLine {
+            name: Text::new(alloc, text.as_str())?,
+            value: Text::new(alloc, "")?,
+        })?;
+    }
+    Ok(Tag {
+        name: Text::new(alloc, "p0:r")?,
+        attributes,
+    })
+}
+
+#[test]
+fn judges_a_long_tag_at_once(rt: HostRuntime) -> Result<(), Fail> {
+    let alloc = rt.alloc();
+    let scope = Prefixes::new(alloc)?;
+    let mut tag = long_tag(alloc)?;
+    assert_eq!(rt;
+        tag.named(alloc, &scope)?.attributes.as_slice().len(),
+        10_000
+    );
+    let too_many = Some(NameReason::TooManyAttributes);
+    assert_eq!(rt; tag.name_fault(alloc, &scope)?, too_many);
+    push_line(alloc, &mut tag, "p0:a")?;
+    let double = Some(NameReason::DoubleAttribute);
+    assert_eq!(rt; tag.name_fault(alloc, &scope)?, double);
+    push_line(alloc, &mut tag, "q:a")?;
+    let unbound = Some(NameReason::UnboundPrefix);
+    assert_eq!(rt; tag.name_fault(alloc, &scope)?, unbound);
+    Ok(())
+}

@@ -1,0 +1,3 @@
+pub mod Census
+pub mod Tables
+pub mod Tally

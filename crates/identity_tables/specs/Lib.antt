@@ -1,0 +1,5 @@
+pub mod Counts
+pub mod IdTable
+pub mod KeyTables
+pub mod Tuple
+pub mod Uses

@@ -1,0 +1,9 @@
+//! Tests of the public calls on tables of keys and of ids.
+#![tactic(auto)]
+
+#[cfg(test)]
+mod draw;
+#[cfg(test)]
+mod ids;
+#[cfg(test)]
+mod keys;

@@ -1,0 +1,212 @@
+use crate::both::Both;
+use crate::calls::{Call, Random};
+use crate::folds::{Digest, FiveStates, Fold};
+use crate::held::Held;
+use child_trees::{Leaf, Slots};
+use std::alloc::AllocError;
+use std::process::Abort;
+use std::test::Fail;
+use xsv_steps::{Silent, Steps};
+
+/// A leaf of this letter.
+fn leaf(letter: u8, element: bool, marked: bool) -> Leaf<u8> {
+    Leaf {
+        letter: Some(letter),
+        element,
+        marked,
+    }
+}
+
+const UNIT: Leaf<u8> = Leaf {
+    letter: None,
+    element: false,
+    marked: false,
+};
+
+#[test]
+fn digests(rt: HostRuntime) -> Result<(), Fail> {
+    let mut held: Held<Digest> = Held::new(rt.alloc(), 1)?;
+    let mut steps = Steps::new(Silent);
+    held.open(0)?;
+    held.insert(0, 0, leaf(3, false, false), 0, &mut steps)?;
+    held.insert(0, 0, leaf(1, false, false), 0, &mut steps)?;
+    // The source adds 1 to this letter. The digest is of 1, 2, 3.
+    held.insert(0, 1, leaf(1, false, false), 1, &mut steps)?;
+    assert_eq!(rt; held.whole(0, 0, &mut steps), Some((31 + 2) * 31 + 3));
+    assert_eq!(rt; held.upto(0, 2, 0, &mut steps), Some(31 + 2));
+    assert_eq!(rt; held.prefix(0, 2, 0, &mut steps), Some(31 + 2));
+    assert_eq!(rt; held.from(0, 1, 0, &mut steps), Some(2 * 31 + 3));
+    assert_eq!(rt; held.descend(0, 0, &mut steps), None);
+    held.update(0, 0, UNIT, 0, &mut steps);
+    assert_eq!(rt; held.whole(0, 5, &mut steps), Some((5 * 31 + 2) * 31 + 3));
+    held.remove(0, 1, &mut steps);
+    assert_eq!(rt; held.whole(0, 5, &mut steps), Some(5 * 31 + 3));
+    held.close(0);
+    assert_eq!(rt; held.whole(0, 5, &mut steps), None);
+    Ok(())
+}
+
+#[test]
+fn five_states(rt: HostRuntime) -> Result<(), Fail> {
+    let mut held: Held<FiveStates> = Held::new(rt.alloc(), 1)?;
+    let mut steps = Steps::new(Silent);
+    // Two turns, the death of state 3, and a turn.
+    let leaves = [
+        leaf(100, true, false),
+        leaf(100, false, true),
+        leaf(255, true, false),
+        leaf(100, true, true),
+    ];
+    held.build(0, Vec::from_slice(rt.alloc(), &leaves)?, 0, &mut steps)?;
+    assert_eq!(rt; held.whole(0, 1, &mut steps), Some(4));
+    assert_eq!(rt; held.descend(0, 1, &mut steps), Some(2));
+    assert_eq!(rt; held.whole(0, 0, &mut steps), Some(3));
+    assert_eq!(rt; held.descend(0, 0, &mut steps), None);
+    assert_eq!(rt; held.descend(0, 4, &mut steps), Some(0));
+    assert_eq!(rt; held.elements_upto(0, 3), Some(2));
+    assert_eq!(rt; held.nth_marked(0, 1), held.at(0, 3));
+    assert_eq!(rt; held.nth_marked(0, 2), None);
+    // Without the first turn, state 2 dies at place 1.
+    held.remove(0, 0, &mut steps);
+    assert_eq!(rt; held.descend(0, 2, &mut steps), Some(1));
+    assert_eq!(rt; held.prefix(0, 1, 2, &mut steps), Some(3));
+    assert_eq!(rt; held.from(0, 1, 1, &mut steps), Some(2));
+    Ok(())
+}
+
+#[test]
+fn slots_that_were_given_back_serve_again(rt: HostRuntime) -> Result<(), Fail> {
+    let mut held: Held<Digest> = Held::new(rt.alloc(), 1)?;
+    let mut steps = Steps::new(Silent);
+    let leaves = [UNIT; 4];
+    for _ in 0..3u32 {
+        held.build(0, Vec::from_slice(rt.alloc(), &leaves)?, 0, &mut steps)?;
+        held.remove(0, 1, &mut steps);
+        held.insert(0, 2, leaf(5, true, true), 0, &mut steps)?;
+        // Four leaves and three forks.
+        assert_eq!(rt; held.slots(), Slots { count: 8, free: 1 });
+        assert_eq!(rt; held.number(0), Some(0));
+        let item = held.at(0, 3).ok_or("no last leaf")?;
+        assert!(rt; (item.number() as usize) < held.slots().count);
+        held.close(0);
+        assert_eq!(rt; held.slots(), Slots { count: 8, free: 8 });
+    }
+    Ok(())
+}
+
+/// Compares the first lists with their plain ones, from a state on and at each place that `stride` divides.
+fn compare_all<F: Fold, A: Abort>(rt: &A, both: &Both<F>, slots: u32, start: u64, stride: u32) {
+    for slot in 0..slots {
+        both.compare(rt, slot as usize, start, stride);
+    }
+}
+
+/// Makes 20,000 drawn calls on 50 lists. After each hundredth it compares the changed list at every place, and all lists at each
+/// seventh.
+fn make_calls<F: Fold, A: Abort>(rt: &A, both: &mut Both<F>, start: u64) -> Result<(), AllocError> {
+    let mut random = Random { state: 2_026 };
+    for number in 0..20_000u32 {
+        let slot = random.below(50) as usize;
+        let call = random.call(both.len(slot));
+        both.make(rt, slot, call)?;
+        if number % 100 == 99 {
+            both.compare(rt, slot, start, 1);
+            compare_all(rt, both, 50, start, 7);
+        }
+    }
+    compare_all(rt, both, 50, start, 1);
+    Ok(())
+}
+
+#[test]
+fn drawn_calls(rt: HostRuntime) -> Result<(), Fail> {
+    let mut digests: Both<Digest> = Both::new(rt.alloc(), 50)?;
+    make_calls(&rt, &mut digests, 7)?;
+    let mut states: Both<FiveStates> = Both::new(rt.alloc(), 50)?;
+    make_calls(&rt, &mut states, 2)?;
+    Ok(())
+}
+
+/// Builds a list of so many leaves, changes it at a place, and takes its last leaf out.
+fn change_list<F: Fold, A: Abort>(
+    rt: &A,
+    both: &mut Both<F>,
+    count: u32,
+    place: u32,
+) -> Result<(), AllocError> {
+    let leaf = leaf(9, true, true);
+    let build = Call::Build {
+        count,
+        seed: 1_234,
+        source: 5,
+    };
+    let changes = [
+        build,
+        Call::Insert {
+            place,
+            leaf,
+            source: 90,
+        },
+        Call::Update {
+            place,
+            leaf: UNIT,
+            source: 3,
+        },
+        Call::Remove {
+            place: count.saturating_sub(place),
+        },
+        Call::Remove {
+            place: count.saturating_sub(1),
+        },
+    ];
+    let stride = (count / 11).max(1);
+    for change in changes {
+        both.make(rt, 0, change)?;
+        both.compare(rt, 0, 3, stride);
+    }
+    both.make(rt, 0, Call::Close)?;
+    both.compare(rt, 0, 3, stride);
+    Ok(())
+}
+
+/// Changes lists of one, two, three and very many leaves, at the front, in the middle and at the end.
+fn change_lists<F: Fold, A: Abort>(rt: &A, both: &mut Both<F>) -> Result<(), AllocError> {
+    for count in 1..4u32 {
+        for place in 0..4u32 {
+            if place <= count {
+                change_list(rt, both, count, place)?;
+            }
+        }
+    }
+    change_list(rt, both, 100_000, 61_803)
+}
+
+#[test]
+fn short_and_long_lists(rt: HostRuntime) -> Result<(), Fail> {
+    let mut digests: Both<Digest> = Both::new(rt.alloc(), 1)?;
+    change_lists(&rt, &mut digests)?;
+    let mut states: Both<FiveStates> = Both::new(rt.alloc(), 1)?;
+    change_lists(&rt, &mut states)?;
+    Ok(())
+}
+
+/// Holds whichever allocation fails: `rt try --test --fail-alloc N`.
+#[test]
+fn a_failed_call_leaves_all_as_it_was(rt: HostRuntime) {
+    let Ok(mut both) = Both::<Digest>::new(rt.alloc(), 4) else {
+        return;
+    };
+    let mut random = Random { state: 77 };
+    let mut failed = false;
+    for _ in 0..200u32 {
+        let slot = random.below(4) as usize;
+        let call = random.call(both.len(slot));
+        if both.make(&rt, slot, call).is_err() {
+            assert!(rt; !failed);
+            failed = true;
+            compare_all(&rt, &both, 4, 7, 1);
+            assert!(rt; both.make(&rt, slot, call).is_ok());
+        }
+    }
+    compare_all(&rt, &both, 4, 7, 1);
+}

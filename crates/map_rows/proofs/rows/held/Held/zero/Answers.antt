@@ -1,7 +1,0 @@
-use Rattle.std.proofs.Common.{◌≡◌, ℕ, List, Some}
-use Rattle.map_rows.specs.Rows.{IsLive}
-use Rattle.map_rows.proofs.Holding.{held_live}
-use Rattle.map_rows.proofs.rows.held.Held.zero.Goals as goal
-
-pub set_zero-requires : goal.set_zero-requires
-set_zero-requires c = held_live c.self.inside.rows c.self.inside.width c.self.inside.cap c.deref.result.now c.self.inside.slots.items c.args.slot c.in-Some.row c.self.invariant c.deref.ensures.value (c.in_slot.ensures c.in-Some.row c.in-Some.is)

@@ -1,0 +1,3 @@
+pub mod EscapeLaws
+pub mod Failing
+pub mod Fronts

@@ -1,0 +1,121 @@
+//! Values, keys and the built-in types.
+use dec_value::Dec;
+use simple_values::{
+    BUILTINS, Key, Value, base_of, bounds_of, builtin_named, item_type, key_of, length, less,
+    name_of, primitive_of, read_builtin, read_normalized, same, same_key, white_space_of,
+};
+use std::alloc::{AllocError, Global};
+use std::collections::HashMap;
+use std::test::Fail;
+use white_space::WhiteSpace;
+use xs_codes::Builtin;
+use xs_names::{Names, Scope};
+
+// The scope that binds `p`.
+fn scope_with_p(alloc: Global) -> Result<Scope, AllocError> {
+    let mut names = Names::new(alloc)?;
+    let space = names.namespace_id("urn:p")?;
+    let mut scope = Scope::new(alloc)?;
+    scope.bind("p", space)?;
+    Ok(scope)
+}
+
+// The value of a literal, if it has one.
+fn value_at(alloc: Global, kind: Builtin, text: &str) -> Result<Option<Value>, AllocError> {
+    let scope = scope_with_p(alloc)?;
+    Ok(read_builtin(alloc, kind, text, &scope)?.ok())
+}
+
+fn key_at(alloc: Global, kind: Builtin, text: &str) -> Result<Option<Key>, AllocError> {
+    match value_at(alloc, kind, text)? {
+        Some(value) => Ok(Some(key_of(alloc, &value)?)),
+        None => Ok(None),
+    }
+}
+
+// What a clone keeps of a value: that it is the same, and the type that accepted it.
+fn is_kept(value: &Value, copy: &Value) -> bool {
+    let accepted = match (value, copy) {
+        (Value::Atom { builtin: x, .. }, Value::Atom { builtin: y, .. }) => x == y,
+        (Value::List(x), Value::List(y)) => x.len() == y.len(),
+        _ => false,
+    };
+    accepted && same(value, copy)
+}
+
+// Whether each value of the table is kept by its clone.
+fn clones_keep(alloc: Global, rows: &[(Builtin, &str)]) -> Result<bool, AllocError> {
+    for (kind, text) in rows {
+        let Some(value) = value_at(alloc, *kind, text)? else {
+            return Ok(false);
+        };
+        if !is_kept(&value, &value.clone()?) {
+            return Ok(false);
+        }
+    }
+    Ok(true)
+}
+
+#[test]
+fn values_are_read_and_cloned(rt: HostRuntime) -> Result<(), Fail> {
+    let rows = [
+        (Builtin::AnySimpleType, " a"),
+        (Builtin::Id, "a"),
+        (Builtin::AnyUri, "urn:a"),
+        (Builtin::QName, "p:a"),
+        (Builtin::Boolean, "1"),
+        (Builtin::Byte, "200"),
+        (Builtin::HexBinary, "00ff"),
+        (Builtin::Base64Binary, "aGk="),
+        (Builtin::GDay, "---01"),
+        (Builtin::Duration, "P1Y"),
+        (Builtin::NmTokens, "a b"),
+    ];
+    assert!(rt; clones_keep(rt.alloc(), rows.as_slice())?);
+    let scope = scope_with_p(rt.alloc())?.try_clone()?;
+    let collapsed = read_normalized(rt.alloc(), Builtin::String, "a b", &scope)?.or(Err(
+        "no value",
+    ))?;
+    let token = value_at(rt.alloc(), Builtin::Token, " a  b ")?.ok_or("no value")?;
+    assert!(rt; same(&collapsed, &token) && less(&collapsed, &token).is_none());
+    assert_eq!(rt; length(&token), Some(3));
+    Ok(())
+}
+
+#[test]
+fn keys_serve_in_a_map(rt: HostRuntime) -> Result<(), Fail> {
+    let mut map = HashMap::new(rt.alloc());
+    let first = key_at(rt.alloc(), Builtin::Decimal, "1.0")?.ok_or("no value")?;
+    let second = key_at(rt.alloc(), Builtin::Byte, "1")?.ok_or("no value")?;
+    let third = key_at(rt.alloc(), Builtin::String, "1")?.ok_or("no value")?;
+    let list = key_at(rt.alloc(), Builtin::NmTokens, "1")?.ok_or("no value")?;
+    assert!(rt; same_key(&first, &second.clone()?) && !same_key(&third, &list.clone()?));
+    map.insert(first, 7)?;
+    assert!(rt; map.contains_key(&second));
+    assert!(rt; !map.contains_key(&third) && !map.contains_key(&list));
+    Ok(())
+}
+
+// Whether each type is found by its name, and its primitive type is primitive.
+fn are_named(kinds: &[Builtin]) -> bool {
+    kinds.iter().all(|kind| {
+        builtin_named(name_of(*kind)) == Some(*kind)
+            && match primitive_of(*kind) {
+                Some(primitive) => base_of(primitive) == Some(Builtin::AnySimpleType),
+                None => *kind == Builtin::AnySimpleType || item_type(*kind).is_some(),
+            }
+    })
+}
+
+#[test]
+fn types_have_names_bases_and_bounds(rt: HostRuntime) {
+    assert!(rt; are_named(BUILTINS.as_slice()));
+    assert!(rt; builtin_named("anyType").is_none() && builtin_named("nmtoken").is_none());
+    assert!(rt; base_of(Builtin::UnsignedByte) == Some(Builtin::UnsignedShort));
+    assert!(rt; primitive_of(Builtin::UnsignedByte) == Some(Builtin::Decimal));
+    assert!(rt; white_space_of(Builtin::NormalizedString) == WhiteSpace::Replace);
+    let bounds = bounds_of(Builtin::Byte);
+    assert!(rt; bounds.least == Some(Dec::from_integer(-128)));
+    assert!(rt; bounds.greatest == Some(Dec::from_integer(127)));
+    assert!(rt; bounds_of(Builtin::Integer).least.is_none());
+}

@@ -1,0 +1,4 @@
+pub mod Descent
+pub mod Order
+pub mod Heights
+pub mod Ranked

@@ -1,0 +1,56 @@
+use Rattle.std.proofs.Common.{arith, refl, ◌∙◌}
+use Rattle.xsv_run.proofs.Streams.{stands_first, unread_waits, stands_further, room_further, output_ends, few_ends, output_last, few_last, output_broken}
+use Rattle.xsv_run.proofs.stream.answer_stream.Goals as goal
+
+pub pieces-init : goal.pieces-init
+pieces-init g c = rw c.new-listing.ensures (record {
+  stands = stands_first c.args.asked _ _;
+  is_open = tt;
+  waits = unread_waits;
+  going = refl;
+  room = refl;
+  some = omega arith;
+  reads = omega arith;
+  writes = omega arith;
+  read_bound = refl;
+  write_bound = refl;
+  steps = omega arith;
+})
+
+pub pieces-preserved : goal.pieces-preserved
+pieces-preserved g c =
+    let old = c.pieces.invariant in
+    let two = c.in-Goes.ensures.takes in
+    let room = room_further c.args.asked (g.S.Source.rest c.args.source.now) (g.S.Source.rest c.pieces.source) _ (g.W.Sink.taken c.args.sink.now) (g.W.Sink.taken c.pieces.sink) _
+    c.pieces.stands c.pieces.listing c.in-Goes.next c.take_piece.new.listing c.in-Goes.count c.pieces.room two old.room in
+    record {
+      stands = stands_further c.args.asked (g.S.Source.rest c.args.source.now) (g.S.Source.rest c.pieces.source) _ (g.W.Sink.taken c.args.sink.now) (g.W.Sink.taken c.pieces.sink) _
+          c.pieces.stands c.pieces.listing c.in-Goes.next c.take_piece.new.listing c.in-Goes.count old.stands two;
+      is_open = two.feeds.is_open;
+      waits = two.feeds.waits;
+      going = two.feeds.going;
+      room = room.0;
+      some = room.1;
+      reads = omega (arith, old.reads, c.take_piece.ensures.reads);
+      writes = omega (arith, old.writes, c.take_piece.ensures.writes);
+      read_bound = c.take_piece.ensures.read_bound ∙ old.read_bound;
+      write_bound = c.take_piece.ensures.write_bound ∙ old.write_bound;
+      steps = omega (arith, old.steps, c.take_piece.ensures.steps);
+    }
+
+pub returns-in-Ends-clause-output : goal.returns-in-Ends-clause-output
+returns-in-Ends-clause-output g c = output_ends _ _ _ _ _ _ _ _ _ c.in-Ends.status c.pieces.invariant.stands c.in-Ends.ensures.takes
+
+pub returns-in-Ends-clause-few : goal.returns-in-Ends-clause-few
+returns-in-Ends-clause-few g c = few_ends _ _ _ _ _ _ _ _ _ c.in-Ends.status c.pieces.invariant.stands c.in-Ends.ensures.takes
+
+pub returns-in-AtEnd-clause-output : goal.returns-in-AtEnd-clause-output
+returns-in-AtEnd-clause-output g c =
+    output_last _ _ _ _ _ _ _ _ _ _ _ _ c.pieces.invariant.stands c.in-AtEnd.ensures.takes c.end_stream.result c.end_stream.ensures.answers
+
+pub returns-in-AtEnd-clause-few : goal.returns-in-AtEnd-clause-few
+returns-in-AtEnd-clause-few g c =
+    few_last c.args.asked _ _ _ _ _ _ (g.W.Sink.taken c.take_piece.new.sink) _ _ _ _ c.pieces.invariant.stands c.in-AtEnd.ensures.takes c.pieces.room c.pieces.invariant.room
+
+pub returns-in-Failed-clause-output : goal.returns-in-Failed-clause-output
+returns-in-Failed-clause-output g c = output_broken _ _ _ _ _ _ _ _ c.pieces.invariant.stands c.in-Failed.ensures.takes.1

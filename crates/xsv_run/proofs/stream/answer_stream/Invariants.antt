@@ -1,0 +1,25 @@
+use Rattle.std.proofs.Common.{◌≡◌, ◌≤◌, ◌<◌, ◌+◌, false}
+use Rattle.item_listing.specs.declared.limits.TheConstants.{MOST_BYTES}
+use Rattle.item_listing.specs.Listing.{bytes_taken}
+use Rattle.item_listing.specs.Listed.{Waits}
+use Rattle.stream_answers.specs.Turning.{IsOpen}
+use Rattle.xsv_run.specs.Progress.{StandsAt}
+use Rattle.xsv_run.proofs.stream.answer_stream.Given as goal
+
+abbrev pub invariant-pieces : goal.invariant-pieces
+invariant-pieces g l = record {
+  stands : StandsAt l.asked (g.S.Source.rest l.fn.source) (g.S.Source.rest l.source) (g.W.Sink.taken l.fn.sink) (g.W.Sink.taken l.sink) l.stands l.listing;
+  is_open : IsOpen l.stands;
+  waits : Waits l.listing;
+  going : l.listing.finished ≡ false;
+  room : bytes_taken l.listing + l.room ≡ MOST_BYTES + 1;
+  some : 0 < l.room;
+  reads : g.S.Source.faults l.fn.source ≤ g.S.Source.faults l.source;
+  writes : g.W.Sink.faults l.fn.sink ≤ g.W.Sink.faults l.sink;
+  read_bound : g.S.Source.fault_bound l.source ≡ g.S.Source.fault_bound l.fn.source;
+  write_bound : g.W.Sink.fault_bound l.sink ≡ g.W.Sink.fault_bound l.fn.sink;
+  steps : l.fn.steps ≤ l.steps;
+}
+
+abbrev pub decreases-pieces : goal.decreases-pieces
+decreases-pieces g l = l.room

@@ -1,0 +1,124 @@
+-- What was told so far, and what is still to be told.
+use Rattle.std.specs.Prelude.{◌≡◌, ℕ, ◌+◌, ◌≤◌, ◌<◌, List, [], ◌++◌, length, Bool, false, Option, None}
+use Rattle.std.specs.Io.KnownBytes.{Appends, Consumes, IsAtEnd, Keeps}
+use Rattle.xsv_io.specs.Writing.{AppendsFront}
+use Rattle.item_listing.specs.State.{Reading, unread}
+use Rattle.item_listing.specs.declared.limits.TheConstants.{MOST_BYTES}
+use Rattle.item_listing.specs.Listing.{bytes_taken}
+use Rattle.item_listing.specs.Listed.{listed, Waits}
+use Rattle.stream_answers.specs.Turns.{Turned, goes, ends}
+use Rattle.stream_answers.specs.Output.{Told, told, before, over}
+use Rattle.stream_answers.specs.Turning.{IsOpen}
+use Rattle.stream_answers.specs.declared.place.Asked.{Asked}
+use Rattle.stream_answers.specs.declared.place.Place.{Place}
+use Rattle.stream_answers.specs.declared.place.Place.TheVariants.{Fresh}
+use Rattle.stream_answers.specs.declared.status.Status.{Status}
+use Rattle.stream_answers.specs.declared.status.Status.TheVariants.{ReadFault, WriteFault, Memory}
+use Rattle.xsv_run.specs.Output.{Answers, told_of}
+use Rattle.xsv_run.specs.declared.next.Next.{Next}
+use Rattle.xsv_run.specs.declared.next.Next.TheVariants as nexts
+use Rattle.xsv_run.specs.declared.lines.Progress.{Progress}
+use Rattle.xsv_run.specs.declared.lines.Progress.TheVariants as progresses
+use Rattle.xsv_run.specs.declared.piece.Piece.{Piece}
+use Rattle.xsv_run.specs.declared.piece.Piece.TheVariants as pieces
+
+-- the run broke off
+abbrev pub IsBroken : Status → Type 0
+IsBroken ReadFault = Unit {0}
+IsBroken WriteFault = Unit {0}
+IsBroken Memory = Unit {0}
+IsBroken status = ⊥
+
+-- an item was answered as it turns, or the run broke off
+abbrev pub TakesItem : Turned → Option (List ℕ) → Option (List ℕ) → Next → Type 0
+TakesItem (goes said next) old new (nexts.Goes place) = Appends old new said × (place ≡ next) × IsOpen place
+TakesItem (goes said next) old new (nexts.Waits place) = ⊥
+TakesItem (goes said next) old new (nexts.Ends status) = IsBroken status × AppendsFront old new said
+TakesItem (ends said status) old new (nexts.Goes place) = ⊥
+TakesItem (ends said status) old new (nexts.Waits place) = ⊥
+TakesItem (ends said status) old new (nexts.Ends given) = Answers given old new (over said status)
+
+-- what is still to be told when these bytes come, with none after them if closed
+abbrev pub to_tell : Asked → Place → Reading → List ℕ → Bool → Told
+to_tell a place r more closed = told a r.past.lines place (listed r more closed)
+
+-- some text was written, and whatever comes, what was to be told is that text and what is still to be told
+pub record GoesOn (a : Asked) (place : Place) (r : Reading) (old : Option (List ℕ)) (next : Place) (s : Reading) (new : Option (List ℕ)) : Type 0 where
+  pub said : List ℕ
+  pub written : Appends old new said
+  pub told_on : (more : List ℕ) (closed : Bool) → to_tell a place r more closed ≡ before said (to_tell a next s more closed)
+  pub is_open : IsOpen next
+
+-- whatever comes, the run has ended as is told
+abbrev pub HasEnded : Asked → Place → Reading → Option (List ℕ) → Option (List ℕ) → Status → Type 0
+HasEnded a place r old new status = (more : List ℕ) (closed : Bool) → Answers status old new (to_tell a place r more closed)
+
+-- one item was answered, or none is left, or the run has ended
+abbrev pub TakesNext : Asked → Place → Reading → Option (List ℕ) → Reading → Option (List ℕ) → Next → Type 0
+TakesNext a place r old s new (nexts.Goes next) = GoesOn a place r old next s new
+TakesNext a place r old s new (nexts.Waits next) = (next ≡ place) × (s ≡ r) × (new ≡ old) × Waits r
+TakesNext a place r old s new (nexts.Ends status) = HasEnded a place r old new status
+
+-- fewer bytes are held where an item was answered, and no more than a stream has where none is left
+abbrev pub Holds : Reading → Reading → Next → Type 0
+Holds r s (nexts.Goes next) = length s.held < length r.held
+Holds r s (nexts.Waits next) = bytes_taken s ≤ MOST_BYTES
+Holds r s (nexts.Ends status) = Unit {0}
+
+-- all items were answered that are there, or the run has ended
+abbrev pub Progresses : Asked → Place → Reading → Option (List ℕ) → Reading → Option (List ℕ) → Progress → Type 0
+Progresses a place r old s new (progresses.Waits next) = GoesOn a place r old next s new × Waits s × (bytes_taken s ≤ MOST_BYTES)
+Progresses a place r old s new (progresses.Ends status) = HasEnded a place r old new status
+
+-- these bytes came and were answered, whatever comes behind them
+pub record Feeds (a : Asked) (place : Place) (r : Reading) (old : Option (List ℕ)) (bytes : List ℕ) (next : Place) (s : Reading) (new : Option (List ℕ)) : Type 0 where
+  pub said : List ℕ
+  pub written : Appends old new said
+  pub told_on : (more : List ℕ) (closed : Bool) → to_tell a place r (bytes ++ more) closed ≡ before said (to_tell a next s more closed)
+  pub is_open : IsOpen next
+  pub waits : Waits s
+  pub counted : bytes_taken s ≡ bytes_taken r + length bytes
+  pub few : bytes_taken s ≤ MOST_BYTES
+  pub going : s.finished ≡ false
+
+-- these bytes came and were answered, whatever comes behind them, or the run has ended
+abbrev pub FeedsOn : Asked → Place → Reading → Option (List ℕ) → List ℕ → Reading → Option (List ℕ) → Progress → Type 0
+FeedsOn a place r old bytes s new (progresses.Waits next) = Feeds a place r old bytes next s new
+FeedsOn a place r old bytes s new (progresses.Ends status) =
+    (more : List ℕ) (closed : Bool) → Answers status old new (to_tell a place r (bytes ++ more) closed)
+
+-- a piece was read and answered
+pub record TakesPiece (a : Asked) (place : Place) (r : Reading) (rest_old old : Option (List ℕ)) (next : Place) (s : Reading) (rest_new new : Option (List ℕ)) (count : ℕ) : Type 0 where
+  pub bytes : List ℕ
+  pub consumed : Consumes rest_old rest_new bytes
+  pub long : count ≡ length bytes
+  pub feeds : Feeds a place r old bytes next s new
+  pub some : 0 < length bytes
+
+-- a piece was read, or none, and whatever comes behind it, the run has ended as is told
+pub record EndsPiece (a : Asked) (place : Place) (r : Reading) (rest_old old rest_new new : Option (List ℕ)) (status : Status) : Type 0 where
+  pub bytes : List ℕ
+  pub consumed : Consumes rest_old rest_new bytes
+  pub answers : (more : List ℕ) (closed : Bool) → Answers status old new (to_tell a place r (bytes ++ more) closed)
+  pub few : bytes_taken r + length bytes ≤ MOST_BYTES + 1
+
+abbrev pub Pieces : Asked → Place → Reading → Option (List ℕ) → Option (List ℕ) → Reading → Option (List ℕ) → Option (List ℕ) → Piece → Type 0
+Pieces a place r rest_old old s rest_new new (pieces.Goes next count) = TakesPiece a place r rest_old old next s rest_new new count
+Pieces a place r rest_old old s rest_new new (pieces.AtEnd next) =
+    (next ≡ place) × (s ≡ r) × (new ≡ old) × Consumes rest_old rest_new [] × IsAtEnd rest_new
+Pieces a place r rest_old old s rest_new new pieces.Failed = (s ≡ r) × (new ≡ old) × Keeps rest_old rest_new
+Pieces a place r rest_old old s rest_new new (pieces.Ends status) = EndsPiece a place r rest_old old rest_new new status
+
+-- so many bytes were taken, and a text was written that they tell; the stream stands here
+pub record StandsAt (a : Asked) (rest_old rest_new old new : Option (List ℕ)) (place : Place) (r : Reading) : Type 0 where
+  pub bytes : List ℕ
+  pub said : List ℕ
+  pub consumed : Consumes rest_old rest_new bytes
+  pub written : Appends old new said
+  pub told_on : (more : List ℕ) (closed : Bool) → to_tell a Fresh unread (bytes ++ more) closed ≡ before said (to_tell a place r more closed)
+  pub counted : bytes_taken r ≡ length bytes
+
+-- a read failed behind some bytes: what they tell was written, and it does not end the run
+abbrev pub StopsAt : Asked → Option (List ℕ) → Option (List ℕ) → Option (List ℕ) → Option (List ℕ) → Type 0
+StopsAt a rest_old rest_new old new =
+    (bytes : List ℕ) × Consumes rest_old rest_new bytes × Appends old new (told_of a bytes false).text × ((told_of a bytes false).status ≡ None)

@@ -1,0 +1,11 @@
+//! What is written for a stream of PYX lines, and the status, by the words of a command line.
+#![tactic(auto)]
+
+mod lines;
+mod next;
+mod piece;
+mod running;
+mod stream;
+mod words;
+
+pub use running::run;
