@@ -1,0 +1,6 @@
+//! Automata of content models over names.
+#![tactic(auto)]
+
+mod laws;
+
+pub use laws::words_of_models;

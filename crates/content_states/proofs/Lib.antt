@@ -1,0 +1,13 @@
+pub mod Moving
+pub mod Members
+pub mod Numbering
+pub mod Building
+pub mod Running
+pub mod Reached
+pub mod Ending
+pub mod Language
+pub mod Counting
+pub mod Pairing
+pub mod Putting
+pub mod Turning
+pub mod Automata

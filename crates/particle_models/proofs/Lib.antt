@@ -1,0 +1,14 @@
+pub mod Unrolling
+pub mod Living
+pub mod Placing
+pub mod Ranging
+pub mod Reaching
+pub mod Marked
+pub mod Growing
+pub mod Shared
+pub mod Flags
+pub mod Walking
+pub mod Entering
+pub mod Alike
+pub mod Rooting
+pub mod Outcome
