@@ -1,5 +1,5 @@
 -- Each text of an unrolled expression can be marked with names.
-use Rattle.std.proofs.Common.{◌≡◌, ℕ, zero, suc, ◌+◌, ◌≤◌, ◌⊎◌, Bool, true, false, IsTrue, List, [], ◌∷◌, ◌++◌, None, Some, refl, sym, inl, inr, arith, if◌then◌else◌}
+use Rattle.std.proofs.Common.{◌≡◌, ℕ, zero, suc, ◌+◌, ◌≤◌, ◌⊎◌, Bool, true, false, IsTrue, List, [], ◌∷◌, ◌++◌, None, Some, refl, sym, ap, ◌∙◌, inl, inr, arith, if◌then◌else◌}
 use Rattle.xs_positions.specs.Tree.{Tree, one}
 use Rattle.xs_positions.specs.Words.{Spells, Rounds}
 use Rattle.particle_models.specs.Particles.{Particle, Particles, term, sequence, choice, all_of, occurs, none, member, Path, Place, Mark}
@@ -35,7 +35,7 @@ module _ {Name : Type 0} (place_of : ℕ → Place) (accepts : ℕ → Name → 
   one_lives : (number next : ℕ) (path : Path) (b : Bool) → place_of next ≡ record { path = path; number = number } →
       (IsTrue b → (name : Name) × IsTrue (accepts number name)) → Lives (Spells (if b then one next else wordless next))
   one_lives number next path true is has = λ text h.
-      let n = has refl in (record { place = record { path = path; number = number }; name = n.0 } ∷ [], rw h (sym is, rw is n.1, tt))
+      let n = has refl in (record { place = record { path = path; number = number }; name = n.0 } ∷ [], rw (h.1 ∙ ap (λ (k : ℕ). k ∷ []) h.2) (sym is, rw is n.1, tt))
   one_lives number next path false is has = λ text h. absurd h.4.3
 
   module _ (inhabited : ℕ → Bool) (has : (number : ℕ) → IsTrue (inhabited number) → (name : Name) × IsTrue (accepts number name)) where

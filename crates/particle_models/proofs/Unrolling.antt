@@ -102,7 +102,7 @@ module _ {Name : Type 0} (place_of : ℕ → Place) (accepts : ℕ → Name → 
   -- a term
   module _ (path : Path) (number next : ℕ) (is : place_of next ≡ record { path = path; number = number }) where
     one_text : (b : Bool) (text : List ℕ) → Spells (if b then one next else wordless next) text → text ≡ next ∷ []
-    one_text true text h = h
+    one_text true text h = h.1 ∙ ap (λ (k : ℕ). k ∷ []) h.2
     one_text false text h = absurd h.4.3
 
     one_mark : (text : List ℕ) (word : List (Mark Name)) → text ≡ next ∷ [] → Marks place_of accepts text word →
@@ -122,7 +122,7 @@ module _ {Name : Type 0} (place_of : ℕ → Place) (accepts : ℕ → Name → 
 
   module _ (inhabited : ℕ → Bool) where
     one_spelled : (number next : ℕ) → (b : Bool) → b ≡ true → Spells (if b then one next else wordless next) (next ∷ [])
-    one_spelled number next true e = refl
+    one_spelled number next true e = (next, refl, refl)
     one_spelled number next false e = absurd (false≢true e)
 
     mutual
