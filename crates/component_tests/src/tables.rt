@@ -88,7 +88,13 @@ fn changes_element(parts: &mut Components, constraints: ConstraintIdList) -> boo
         return false;
     };
     parts.set_head(id, id);
+    let Some(id) = parts.element_at(1) else {
+        return false;
+    };
     parts.set_constraints(id, constraints);
+    let Some(id) = parts.element_at(1) else {
+        return false;
+    };
     parts.rank_element(id, 1);
     parts.element(id).head == Some(id) && parts.element(id).constraints.len() == 1
 }
@@ -186,6 +192,9 @@ fn changes_group(parts: &mut Components) -> bool {
         return false;
     };
     parts.set_particle(id, particle);
+    let Some(id) = parts.group_at(0) else {
+        return false;
+    };
     parts.rank_group(id, 1);
     parts.group(id).particle == Some(particle)
 }
