@@ -1,5 +1,6 @@
 pub mod Moving
 pub mod Members
+pub mod Marking
 pub mod Numbering
 pub mod Building
 pub mod Running

@@ -1,5 +1,5 @@
 -- Sets of positions, and what comes after them.
-use Rattle.std.specs.Prelude.{◌≡◌, ◌≢◌, ℕ, ◌<◌, ◌⊎◌, ◌==◌, Bool, IsTrue, List, [], ◌∷◌, ◌++◌, Option, Some, None, slice_index, slice_index_or, length, Contains, if◌then◌else◌}
+use Rattle.std.specs.Prelude.{◌≡◌, ◌≢◌, ℕ, ◌<◌, ◌⊎◌, ◌==◌, Bool, false, IsTrue, List, [], ◌∷◌, ◌++◌, Option, Some, None, slice_index, slice_index_or, length, Contains, if◌then◌else◌}
 use Rattle.std.specs.List.{list_any}
 use Rattle.xs_positions.specs.Sets.{row}
 use Rattle.xs_positions.specs.Positions.{Table}
@@ -44,3 +44,7 @@ term_in table (p ∷ set) = Some (symbol_at table p)
 pub record ArePut (old new : List (List ℕ)) (symbols : List ℕ) (p : ℕ) : Type 0 where
   pub count : length new ≡ length old
   pub each : (n : ℕ) → n < length old → slice_index_or new n [] ≡ slice_index_or old n [] ++ (if list_any (λ m. m == n) symbols then p ∷ [] else [])
+
+-- the flag of a number is set
+abbrev pub Has : List Bool → ℕ → Type 0
+Has flags p = IsTrue (slice_index_or flags p false)

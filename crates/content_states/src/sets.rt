@@ -1,8 +1,8 @@
-//! Sets of form, as rising lists.
+//! Sets of positions, as rising lists.
 
-ghost use Rattle.std.specs.Prelude.{◌≡◌, ℕ, ◌<◌, ◌↔◌, [], map, length, filter, slice_index_or, All, Contains, IfOk, OnOk};
+ghost use Rattle.std.specs.Prelude.{◌≡◌, ℕ, ◌<◌, ◌↔◌, ◌⊎◌, ◌^◌, [], map, length, filter, slice_index_or, All, Contains, IfOk, OnOk};
 ghost use Rattle.std.specs.List.Sorted.{IsStrictlyIncreasing};
-ghost use Rattle.content_states.specs.Moves.{takes, Comes, ArePut};
+ghost use Rattle.content_states.specs.Moves.{Has, IsWithin, takes, Comes, ArePut};
 
 use particle_models::Unrolled;
 use std::alloc::{AllocError, Global};
@@ -15,28 +15,46 @@ pub(crate) fn coming(
     set: &[u32],
     starts: bool,
 ) -> Result<Vec<u32>, AllocError>
-    requires { All (λ p. p < length form.now.table.symbols) set.now }
+    requires within { IsWithin form.now.table }
+    requires set { All (λ p. p < length form.now.table.symbols) set.now }
     ensures members { IfOk result (λ next. (q : ℕ) → Contains next.items q ↔ Comes form.now.table starts set.now q) }
     ensures rises { IfOk result (λ next. IsStrictlyIncreasing next.items) }
 {
-    let mut next = Vec::new(alloc);
+    let count = form.count() as usize;
+    let mut flags = vec![in alloc; false; count]?;
     if starts {
-        next.extend_from_slice(form.first())?;
+        mark(&mut flags, form.first());
     }
     for p in set {
-        next.extend_from_slice(form.follow(*p))?;
+        mark(&mut flags, form.follow(*p));
     }
-    sort_unique(&mut next);
-    Ok(next)
+    marked(alloc, &flags)
 }
 
-/// Brings the numbers in order, each of them once.
-fn sort_unique(set: &mut Vec<u32>)
-    ensures rises { IsStrictlyIncreasing set.new.items }
-    ensures members { (p : ℕ) → Contains set.new.items p ↔ Contains set.old.items p }
+/// Sets the flags of these numbers.
+fn mark(flags: &mut Vec<bool>, more: &[u32])
+    requires { All (λ p. p < length flags.old.items) more.now }
+    ensures members { (p : ℕ) → Has flags.new.items p ↔ (Has flags.old.items p ⊎ Contains more.now p) }
+    ensures count { length flags.new.items ≡ length flags.old.items }
 {
-    set.sort_unstable();
-    set.dedup();
+    for p in more {
+        flags[*p as usize] = true;
+    }
+}
+
+/// The numbers whose flag is set, rising.
+fn marked(alloc: Global, flags: &[bool]) -> Result<Vec<u32>, AllocError>
+    requires { length flags.now < 2 ^ 32 }
+    ensures members { IfOk result (λ numbers. (p : ℕ) → Contains numbers.items p ↔ Has flags.now p) }
+    ensures rises { IfOk result (λ numbers. IsStrictlyIncreasing numbers.items) }
+{
+    let mut numbers = Vec::new(alloc);
+    for (number, flag) in flags.iter().enumerate() {
+        if *flag {
+            numbers.push(number as u32)?;
+        }
+    }
+    Ok(numbers)
 }
 
 /// For each symbol the positions of the set whose terms accept it.

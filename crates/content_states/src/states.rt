@@ -14,7 +14,7 @@ use particle_models::Unrolled;
 use std::alloc::Global;
 use xs_lists::Listed;
 
-/// States, each with its set of form, and steps. The set of the start is left empty.
+/// States, each with its set of positions, and steps. The set of the start is left empty.
 #[derive(Debug, Drop)]
 pub(crate) struct Found {
     pub(crate) states: IndexSet<Vec<u32>>,

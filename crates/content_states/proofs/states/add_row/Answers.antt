@@ -4,8 +4,8 @@ use Rattle.content_states.proofs.Building.{coming_fits, next_fits}
 use Rattle.content_states.proofs.Turning.{turns_begun, turns_too_many, turns_more}
 use Rattle.content_states.proofs.states.add_row.Goals as goal
 
-pub coming-requires : goal.coming-requires
-coming-requires c =
+pub coming-requires-clause-set : goal.coming-requires-clause-set
+coming-requires-clause-set c =
     coming_fits _ _ c.args.symbols _ c.requires.within c.args.states.now.keys c.args.state c.index-as_slice-state.result c.deref.result.now c.requires.states c.requires.state
     (rw c.as_slice.ensures.keys at c.index-as_slice-state.is) c.deref.ensures.value
 

@@ -1,0 +1,7 @@
+//! Tests of the public calls on content models and their automata.
+#![tactic(auto)]
+
+#[cfg(test)]
+mod built;
+#[cfg(test)]
+mod models;
