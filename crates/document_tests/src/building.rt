@@ -43,112 +43,116 @@ fn shown(alloc: Global, rows: &[Row]) -> Result<String, Fail> {
     Ok(out)
 }
 
-/// Why the items of a document are refused.
-fn fault_of(alloc: Global, items: &Items) -> Result<Option<TreeFault>, Fail> {
-    Ok(build_document(alloc, items.as_slice())?.err())
+/// Why the items of a document are refused: the number of an item, and the reason.
+fn fault_of(alloc: Global, items: &Items) -> Result<Option<(u32, TreeReason)>, Fail> {
+    let fault = build_document(alloc, items.as_slice())?.err();
+    Ok(fault.map(|f| (f.item, f.reason)))
 }
 
-fn fault(item: u32, reason: TreeReason) -> Option<TreeFault> {
-    Some(TreeFault { item, reason })
-}
-
-fn name_fault(item: u32, reason: NameReason) -> Option<TreeFault> {
-    fault(item, TreeReason::Name(reason))
-}
+/// A document with all kinds of items.
+const DOCUMENT: &[&str] = &[
+    "- ",
+    "(r",
+    "Axmlns urn:d",
+    "Aa 1",
+    "-x",
+    "?p",
+    "-y",
+    "-",
+    "(b",
+    "Axmlns ",
+    ")b",
+    "-",
+    ")r",
+    "-\\n",
+];
 
 #[test]
 fn reads_a_document(rt: HostRuntime) -> Result<(), Fail> {
-    let alloc = rt.alloc();
-    let lines = [
-        "- ",
-        "(r",
-        "Axmlns urn:d",
-        "Aa 1",
-        "-x",
-        "?p",
-        "-y",
-        "-",
-        "(b",
-        "Axmlns ",
-        ")b",
-        "-",
-        ")r",
-        "-\\n",
-    ];
-    let items = items_of(alloc, &lines)?;
-    let built = build_document(alloc, items.as_slice())?
+    let items = items_of(rt.alloc(), DOCUMENT)?;
+    let built = build_document(rt.alloc(), items.as_slice())?
         .ok()
         .ok_or("no tree")?;
-    assert!(rt; shown(alloc, built.rows.as_slice())?.as_str() == "1.1 {urn:d}r 2.2 'xy' 3.2 b ");
-    assert_eq!(rt; built.next, 4);
+    let shown = shown(rt.alloc(), built.rows.as_slice())?;
+    assert!(rt; shown.as_str() == "1.1 {urn:d}r 2.2 'xy' 3.2 b " && built.next == 4);
     Ok(())
 }
 
+/// The lines of a document, and the item and the reason by which they are refused.
+const DOCUMENTS: &[(&[&str], Option<(u32, TreeReason)>)] = &[
+    (&["(r", ")r"], None),
+    (&["(r", ")r", "(r", ")r"], Some((2, TreeReason::TwoRoots))),
+    (&["-x", "(r", ")r"], Some((0, TreeReason::TextOutside))),
+    (&["(r", ")r", "-x"], Some((2, TreeReason::TextOutside))),
+    (&["(r", ")s"], Some((1, TreeReason::EndMismatch))),
+    (&[")r"], Some((0, TreeReason::EndMismatch))),
+    (
+        &["(r", "Axmlns:p u", "Axmlns:q u", "(p:a", ")q:a"],
+        Some((4, TreeReason::EndMismatch)),
+    ),
+    (&["(r"], Some((1, TreeReason::Unclosed))),
+    (&["(r", "(s", ")s", "?p"], Some((4, TreeReason::Unclosed))),
+    (&[], Some((0, TreeReason::NoRoot))),
+    (&["- ", "?p"], Some((2, TreeReason::NoRoot))),
+    (&["Aa 1"], Some((0, TreeReason::NotHere))),
+    (&["(r", "?p", "Aa 1", ")r"], Some((2, TreeReason::NotHere))),
+    (&["(r", "end"], Some((1, TreeReason::NotHere))),
+    (
+        &["(a:b:c", ")a:b:c"],
+        Some((0, TreeReason::Name(NameReason::BadName))),
+    ),
+    (
+        &["(r", "(s", "A1 x", "- ", ")s"],
+        Some((1, TreeReason::Name(NameReason::BadName))),
+    ),
+    (
+        &["(r", "A1 x", "Axmlns:xml u", ")r"],
+        Some((0, TreeReason::Name(NameReason::BadName))),
+    ),
+    (
+        &["(r", "Axmlns:xml u", ")r"],
+        Some((0, TreeReason::Name(NameReason::ReservedName))),
+    ),
+    (
+        &["(p:r", "Axmlns:q ", ")p:r"],
+        Some((0, TreeReason::Name(NameReason::ReservedName))),
+    ),
+    (
+        &["(p:r", ")p:r"],
+        Some((0, TreeReason::Name(NameReason::UnboundPrefix))),
+    ),
+    (
+        &["(p:r", "Aa 1", "Aa 2", ")p:r"],
+        Some((0, TreeReason::Name(NameReason::UnboundPrefix))),
+    ),
+    (
+        &["(r", "Aa 1", "Aa 2", ")r"],
+        Some((0, TreeReason::Name(NameReason::DoubleAttribute))),
+    ),
+    (
+        &["(r", "(p:s", ")q"],
+        Some((1, TreeReason::Name(NameReason::UnboundPrefix))),
+    ),
+    (
+        &["(r", "(p:s", "?p"],
+        Some((1, TreeReason::Name(NameReason::UnboundPrefix))),
+    ),
+    (
+        &["(r", "(p:s"],
+        Some((1, TreeReason::Name(NameReason::UnboundPrefix))),
+    ),
+    (&["(p:r", "Axmlns:p u", "(p:s", ")p:s", ")p:r"], None),
+    (
+        &["(r", "(s", "Axmlns:p u", ")s", "(p:t", ")p:t"],
+        Some((4, TreeReason::Name(NameReason::UnboundPrefix))),
+    ),
+];
+
 #[test]
 fn answers_the_first_reason(rt: HostRuntime) -> Result<(), Fail> {
-    let alloc = rt.alloc();
-    let cases: [(&[&str], Option<TreeFault>); 27] = [
-        (&["(r", ")r"], None),
-        (&["(r", ")r", "(r", ")r"], fault(2, TreeReason::TwoRoots)),
-        (&["-x", "(r", ")r"], fault(0, TreeReason::TextOutside)),
-        (&["(r", ")r", "-x"], fault(2, TreeReason::TextOutside)),
-        (&["(r", ")s"], fault(1, TreeReason::EndMismatch)),
-        (&[")r"], fault(0, TreeReason::EndMismatch)),
-        (
-            &["(r", "Axmlns:p u", "Axmlns:q u", "(p:a", ")q:a"],
-            fault(4, TreeReason::EndMismatch),
-        ),
-        (&["(r"], fault(1, TreeReason::Unclosed)),
-        (&["(r", "(s", ")s", "?p"], fault(4, TreeReason::Unclosed)),
-        (&[], fault(0, TreeReason::NoRoot)),
-        (&["- ", "?p"], fault(2, TreeReason::NoRoot)),
-        (&["Aa 1"], fault(0, TreeReason::NotHere)),
-        (&["(r", "?p", "Aa 1", ")r"], fault(2, TreeReason::NotHere)),
-        (&["(r", "end"], fault(1, TreeReason::NotHere)),
-        (&["(a:b:c", ")a:b:c"], name_fault(0, NameReason::BadName)),
-        (
-            &["(r", "(s", "A1 x", "- ", ")s"],
-            name_fault(1, NameReason::BadName),
-        ),
-        (
-            &["(r", "A1 x", "Axmlns:xml u", ")r"],
-            name_fault(0, NameReason::BadName),
-        ),
-        (
-            &["(r", "Axmlns:xml u", ")r"],
-            name_fault(0, NameReason::ReservedName),
-        ),
-        (
-            &["(p:r", "Axmlns:q ", ")p:r"],
-            name_fault(0, NameReason::ReservedName),
-        ),
-        (&["(p:r", ")p:r"], name_fault(0, NameReason::UnboundPrefix)),
-        (
-            &["(p:r", "Aa 1", "Aa 2", ")p:r"],
-            name_fault(0, NameReason::UnboundPrefix),
-        ),
-        (
-            &["(r", "Aa 1", "Aa 2", ")r"],
-            name_fault(0, NameReason::DoubleAttribute),
-        ),
-        (
-            &["(r", "(p:s", ")q"],
-            name_fault(1, NameReason::UnboundPrefix),
-        ),
-        (
-            &["(r", "(p:s", "?p"],
-            name_fault(1, NameReason::UnboundPrefix),
-        ),
-        (&["(r", "(p:s"], name_fault(1, NameReason::UnboundPrefix)),
-        (&["(p:r", "Axmlns:p u", "(p:s", ")p:s", ")p:r"], None),
-        (
-            &["(r", "(s", "Axmlns:p u", ")s", "(p:t", ")p:t"],
-            name_fault(4, NameReason::UnboundPrefix),
-        ),
-    ];
-    for (lines, found) in cases {
-        let items = items_of(alloc, lines)?;
-        assert_eq!(rt; fault_of(alloc, &items)?, found);
+    for (lines, found) in DOCUMENTS {
+        let items = items_of(rt.alloc(), lines)?;
+        assert!(rt; fault_of(rt.alloc(), &items)? == *found);
     }
     Ok(())
 }
@@ -192,53 +196,43 @@ fn wide(alloc: Global, nodes: u32, last: Item) -> Result<Items, Fail> {
 }
 
 #[test]
-fn keeps_the_limits(rt: HostRuntime) -> Result<(), Fail> {
+fn keeps_the_limits_of_depth_and_attributes(rt: HostRuntime) -> Result<(), Fail> {
     let alloc = rt.alloc();
-    assert_eq!(rt; fault_of(alloc, &nested(alloc, 128)?)?, None);
-    assert_eq!(rt;
-        fault_of(alloc, &nested(alloc, 129)?)?,
-        fault(128, TreeReason::TooDeep)
-    );
-    assert_eq!(rt;
-        fault_of(alloc, &attributed(alloc, 256, Item::Instruction)?)?,
-        None
-    );
-    let many = attributed(alloc, 257, Item::Instruction)?;
-    assert_eq!(rt;
-        fault_of(alloc, &many)?,
-        name_fault(0, NameReason::TooManyAttributes)
-    );
-    let double = Item::Attr(Text::new(alloc, "a7")?, Text::new(alloc, "")?);
-    let many = attributed(alloc, 257, double)?;
-    assert_eq!(rt;
-        fault_of(alloc, &many)?,
-        name_fault(0, NameReason::DoubleAttribute)
-    );
+    let many = Some((0, TreeReason::Name(NameReason::TooManyAttributes)));
+    let double = Some((0, TreeReason::Name(NameReason::DoubleAttribute)));
+    let again = Item::Attr(Text::new(alloc, "a7")?, Text::new(alloc, "")?);
+    assert!(rt; fault_of(alloc, &nested(alloc, 128)?)?.is_none());
+    assert!(rt; fault_of(alloc, &nested(alloc, 129)?)? == Some((128, TreeReason::TooDeep)));
+    assert!(rt; fault_of(alloc, &attributed(alloc, 256, Item::Instruction)?)?.is_none());
+    assert!(rt; fault_of(alloc, &attributed(alloc, 257, Item::Instruction)?)? == many);
+    assert!(rt; fault_of(alloc, &attributed(alloc, 257, again)?)? == double);
+    Ok(())
+}
+
+#[test]
+fn keeps_the_limit_of_nodes(rt: HostRuntime) -> Result<(), Fail> {
+    let alloc = rt.alloc();
+    let many = Some((262_143, TreeReason::TooManyNodes));
     let last = wide(alloc, 131_071, Item::Chars(Text::new(alloc, "x")?))?;
-    assert_eq!(rt; fault_of(alloc, &last)?, None);
+    assert!(rt; fault_of(alloc, &last)?.is_none());
     let more = wide(alloc, 131_072, Item::Chars(Text::new(alloc, "x")?))?;
-    assert_eq!(rt;
-        fault_of(alloc, &more)?,
-        fault(262_143, TreeReason::TooManyNodes)
-    );
+    assert!(rt; fault_of(alloc, &more)? == many);
     Ok(())
 }
 
 #[test]
 fn keeps_its_fault(rt: HostRuntime) -> Result<(), Fail> {
-    let alloc = rt.alloc();
-    let mut builder = Builder::new(alloc, Rules::document(), Prefixes::new(alloc)?);
-    let end = Item::Close(Text::new(alloc, "r")?);
+    let fault = Some(TreeFault {
+        item: 1,
+        reason: TreeReason::EndMismatch,
+    });
+    let prefixes = Prefixes::new(rt.alloc())?;
+    let end = Item::Close(Text::new(rt.alloc(), "r")?);
+    let mut builder = Builder::new(rt.alloc(), Rules::document(), prefixes);
     assert!(rt; builder.item(&Item::Instruction)?.is_ok());
-    assert_eq!(rt;
-        builder.item(&end)?.err(),
-        fault(1, TreeReason::EndMismatch)
-    );
-    assert_eq!(rt;
-        builder.item(&Item::Instruction)?.err(),
-        fault(1, TreeReason::EndMismatch)
-    );
-    assert_eq!(rt; builder.finish()?.err(), fault(1, TreeReason::EndMismatch));
+    assert!(rt; builder.item(&end)?.err() == fault);
+    assert!(rt; builder.item(&Item::Instruction)?.err() == fault);
+    assert!(rt; builder.finish()?.err() == fault);
     Ok(())
 }
 
@@ -252,30 +246,33 @@ fn block_of(alloc: Global, lines: &[&str]) -> Result<String, Fail> {
     shown(alloc, rows.as_slice())
 }
 
+/// The lines of a block, and whether they are one element.
+const BLOCKS: &[(&[&str], bool)] = &[
+    (&["(a", ")a"], true),
+    (
+        &["- ", "(a", "Ax 1", "-t", "(p:b", ")p:b", ")a", "-\\n"],
+        true,
+    ),
+    (&[], false),
+    (&["- "], false),
+    (&["(a"], false),
+    (&["(a", ")b"], false),
+    (&[")a"], false),
+    (&["(a", ")a", "(b", ")b"], false),
+    (&["-t"], false),
+    (&["(a", ")a", "-t"], false),
+    (&["(a", "end", ")a"], false),
+];
+
+const NAMED_BLOCK: &[&str] = &["(p:a", "Axmlns:p u", "-t", "(q:b", ")q:b", ")p:a"];
+
 #[test]
 fn builds_blocks_of_one_element(rt: HostRuntime) -> Result<(), Fail> {
-    let alloc = rt.alloc();
-    let cases: [(&[&str], bool); 11] = [
-        (&["(a", ")a"], true),
-        (
-            &["- ", "(a", "Ax 1", "-t", "(p:b", ")p:b", ")a", "-\\n"],
-            true,
-        ),
-        (&[], false),
-        (&["- "], false),
-        (&["(a"], false),
-        (&["(a", ")b"], false),
-        (&[")a"], false),
-        (&["(a", ")a", "(b", ")b"], false),
-        (&["-t"], false),
-        (&["(a", ")a", "-t"], false),
-        (&["(a", "end", ")a"], false),
-    ];
-    for (lines, one) in cases {
-        let items = items_of(alloc, lines)?;
-        assert_eq!(rt; is_one_element(alloc, items.as_slice())?, one);
+    for (lines, one) in BLOCKS {
+        let items = items_of(rt.alloc(), lines)?;
+        assert!(rt; is_one_element(rt.alloc(), items.as_slice())? == *one);
     }
-    let nodes = block_of(alloc, &["(p:a", "Axmlns:p u", "-t", "(q:b", ")q:b", ")p:a"])?;
+    let nodes = block_of(rt.alloc(), NAMED_BLOCK)?;
     assert!(rt; nodes.as_str() == "1.1 {u}a 2.2 't' 3.2 b ");
     Ok(())
 }

@@ -6,35 +6,36 @@ use item_listing::{
 use std::alloc::{AllocError, Global};
 use std::test::Fail;
 
+/// Lines, each with whether an attribute may follow what came before, and why they are refused.
+const LINES: &[(bool, &[u8], Option<Reason>)] = &[
+    (false, b"(a", None),
+    (false, b"(", Some(Reason::NoName)),
+    (false, b")a b", None),
+    (false, b")", Some(Reason::NoName)),
+    (false, b"-", None),
+    (false, b"-\\n\\t\\r\\\\", None),
+    (false, b"-a\\", Some(Reason::BadEscape)),
+    (false, b"-\\x", Some(Reason::BadEscape)),
+    (false, b"?anything \\", None),
+    (true, b"Aa", None),
+    (true, b"Aa 1", None),
+    (true, b"A 1", Some(Reason::NoName)),
+    (true, b"A \\x", Some(Reason::NoName)),
+    (false, b"Aa \\x", Some(Reason::BadEscape)),
+    (false, b"Aa 1", Some(Reason::BadAttributePlace)),
+    (false, b".", None),
+    (false, b"..", Some(Reason::BadStart)),
+    (false, b"", Some(Reason::BadStart)),
+    (false, b"B", Some(Reason::BadStart)),
+    (false, b"\xC3\xA4", Some(Reason::BadStart)),
+    (false, b"-\xC3", Some(Reason::NotUtf8)),
+    (false, b"remove 1", None),
+];
+
 #[test]
 fn refuses_lines_by_their_first_reason(rt: HostRuntime) -> Result<(), Fail> {
-    let alloc = rt.alloc();
-    let cases: [(bool, &[u8], Option<Reason>); 22] = [
-        (false, b"(a", None),
-        (false, b"(", Some(Reason::NoName)),
-        (false, b")a b", None),
-        (false, b")", Some(Reason::NoName)),
-        (false, b"-", None),
-        (false, b"-\\n\\t\\r\\\\", None),
-        (false, b"-a\\", Some(Reason::BadEscape)),
-        (false, b"-\\x", Some(Reason::BadEscape)),
-        (false, b"?anything \\", None),
-        (true, b"Aa", None),
-        (true, b"Aa 1", None),
-        (true, b"A 1", Some(Reason::NoName)),
-        (true, b"A \\x", Some(Reason::NoName)),
-        (false, b"Aa \\x", Some(Reason::BadEscape)),
-        (false, b"Aa 1", Some(Reason::BadAttributePlace)),
-        (false, b".", None),
-        (false, b"..", Some(Reason::BadStart)),
-        (false, b"", Some(Reason::BadStart)),
-        (false, b"B", Some(Reason::BadStart)),
-        (false, b"\xC3\xA4", Some(Reason::BadStart)),
-        (false, b"-\xC3", Some(Reason::NotUtf8)),
-        (false, b"remove 1", None),
-    ];
-    for (tag_open, line, reason) in cases {
-        assert_eq!(rt; read_item(alloc, tag_open, line)?.err(), reason);
+    for (tag_open, line, reason) in LINES {
+        assert_eq!(rt; read_item(rt.alloc(), *tag_open, line)?.err(), *reason);
     }
     Ok(())
 }
@@ -65,17 +66,18 @@ fn is_command(item: &Item, line: &str) -> bool {
     }
 }
 
+/// The item of a line, if it has one.
+fn item_of(alloc: Global, tag_open: bool, line: &[u8]) -> Result<Item, Fail> {
+    Ok(read_item(alloc, tag_open, line)?.ok().ok_or("no item")?)
+}
+
 #[test]
 fn reads_what_lines_say(rt: HostRuntime) -> Result<(), Fail> {
     let alloc = rt.alloc();
-    let attribute = read_item(alloc, true, b"Aname a\\nb c")?;
-    assert!(rt; attribute.is_ok_and(|item| is_attribute(&item, "name", "a\nb c")));
-    let schema = read_item(alloc, false, b"schema\ta\t\tb")?;
-    assert!(rt; schema.is_ok_and(|item| is_schema_of_three(&item)));
-    let command = read_item(alloc, false, b"schema")?;
-    assert!(rt; command.is_ok_and(|item| is_command(&item, "schema")));
-    let document = read_item(alloc, false, b"document")?;
-    assert!(rt; document.is_ok_and(|item| matches!(item, Item::Document)));
+    assert!(rt; is_attribute(&item_of(alloc, true, b"Aname a\\nb c")?, "name", "a\nb c"));
+    assert!(rt; is_schema_of_three(&item_of(alloc, false, b"schema\ta\t\tb")?));
+    assert!(rt; is_command(&item_of(alloc, false, b"schema")?, "schema"));
+    assert!(rt; matches!(&item_of(alloc, false, b"document")?, Item::Document));
     assert!(rt; unescape(alloc, "a\\q")?.is_none());
     Ok(())
 }
@@ -136,37 +138,49 @@ fn is_small_tree(items: &[Item]) -> bool {
     }
 }
 
+/// Streams, each with how many items it has, and the line and the reason of the fault after them.
+const STREAMS: &[(&[u8], usize, Option<(u32, Reason)>)] = &[
+    (b"(a\r\nAx 1\n-t\r\n)a\nend\n", 5, None),
+    (b"end\n", 1, None),
+    (b"", 0, Some((1, Reason::EndMissing))),
+    (b"(a\n", 1, Some((2, Reason::EndMissing))),
+    (b"(a\n)a\nend", 2, Some((3, Reason::EndMissing))),
+    (b"end\n\n", 1, Some((2, Reason::AfterEnd))),
+    (b"end\nx", 1, Some((2, Reason::AfterEnd))),
+    (b"end\nend\n", 1, Some((2, Reason::AfterEnd))),
+    (b"(a\n-\xC3\n", 1, Some((2, Reason::NotUtf8))),
+    (b"(a\n\r\n", 1, Some((2, Reason::BadStart))),
+    (b"(\n", 0, Some((1, Reason::NoName))),
+    (b"?\n-\\\r\n", 1, Some((2, Reason::BadEscape))),
+    (
+        b"(a\nAx 1\n-t\nAx 1\n(b\n",
+        3,
+        Some((4, Reason::BadAttributePlace)),
+    ),
+    (b"Ax 1\nend\nx", 0, Some((1, Reason::BadAttributePlace))),
+];
+
+/// Whether a stream that comes in pieces of this size has so many items and then this fault.
+fn is_read(
+    alloc: Global,
+    stream: &[u8],
+    size: usize,
+    count: usize,
+    fault: Option<(u32, Reason)>,
+) -> Result<bool, AllocError>
+    requires { 0 < size }
+{
+    let (items, found) = read_stream(alloc, stream, size)?;
+    Ok(items.len() == count && found.map(|f| (f.line, f.reason)) == fault)
+}
+
 #[test]
 fn reads_a_stream_whole_and_byte_by_byte(rt: HostRuntime) -> Result<(), Fail> {
-    let alloc = rt.alloc();
-    let cases: [(&[u8], usize, Option<(u32, Reason)>); 14] = [
-        (b"(a\r\nAx 1\n-t\r\n)a\nend\n", 5, None),
-        (b"end\n", 1, None),
-        (b"", 0, Some((1, Reason::EndMissing))),
-        (b"(a\n", 1, Some((2, Reason::EndMissing))),
-        (b"(a\n)a\nend", 2, Some((3, Reason::EndMissing))),
-        (b"end\n\n", 1, Some((2, Reason::AfterEnd))),
-        (b"end\nx", 1, Some((2, Reason::AfterEnd))),
-        (b"end\nend\n", 1, Some((2, Reason::AfterEnd))),
-        (b"(a\n-\xC3\n", 1, Some((2, Reason::NotUtf8))),
-        (b"(a\n\r\n", 1, Some((2, Reason::BadStart))),
-        (b"(\n", 0, Some((1, Reason::NoName))),
-        (b"?\n-\\\r\n", 1, Some((2, Reason::BadEscape))),
-        (
-            b"(a\nAx 1\n-t\nAx 1\n(b\n",
-            3,
-            Some((4, Reason::BadAttributePlace)),
-        ),
-        (b"Ax 1\nend\nx", 0, Some((1, Reason::BadAttributePlace))),
-    ];
-    for (stream, count, fault) in cases {
-        let fault = fault.map(|(line, reason)| ListingFault { line, reason });
-        let (items, found) = read_stream(alloc, stream, 100)?;
-        assert_eq!(rt; (items.len(), found), (count, fault));
-        let (items, found) = read_stream(alloc, stream, 1)?;
-        assert_eq!(rt; (items.len(), found), (count, fault));
+    for (stream, count, fault) in STREAMS {
+        assert!(rt; is_read(rt.alloc(), stream, 100, *count, *fault)?);
+        assert!(rt; is_read(rt.alloc(), stream, 1, *count, *fault)?);
     }
-    let (items, _) = read_stream(alloc, b"(a\r\nAx 1\n-t\r\n)a\nend\n", 1)?;
+    let (items, _) = read_stream(rt.alloc(), b"(a\r\nAx 1\n-t\r\n)a\nend\n", 1)?;
     assert!(rt; is_small_tree(items.as_slice()) && !items.is_empty());
     Ok(())
 }
@@ -211,33 +225,33 @@ fn feed_again(
     Ok((listing, None))
 }
 
+/// Whether the listing's next answer is this fault.
+fn is_at_fault(listing: &mut Listing, line: u32, reason: Reason) -> Result<bool, AllocError> {
+    Ok(listing.next_item()?.err() == Some(ListingFault { line, reason }))
+}
+
 #[test]
-fn ends_lines_and_streams_at_their_limits(rt: HostRuntime) -> Result<(), Fail> {
-    let alloc = rt.alloc();
-    let mut listing = Listing::new(alloc);
-    listing.feed(&long_line(alloc, MOST_LINE)?)?;
+fn ends_lines_at_their_limit(rt: HostRuntime) -> Result<(), Fail> {
+    let mut listing = Listing::new(rt.alloc());
+    listing.feed(&long_line(rt.alloc(), MOST_LINE)?)?;
     assert!(rt; matches!(listing.next_item()?, Ok(None)));
     listing.feed(b"\n-")?;
     assert!(rt; matches!(listing.next_item()?, Ok(Some(_))));
-    listing.feed(&long_line(alloc, MOST_LINE - 1)?)?;
+    listing.feed(&long_line(rt.alloc(), MOST_LINE - 1)?)?;
     assert!(rt; matches!(listing.next_item()?, Ok(None)));
     listing.feed(b"-")?;
-    let fault = ListingFault {
-        line: 2,
-        reason: Reason::LineTooLong,
-    };
-    assert_eq!(rt; listing.next_item()?.err(), Some(fault));
-    let mut line = long_line(alloc, MOST_LINE - 1)?;
+    assert!(rt; is_at_fault(&mut listing, 2, Reason::LineTooLong)?);
+    Ok(())
+}
+
+#[test]
+fn ends_streams_at_their_limit(rt: HostRuntime) -> Result<(), Fail> {
+    let mut line = long_line(rt.alloc(), MOST_LINE - 1)?;
     line.push(b'\n')?;
-    let (mut listing, fault) = feed_again(alloc, &line, MOST_BYTES / MOST_LINE)?;
-    assert_eq!(rt; fault, None);
-    assert_eq!(rt; listing.line_count(), 64);
+    let (mut listing, fault) = feed_again(rt.alloc(), &line, MOST_BYTES / MOST_LINE)?;
+    assert!(rt; fault.is_none() && listing.line_count() == 64);
     assert!(rt; matches!(listing.next_item()?, Ok(None)));
     listing.feed(b"\n")?;
-    let fault = ListingFault {
-        line: 65,
-        reason: Reason::TooManyBytes,
-    };
-    assert_eq!(rt; listing.next_item()?.err(), Some(fault));
+    assert!(rt; is_at_fault(&mut listing, 65, Reason::TooManyBytes)?);
     Ok(())
 }

@@ -122,64 +122,79 @@ fn assert_stuck(rt: &impl Abort, alloc: Global, model: &str, rows: &str) -> Resu
     Ok(())
 }
 
+/// Content models, and the stuck places of names.
+const STUCK: &[(&str, &str)] = &[
+    (
+        "(a,b?)",
+        ":0 a: ab: b:0 aa:1 abb:2 aba:2 x:0 ax:1 abx:2 A:0",
+    ),
+    ("(a*,b*)", ": bb: aabb: aba:2 ba:1"),
+    (
+        "(a?,(b,(c?)?)?,d)",
+        "d: ad: bd: abcd: bcd: acd:1 cd:0 ab:2 :0 add:2 bccd:2",
+    ),
+    (
+        "(a,(b|c+)*,e)",
+        "ae: abe: accbe: abc:3 e:0 a:1 aee:2 aba:2 abbce:",
+    ),
+    ("(a+|b)", ":0 a: aa: aaa: b: bb:1 ab:1 ba:1 aab:2 c:0"),
+    ("(a|b?)", ": a: b: ab:1 bb:1 ba:1"),
+    (
+        "((a,b)|(c,d?))",
+        ":0 a:1 ab: c: cd: ad:1 cb:1 abc:2 b:0 d:0",
+    ),
+    (
+        "(x|(a|(b,c))+)",
+        "aa: bca: b:1 ba:1 abcbc: c:0 abb:2 :0 x: xa:1 ax:1",
+    ),
+    ("((a?,b?)+)", ": a: b: ab: ba: aa: bb: abab: baa: ac:1 c:0"),
+    ("((a,b?)+)", ":0 a: ab: aa: aba: abb:2 b:0 aab: ababb:4"),
+    (
+        "(((a|b)*,c)?)",
+        ": c: a:1 ac: babc: ab:2 cc:1 ca:1 aca:2 d:0 adc:1",
+    ),
+    (
+        "((a,(b,c+)*)+,d?)",
+        "a: abc: ab:2 abccbc: aa: abcad: d:0 ad: ada:2 ac:1 abb:2 abcb:4",
+    ),
+];
+
 #[test]
 fn finds_stuck_places(rt: HostRuntime) -> Result<(), Fail> {
-    let alloc = rt.alloc();
-    let cases = [
-        (
-            "(a,b?)",
-            ":0 a: ab: b:0 aa:1 abb:2 aba:2 x:0 ax:1 abx:2 A:0",
-        ),
-        ("(a*,b*)", ": bb: aabb: aba:2 ba:1"),
-        (
-            "(a?,(b,(c?)?)?,d)",
-            "d: ad: bd: abcd: bcd: acd:1 cd:0 ab:2 :0 add:2 bccd:2",
-        ),
-        (
-            "(a,(b|c+)*,e)",
-            "ae: abe: accbe: abc:3 e:0 a:1 aee:2 aba:2 abbce:",
-        ),
-        ("(a+|b)", ":0 a: aa: aaa: b: bb:1 ab:1 ba:1 aab:2 c:0"),
-        ("(a|b?)", ": a: b: ab:1 bb:1 ba:1"),
-        (
-            "((a,b)|(c,d?))",
-            ":0 a:1 ab: c: cd: ad:1 cb:1 abc:2 b:0 d:0",
-        ),
-        (
-            "(x|(a|(b,c))+)",
-            "aa: bca: b:1 ba:1 abcbc: c:0 abb:2 :0 x: xa:1 ax:1",
-        ),
-        ("((a?,b?)+)", ": a: b: ab: ba: aa: bb: abab: baa: ac:1 c:0"),
-        ("((a,b?)+)", ":0 a: ab: aa: aba: abb:2 b:0 aab: ababb:4"),
-        (
-            "(((a|b)*,c)?)",
-            ": c: a:1 ac: babc: ab:2 cc:1 ca:1 aca:2 d:0 adc:1",
-        ),
-        (
-            "((a,(b,c+)*)+,d?)",
-            "a: abc: ab:2 abccbc: aa: abcad: d:0 ad: ada:2 ac:1 abb:2 abcb:4",
-        ),
-    ];
-    for (model, rows) in cases {
-        assert_stuck(&rt, alloc, model, rows)?;
+    for (model, rows) in STUCK {
+        assert_stuck(&rt, rt.alloc(), model, rows)?;
+    }
+    Ok(())
+}
+
+/// Declarations of `(a,(b|c))`: a declaration has the number of those behind it in its group, also of those in groups within.
+const DECLARATIONS: &[(&str, Option<u32>)] = &[
+    ("a", Some(2)),
+    ("b", Some(1)),
+    ("c", Some(0)),
+    ("d", None),
+];
+
+/// What is no model.
+const NO_MODELS: &[&str] = &["()", "(a,())", "(a,b,a)", "((a|b),(c|a))"];
+
+#[test]
+fn makes_models(rt: HostRuntime) -> Result<(), Fail> {
+    let found = read_model(rt.alloc(), "(a,(b|c))")?.ok_or("no model")?;
+    for (name, number) in DECLARATIONS {
+        assert!(rt; found.declaration_of(name) == *number);
+    }
+    for text in NO_MODELS {
+        assert!(rt; read_model(rt.alloc(), text)?.is_none());
     }
     Ok(())
 }
 
 #[test]
-fn makes_models(rt: HostRuntime) -> Result<(), Fail> {
-    let alloc = rt.alloc();
-    // A declaration has the number of those behind it in its group, also of those in groups within.
-    let found = read_model(alloc, "(a,(b|c))")?.ok_or("no model")?;
-    for (name, number) in [("a", Some(2)), ("b", Some(1)), ("c", Some(0)), ("d", None)] {
-        assert_eq!(rt; found.declaration_of(name), number);
-    }
-    for text in ["()", "(a,())", "(a,b,a)", "((a|b),(c|a))"] {
-        assert!(rt; read_model(alloc, text)?.is_none());
-    }
-    let found = read_model(alloc, "(a,b?)")?.ok_or("no model")?;
-    let a = named(alloc, 'a')?;
-    let b = named(alloc, 'b')?;
+fn steps_from_name_to_name(rt: HostRuntime) -> Result<(), Fail> {
+    let found = read_model(rt.alloc(), "(a,b?)")?.ok_or("no model")?;
+    let a = named(rt.alloc(), 'a')?;
+    let b = named(rt.alloc(), 'b')?;
     assert!(rt; found.may_come(None, &a) && found.may_come(Some(&a), &b));
     assert!(rt; !found.may_come(None, &b) && !found.may_come(Some(&a), &a));
     assert!(rt; found.may_stop(Some(&a)) && found.may_stop(Some(&b)) && !found.may_stop(None));

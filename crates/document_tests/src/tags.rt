@@ -39,14 +39,16 @@ fn is_bound_to(scope: &Prefixes, prefix: &str, namespace: &str) -> bool {
     }
 }
 
+/// Bindings of one prefix, the later hiding the earlier, and of the default namespace.
+const HIDING: &[(&str, &str)] = &[("xmlns:p", "v"), ("xmlns:p", "w"), ("xmlns", "d")];
+
 #[test]
 fn shows_hidden_bindings_again(rt: HostRuntime) -> Result<(), Fail> {
     let alloc = rt.alloc();
     let mut scope = Prefixes::new(alloc)?;
     scope.bind(binding(alloc, "p", "u")?)?;
     let copy = scope.try_clone(alloc)?;
-    let lines = [("xmlns:p", "v"), ("xmlns:p", "w"), ("xmlns", "d")];
-    let tag = tag_of(alloc, "a", &lines)?;
+    let tag = tag_of(alloc, "a", HIDING)?;
     scope.bind_all(tag.bindings(alloc)?.as_slice())?;
     assert!(rt; is_bound_to(&scope, "p", "v") && is_bound_to(&scope, "", "d"));
     scope.truncate(4);
@@ -61,29 +63,28 @@ fn shows_hidden_bindings_again(rt: HostRuntime) -> Result<(), Fail> {
     Ok(())
 }
 
+/// Bindings and attributes of an element.
+const NAMED: &[(&str, &str)] = &[
+    ("xmlns", "d"),
+    ("a", "1"),
+    ("p:b", "2"),
+    ("xmlns:p", "u"),
+    ("xml:lang", "en"),
+];
+
+/// The names of its attributes.
+const NAMES: &[&str] = &["a", "{u}b", "{http://www.w3.org/XML/1998/namespace}lang"];
+
 #[test]
 fn names_an_element(rt: HostRuntime) -> Result<(), Fail> {
-    let alloc = rt.alloc();
-    let scope = Prefixes::new(alloc)?;
-    let lines = [
-        ("xmlns", "d"),
-        ("a", "1"),
-        ("p:b", "2"),
-        ("xmlns:p", "u"),
-        ("xml:lang", "en"),
-    ];
-    let tag = tag_of(alloc, "r", &lines)?;
-    assert_eq!(rt; tag.name_fault(alloc, &scope)?, None);
-    let named = tag.named(alloc, &scope)?;
-    assert!(rt; is_named(alloc, &named.name, "{d}r")?);
-    assert_eq!(rt; named.bindings.as_slice().len(), 2);
-    assert_eq!(rt; named.attributes.as_slice().len(), 3);
-    for (attribute, text) in named.attributes.as_slice().iter().zip([
-        "a",
-        "{u}b",
-        "{http://www.w3.org/XML/1998/namespace}lang",
-    ]) {
-        assert!(rt; is_named(alloc, &attribute.name, text)?);
+    let scope = Prefixes::new(rt.alloc())?;
+    let tag = tag_of(rt.alloc(), "r", NAMED)?;
+    assert!(rt; tag.name_fault(rt.alloc(), &scope)?.is_none());
+    let named = tag.named(rt.alloc(), &scope)?;
+    assert!(rt; is_named(rt.alloc(), &named.name, "{d}r")?);
+    assert!(rt; named.bindings.as_slice().len() == 2 && named.attributes.as_slice().len() == 3);
+    for (attribute, text) in named.attributes.as_slice().iter().zip(NAMES) {
+        assert!(rt; is_named(rt.alloc(), &attribute.name, text)?);
     }
     Ok(())
 }
@@ -94,46 +95,63 @@ fn fault_of(alloc: Global, name: &str, lines: &[(&str, &str)]) -> Result<Option<
     Ok(tag_of(alloc, name, lines)?.name_fault(alloc, &scope)?)
 }
 
+/// Tags, by their name and attribute lines, and why they are refused.
+const REFUSED: &[(&str, &[(&str, &str)], Option<NameReason>)] = &[
+    ("a:b:c", &[], Some(NameReason::BadName)),
+    ("a", &[("xmlns:", "u")], Some(NameReason::BadName)),
+    ("xmlns:a", &[], Some(NameReason::ReservedName)),
+    ("a", &[("xmlns:xmlns", "u")], Some(NameReason::ReservedName)),
+    ("a", &[("xmlns:xml", "u")], Some(NameReason::ReservedName)),
+    (
+        "a",
+        &[("xmlns", XMLNS_NAMESPACE)],
+        Some(NameReason::ReservedName),
+    ),
+    (
+        "a",
+        &[("xmlns:p", XML_NAMESPACE)],
+        Some(NameReason::ReservedName),
+    ),
+    ("p:a", &[("xmlns:p", "")], Some(NameReason::ReservedName)),
+    ("xml:a", &[("xmlns:xml", XML_NAMESPACE)], None),
+    ("a", &[("xmlns", "")], None),
+    ("a", &[("p:b", "1")], Some(NameReason::UnboundPrefix)),
+    (
+        "p:a",
+        &[("b", "1"), ("b", "2")],
+        Some(NameReason::UnboundPrefix),
+    ),
+    (
+        "a",
+        &[("xmlns", "u"), ("xmlns:p", "u"), ("b", "1"), ("p:b", "1")],
+        None,
+    ),
+    (
+        "a",
+        &[
+            ("xmlns:q", "u"),
+            ("xmlns:p", "u"),
+            ("q:b", "1"),
+            ("p:b", "1"),
+        ],
+        Some(NameReason::DoubleAttribute),
+    ),
+    (
+        "a",
+        &[("xmlns:p", "u"), ("xmlns:p", "v")],
+        Some(NameReason::DoubleAttribute),
+    ),
+    (
+        "a",
+        &[("b", "1"), ("b", "1")],
+        Some(NameReason::DoubleAttribute),
+    ),
+];
+
 #[test]
 fn refuses_names_by_their_first_reason(rt: HostRuntime) -> Result<(), Fail> {
-    let alloc = rt.alloc();
-    let bad = Some(NameReason::BadName);
-    let reserved = Some(NameReason::ReservedName);
-    let unbound = Some(NameReason::UnboundPrefix);
-    let double = Some(NameReason::DoubleAttribute);
-    let cases: [(&str, &[(&str, &str)], Option<NameReason>); 16] = [
-        ("a:b:c", &[], bad),
-        ("a", &[("xmlns:", "u")], bad),
-        ("xmlns:a", &[], reserved),
-        ("a", &[("xmlns:xmlns", "u")], reserved),
-        ("a", &[("xmlns:xml", "u")], reserved),
-        ("a", &[("xmlns", XMLNS_NAMESPACE)], reserved),
-        ("a", &[("xmlns:p", XML_NAMESPACE)], reserved),
-        ("p:a", &[("xmlns:p", "")], reserved),
-        ("xml:a", &[("xmlns:xml", XML_NAMESPACE)], None),
-        ("a", &[("xmlns", "")], None),
-        ("a", &[("p:b", "1")], unbound),
-        ("p:a", &[("b", "1"), ("b", "2")], unbound),
-        (
-            "a",
-            &[("xmlns", "u"), ("xmlns:p", "u"), ("b", "1"), ("p:b", "1")],
-            None,
-        ),
-        (
-            "a",
-            &[
-                ("xmlns:q", "u"),
-                ("xmlns:p", "u"),
-                ("q:b", "1"),
-                ("p:b", "1"),
-            ],
-            double,
-        ),
-        ("a", &[("xmlns:p", "u"), ("xmlns:p", "v")], double),
-        ("a", &[("b", "1"), ("b", "1")], double),
-    ];
-    for (name, lines, fault) in cases {
-        assert_eq!(rt; fault_of(alloc, name, lines)?, fault, "{name}");
+    for (name, lines, fault) in REFUSED {
+        assert_eq!(rt; fault_of(rt.alloc(), name, lines)?, *fault, "{name}");
     }
     Ok(())
 }
