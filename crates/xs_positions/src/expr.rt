@@ -7,10 +7,10 @@ ghost use Rattle.xs_positions.specs.Nodes.{tree_at, tree_of, trees_of, PartsBelo
 use std::alloc::{AllocError, Global};
 use std::marker::Model;
 
-/// The number of an expression within its [`Expr`].
+/// The number of an expression in an [`Expr`], counted from 0 in the order of coming. Contracts see the number.
 #[derive(Clone, Copy, Debug, PartialEq, Eq)]
 pub struct ExprId {
-    number: usize,
+    pub(crate) number: u32,
 }
 
 impl Model for ExprId {
@@ -24,16 +24,17 @@ impl Model for ExprId {
 }
 
 impl ExprId {
-    pub(crate) fn new(number: usize) -> ExprId
-        ensures { result ≡ number }
+    /// The number.
+    pub fn number(&self) -> u32
+        ensures { result ≡ self.now }
     {
-        ExprId { number }
+        self.number
     }
 
     pub(crate) fn index(self) -> usize
         ensures { result ≡ self }
     {
-        self.number
+        self.number as usize
     }
 }
 
@@ -143,9 +144,11 @@ impl Expr {
         ensures ok { OnOk result (self.new ≡ self.old ++ tree_of self.old node ∷ []) }
         ensures err { OnErr result (self.new ≡ self.old) }
     {
-        let id = ExprId::new(self.nodes.len());
+        let Ok(number) = u32::try_from(self.nodes.len()) else {
+            return Err(AllocError);
+        };
         self.nodes.push(node)?;
-        Ok(id)
+        Ok(ExprId { number })
     }
 
     pub(crate) fn alloc(&self) -> Global {
