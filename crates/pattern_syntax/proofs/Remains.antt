@@ -1,7 +1,7 @@
 -- What may follow where a reader stands, by the grammar.
 use Rattle.std.proofs.Common.{◌≡◌, ℕ, zero, suc, Bool, true, false, ◌||◌, nat_le, if◌then◌else◌, List, ◌∷◌, ◌++◌, length, Option, Some, None, ◌⊎◌}
 use Rattle.std.specs.List.{list_all}
-use Rattle.pattern_syntax.specs.Characters.{is_digit, is_word, is_single, single_value}
+use Rattle.pattern_syntax.specs.Characters.{is_ascii_digit, is_word, is_single, single_value}
 use Rattle.pattern_syntax.specs.Grammar.{RegExp, Atom, Quantifier, Bracketed, Part, Letter, Escape, regexp_text, atom_text, quantifier_text, bracketed_text, parts_text, letter_text, escape_text, sign, is_regexp, is_atom, is_quantifier, is_bracketed, is_part, is_letter, is_escape, letter_value, are_digits, is_given}
 use Rattle.pattern_syntax.specs.Machine.{Within, in_branch, in_class, Stage, at_piece, at_least_digits, at_most_digits, at_backslash, at_property, at_name, at_class, at_first, at_part, at_hyphen, at_less, at_range_escape, at_end, State}
 
@@ -151,8 +151,8 @@ Remains s cs = RemainsIn s.stage (length s.built.outer) cs
 
 -- what is known where the reader stands: the digits and the name are such
 abbrev pub Ready : Stage → Type 0
-Ready (at_least_digits digits) = list_all is_digit digits ≡ true
-Ready (at_most_digits least digits) = (are_digits least ≡ true) × (list_all is_digit digits ≡ true)
+Ready (at_least_digits digits) = list_all is_ascii_digit digits ≡ true
+Ready (at_most_digits least digits) = (are_digits least ≡ true) × (list_all is_ascii_digit digits ≡ true)
 Ready (at_name w complement name) = list_all is_word name ≡ true
 Ready (at_range_escape k first) = nat_le first 125 ≡ true
 Ready (at_end k zero) = ⊥

@@ -9,7 +9,7 @@ use Rattle.pattern_syntax.specs.declared.fault.Notes.{Notes}
 use Rattle.pattern_syntax.specs.Built.{Built, with_piece, opened, barred, closed}
 use Rattle.pattern_syntax.specs.Classed.{no_class}
 use Rattle.pattern_syntax.specs.Notes.{with_number}
-use Rattle.pattern_syntax.specs.Characters.{is_normal, is_digit}
+use Rattle.pattern_syntax.specs.Characters.{is_normal, is_ascii_digit}
 use Rattle.pattern_syntax.specs.Grammar.{RegExp, alone, joined, Branch, no_piece, piece, Atom, normal, wildcard, single, special, bracketed, group, Quantifier, once, optional, any_number, at_least_once, exactly, at_least, between, Bracketed, Escape, several, property, regexp_text, branch_text, atom_text, quantifier_text, bracketed_text, escape_text, is_regexp, is_branch, is_atom, is_quantifier, is_bracketed, is_escape, are_digits, is_given, number, bound, escape_item, item_regex, atom_regex, branches_of}
 use Rattle.pattern_syntax.specs.Machine.{in_branch, at_piece, at_least_digits, at_most_digits, at_backslash, at_class, State, after_atom, after_bounds, after_built, in_stage, after, step_piece, step_quantifier, step_closed, step_least, step_most}
 use Rattle.pattern_syntax.proofs.Choosing.{left_of, right_of}
@@ -19,28 +19,28 @@ use Rattle.pattern_syntax.proofs.RunsInClass.{bracket_front, bracketed_run}
 
 -- ---- quantifiers
 
-digit_least : (s : State) (digits : List ℕ) (c : ℕ) → is_digit c ≡ true → step_least s digits c ≡ Some (in_stage s (at_least_digits (digits ++ c ∷ [])))
+digit_least : (s : State) (digits : List ℕ) (c : ℕ) → is_ascii_digit c ≡ true → step_least s digits c ≡ Some (in_stage s (at_least_digits (digits ++ c ∷ [])))
 unfolding step_least
-digit_least s digits c e = taken (is_digit c) _ _ e
+digit_least s digits c e = taken (is_ascii_digit c) _ _ e
 
-digit_most : (s : State) (least digits : List ℕ) (c : ℕ) → is_digit c ≡ true → step_most s least digits c ≡ Some (in_stage s (at_most_digits least (digits ++ c ∷ [])))
+digit_most : (s : State) (least digits : List ℕ) (c : ℕ) → is_ascii_digit c ≡ true → step_most s least digits c ≡ Some (in_stage s (at_most_digits least (digits ++ c ∷ [])))
 unfolding step_most
-digit_most s least digits c e = taken (is_digit c) _ _ e
+digit_most s least digits c e = taken (is_ascii_digit c) _ _ e
 
-pub least_run : (front digits more : List ℕ) (b : Built) (m : Notes) → list_all is_digit digits ≡ true →
+pub least_run : (front digits more : List ℕ) (b : Built) (m : Notes) → list_all is_ascii_digit digits ≡ true →
     after (Some (at (at_least_digits front) b m)) (digits ++ more) ≡ after (Some (at (at_least_digits (front ++ digits)) b m)) more
 least_run front [] more b m e = ap (λ l. after (Some (at (at_least_digits l) b m)) more) (sym (append-nil front))
 least_run front (c ∷ cs) more b m e =
-    goes (at (at_least_digits front) b m) (at (at_least_digits (front ++ c ∷ [])) b m) c (cs ++ more) (digit_least _ front c (left_of (is_digit c) (list_all is_digit cs) e))
-    ∙ least_run (front ++ c ∷ []) cs more b m (right_of (is_digit c) (list_all is_digit cs) e)
+    goes (at (at_least_digits front) b m) (at (at_least_digits (front ++ c ∷ [])) b m) c (cs ++ more) (digit_least _ front c (left_of (is_ascii_digit c) (list_all is_ascii_digit cs) e))
+    ∙ least_run (front ++ c ∷ []) cs more b m (right_of (is_ascii_digit c) (list_all is_ascii_digit cs) e)
     ∙ ap (λ l. after (Some (at (at_least_digits l) b m)) more) (append_assoc front (c ∷ []) cs)
 
-pub most_run : (least front digits more : List ℕ) (b : Built) (m : Notes) → list_all is_digit digits ≡ true →
+pub most_run : (least front digits more : List ℕ) (b : Built) (m : Notes) → list_all is_ascii_digit digits ≡ true →
     after (Some (at (at_most_digits least front) b m)) (digits ++ more) ≡ after (Some (at (at_most_digits least (front ++ digits)) b m)) more
 most_run least front [] more b m e = ap (λ l. after (Some (at (at_most_digits least l) b m)) more) (sym (append-nil front))
 most_run least front (c ∷ cs) more b m e =
-    goes (at (at_most_digits least front) b m) (at (at_most_digits least (front ++ c ∷ [])) b m) c (cs ++ more) (digit_most _ least front c (left_of (is_digit c) (list_all is_digit cs) e))
-    ∙ most_run least (front ++ c ∷ []) cs more b m (right_of (is_digit c) (list_all is_digit cs) e)
+    goes (at (at_most_digits least front) b m) (at (at_most_digits least (front ++ c ∷ [])) b m) c (cs ++ more) (digit_most _ least front c (left_of (is_ascii_digit c) (list_all is_ascii_digit cs) e))
+    ∙ most_run least (front ++ c ∷ []) cs more b m (right_of (is_ascii_digit c) (list_all is_ascii_digit cs) e)
     ∙ ap (λ l. after (Some (at (at_most_digits least l) b m)) more) (append_assoc front (c ∷ []) cs)
 
 pub exact_end : (s : State) (digits : List ℕ) → is_given digits ≡ true → step_least s digits 125 ≡ Some (after_bounds s (bound digits) (Some (bound digits)) (with_number s.noted (number digits)))
@@ -94,13 +94,13 @@ quantifier_run at_least_once more b m e = goes (at (at_piece true) b m) _ 43 mor
 quantifier_run (exactly digits) more b m e =
     goes (at (at_piece true) b m) (at (at_least_digits []) b m) 123 ((digits ++ 125 ∷ []) ++ more) (brace_open _)
     ∙ ap (after (Some (at (at_least_digits []) b m))) (append_assoc digits (125 ∷ []) more)
-    ∙ least_run [] digits (125 ∷ more) b m (right_of (is_given digits) (list_all is_digit digits) e)
-    ∙ goes (at (at_least_digits digits) b m) _ 125 more (exact_end _ digits (left_of (is_given digits) (list_all is_digit digits) e))
+    ∙ least_run [] digits (125 ∷ more) b m (right_of (is_given digits) (list_all is_ascii_digit digits) e)
+    ∙ goes (at (at_least_digits digits) b m) _ 125 more (exact_end _ digits (left_of (is_given digits) (list_all is_ascii_digit digits) e))
 quantifier_run (at_least digits) more b m e =
     goes (at (at_piece true) b m) (at (at_least_digits []) b m) 123 ((digits ++ 44 ∷ 125 ∷ []) ++ more) (brace_open _)
     ∙ ap (after (Some (at (at_least_digits []) b m))) (append_assoc digits (44 ∷ 125 ∷ []) more)
-    ∙ least_run [] digits (44 ∷ 125 ∷ more) b m (right_of (is_given digits) (list_all is_digit digits) e)
-    ∙ goes (at (at_least_digits digits) b m) (at (at_most_digits digits []) b m) 44 (125 ∷ more) (comma_step _ digits (left_of (is_given digits) (list_all is_digit digits) e))
+    ∙ least_run [] digits (44 ∷ 125 ∷ more) b m (right_of (is_given digits) (list_all is_ascii_digit digits) e)
+    ∙ goes (at (at_least_digits digits) b m) (at (at_most_digits digits []) b m) 44 (125 ∷ more) (comma_step _ digits (left_of (is_given digits) (list_all is_ascii_digit digits) e))
     ∙ goes (at (at_most_digits digits []) b m) _ 125 more (least_end _ digits)
 quantifier_run (between least most) more b m e =
     let both_digits : (are_digits least && are_digits most) ≡ true = left_of (are_digits least && are_digits most) (nat_le (number least) (number most)) e in
@@ -108,10 +108,10 @@ quantifier_run (between least most) more b m e =
     let high : are_digits most ≡ true = right_of (are_digits least) (are_digits most) both_digits in
     goes (at (at_piece true) b m) (at (at_least_digits []) b m) 123 ((least ++ 44 ∷ (most ++ 125 ∷ [])) ++ more) (brace_open _)
     ∙ ap (after (Some (at (at_least_digits []) b m))) (append_assoc least (44 ∷ (most ++ 125 ∷ [])) more ∙ ap (λ l. least ++ 44 ∷ l) (append_assoc most (125 ∷ []) more))
-    ∙ least_run [] least (44 ∷ (most ++ 125 ∷ more)) b m (right_of (is_given least) (list_all is_digit least) low)
-    ∙ goes (at (at_least_digits least) b m) (at (at_most_digits least []) b m) 44 (most ++ 125 ∷ more) (comma_step _ least (left_of (is_given least) (list_all is_digit least) low))
-    ∙ most_run least [] most (125 ∷ more) b m (right_of (is_given most) (list_all is_digit most) high)
-    ∙ goes (at (at_most_digits least most) b m) _ 125 more (most_end _ least most (left_of (is_given most) (list_all is_digit most) high) (right_of (are_digits least && are_digits most) (nat_le (number least) (number most)) e))
+    ∙ least_run [] least (44 ∷ (most ++ 125 ∷ more)) b m (right_of (is_given least) (list_all is_ascii_digit least) low)
+    ∙ goes (at (at_least_digits least) b m) (at (at_most_digits least []) b m) 44 (most ++ 125 ∷ more) (comma_step _ least (left_of (is_given least) (list_all is_ascii_digit least) low))
+    ∙ most_run least [] most (125 ∷ more) b m (right_of (is_given most) (list_all is_ascii_digit most) high)
+    ∙ goes (at (at_most_digits least most) b m) _ 125 more (most_end _ least most (left_of (is_given most) (list_all is_ascii_digit most) high) (right_of (are_digits least && are_digits most) (nat_le (number least) (number most)) e))
 
 -- ---- atoms
 

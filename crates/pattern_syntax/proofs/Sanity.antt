@@ -5,7 +5,7 @@ use Rattle.pattern_terms.specs.declared.class.ClassItem.TheVariants.{One}
 use Rattle.pattern_syntax.specs.Built.{Built, closed}
 use Rattle.pattern_syntax.specs.Classed.{Classed, with_item}
 use Rattle.pattern_syntax.specs.Notes.{with_name}
-use Rattle.pattern_syntax.specs.Characters.{is_normal, is_plain, is_single, single_value, several_item, is_digit, is_word}
+use Rattle.pattern_syntax.specs.Characters.{is_normal, is_plain, is_single, single_value, several_item, is_ascii_digit, is_word}
 use Rattle.pattern_syntax.specs.Grammar.{is_given, number, property_item}
 use Rattle.pattern_syntax.specs.Machine.{Within, in_branch, in_class, Stage, at_piece, at_least_digits, at_most_digits, at_backslash, at_property, at_name, at_class, at_first, at_part, at_hyphen, at_less, at_range_escape, at_end, State, give, give_one, closing, after, step, step_in, step_piece, step_quantifier, step_closed, step_least, step_most, step_escape, step_letter, step_property, step_name, step_first, step_class, step_part, step_range, step_hyphen, step_less, step_range_escape, step_end}
 use Rattle.pattern_syntax.specs.Machine.{with_notes}
@@ -48,12 +48,12 @@ piece_sane s repeatable c =
 
 least_sane : (s : State) (digits : List ℕ) (c : ℕ) → SaneBehind (step_least s digits c)
 unfolding step_least
-least_sane s digits c = choice (is_digit c) _ _ (λ _. tt) (choice (is_given digits) _ _ (λ _. choice (c == 44) _ _ (λ _. tt) (choice (c == 125) _ _ (λ _. tt) tt)) tt)
+least_sane s digits c = choice (is_ascii_digit c) _ _ (λ _. tt) (choice (is_given digits) _ _ (λ _. choice (c == 44) _ _ (λ _. tt) (choice (c == 125) _ _ (λ _. tt) tt)) tt)
 
 most_sane : (s : State) (least digits : List ℕ) (c : ℕ) → SaneBehind (step_most s least digits c)
 unfolding step_most
 most_sane s least digits c =
-    choice (is_digit c) _ _ (λ _. tt) (choice (c == 125) _ _ (λ _. choice (is_given digits) _ _ (λ _. choice (nat_le (number least) (number digits)) _ _ (λ _. tt) tt) tt) tt)
+    choice (is_ascii_digit c) _ _ (λ _. tt) (choice (c == 125) _ _ (λ _. choice (is_given digits) _ _ (λ _. choice (nat_le (number least) (number digits)) _ _ (λ _. tt) tt) tt) tt)
 
 letter_sane : (s : State) (w : Within) (c : ℕ) (o : Option ClassItem) → SaneBehind (step_letter s w c o)
 letter_sane s w c (Some item) = give_sane s w item

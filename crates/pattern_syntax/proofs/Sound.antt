@@ -6,7 +6,7 @@ use Rattle.pattern_syntax.specs.declared.fault.Notes.{Notes}
 use Rattle.pattern_syntax.specs.Built.{Frame, Built, closed, closed_into}
 use Rattle.pattern_terms.specs.Classes.{Group}
 use Rattle.pattern_syntax.specs.Classed.{Classed}
-use Rattle.pattern_syntax.specs.Characters.{is_normal, is_plain, is_single, single_value, several_item, is_digit, is_word}
+use Rattle.pattern_syntax.specs.Characters.{is_normal, is_plain, is_single, single_value, several_item, is_ascii_digit, is_word}
 use Rattle.pattern_syntax.specs.Grammar.{RegExp, alone, joined, Branch, no_piece, piece, Atom, normal, wildcard, single, special, bracketed, group, Quantifier, once, optional, any_number, at_least_once, exactly, at_least, between, only, less, Members, Part, one, range, set, Letter, plain, escaped, Escape, several, property, regexp_text, branch_text, atom_text, quantifier_text, bracketed_text, body_text, part_text, parts_text, letter_text, escape_text, sign, is_regexp, is_branch, is_atom, is_quantifier, is_bracketed, is_members, is_part, is_letter, is_escape, letter_value, are_digits, is_given, is_some, begins, number}
 use Rattle.pattern_syntax.specs.Machine.{Within, in_branch, in_class, Stage, at_piece, at_least_digits, at_most_digits, at_backslash, at_property, at_name, at_class, at_first, at_part, at_hyphen, at_less, at_range_escape, at_end, State, give, give_one, closing, after, step, is_end, step_piece, step_quantifier, step_closed, step_least, step_most, step_escape, step_letter, step_property, step_name, step_first, step_class, step_part, step_range, step_hyphen, step_less, step_range_escape, step_end}
 use Rattle.pattern_syntax.proofs.Choosing.{on_if, both, left_of, right_of, at_char, list_all_snoc, length_snoc}
@@ -305,35 +305,35 @@ module _ (cs : List ℕ) (ih : Holds cs) (b : Built) (noted : Notes) where
       (λ _. on_if P (c == 124) _ _ (λ e acc. at_char G c 124 e (unquantified repeatable n (124 ∷ cs) (tail_bar n cs (ih _ tt acc))))
       (λ _. last_front repeatable c)))))))
 
-  least_front : (digits : List ℕ) (c : ℕ) → list_all is_digit digits ≡ true → Accepts (step_least (at (at_least_digits digits)) digits c) cs → Quantified (Tail n) (123 ∷ (digits ++ c ∷ cs))
+  least_front : (digits : List ℕ) (c : ℕ) → list_all is_ascii_digit digits ≡ true → Accepts (step_least (at (at_least_digits digits)) digits c) cs → Quantified (Tail n) (123 ∷ (digits ++ c ∷ cs))
   unfolding step_least
   least_front digits c ready =
       let G : ℕ → Type 0 = λ v. Quantified (Tail n) (123 ∷ (digits ++ v ∷ cs)) in
       let P : Option State → Type 0 = λ o. Accepts o cs → G c in
-      on_if P (is_digit c) _ _ (λ e acc. subst (λ l. Quantified (Tail n) (123 ∷ l)) (append_assoc digits (c ∷ []) cs) (ih _ (list_all_snoc is_digit digits c ready e) acc))
+      on_if P (is_ascii_digit c) _ _ (λ e acc. subst (λ l. Quantified (Tail n) (123 ∷ l)) (append_assoc digits (c ∷ []) cs) (ih _ (list_all_snoc is_ascii_digit digits c ready e) acc))
       (λ _. on_if P (is_given digits) _ _
-      (λ g. on_if P (c == 44) _ _ (λ e acc. at_char G c 44 e (ih _ (both (is_given digits) (list_all is_digit digits) g ready, refl) acc))
+      (λ g. on_if P (c == 44) _ _ (λ e acc. at_char G c 44 e (ih _ (both (is_given digits) (list_all is_ascii_digit digits) g ready, refl) acc))
       (λ _. on_if P (c == 125) _ _ (λ e acc. at_char G c 125 e (record {
         quantifier = exactly digits;
         rest = cs;
-        good = both (is_given digits) (list_all is_digit digits) g ready;
+        good = both (is_given digits) (list_all is_ascii_digit digits) g ready;
         spelled = ap (λ l. 123 ∷ l) (sym (append_assoc digits (125 ∷ []) cs));
         next = ih _ tt acc;
       })) (λ _. dead cs)))
       (λ _. dead cs))
 
-  most_front : (least digits : List ℕ) (c : ℕ) → are_digits least ≡ true → list_all is_digit digits ≡ true → Accepts (step_most (at (at_most_digits least digits)) least digits c) cs → Quantified (Tail n) (123 ∷ (least ++ 44 ∷ (digits ++ c ∷ cs)))
+  most_front : (least digits : List ℕ) (c : ℕ) → are_digits least ≡ true → list_all is_ascii_digit digits ≡ true → Accepts (step_most (at (at_most_digits least digits)) least digits c) cs → Quantified (Tail n) (123 ∷ (least ++ 44 ∷ (digits ++ c ∷ cs)))
   unfolding step_most
   most_front least digits c low ready =
       let G : ℕ → Type 0 = λ v. Quantified (Tail n) (123 ∷ (least ++ 44 ∷ (digits ++ v ∷ cs))) in
       let P : Option State → Type 0 = λ o. Accepts o cs → G c in
-      on_if P (is_digit c) _ _ (λ e acc. subst (λ l. Quantified (Tail n) (123 ∷ (least ++ 44 ∷ l))) (append_assoc digits (c ∷ []) cs) (ih _ (low, list_all_snoc is_digit digits c ready e) acc))
+      on_if P (is_ascii_digit c) _ _ (λ e acc. subst (λ l. Quantified (Tail n) (123 ∷ (least ++ 44 ∷ l))) (append_assoc digits (c ∷ []) cs) (ih _ (low, list_all_snoc is_ascii_digit digits c ready e) acc))
       (λ _. on_if P (c == 125) _ _
       (λ e. on_if P (is_given digits) _ _
       (λ g. on_if P (nat_le (number least) (number digits)) _ _ (λ o acc. at_char G c 125 e (record {
         quantifier = between least digits;
         rest = cs;
-        good = both (are_digits least && are_digits digits) (nat_le (number least) (number digits)) (both (are_digits least) (are_digits digits) low (both (is_given digits) (list_all is_digit digits) g ready)) o;
+        good = both (are_digits least && are_digits digits) (nat_le (number least) (number digits)) (both (are_digits least) (are_digits digits) low (both (is_given digits) (list_all is_ascii_digit digits) g ready)) o;
         spelled = ap (λ l. 123 ∷ l) (ap (λ l. least ++ 44 ∷ l) (sym (append_assoc digits (125 ∷ []) cs)) ∙ sym (append_assoc least (44 ∷ (digits ++ 125 ∷ [])) cs));
         next = ih _ tt acc;
       })) (λ _. dead cs))

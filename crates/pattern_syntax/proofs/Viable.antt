@@ -8,7 +8,7 @@ use Rattle.pattern_syntax.specs.declared.fault.Notes.{Notes}
 use Rattle.pattern_syntax.specs.Built.{Frame, Built, with_piece, with_bounds, all_branches}
 use Rattle.pattern_syntax.specs.Classed.{Classed, with_item, with_range, with_group, whole_class}
 use Rattle.pattern_syntax.specs.Notes.{with_name, with_number}
-use Rattle.pattern_syntax.specs.Characters.{is_digit}
+use Rattle.pattern_syntax.specs.Characters.{is_ascii_digit}
 use Rattle.pattern_syntax.specs.Grammar.{is_given, number, bound, property_item, item_regex}
 use Rattle.pattern_syntax.specs.Machine.{Within, in_branch, in_class, Stage, at_piece, at_least_digits, at_most_digits, at_backslash, at_property, at_name, at_class, at_first, at_part, at_hyphen, at_less, at_range_escape, at_end, State, in_stage, give, give_one, closing, after, step, step_escape, step_property, step_name, step_first, step_class, step_range_escape, step_end}
 use Rattle.std.proofs.lemmas.Bool.Decides.{nat_tests}
@@ -104,7 +104,7 @@ nines : ℕ → List ℕ
 nines zero = []
 nines (suc k) = 57 ∷ nines k
 
-nines_digits : (k : ℕ) → list_all is_digit (nines k) ≡ true
+nines_digits : (k : ℕ) → list_all is_ascii_digit (nines k) ≡ true
 unfolding nines
 nines_digits zero = refl
 nines_digits (suc k) = nines_digits k

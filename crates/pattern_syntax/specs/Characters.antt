@@ -1,5 +1,7 @@
 -- The characters that have a part in the grammar of regular expressions (Datatypes, appendix F).
 use Rattle.std.specs.Prelude.{◌≡◌, ℕ, Bool, true, false, not, ◌&&◌, ◌||◌, ◌==◌, nat_le, if◌then◌else◌, List, [], ◌∷◌, Option, Some, None, refl}
+use Rattle.std.specs.Char.{is_ascii_digit}
+pub use Rattle.std.specs.Char.{is_ascii_digit}
 use Rattle.pattern_terms.specs.declared.set.CharSet.TheVariants.{Space, NameStart, NameChar, Digit, Word}
 use Rattle.pattern_terms.specs.declared.class.ClassItem.{ClassItem}
 use Rattle.pattern_terms.specs.declared.class.ClassItem.TheVariants.{In, NotIn}
@@ -34,13 +36,9 @@ several_item c =
     (if c == 100 then Some (In Digit) else (if c == 68 then Some (NotIn Digit) else
     (if c == 119 then Some (In Word) else (if c == 87 then Some (NotIn Word) else None)))))))))
 
--- a decimal digit
-abbrev pub is_digit : ℕ → Bool
-is_digit c = nat_le 48 c && nat_le c 57
-
 -- F.1.1, a character of a class name: a letter, a digit or a hyphen
 abbrev pub is_word : ℕ → Bool
-is_word c = (nat_le 65 c && nat_le c 90) || (nat_le 97 c && nat_le c 122) || is_digit c || c == 45
+is_word c = (nat_le 65 c && nat_le c 90) || (nat_le 97 c && nat_le c 122) || is_ascii_digit c || c == 45
 
 -- `}` is normal outside classes
 pub example-brace : is_normal 125 ≡ true

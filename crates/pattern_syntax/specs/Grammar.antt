@@ -7,7 +7,7 @@ use Rattle.pattern_terms.specs.declared.class.ClassItem.TheVariants.{One, Range,
 use Rattle.pattern_terms.specs.declared.set.CharSet.TheVariants.{NotLineEnd}
 use Rattle.pattern_terms.specs.Classes.{Group, Class}
 use Rattle.pattern_terms.specs.Regex.{Regex, character, repeated, sequence_of, choice_of}
-use Rattle.pattern_syntax.specs.Characters.{is_normal, is_plain, is_single, single_value, several_item, is_digit, is_word}
+use Rattle.pattern_syntax.specs.Characters.{is_normal, is_plain, is_single, single_value, several_item, is_ascii_digit, is_word}
 use Rattle.pattern_syntax.specs.Names.{set_named}
 
 -- F.1.1, an escape of several characters: a letter behind the backslash, or a class name in braces behind \p or \P
@@ -174,7 +174,7 @@ is_bracketed (only m) = is_members m
 is_bracketed (less m subtracted) = is_members m && is_bracketed subtracted
 
 abbrev pub are_digits : List ℕ → Bool
-are_digits digits = is_given digits && list_all is_digit digits
+are_digits digits = is_given digits && list_all is_ascii_digit digits
 
 abbrev pub is_quantifier : Quantifier → Bool
 is_quantifier once = true

@@ -8,7 +8,7 @@ use Rattle.pattern_syntax.specs.declared.fault.Notes.{Notes}
 use Rattle.pattern_syntax.specs.Built.{Built, no_frame, with_piece, with_bounds, opened, barred, closed}
 use Rattle.pattern_syntax.specs.Classed.{Classed, no_class, with_item, with_range, with_negation, with_group, whole_class}
 use Rattle.pattern_syntax.specs.Notes.{with_name, with_number}
-use Rattle.pattern_syntax.specs.Characters.{is_normal, is_plain, is_single, single_value, several_item, is_digit, is_word}
+use Rattle.pattern_syntax.specs.Characters.{is_normal, is_plain, is_single, single_value, several_item, is_ascii_digit, is_word}
 use Rattle.pattern_syntax.specs.Grammar.{property_item, item_regex, number, bound, is_given}
 
 -- whether something stands in a class, and then what has come of that
@@ -112,7 +112,7 @@ step_piece s repeatable c =
 
 unfoldable pub step_least : State → List ℕ → ℕ → Option State
 step_least s digits c =
-    if is_digit c then Some (in_stage s (at_least_digits (digits ++ c ∷ []))) else
+    if is_ascii_digit c then Some (in_stage s (at_least_digits (digits ++ c ∷ []))) else
     (if is_given digits then
     (if c == 44 then Some (in_stage s (at_most_digits digits [])) else
     (if c == 125 then Some (after_bounds s (bound digits) (Some (bound digits)) (with_number s.noted (number digits))) else None))
@@ -120,7 +120,7 @@ step_least s digits c =
 
 unfoldable pub step_most : State → List ℕ → List ℕ → ℕ → Option State
 step_most s least digits c =
-    if is_digit c then Some (in_stage s (at_most_digits least (digits ++ c ∷ []))) else
+    if is_ascii_digit c then Some (in_stage s (at_most_digits least (digits ++ c ∷ []))) else
     (if c == 125 then
     (if is_given digits then
     (if nat_le (number least) (number digits) then

@@ -2,13 +2,13 @@
 
 ghost use Rattle.std.specs.Prelude.{◌≡◌, IsTrue, nat_le};
 ghost use Rattle.std.specs.List.{list_all};
-ghost use Rattle.pattern_syntax.specs.Characters.{is_digit};
+ghost use Rattle.std.specs.Char.{is_ascii_digit};
 ghost use Rattle.pattern_syntax.specs.Grammar.{number, bound as bound_of};
 ghost use Rattle.pattern_syntax.specs.Numbers.{skip_zeros};
 
 /// The number that the digits write, or 4,097 where it is greater.
 pub(crate) fn bound(digits: &[char]) -> u32
-    requires { IsTrue (list_all is_digit digits.now) }
+    requires { IsTrue (list_all is_ascii_digit digits.now) }
     ensures { result ≡ bound_of digits.now }
 {
     let mut number = 0u32;
@@ -21,8 +21,8 @@ pub(crate) fn bound(digits: &[char]) -> u32
 
 /// Whether the first number is at most the second.
 pub(crate) fn is_at_most(least: &[char], most: &[char]) -> bool
-    requires least { IsTrue (list_all is_digit least.now) }
-    requires most { IsTrue (list_all is_digit most.now) }
+    requires least { IsTrue (list_all is_ascii_digit least.now) }
+    requires most { IsTrue (list_all is_ascii_digit most.now) }
     ensures { result ≡ nat_le (number least.now) (number most.now) }
 {
     let least = without_zeros(least);

@@ -11,8 +11,6 @@ mod mode;
 mod names;
 mod read;
 mod reader;
-#[cfg(test)]
-mod tests;
 
 pub use building::Term;
 pub use fault::PatternFault;

@@ -79,12 +79,6 @@ pub(crate) fn several_item(c: char) -> Option<ClassItem>
     }
 }
 
-pub(crate) fn is_digit(c: char) -> bool
-    ensures { result ≡ grammar.is_digit c }
-{
-    matches!(c, '0'..='9')
-}
-
 /// Whether the character may stand in a class name.
 pub(crate) fn is_word(c: char) -> bool
     ensures { result ≡ grammar.is_word c }

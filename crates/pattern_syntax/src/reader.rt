@@ -3,7 +3,7 @@
 ghost use Rattle.std.specs.Prelude.{◌≡◌, IfOk, OnOk, IsTrue, length};
 ghost use Rattle.std.specs.List.{list_all};
 ghost use Rattle.pattern_syntax.specs.Built.{closed};
-ghost use Rattle.pattern_syntax.specs.Characters.{is_digit as is_digit_of};
+ghost use Rattle.std.specs.Char.{is_ascii_digit};
 ghost use Rattle.pattern_syntax.specs.Classed.{with_range};
 ghost use Rattle.pattern_syntax.specs.Grammar.{property_item as property_item_of};
 ghost use Rattle.pattern_syntax.specs.Machine as machine;
@@ -17,7 +17,7 @@ use crate::digits::{bound, is_at_most};
 use crate::fault::{Notes, PatternFault};
 use crate::mode::{Mode, Place};
 use crate::names::{
-    is_digit, is_normal, is_plain, is_single, is_word, set_named, several_item, single_value,
+    is_normal, is_plain, is_single, is_word, set_named, several_item, single_value,
 };
 use pattern_terms::{CharClass, CharSet, ClassItem};
 use std::alloc::{AllocError, Global};
@@ -36,8 +36,8 @@ pub(crate) struct Reader {
     /// The class name in hand.
     name: Vec<u8>,
     notes: Notes,
-    ghost least_digits: { IsTrue (list_all is_digit_of least.items) },
-    ghost most_digits: { IsTrue (list_all is_digit_of most.items) },
+    ghost least_digits: { IsTrue (list_all is_ascii_digit least.items) },
+    ghost most_digits: { IsTrue (list_all is_ascii_digit most.items) },
 }
 
 impl Reader {
@@ -230,7 +230,7 @@ impl Reader {
         requires { self.old.mode ≡ Mode.Least }
         ensures { IfOk result (λ alive. Stepped alive (machine.step_least (state_of self.old) self.old.least.items c) (state_of self.new)) }
     {
-        if is_digit(c) {
+        if c.is_ascii_digit() {
             self.least.push(c)?;
             return Ok(true);
         }
@@ -258,7 +258,7 @@ impl Reader {
         requires { self.old.mode ≡ Mode.Most }
         ensures { IfOk result (λ alive. Stepped alive (machine.step_most (state_of self.old) self.old.least.items self.old.most.items c) (state_of self.new)) }
     {
-        if is_digit(c) {
+        if c.is_ascii_digit() {
             self.most.push(c)?;
             return Ok(true);
         }

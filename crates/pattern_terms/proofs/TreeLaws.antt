@@ -7,8 +7,7 @@ use borrow.Author.Tests.{ltb-true, lt-ltb}
 use Rattle.xs_positions.specs.Tree.{Tree, one, empty, chain, nothing, either, repeat, sequence_of, choice_of}
 use Rattle.xs_positions.specs.Nodes.{tree_at}
 use Rattle.pattern_terms.specs.Classes.{Class}
-use Rattle.pattern_terms.specs.Regex.{Regex, no_text, followed, either_of, regex_at}
-use Rattle.pattern_terms.specs.Regex as regex
+use Rattle.pattern_terms.specs.Regex.{Regex, character, repeated, regex_at}
 use Rattle.pattern_terms.specs.Trees.{regex_of, knows}
 
 get_or-front : {X : Type 0} (xs ys : List X) (i : ℕ) (d : X) → i < length xs → get_or (xs ++ ys) i d ≡ get_or xs i d
@@ -32,16 +31,16 @@ all_know_more n m (tree ∷ trees) l k =
 
 -- a further class changes no expression
 pub regex_of-more : (classes more : List Class) (tree : Tree) → IsTrue (knows (length classes) tree) → regex_of (classes ++ more) tree ≡ regex_of classes tree
-regex_of-more classes more (one number) k = ap regex.character (get_or-front classes more number [] (ltb-true number (length classes) k))
+regex_of-more classes more (one number) k = ap character (get_or-front classes more number [] (ltb-true number (length classes) k))
 regex_of-more classes more empty k = refl
 regex_of-more classes more (chain a b) k =
     let h = and_parts (knows (length classes) a) (knows (length classes) b) k in
-    λ i. followed (regex_of-more classes more a h.0 i) (regex_of-more classes more b h.1 i)
+    λ i. chain (regex_of-more classes more a h.0 i) (regex_of-more classes more b h.1 i)
 regex_of-more classes more nothing k = refl
 regex_of-more classes more (either a b) k =
     let h = and_parts (knows (length classes) a) (knows (length classes) b) k in
-    λ i. either_of (regex_of-more classes more a h.0 i) (regex_of-more classes more b h.1 i)
-regex_of-more classes more (repeat a least most) k = λ i. regex.repeated (regex_of-more classes more a k i) least most
+    λ i. either (regex_of-more classes more a h.0 i) (regex_of-more classes more b h.1 i)
+regex_of-more classes more (repeat a least most) k = λ i. repeated (regex_of-more classes more a k i) least most
 
 pub regexes-more : (classes more : List Class) (trees : List Tree) → IsTrue (list_all (knows (length classes)) trees) → map (regex_of (classes ++ more)) trees ≡ map (regex_of classes) trees
 regexes-more classes more [] k = refl
@@ -56,14 +55,14 @@ regex_of-tree_at classes (tree ∷ trees) zero = refl
 regex_of-tree_at classes (tree ∷ trees) (suc id) = regex_of-tree_at classes trees id
 
 pub regex_of-sequence_of : (classes : List Class) (trees : List Tree) (ids : List ℕ) →
-    regex_of classes (sequence_of (map (tree_at trees) ids)) ≡ regex.sequence_of (map (regex_at (map (regex_of classes) trees)) ids)
+    regex_of classes (sequence_of (map (tree_at trees) ids)) ≡ sequence_of (map (regex_at (map (regex_of classes) trees)) ids)
 regex_of-sequence_of classes trees [] = refl
-regex_of-sequence_of classes trees (id ∷ ids) = λ i. followed (regex_of-tree_at classes trees id i) (regex_of-sequence_of classes trees ids i)
+regex_of-sequence_of classes trees (id ∷ ids) = λ i. chain (regex_of-tree_at classes trees id i) (regex_of-sequence_of classes trees ids i)
 
 pub regex_of-choice_of : (classes : List Class) (trees : List Tree) (ids : List ℕ) →
-    regex_of classes (choice_of (map (tree_at trees) ids)) ≡ regex.choice_of (map (regex_at (map (regex_of classes) trees)) ids)
+    regex_of classes (choice_of (map (tree_at trees) ids)) ≡ choice_of (map (regex_at (map (regex_of classes) trees)) ids)
 regex_of-choice_of classes trees [] = refl
-regex_of-choice_of classes trees (id ∷ ids) = λ i. either_of (regex_of-tree_at classes trees id i) (regex_of-choice_of classes trees ids i)
+regex_of-choice_of classes trees (id ∷ ids) = λ i. either (regex_of-tree_at classes trees id i) (regex_of-choice_of classes trees ids i)
 
 -- the numbers in the tree of a number
 pub knows-tree_at : (n : ℕ) (trees : List Tree) (id : ℕ) → IsTrue (list_all (knows n) trees) → IsTrue (knows n (tree_at trees id))

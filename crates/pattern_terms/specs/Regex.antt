@@ -1,43 +1,36 @@
--- Regular expressions, and the texts that match them (Datatypes, appendix F).
-use Rattle.std.specs.Prelude.{◌≡◌, ℕ, zero, suc, List, [], ◌∷◌, ◌++◌, Option, ◌⊎◌, IsTrue, slice_index_or}
-use Rattle.xs_positions.specs.Words.{Allows}
+-- Regular expressions, and the texts that match them (Datatypes, appendix F): expressions whose symbols are classes of characters.
+use Rattle.std.specs.Prelude.{ℕ, List, [], ◌∷◌, ◌++◌, Option, false, codes, IsTrue, refl}
+use Rattle.std.proofs.Common.{inl, inr}
+use Rattle.xs_words.specs.Expressions.{Expression, one, repeat, sequence_of, choice_of, expression_at}
+use Rattle.xs_words.specs.Words.{IsWordOf}
+use Rattle.pattern_terms.specs.declared.class.ClassItem.TheVariants.{One}
 use Rattle.pattern_terms.specs.Classes.{Class, has}
+pub use Rattle.xs_words.specs.Expressions.{sequence_of, choice_of}
 
--- An expression. A sequence is its first part and then the rest of it, and so is a choice.
-pub data Regex : Type 0 where
-  character : (class : Class) → Regex
-  empty_text : Regex
-  followed : (first rest : Regex) → Regex
-  no_text : Regex
-  either_of : (first rest : Regex) → Regex
-  repeated : (part : Regex) (least : ℕ) (most : Option ℕ) → Regex
+abbrev pub Regex : Type 0
+Regex = Expression Class
 
--- the sequence of these parts: a branch of pieces
-abbrev pub sequence_of : List Regex → Regex
-sequence_of [] = empty_text
-sequence_of (part ∷ parts) = followed part (sequence_of parts)
+-- one character of the class
+abbrev pub character : Class → Regex
+character class = one class
 
--- the choice between these parts: branches
-abbrev pub choice_of : List Regex → Regex
-choice_of [] = no_text
-choice_of (part ∷ parts) = either_of part (choice_of parts)
+-- so many texts of a part, one after the other
+abbrev pub repeated : Regex → ℕ → Option ℕ → Regex
+repeated part least most = repeat part least most
 
 -- the expression of a number
 abbrev pub regex_at : List Regex → ℕ → Regex
-regex_at regexes id = slice_index_or regexes id no_text
+regex_at regexes id = expression_at regexes id
 
--- the text splits into so many parts, of which each matches
-abbrev pub Splits : (List ℕ → Type 0) → ℕ → List ℕ → Type 0
-Splits Matched zero text = text ≡ []
-Splits Matched (suc more) text = (front back : List ℕ) × (text ≡ front ++ back) × Matched front × Splits Matched more back
-
--- The text, as its characters, is in the language of the expression: it is one character of the class; it is empty; it
--- splits into a text of the first part and one of the rest; it is a text of some branch; it splits into so many texts of
--- the part as the bounds allow.
+-- The text, as its characters, is in the language of the expression: a class takes one character that it has. So the text
+-- is one character of the class; or it is empty; or it splits into a text of the first part and one of the rest; or it is a
+-- text of some branch; or it splits into so many texts of the part as the bounds allow.
 abbrev pub Matches : Regex → List ℕ → Type 0
-Matches (character class) text = (c : ℕ) × (text ≡ c ∷ []) × IsTrue (has class c)
-Matches empty_text text = text ≡ []
-Matches (followed first rest) text = (front back : List ℕ) × (text ≡ front ++ back) × Matches first front × Matches rest back
-Matches no_text text = ⊥
-Matches (either_of first rest) text = Matches first text ⊎ Matches rest text
-Matches (repeated part least most) text = (rounds : ℕ) × Allows least most rounds × Splits (λ front. Matches part front) rounds text
+Matches regex text = IsWordOf (λ class c. IsTrue (has class c)) regex text
+
+-- `(a|b)c` has the text `bc`: it splits into the text `b` of the second branch, and `c`
+abbrev letter : ℕ → Regex
+letter c = character (record { negated = false; items = One c ∷ [] } ∷ [])
+
+pub example-matches : Matches (sequence_of (choice_of (letter 97 ∷ letter 98 ∷ []) ∷ letter 99 ∷ [])) (codes "bc")
+example-matches = (98 ∷ [], 99 ∷ [], refl, inr (inl (98, refl, refl)), (99 ∷ [], [], refl, (99, refl, refl), refl))

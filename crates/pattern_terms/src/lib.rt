@@ -5,8 +5,6 @@
 mod class;
 mod set;
 mod terms;
-#[cfg(test)]
-mod tests;
 
 pub use class::{CharClass, CharGroup, ClassItem};
 pub use set::{Block, CharSet};

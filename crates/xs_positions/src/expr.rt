@@ -144,11 +144,14 @@ impl Expr {
         ensures ok { OnOk result (self.new ≡ self.old ++ tree_of self.old node ∷ []) }
         ensures err { OnErr result (self.new ≡ self.old) }
     {
-        let Ok(number) = u32::try_from(self.nodes.len()) else {
+        if self.nodes.len() > u32::MAX as usize {
             return Err(AllocError);
+        }
+        let id = ExprId {
+            number: self.nodes.len() as u32,
         };
         self.nodes.push(node)?;
-        Ok(ExprId { number })
+        Ok(id)
     }
 
     pub(crate) fn alloc(&self) -> Global {

@@ -118,6 +118,3 @@ pub fn find_positions(
     let sets = find_sets(alloc, nodes, &measures, root)?;
     Ok(Ok(Positions { symbols, sets }))
 }
-
-#[cfg(test)]
-mod tests;

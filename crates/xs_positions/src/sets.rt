@@ -127,12 +127,31 @@ fn add_all(set: &mut Vec<u32>, more: &[u32]) -> Result<(), AllocError>
     ensures members { OnOk result ((p : ℕ) → Contains set.new.items p ↔ (Contains set.old.items p ⊎ Contains more.now p)) }
     ensures rises { OnOk result (IsStrictlyIncreasing set.old.items → IsStrictlyIncreasing more.now → IsStrictlyIncreasing set.new.items) }
 {
+    if includes(set, more) {
+        return Ok(());
+    }
     let in_order = comes_behind(set, more);
     set.extend_from_slice(more)?;
     if !in_order {
         sort_unique(set);
     }
     Ok(())
+}
+
+/// Whether the set has all of these numbers, where both rise.
+fn includes(set: &[u32], more: &[u32]) -> bool
+    ensures { IsTrue result → (p : ℕ) → Contains more.now p → Contains set.now p }
+{
+    let mut place = 0;
+    for p in more {
+        'below: while place < set.len() && set[place] < *p {
+            place += 1;
+        }
+        if place == set.len() || set[place] != *p {
+            return false;
+        }
+    }
+    true
 }
 
 /// Whether these numbers, which rise, lie above those of the set.

@@ -4,3 +4,4 @@ pub mod Spelled
 pub mod ProgramLaws
 pub mod Running
 pub mod Counting
+pub mod Meaning

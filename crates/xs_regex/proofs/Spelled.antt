@@ -4,7 +4,7 @@ use Rattle.std.specs.Prelude.{IsTrue}
 use Rattle.xs_positions.specs.Tree.{Tree, one, empty, chain, nothing, either, repeat}
 use Rattle.xs_positions.specs.Words.{Spells, Rounds}
 use Rattle.pattern_terms.specs.Classes.{Class, has}
-use Rattle.pattern_terms.specs.Regex.{Matches, Splits}
+use Rattle.pattern_terms.specs.Regex.{Matches}
 use Rattle.pattern_terms.specs.Trees.{class_at, regex_of}
 use Rattle.xs_regex.specs.Words.{Reads}
 
@@ -30,7 +30,7 @@ module _ (classes : List Class) where
   Spelled Word text = (numbers : List ℕ) × Word numbers × Reads of_class numbers text
 
   splits_spelled : (P : List ℕ → Type 0) (S : List ℕ → Type 0) → ((cs : List ℕ) → P cs → Spelled S cs) →
-      (rounds round : ℕ) (text : List ℕ) → Splits P rounds text → Spelled (Rounds (λ r front. S front) rounds round) text
+      (rounds round : ℕ) (text : List ℕ) → Rounds (λ r front. P front) rounds round text → Spelled (Rounds (λ r front. S front) rounds round) text
   splits_spelled P S f zero round text e = ([], refl, rw e tt)
   splits_spelled P S f (suc more) round text (front, back, e, p, h) =
       let a = f front p in
@@ -38,7 +38,7 @@ module _ (classes : List Class) where
       (a.0 ++ b.0, (a.0, b.0, refl, a.1, b.1), rw e (reads_append of_class a.0 b.0 front back a.2 b.2))
 
   spelled_splits : (P : List ℕ → Type 0) (S : List ℕ → Type 0) → ((numbers cs : List ℕ) → S numbers → Reads of_class numbers cs → P cs) →
-      (rounds round : ℕ) (numbers text : List ℕ) → Rounds (λ r front. S front) rounds round numbers → Reads of_class numbers text → Splits P rounds text
+      (rounds round : ℕ) (numbers text : List ℕ) → Rounds (λ r front. S front) rounds round numbers → Reads of_class numbers text → Rounds (λ r front. P front) rounds round text
   spelled_splits P S f zero round numbers text e r = no_reads text (rw e at r)
     where
       no_reads : (text : List ℕ) → Reads of_class [] text → text ≡ []
@@ -49,7 +49,7 @@ module _ (classes : List Class) where
       (k.0, k.1, k.2, f front k.0 s k.3, spelled_splits P S f more (suc round) back k.1 h k.4)
 
   pub matches_spelled : (tree : Tree) (text : List ℕ) → Matches (regex_of classes tree) text → Spelled (Spells tree) text
-  matches_spelled (one number) text (c, e, h) = (number ∷ [], refl, rw e (h, tt))
+  matches_spelled (one number) text (c, e, h) = (number ∷ [], (number, refl, refl), rw e (h, tt))
   matches_spelled empty text e = ([], refl, rw e tt)
   matches_spelled (chain a b) text (front, back, e, m, n) =
       let x = matches_spelled a front m in
@@ -63,7 +63,7 @@ module _ (classes : List Class) where
       (x.0, (rounds, allowed, x.1), x.2)
 
   pub spelled_matches : (tree : Tree) (numbers text : List ℕ) → Spells tree numbers → Reads of_class numbers text → Matches (regex_of classes tree) text
-  spelled_matches (one number) numbers text s r = taken number text (rw s at r)
+  spelled_matches (one number) numbers text (letter, s, same) r = taken number text (let e : numbers ≡ number ∷ [] = s ∙ ap (λ x. x ∷ []) same in rw e at r)
     where
       taken : (number : ℕ) (text : List ℕ) → Reads of_class (number ∷ []) text → (c : ℕ) × (text ≡ c ∷ []) × IsTrue (has (class_at classes number) c)
       taken number [] r = absurd r

@@ -5,3 +5,4 @@ pub mod Program
 pub mod Expression
 pub mod Ready
 pub mod Outcome
+pub mod Meaning

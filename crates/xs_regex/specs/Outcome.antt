@@ -3,12 +3,13 @@ use Rattle.std.specs.Prelude.{nat_lt, if◌then◌else◌, Result, Ok, Err}
 use Rattle.pattern_terms.specs.Regex.{Regex}
 use Rattle.pattern_syntax.specs.declared.fault.PatternFault.{PatternFault}
 use Rattle.pattern_syntax.specs.declared.fault.PatternFault.TheVariants.{TooLarge}
-use Rattle.xs_regex.specs.Expression.{regex, position_count}
+use Rattle.xs_words.specs.Expressions.{size}
+use Rattle.xs_regex.specs.Expression.{regex}
 use Rattle.xs_regex.specs.declared.pattern.Pattern.{Pattern}
 
 -- an expression with more than 4,096 positions is refused
 abbrev pub limited : Result Regex PatternFault → Result Regex PatternFault
-limited (Ok r) = if nat_lt 4096 (position_count r) then Err TooLarge else Ok r
+limited (Ok r) = if nat_lt 4096 (size r) then Err TooLarge else Ok r
 limited (Err fault) = Err fault
 
 -- the regular expression of the pattern, or its fault

@@ -4,8 +4,6 @@
 mod pattern;
 mod program;
 mod set;
-#[cfg(test)]
-mod tests;
 
 pub use pattern::Pattern;
 pub use pattern_syntax::PatternFault;

@@ -1,6 +1,6 @@
 //! Patterns.
 
-ghost use Rattle.std.specs.Prelude.{◌≡◌, ◌↔◌, Result, Ok, IfOk, IsTrue};
+ghost use Rattle.std.specs.Prelude.{◌≡◌, ◌↔◌, ℕ, List, Result, Ok, IfOk, IsTrue};
 ghost use Rattle.std.specs.Str.{chars};
 ghost use Rattle.pattern_terms.specs.Regex.{Regex, Matches};
 ghost use Rattle.pattern_syntax.specs.Grammar.{RegExp};
@@ -42,6 +42,7 @@ impl Model for Pattern {
 
 impl Pattern {
     ghost use Rattle.xs_regex.specs.Outcome.{limited, outcome_of};
+    ghost use Rattle.xs_regex.specs.Meaning.{MatchesPattern};
 
     /// The pattern that the text is (Datatypes, appendix F).
     ///
@@ -51,6 +52,14 @@ impl Pattern {
     /// accepted. `TooLarge` last, where a quantifier's number or the count of positions is above 4,096.
     /// Else when memory runs out.
     pub fn read(alloc: Global, text: &str) -> Result<Result<Pattern, PatternFault>, AllocError>
+        ensures reads { IfOk result (λ outcome. (answer : Result Regex PatternFault) × Reads (chars text.now) answer × (outcome_of outcome ≡ limited answer)) }
+        ensures only { IfOk result (λ outcome. (r : RegExp) → IsWritten (chars text.now) r → outcome_of outcome ≡ limited (answer_of r)) }
+        ensures means { IfOk result (λ outcome. IfOk outcome (λ pattern. (other : List ℕ) → Matches (regex pattern) other ↔ MatchesPattern (chars text.now) other)) }
+    {
+        Pattern::read_text(alloc, text)
+    }
+
+    fn read_text(alloc: Global, text: &str) -> Result<Result<Pattern, PatternFault>, AllocError>
         ensures reads { IfOk result (λ outcome. (answer : Result Regex PatternFault) × Reads (chars text.now) answer × (outcome_of outcome ≡ limited answer)) }
         ensures only { IfOk result (λ outcome. (r : RegExp) → IsWritten (chars text.now) r → outcome_of outcome ≡ limited (answer_of r)) }
     {

@@ -7,7 +7,8 @@ ghost use Rattle.xs_positions.specs.Nodes.{tree_at};
 ghost use Rattle.pattern_terms.specs.Regex.{Matches, regex_at};
 ghost use Rattle.pattern_terms.specs.Terms.{regexes_of, classes_of, trees_of};
 ghost use Rattle.xs_regex.specs.Sets.{Has};
-ghost use Rattle.xs_regex.specs.Expression.{regex, position_count};
+ghost use Rattle.xs_words.specs.Expressions.{size};
+ghost use Rattle.xs_regex.specs.Expression.{regex};
 ghost use Rattle.xs_regex.specs.Program.{expression_of, takes, SomeTakes, IsProgram};
 
 use crate::set::PositionSet;
@@ -39,7 +40,7 @@ impl Program {
         requires { root < length (trees_of terms) }
         ensures program { IfOk result (λ answer. IfOk answer IsProgram) }
         ensures term { IfOk result (λ answer. IfOk answer (λ program. expression_of program ≡ record { classes = classes_of terms; tree = tree_at (trees_of terms) root })) }
-        ensures too_large { IfOk result (λ answer. IsErr answer ↔ (MOST_POSITIONS < position_count (regex_at (regexes_of terms) root))) }
+        ensures too_large { IfOk result (λ answer. IsErr answer ↔ (MOST_POSITIONS < size (regex_at (regexes_of terms) root))) }
     {
         let positions = match find_positions(terms.expr(), root, MOST_POSITIONS)? {
             Ok(positions) => positions,

@@ -1,6 +1,6 @@
 -- Expressions over symbols of some type: the particles of a content model (Structures 3.8 and 3.9) and the terms of a
 -- pattern (Datatypes, appendix F) are such.
-use Rattle.std.specs.Prelude.{ℕ, List, [], ◌∷◌, Option, slice_index_or}
+use Rattle.std.specs.Prelude.{◌≡◌, ℕ, ◌+◌, ◌*◌, max, List, [], ◌∷◌, Option, Some, None, slice_index_or, refl}
 
 -- An expression. A sequence is its first part and then the rest of it, and so is a choice.
 pub data Expression (S : Type 0) : Type 0 where
@@ -33,3 +33,21 @@ renamed name (chain first rest) = chain (renamed name first) (renamed name rest)
 renamed name nothing = nothing
 renamed name (either first rest) = either (renamed name first) (renamed name rest)
 renamed name (repeat part least most) = repeat (renamed name part) least most
+
+-- A part with bounds n to m has m copies, and one with no upper bound the greater of n and 1.
+abbrev pub copies : ℕ → Option ℕ → ℕ
+copies least None = max least 1
+copies least (Some most) = most
+
+-- how many positions an expression has: the copies of its symbols
+abbrev pub size : {S : Type 0} → Expression S → ℕ
+size (one symbol) = 1
+size empty = 0
+size (chain first rest) = size first + size rest
+size nothing = 0
+size (either first rest) = size first + size rest
+size (repeat part least most) = copies least most * size part
+
+-- `(a{0,2}){0,2}` has four copies of its symbol
+pub two_of_two : size {S = ℕ} (repeat (repeat (one 97) 0 (Some 2)) 0 (Some 2)) ≡ 4
+two_of_two = refl

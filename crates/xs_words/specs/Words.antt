@@ -1,7 +1,6 @@
 -- The words of expressions (Structures 3.8.4 and 3.9.4; Datatypes, appendix F).
-use Rattle.std.specs.Prelude.{◌≡◌, ℕ, zero, suc, ◌≤◌, List, [], ◌∷◌, ◌++◌, Option, Some, None, ◌⊎◌, refl}
-use Rattle.std.proofs.Common.{inr}
-use Rattle.xs_words.specs.Expressions.{Expression, one, empty, chain, nothing, either, repeat, choice_of}
+use Rattle.std.specs.Prelude.{◌≡◌, ℕ, zero, suc, ◌≤◌, List, [], ◌∷◌, ◌++◌, Option, Some, None, ◌⊎◌}
+use Rattle.xs_words.specs.Expressions.{Expression, one, empty, chain, nothing, either, repeat}
 
 -- so many rounds lie within the bounds
 abbrev pub Allows : ℕ → Option ℕ → ℕ → Type 0

@@ -1,5 +1,12 @@
+use Rattle.std.proofs.Common.{inl, inr}
+use Rattle.std.specs.Prelude.{Contains}
 use Rattle.xs_positions.proofs.Rising.{Contains-both}
 use Rattle.xs_positions.proofs.sets.add_all.Goals as goal
+
+pub returns-then-includes-clause-members : goal.returns-then-includes-clause-members
+returns-then-includes-clause-members c = λ p.
+    let held : Contains c.args.more.now p → Contains c.args.set.now.items p = (λ h. rw c.deref.ensures.value at (c.includes.ensures c.if-includes.true p h)) in
+    ((λ h. inl h), (λ h. elim h [ inl a ↦ a | inr b ↦ held b ]))
 
 pub returns-then-not-in_order-clause-members : goal.returns-then-not-in_order-clause-members
 returns-then-not-in_order-clause-members c = λ p.

@@ -9,7 +9,7 @@ invariant_of-self-2 c =
     ordered_push c.self.inside.nodes.items c.args.node c.args.self.now c.push.new.self.items c.self.invariant c.requires c.self.view_is c.in_ok-push.ensures.items
 
 pub returns-clause-id : goal.returns-clause-id
-returns-clause-id c = c.new-id.ensures ∙ (c.len.ensures ∙ (c.self.inside.nodes.ok.0 ∙ (sym (length-trees_of c.self.inside.nodes.items) ∙ ap length c.self.view_is)))
+returns-clause-id c = c.len-2.ensures ∙ (c.self.inside.nodes.ok.0 ∙ (sym (length-trees_of c.self.inside.nodes.items) ∙ ap length c.self.view_is))
 
 pub returns-clause-ok : goal.returns-clause-ok
 returns-clause-ok c =

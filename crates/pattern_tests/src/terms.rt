@@ -1,4 +1,4 @@
-use super::*;
+use pattern_terms::{Block, CharClass, CharGroup, CharSet, ClassItem, Terms};
 use std::alloc::{AllocError, Global};
 use std::process::Abort;
 use std::test::Fail;

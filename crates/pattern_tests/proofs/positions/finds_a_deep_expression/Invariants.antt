@@ -1,5 +1,5 @@
 use Rattle.std.proofs.Common.{◌<◌, length}
-use Rattle.xs_positions.proofs.find.tests.finds_a_deep_expression.Given as goal
+use Rattle.pattern_tests.proofs.positions.finds_a_deep_expression.Given as goal
 
 abbrev pub invariant-loop : goal.invariant-loop
 invariant-loop g l = l.root < length l.expr

@@ -2,12 +2,11 @@
 
 ghost use Rattle.std.specs.Prelude.{◌<◌, length, All, IfOk, IfSome};
 
-use super::*;
-use crate::expr::{Expr, ExprId};
 use Step::{Choice, Repeat, Sequence, Symbol};
-use std::alloc::Global;
+use std::alloc::{AllocError, Global};
 use std::process::Abort;
 use std::test::Fail;
+use xs_positions::{Expr, ExprId, Positions, find_positions};
 
 /// One step of building an expression: each takes its parts off a stack, and leaves the expression on it.
 #[derive(Clone, Copy)]
@@ -711,6 +710,7 @@ fn finds_a_deep_expression(rt: HostRuntime) -> Result<(), Fail> {
     for _ in 0..200u32 {
         root = expr.repeat(root, 0, Some(1))?;
     }
+    assert_eq!(rt; root.number(), 200);
     let found = find_positions(&expr, root, 1)?.map_err(|_| "a deep expression")?;
     assert!(rt; found.nullable());
     assert_eq!(rt; found.first(), [0].as_slice());
