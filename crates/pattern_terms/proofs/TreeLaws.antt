@@ -7,7 +7,7 @@ use borrow.Author.Tests.{ltb-true, lt-ltb}
 use Rattle.xs_positions.specs.Tree.{Tree, one, empty, chain, nothing, either, repeat, sequence_of, choice_of}
 use Rattle.xs_positions.specs.Nodes.{tree_at}
 use Rattle.pattern_terms.specs.Classes.{Class}
-use Rattle.pattern_terms.specs.Regex.{Regex, character, repeated, regex_at}
+use Rattle.pattern_terms.specs.Regex.{character, repeated, regex_at}
 use Rattle.pattern_terms.specs.Trees.{regex_of, knows}
 
 get_or-front : {X : Type 0} (xs ys : List X) (i : ℕ) (d : X) → i < length xs → get_or (xs ++ ys) i d ≡ get_or xs i d

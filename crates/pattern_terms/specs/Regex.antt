@@ -1,5 +1,5 @@
 -- Regular expressions, and the texts that match them (Datatypes, appendix F): expressions whose symbols are classes of characters.
-use Rattle.std.specs.Prelude.{ℕ, List, [], ◌∷◌, ◌++◌, Option, false, codes, IsTrue, refl}
+use Rattle.std.specs.Prelude.{ℕ, List, [], ◌∷◌, Option, false, codes, IsTrue, refl}
 use Rattle.std.proofs.Common.{inl, inr}
 use Rattle.xs_words.specs.Expressions.{Expression, one, repeat, sequence_of, choice_of, expression_at}
 use Rattle.xs_words.specs.Words.{IsWordOf}

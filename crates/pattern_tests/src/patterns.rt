@@ -16,7 +16,12 @@ fn a_pattern_matches_its_texts(rt: HostRuntime) -> Result<(), Fail> {
     check_refused(&rt, rt.alloc(), "a{4097}", PatternFault::TooLarge)
 }
 
-fn check_refused(rt: &impl Abort, alloc: Global, text: &str, fault: PatternFault) -> Result<(), Fail> {
+fn check_refused(
+    rt: &impl Abort,
+    alloc: Global,
+    text: &str,
+    fault: PatternFault,
+) -> Result<(), Fail> {
     match Pattern::read(alloc, text)? {
         Ok(_) => panic!(rt; "{text} is read"),
         Err(other) => assert_eq!(rt; other, fault, "{text}"),

@@ -1,8 +1,7 @@
 -- The words of an expression, as lists of positions.
-use Rattle.std.specs.Prelude.{◌≡◌, ℕ, zero, suc, ◌+◌, ◌-◌, ◌*◌, ◌≤◌, min, List, [], ◌∷◌, ◌++◌, Option, Some, None, ◌⊎◌}
+use Rattle.std.specs.Prelude.{◌≡◌, ℕ, ◌+◌, ◌-◌, ◌*◌, min, List, [], ◌∷◌, ◌++◌, ◌⊎◌}
 use Rattle.xs_words.specs.Words.{Allows, Rounds, IsWordOf}
 use Rattle.xs_positions.specs.Tree.{Tree, one, empty, chain, nothing, either, repeat, copies, size}
-
 pub use Rattle.xs_words.specs.Words.{Allows, Rounds}
 
 -- where copy j of a part lies, and the last copy for each round past it

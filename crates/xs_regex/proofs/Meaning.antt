@@ -1,5 +1,5 @@
 -- What a pattern that was read matches, by its text.
-use Rattle.std.proofs.Common.{◌≡◌, ℕ, ◌↔◌, Bool, true, false, if◌then◌else◌, List, Option, Some, None, sym, ap, ◌∙◌}
+use Rattle.std.proofs.Common.{◌≡◌, ℕ, ◌↔◌, Bool, true, false, if◌then◌else◌, List, Option, Some, None, refl, ap, ◌∙◌}
 use Rattle.std.specs.Prelude.{Result, Ok, Err, IfOk, nat_lt}
 use Rattle.xs_words.specs.Expressions.{size}
 use Rattle.pattern_terms.specs.Regex.{Regex, Matches}
@@ -14,12 +14,12 @@ use Rattle.xs_regex.specs.Outcome.{limited, outcome_of}
 use Rattle.xs_regex.specs.Meaning.{MatchesPattern}
 use Rattle.xs_regex.specs.declared.pattern.Pattern.{Pattern}
 
-ok_else : (large : Bool) (r x : Regex) → Ok {E = PatternFault} x ≡ (if large then Err TooLarge else Ok r) → r ≡ x
-ok_else true r x e = cc
-ok_else false r x e = cc
+ok_else : (large : Bool) (r x : Regex) (answer : Result Regex PatternFault) → answer ≡ Ok x → answer ≡ (if large then Err TooLarge else Ok r) → r ≡ x
+ok_else true r x answer e f = cc
+ok_else false r x answer e f = cc
 
 ok_limited : (answer : Result Regex PatternFault) (x : Regex) → Ok x ≡ limited answer → answer ≡ Ok x
-ok_limited (Ok r) x e = ap Ok (ok_else (nat_lt 4096 (size r)) r x e)
+ok_limited (Ok r) x e = ap Ok (ok_else (nat_lt 4096 (size r)) r x (Ok x) refl e)
 ok_limited (Err fault) x e = cc
 
 ok_answer : (fault : Option PatternFault) (large : Bool) (r x : Regex) → refused_or fault large r ≡ Ok x → r ≡ x

@@ -1,5 +1,5 @@
 -- The texts of an expression over classes, by its words over the numbers of classes.
-use Rattle.std.proofs.Common.{◌≡◌, ℕ, zero, suc, Bool, List, [], ◌∷◌, ◌++◌, map, refl, ap, inl, inr}
+use Rattle.std.proofs.Common.{◌≡◌, ℕ, zero, suc, Bool, List, [], ◌∷◌, ◌++◌, map, refl, ap, ◌∙◌, inl, inr}
 use Rattle.std.specs.Prelude.{IsTrue}
 use Rattle.xs_positions.specs.Tree.{Tree, one, empty, chain, nothing, either, repeat}
 use Rattle.xs_positions.specs.Words.{Spells, Rounds}
