@@ -11,6 +11,7 @@ pub mod Repeating
 pub mod Parting
 pub mod Steps
 pub mod Tasks
+pub mod Listed
 pub mod Exchange
 pub mod Spelling
 pub mod Finding

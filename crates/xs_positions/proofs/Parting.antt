@@ -71,3 +71,15 @@ copy_part base n t ps i p h l e =
 
 pub copies_count : (base n : ℕ) (t : Tree) (ps : List Part) → AreParts base (replicate n t) ps → length ps ≡ n
 copies_count base n t ps h = parts_length base (replicate n t) ps h ∙ length_copies n t
+
+-- the last of some copies, and those before it
+pub last_copy : (base n : ℕ) (t : Tree) (ps : List Part) (p : Part) → AreParts base (replicate n t) (ps ++ p ∷ []) →
+    (n ≡ length ps + 1) × AreParts base (replicate (length ps) t) ps × IsPartOf t (base + length ps * size t) p
+last_copy base zero t [] p h = absurd h
+last_copy base (suc zero) t [] p h = (refl, tt, (let z : base + 0 * size t ≡ base = (let m = zero-mul (size t) in omega arith) in rw z h.0))
+last_copy base (suc (suc n)) t [] p h = absurd h.1
+last_copy base zero t (q ∷ ps) p h = absurd h
+last_copy base (suc n) t (q ∷ ps) p h =
+    let r = last_copy (base + size t) n t ps p h.1 in
+    let z : base + suc (length ps) * size t ≡ (base + size t) + length ps * size t = (let m = suc-mul (length ps) (size t) in omega arith) in
+    ((let e = r.0 in omega arith), (h.0, r.1), rw z r.2)

@@ -1,21 +1,23 @@
 -- One part more in a sequence, a choice or a repeat: what the walk's loops keep.
-use Rattle.std.proofs.Common.{◌≡◌, ℕ, zero, suc, ◌+◌, ◌*◌, ◌^◌, ◌<◌, ◌≤◌, max, ◌⊎◌, ◌↔◌, Bool, true, false, ◌&&◌, ◌||◌, ◌==◌, IsTrue, if◌then◌else◌, List, [], ◌∷◌, ◌++◌, Option, Some, None, length, get_or, take, Contains, sym, refl, ap, ◌∙◌, inl, inr, arith, suc-mul, Result, Ok, Err, IfOk, Vec, Global, eq-eqb, ne_eqb, leb-true}
+use Rattle.std.proofs.Common.{◌≡◌, ℕ, zero, suc, ◌+◌, ◌*◌, ◌^◌, ◌<◌, ◌≤◌, max, ◌⊎◌, ◌↔◌, Bool, true, false, ◌&&◌, ◌||◌, ◌==◌, IsTrue, if◌then◌else◌, List, [], ◌∷◌, ◌++◌, Option, Some, None, length, get_or, take, Contains, sym, refl, ap, ◌∙◌, inl, inr, arith, suc-mul, zero-mul, Result, Ok, Err, IfOk, Vec, Global, eq-eqb, ne_eqb, leb-true}
 use Rattle.std.specs.List.Sorted.{IsStrictlyIncreasing}
 use Rattle.std.proofs.lemmas.Bool.{and_parts, or_left, false≢true}
-use Rattle.std.proofs.lemmas.List.{length-map}
+use Rattle.std.proofs.lemmas.List.{length-map, take_more, take_all}
 use Rattle.std.proofs.lemmas.List.Elements.{Contains-get_or}
-use Rattle.xs_positions.specs.Tree.{Tree, repeat, copies, size, sequence_of, choice_of}
+use Rattle.xs_positions.specs.Tree.{Tree, nothing, repeat, copies, size, sequence_of, choice_of}
 use Rattle.xs_positions.specs.Words.{IsWord, Rounds, place, Ends, Passes}
 use Rattle.xs_positions.specs.Measures.{has_rounds, has_empty, has_word, measure_of}
 use Rattle.xs_positions.specs.Sets.{Describes}
-use Rattle.xs_positions.specs.Parts.{sets_of, unused, beside, IsJoined, IsLooped, IsPartOf}
+use Rattle.xs_positions.specs.Parts.{sets_of, unused, beside, IsJoined, IsLooped, IsPartOf, AreParts}
+use Rattle.xs_positions.specs.Copies.{AreJoined}
 use Rattle.xs_positions.specs.Walk.{tree_in, trees_in, CopyOf, WithinRounds}
 use Rattle.xs_positions.specs.declared.expr.Node.{Node}
 use Rattle.xs_positions.specs.declared.sets.Part.{Part}
 use Rattle.xs_positions.specs.declared.measures.Measure.{Measure}
 use Rattle.xs_positions.proofs.Languages.{Joins}
 use Rattle.xs_positions.proofs.Rounds.{rounds_last, last_round, some_rounds, Plus, plus_one, empty_plus}
-use Rattle.xs_positions.proofs.Rising.{rises-append, Contains-both}
+use Rattle.xs_positions.proofs.Rising.{rises-nil, rises-append, Contains-none, Contains-both}
+use Rattle.xs_positions.proofs.Parting.{parts_length, part_at, copy_part}
 use Rattle.xs_positions.proofs.Describing.{Describes-same, Describes-none, Describes-or, Describes-join, Describes-plus, Or, ends_passes}
 use Rattle.xs_positions.proofs.Measuring.{taken_more, size-sequence_of, size-choice_of, has_empty-sequence_of, has_empty-choice_of, has_word-sequence_of}
 use Rattle.xs_positions.proofs.Worded.{empty_is, word_is, words_within, passes_at, sequence_words, choice_words}
@@ -210,3 +212,63 @@ pub bounded_sets : (t : Tree) (base n most : ℕ) (m : Option ℕ) (whole part :
 bounded_sets t base n most m whole part ends e rounds some d last rises made =
     let l : n ≤ most = leb-true n most (rw e at rounds) in
     rw (e, made) (Describes-within t base n most l some (sets_of whole) ends.items d last rises)
+
+-- ---- parts so far
+pub empty_sequence : (base : ℕ) (part : Part) → sets_of part ≡ unused 0 → part.nullable ≡ true → IsPartOf (sequence_of []) base part
+empty_sequence base part e n = record { sets = rw e (nothing_sets (sequence_of []) base (inl refl)); nullable = n }
+
+pub empty_choice : (base : ℕ) (part : Part) → sets_of part ≡ unused 0 → part.nullable ≡ false → IsPartOf (choice_of []) base part
+empty_choice base part e n = record { sets = rw e (nothing_sets (choice_of []) base (inl refl)); nullable = n }
+
+module _ (base : ℕ) (ts : List Tree) (parts : List Part) (are : AreParts base ts parts) (i : ℕ) (whole next new : Part) (l : i < length parts) (is : next ≡ get_or parts i next) where
+  taken_part : take (i + 1) ts ≡ take i ts ++ get_or ts i nothing ∷ []
+  taken_part = take_more ts i nothing (let e = parts_length base ts parts are in omega arith)
+
+  pub join_more : IsTrue (has_word (sequence_of ts)) → IsPartOf (sequence_of (take i ts)) base whole →
+      IsJoined base (sets_of whole) whole.nullable (sets_of next) next.nullable (sets_of new) → new.nullable ≡ (whole.nullable && next.nullable) →
+      IsPartOf (sequence_of (take (i + 1) ts)) base new
+  join_more words dw made both = sequence_next ts i (get_or ts i nothing) taken_part base whole next new (part_at base ts parts i next are l is) dw words made both
+
+  pub choose_more : IsPartOf (choice_of (take i ts)) base whole → sets_of new ≡ beside (sets_of whole) (sets_of next) → new.nullable ≡ (whole.nullable || next.nullable) →
+      IsPartOf (choice_of (take (i + 1) ts)) base new
+  choose_more dw made either = choice_next ts i (get_or ts i nothing) taken_part base whole next new (part_at base ts parts i next are l is) dw made either
+
+pub all_taken : (base : ℕ) (ts : List Tree) (parts : List Part) (n : ℕ) → AreParts base ts parts → n ≡ length parts → take n ts ≡ ts
+all_taken base ts parts n are e = take_all n ts (let l = parts_length base ts parts are in omega arith)
+
+-- ---- copies so far
+none_ends : (W : ℕ → List ℕ → Type 0) (r p : ℕ) (front : List ℕ) → r ≤ 0 → Rounds W r 0 (front ++ p ∷ []) → ⊥
+none_ends W zero p front l h = no_word_passes front [] p h
+none_ends W (suc r) p front l h = absurd (omega arith)
+
+pub first_copies : (t : Tree) (base least : ℕ) (whole : Part) → sets_of whole ≡ unused 0 → whole.nullable ≡ true → AreJoined t base least 0 whole []
+first_copies t base least whole e n = record {
+  sets = rw (e, zero-mul (size t)) (Describes-none (Rounds (CopyOf t base) 0 0) base 0 (λ p h. no_word_passes h.0 h.1 p h.2));
+  nullable = n;
+  ends = λ p. ((λ h. absurd (Contains-none p h)), (λ h. absurd (none_ends (CopyOf t base) h.1.0 p h.0 h.1.1.1 h.1.2)));
+  ends_rise = rises-nil;
+}
+
+both_empty : (z e : Bool) → ((z || e) && e) ≡ e
+both_empty true e = refl
+both_empty false true = refl
+both_empty false false = refl
+
+pub more_copies : (t : Tree) (base least n k : ℕ) (parts : List Part) (whole next new : Part) (ends ends' : List ℕ) → AreParts base (replicate n t) parts → k < length parts → next ≡ get_or parts k next →
+    IsTrue (has_word t) → AreJoined t base least k whole ends → IsJoined base (sets_of whole) whole.nullable (sets_of next) next.nullable (sets_of new) →
+    new.nullable ≡ (whole.nullable && next.nullable) →
+    ((least ≤ k + 1) × (ends' ≡ (if next.nullable then new.last.items else ends ++ new.last.items))) ⊎ ((k + 1 < least) × (ends' ≡ ends)) →
+    AreJoined t base least (k + 1) new ends'
+more_copies t base least n k parts whole next new ends ends' are l is some old made both e =
+    let dn = copy_part base n t parts k next are l is in
+    let sets = copies_next t base k whole next new some old.sets dn.sets whole.nullable next.nullable old.nullable dn.nullable made in
+    let lasts : ((p : ℕ) → Contains ends' p ↔ Ends (WithinRounds t base least (k + 1)) p) × IsStrictlyIncreasing ends' = elim e [
+      | inl h ↦ ends_next t base least k ends new.last.items ends' old.ends sets.last old.ends_rise sets.last_rises next.nullable dn.nullable h.0 h.1
+      | inr h ↦ (rw h.1 (no_ends_next t base least k ends old.ends h.0), rw h.1 old.ends_rise)
+    ] in
+    record {
+      sets = sets;
+      nullable = both ∙ (rw (old.nullable, dn.nullable) (both_empty (k == 0) (has_empty t))) ∙ (let z : (k + 1 == 0) ≡ false = ne_eqb (k + 1) 0 (λ h. omega arith) in rw z refl);
+      ends = lasts.0;
+      ends_rise = lasts.1;
+    }

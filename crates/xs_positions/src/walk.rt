@@ -1,6 +1,6 @@
 //! The sets of an expression. Its parts come before it, and what waits stands in a list, so that depth costs no stack.
 
-ghost use Rattle.std.specs.Prelude.{◌≡◌, ℕ, ◌+◌, ◌*◌, ◌<◌, ◌≤◌, ◌^◌, ◌↔◌, ◌++◌, ◌∷◌, [], List, map, length, replicate, reverse, drop, Contains, IfOk, OnOk, IsTrue, if◌then◌else◌};
+ghost use Rattle.std.specs.Prelude.{◌≡◌, ℕ, ◌+◌, ◌*◌, ◌<◌, ◌≤◌, ◌^◌, ◌↔◌, ◌++◌, ◌∷◌, [], List, map, length, replicate, reverse, drop, Contains, None, IfOk, OnOk, IsTrue, if◌then◌else◌};
 ghost use Rattle.std.specs.List.Sorted.{IsStrictlyIncreasing};
 ghost use Rattle.xs_positions.specs.Tree.{Tree, size, repeat, sequence_of, choice_of, copies};
 ghost use Rattle.xs_positions.specs.Words.{IsWord, Ends, Rounds};
@@ -195,8 +195,8 @@ fn join_all(alloc: Global, base: u32, parts: Vec<Part>) -> Result<Part, AllocErr
     ensures { (trees : List Tree) → AreParts base trees parts.items → IsTrue (has_word (sequence_of trees)) → IfOk result (IsPartOf (sequence_of trees) base) }
 {
     let mut whole = Part::unused(alloc, 0, true)?;
-    for next in parts {
-        whole = whole.then(base, next)?;
+    for part in parts {
+        whole = whole.then(base, part)?;
     }
     Ok(whole)
 }
@@ -206,26 +206,42 @@ fn choose(alloc: Global, base: u32, parts: Vec<Part>) -> Result<Part, AllocError
     ensures { (trees : List Tree) → AreParts base trees parts.items → IfOk result (IsPartOf (choice_of trees) base) }
 {
     let mut whole = Part::unused(alloc, 0, false)?;
-    for next in parts {
-        whole = whole.or(next)?;
+    for part in parts {
+        whole = whole.or(part)?;
     }
     Ok(whole)
 }
 
-/// Words of copies of a part, as many as the bounds allow. With no upper bound the last copy comes over and over.
+/// Words of copies of a part, as many as the bounds allow.
 fn repeat(
     alloc: Global,
     base: u32,
     min: u32,
     max: Option<u32>,
-    mut parts: Vec<Part>,
+    parts: Vec<Part>,
 ) -> Result<Part, AllocError>
     requires { (tree : Tree) × AreCopies tree base min max parts.items }
     ensures { (tree : Tree) → AreCopies tree base min max parts.items → IfOk result (λ whole. Describes (IsWord (repeat tree min max) base) base (size (repeat tree min max)) (sets_of whole)) }
 {
-    if max.is_some() {
-        return Ok(find_copies(alloc, base, min, parts)?.within());
+    match max {
+        Some(_) => {
+            let copies = find_copies(alloc, base, min, parts)?;
+            Ok(copies.within())
+        }
+        None => repeat_last(alloc, base, min, parts),
     }
+}
+
+/// Words of copies of a part, of which the last comes over and over.
+fn repeat_last(
+    alloc: Global,
+    base: u32,
+    min: u32,
+    mut parts: Vec<Part>,
+) -> Result<Part, AllocError>
+    requires { (tree : Tree) × AreCopies tree base min None parts.items }
+    ensures { (tree : Tree) → AreCopies tree base min None parts.items → IfOk result (λ whole. Describes (IsWord (repeat tree min None) base) base (size (repeat tree min None)) (sets_of whole)) }
+{
     let Some(last) = parts.pop() else {
         return Part::unused(alloc, 0, true);
     };
@@ -267,9 +283,9 @@ fn find_copies(
     let mut whole = Part::unused(alloc, 0, true)?;
     let mut ends = Vec::new(alloc);
     let mut count = 0;
-    for next in parts {
-        let nullable = next.nullable;
-        whole = whole.then(base, next)?;
+    for part in parts {
+        let nullable = part.nullable;
+        whole = whole.then(base, part)?;
         count += 1;
         if least as usize <= count {
             add_ends(&mut ends, nullable, &whole.last)?;
