@@ -1,14 +1,20 @@
+ghost use Rattle.std.specs.Prelude.{◌≡◌};
+ghost use Rattle.xpath_subset.specs.inside.Trims.{trim_front, trim_end, trim_white};
+
 use crate::{NameTest, Path, Paths, Step};
 use std::alloc::{AllocError, Global};
 use xs_lists::Listed;
 use xs_names::{NsId, Scope, Text, is_ncname, split_qname};
+
+// The characters of white space (XML 1.0, 2.3).
+const WHITE_SPACE: [char; 4] = [' ', '\t', '\n', '\r'];
 
 /// Why a text is no selector or field.
 #[derive(Debug, Clone, Copy, PartialEq, Eq)]
 pub enum XPathFault {
     /// The text is outside the grammar of selectors, or of fields.
     Syntax,
-    /// The text is inside, and has a prefix without a binding.
+    /// The text is inside the grammar, and has a prefix without a binding.
     Unbound,
 }
 
@@ -59,9 +65,25 @@ fn answer(read: Result<Option<Paths>, Refusal>) -> Result<Result<Paths, XPathFau
     }
 }
 
+// The text without the white space at its beginning.
+fn trimmed_front(text: &str) -> &str
+    ensures { result.now ≡ trim_front text.now }
+{
+    text.trim_start_matches(WHITE_SPACE)
+}
+
+// The text without the white space at its end.
+fn trimmed_end(text: &str) -> &str
+    ensures { result.now ≡ trim_end text.now }
+{
+    text.trim_end_matches(WHITE_SPACE)
+}
+
 // The text without white space at its ends.
-fn trimmed(text: &str) -> &str {
-    text.trim_matches([' ', '\t', '\n', '\r'])
+fn trimmed(text: &str) -> &str
+    ensures { result.now ≡ trim_white text.now }
+{
+    trimmed_end(trimmed_front(text))
 }
 
 // Paths joined by `|`; nothing where a prefix is not bound.
