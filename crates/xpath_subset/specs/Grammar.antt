@@ -123,7 +123,7 @@ abbrev pub way_meaning : List (List ℕ × ℕ) → Bool → List WrittenStep �
 way_meaning scope anywhere written itself = option_map (to_elements anywhere) (steps_meaning scope (written ++ itself ∷ []))
 way_meaning scope anywhere written (child axis test) = option_map (to_elements anywhere) (steps_meaning scope (written ++ child axis test ∷ []))
 way_meaning scope anywhere written (attribute axis test) =
-    option_and_then (steps_meaning scope written) (λ way. option_map (to_attributes anywhere way) (test_meaning scope test))
+    option_and_then (λ way. option_map (to_attributes anywhere way) (test_meaning scope test)) (steps_meaning scope written)
 
 abbrev pub path_meaning : List (List ℕ × ℕ) → WrittenPath → Option Path
 path_meaning scope path = way_meaning scope path.anywhere path.steps path.last
