@@ -8,7 +8,7 @@ use Rattle.xpath_subset.specs.Grammar.{Follows, EndsIn}
 use Rattle.xpath_subset.specs.inside.Trims.{is_white_byte, trim_front, put_before, trim_end, trim_white, IsTight}
 use Rattle.xpath_subset.proofs.Trims.{white_cons, front_white, trim_white-tight, trim_white-gap, front_cut, end_cut, trim_front-gap}
 
-neither : (a b : Bool) → a || b ≡ false → (a ≡ false) × (b ≡ false)
+pub neither : (a b : Bool) → a || b ≡ false → (a ≡ false) × (b ≡ false)
 neither true b e = absurd (true≢false e)
 neither false b e = (refl, e)
 
@@ -25,7 +25,7 @@ split_at p (x ∷ xs) y ys e f =
     let parts = neither (p x) (list_any p xs) e in
     slice_split-cons_no p x (xs ++ y ∷ ys) parts.0 ∙ ap (onto_first x) (split_at p xs y ys parts.1 f)
 
-any_append : (p : ℕ → Bool) (xs ys : List ℕ) → list_any p xs ≡ false → list_any p ys ≡ false → list_any p (xs ++ ys) ≡ false
+pub any_append : (p : ℕ → Bool) (xs ys : List ℕ) → list_any p xs ≡ false → list_any p ys ≡ false → list_any p (xs ++ ys) ≡ false
 any_append p [] ys e f = f
 any_append p (x ∷ xs) ys e f =
     let parts = neither (p x) (list_any p xs) e in
@@ -52,7 +52,7 @@ gap_pieces p apart (b ∷ gap) text e =
     onto [] n e w = absurd (omega (arith, e))
     onto (piece ∷ pieces) n e w = ap (λ first. trim_end first ∷ map trim_white pieces) (front_white b piece w)
 
-white_pieces : (p : ℕ → Bool) → ((b : ℕ) → is_white_byte b ≡ true → p b ≡ false) → (gap : List ℕ) → is_white gap ≡ true → list_any p gap ≡ false
+pub white_pieces : (p : ℕ → Bool) → ((b : ℕ) → is_white_byte b ≡ true → p b ≡ false) → (gap : List ℕ) → is_white gap ≡ true → list_any p gap ≡ false
 white_pieces p apart [] e = refl
 white_pieces p apart (b ∷ gap) e =
     let parts = white_cons b gap e in
@@ -87,7 +87,7 @@ pub record IsPlain (p : ℕ → Bool) (text : List ℕ) : Type 0 where
   pub tight : IsTight text
   pub whole : list_any p text ≡ false
 
-eqb_true : (a b : ℕ) → a == b ≡ true → a ≡ b
+pub eqb_true : (a b : ℕ) → a == b ≡ true → a ≡ b
 eqb_true a b e = grind arith
 
 -- the trimmed pieces of a text of items, and the text of such pieces

@@ -4,7 +4,7 @@ use Rattle.xs_names.specs.White.{is_white}
 use Rattle.xpath_subset.specs.inside.Trims.{is_white_byte, trim_front, put_before, trim_end, trim_white, IsTight}
 
 -- white space is a white byte, and white space
-both : (a b : Bool) → a && b ≡ true → (a ≡ true) × (b ≡ true)
+pub both : (a b : Bool) → a && b ≡ true → (a ≡ true) × (b ≡ true)
 both true b e = (refl, e)
 both false b e = absurd (true≢false (sym e))
 
@@ -24,7 +24,7 @@ front_other b bs e = ap (λ test. if test then trim_front bs else b ∷ bs) e
 put_white : (b : ℕ) → is_white_byte b ≡ true → put_before b [] ≡ []
 put_white b e = ap (λ test. if test then [] else b ∷ []) e
 
-put_other : (b : ℕ) → is_white_byte b ≡ false → put_before b [] ≡ b ∷ []
+pub put_other : (b : ℕ) → is_white_byte b ≡ false → put_before b [] ≡ b ∷ []
 put_other b e = ap (λ test. if test then [] else b ∷ []) e
 
 -- white space before and after a text goes

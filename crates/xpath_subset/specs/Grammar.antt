@@ -1,7 +1,7 @@
 -- Paths of identity constraints as they are written: Structures 3.11.6, Selector and Field.
 use Rattle.std.specs.Prelude.{◌≡◌, ℕ, Bool, true, false, List, [], ◌∷◌, ◌++◌, map, Option, None, Some, Result, Ok, Err, codes}
 use Rattle.std.specs.Option.{option_map, option_and_then}
-use Rattle.std.specs.Str.{chars}
+use Rattle.std.specs.Str.{chars, IsUtf8}
 use Rattle.xs_names.specs.Characters.{is_ncname}
 use Rattle.xs_names.specs.QName.{joined}
 use Rattle.xs_names.specs.Scope.{resolved}
@@ -38,11 +38,14 @@ test_token star = codes "*"
 test_token (any_of prefix) = prefix ++ codes ":*"
 test_token (name prefix local) = joined prefix local
 
+abbrev pub IsName : List ℕ → Type 0
+IsName text = IsUtf8 text × (is_ncname (chars text) ≡ true)
+
 abbrev pub HasNames : WrittenTest → Type 0
 HasNames star = Unit {0}
-HasNames (any_of prefix) = is_ncname (chars prefix) ≡ true
-HasNames (name None local) = is_ncname (chars local) ≡ true
-HasNames (name (Some prefix) local) = (is_ncname (chars prefix) ≡ true) × (is_ncname (chars local) ≡ true)
+HasNames (any_of prefix) = IsName prefix
+HasNames (name None local) = IsName local
+HasNames (name (Some prefix) local) = IsName prefix × IsName local
 
 abbrev pub IsTest : WrittenTest → List ℕ → Type 0
 IsTest test text = (text ≡ test_token test) × HasNames test

@@ -1,4 +1,7 @@
-ghost use Rattle.std.specs.Prelude.{◌≡◌};
+ghost use Rattle.std.specs.Prelude.{◌≡◌, ◌==◌, ◌<◌, map, IfOk, MatchOption};
+ghost use Rattle.std.specs.List.{slice_split};
+ghost use Rattle.xpath_subset.specs.Grammar.{IsTest, IsElementStep, IsSelector, IsField, IsReading, test_meaning, step_meaning, paths_meaning};
+ghost use Rattle.xpath_subset.specs.inside.Gives.{Gives, LacksToken, IsAfter};
 ghost use Rattle.xpath_subset.specs.inside.Trims.{trim_front, trim_end, trim_white};
 
 use crate::{NameTest, Path, Paths, Step};
@@ -86,102 +89,126 @@ fn trimmed(text: &str) -> &str
     trimmed_end(trimmed_front(text))
 }
 
-// Paths joined by `|`; nothing where a prefix is not bound.
+// The pieces of a text between separators.
+fn pieces<'a>(alloc: Global, text: &'a str, separator: char) -> Result<Vec<&'a str>, AllocError>
+    requires { separator < 128 }
+    ensures { IfOk result (λ pieces. map (λ p. p.now) pieces.items ≡ slice_split (λ b. b == separator) text.now) }
+{
+    text.split(separator).collect(alloc)
+}
+
+// What follows a token at the beginning of the text, without white space before it.
+fn after<'a>(text: &'a str, token: &str) -> Option<&'a str>
+    ensures { MatchOption result (LacksToken token.now text.now) (λ rest. IsAfter token.now text.now rest.now) }
+{
+    let rest = text.strip_prefix(token)?;
+    Some(trimmed_front(rest))
+}
+
+// A name test: one token. `None` where its prefix is not bound.
+fn read_test(alloc: Global, text: &str, scope: &Scope) -> Result<Option<NameTest>, Refusal>
+    ensures { Gives (λ test. IsTest test text.now) (test_meaning scope.now) result }
+{
+    if text == "*" {
+        return Ok(Some(NameTest::Any));
+    }
+    if let Some(prefix) = text.strip_suffix(":*") {
+        return read_any_of(prefix, scope);
+    }
+    let Ok((prefix, local)) = split_qname(text) else {
+        return Err(Refusal::Syntax);
+    };
+    let space = match prefix {
+        None => NsId::ABSENT,
+        Some(_) => match scope.resolve(prefix) {
+            Ok(space) => space,
+            Err(_) => return Ok(None),
+        },
+    };
+    Ok(Some(NameTest::Name(space, Text::new(alloc, local)?)))
+}
+
+// The test `prefix:*`.
+fn read_any_of(prefix: &str, scope: &Scope) -> Result<Option<NameTest>, Refusal> {
+    if !is_ncname(prefix) {
+        return Err(Refusal::Syntax);
+    }
+    Ok(scope.resolve(Some(prefix)).ok().map(NameTest::Namespace))
+}
+
+// A step to elements.
+fn read_step(alloc: Global, text: &str, scope: &Scope) -> Result<Option<Step>, Refusal>
+    ensures { Gives (λ step. IsElementStep step text.now) (step_meaning scope.now) result }
+{
+    if text == "." {
+        return Ok(Some(Step::Itself));
+    }
+    let test = after(text, "child::").unwrap_or(text);
+    let test = read_test(alloc, test, scope)?;
+    Ok(test.map(Step::Child))
+}
+
+// What follows `@` or `attribute::`.
+fn attribute_test(text: &str) -> Option<&str> {
+    after(text, "@").or_else(|| after(text, "attribute::"))
+}
+
+// Steps to elements; `None` where a prefix is not bound.
+fn read_steps(alloc: Global, pieces: &[&str], scope: &Scope) -> Result<Option<Listed<Step>>, Refusal> {
+    let mut steps = Listed::new(alloc);
+    let mut bound = true;
+    for piece in pieces {
+        match read_step(alloc, trimmed(piece), scope)? {
+            Some(step) => steps.push(step)?,
+            None => bound = false,
+        }
+    }
+    Ok(bound.then_some(steps))
+}
+
+// A path, with no white space at its ends.
+fn read_path(alloc: Global, text: &str, kind: Kind, scope: &Scope) -> Result<Option<Path>, Refusal> {
+    let (anywhere, way) = match after(text, ".//") {
+        Some(rest) => (true, rest),
+        None => (false, text),
+    };
+    let pieces = pieces(alloc, way, '/')?;
+    if kind == Kind::Field {
+        if let Some((last, front)) = pieces.as_slice().split_last() {
+            if let Some(test) = attribute_test(trimmed(last)) {
+                let steps = read_steps(alloc, front, scope)?;
+                let test = read_test(alloc, test, scope)?;
+                return Ok(match (steps, test) {
+                    (Some(steps), Some(test)) => Some(Path {
+                        anywhere,
+                        steps,
+                        attribute: Some(test),
+                    }),
+                    _ => None,
+                });
+            }
+        }
+    }
+    let steps = read_steps(alloc, pieces.as_slice(), scope)?;
+    Ok(steps.map(|steps| Path {
+        anywhere,
+        steps,
+        attribute: None,
+    }))
+}
+
+// Paths joined by `|`; `None` where a prefix is not bound.
 fn read_paths(alloc: Global, text: &str, kind: Kind, scope: &Scope) -> Result<Option<Paths>, Refusal> {
     if trimmed(text).len() != text.len() {
         return Err(Refusal::Syntax);
     }
     let mut paths = Paths::new(alloc);
     let mut bound = true;
-    for piece in text.split('|') {
+    for piece in pieces(alloc, text, '|')?.as_slice() {
         match read_path(alloc, trimmed(piece), kind, scope)? {
             Some(path) => paths.push(path)?,
             None => bound = false,
         }
     }
     Ok(bound.then_some(paths))
-}
-
-// A path, with no white space at its ends.
-fn read_path(alloc: Global, text: &str, kind: Kind, scope: &Scope) -> Result<Option<Path>, Refusal> {
-    let (anywhere, text) = match text.strip_prefix(".//") {
-        Some(rest) => (true, trimmed(rest)),
-        None => (false, text),
-    };
-    let mut steps = Listed::new(alloc);
-    let mut attribute = None;
-    let mut bound = true;
-    for piece in text.split('/') {
-        if attribute.is_some() {
-            return Err(Refusal::Syntax);
-        }
-        let piece = trimmed(piece);
-        if let Some(test) = attribute_test(piece) {
-            if kind == Kind::Selector {
-                return Err(Refusal::Syntax);
-            }
-            attribute = Some(read_test(alloc, test, scope)?);
-        } else if piece == "." {
-            steps.push(Step::Itself)?;
-        } else {
-            match read_test(alloc, child_test(piece), scope)? {
-                Some(test) => steps.push(Step::Child(test))?,
-                None => bound = false,
-            }
-        }
-    }
-    let attribute = match attribute {
-        None => None,
-        Some(Some(test)) => Some(test),
-        Some(None) => {
-            bound = false;
-            None
-        }
-    };
-    Ok(bound.then_some(Path {
-        anywhere,
-        steps,
-        attribute,
-    }))
-}
-
-// What follows `@` or `attribute::`.
-fn attribute_test(step: &str) -> Option<&str> {
-    let test = match step.strip_prefix('@') {
-        Some(test) => test,
-        None => step.strip_prefix("attribute::")?,
-    };
-    Some(trimmed(test))
-}
-
-// What follows `child::`, else the whole step.
-fn child_test(step: &str) -> &str {
-    match step.strip_prefix("child::") {
-        Some(test) => trimmed(test),
-        None => step,
-    }
-}
-
-// A name test: one token. Nothing where its prefix is not bound.
-fn read_test(alloc: Global, text: &str, scope: &Scope) -> Result<Option<NameTest>, Refusal> {
-    if text == "*" {
-        return Ok(Some(NameTest::Any));
-    }
-    if let Some(prefix) = text.strip_suffix(":*") {
-        if !is_ncname(prefix) {
-            return Err(Refusal::Syntax);
-        }
-        return match scope.resolve(Some(prefix)) {
-            Ok(space) => Ok(Some(NameTest::Namespace(space))),
-            Err(_) => Ok(None),
-        };
-    }
-    match split_qname(text) {
-        Err(_) => Err(Refusal::Syntax),
-        Ok((None, local)) => Ok(Some(NameTest::Name(NsId::ABSENT, Text::new(alloc, local)?))),
-        Ok((prefix, local)) => match scope.resolve(prefix) {
-            Ok(space) => Ok(Some(NameTest::Name(space, Text::new(alloc, local)?))),
-            Err(_) => Ok(None),
-        },
-    }
 }
