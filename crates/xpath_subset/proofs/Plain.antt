@@ -160,7 +160,7 @@ last_plain p apart (attribute false test) text reads = follows_plain p apart (co
 last_plain p apart (attribute true test) text reads = follows_plain p apart (codes "attribute::") (tight_cons 97 _ refl) apart.attribute (IsTest test) (test_plain p apart test) text reads
 
 -- `/` and `|` are apart
-equal_outside : (c : ℕ) → c < 128 → is_inner c ≡ false → (b : ℕ) → b == c ≡ true → (b < 128) × (is_inner b ≡ false)
+pub equal_outside : (c : ℕ) → c < 128 → is_inner c ≡ false → (b : ℕ) → b == c ≡ true → (b < 128) × (is_inner b ≡ false)
 equal_outside c small out b e = subst (λ x. (x < 128) × (is_inner x ≡ false)) (sym (eqb_true b c e)) (small, out)
 
 pub slash_apart : IsApart (λ b. b == 47)

@@ -1,6 +1,7 @@
-ghost use Rattle.std.specs.Prelude.{◌≡◌, ◌==◌, ◌<◌, map, IfOk, MatchOption};
+ghost use Rattle.std.specs.Prelude.{◌≡◌, ◌==◌, ◌<◌, ◌++◌, Some, codes, map, IfOk, MatchOption};
 ghost use Rattle.std.specs.List.{slice_split};
-ghost use Rattle.xpath_subset.specs.Grammar.{IsTest, IsElementStep, IsSelector, IsField, IsReading, test_meaning, step_meaning, paths_meaning};
+ghost use Rattle.xs_names.specs.QName.{joined};
+ghost use Rattle.xpath_subset.specs.Grammar.{IsName, IsTest, IsElementStep, IsSelector, IsField, IsReading, test_meaning, step_meaning, paths_meaning};
 ghost use Rattle.xpath_subset.specs.inside.Gives.{Gives, LacksToken, IsAfter};
 ghost use Rattle.xpath_subset.specs.inside.Trims.{trim_front, trim_end, trim_white};
 
@@ -28,6 +29,10 @@ enum Refusal {
 }
 
 impl From<AllocError> for Refusal {
+    ghost use Rattle.xpath_subset.specs.declared.reading.Refusal.TheVariants.{Memory};
+
+    ghost from_gives = { λ _ made. made ≡ Memory };
+
     fn from(_error: AllocError) -> Self {
         Refusal::Memory
     }
@@ -115,25 +120,36 @@ fn read_test(alloc: Global, text: &str, scope: &Scope) -> Result<Option<NameTest
     if let Some(prefix) = text.strip_suffix(":*") {
         return read_any_of(prefix, scope);
     }
-    let Ok((prefix, local)) = split_qname(text) else {
-        return Err(Refusal::Syntax);
-    };
-    let space = match prefix {
-        None => NsId::ABSENT,
-        Some(_) => match scope.resolve(prefix) {
-            Ok(space) => space,
-            Err(_) => return Ok(None),
-        },
-    };
-    Ok(Some(NameTest::Name(space, Text::new(alloc, local)?)))
+    match split_qname(text) {
+        Err(_) => Err(Refusal::Syntax),
+        Ok((None, local)) => Ok(Some(NameTest::Name(NsId::ABSENT, Text::new(alloc, local)?))),
+        Ok((Some(prefix), local)) => read_prefixed(alloc, prefix, local, scope),
+    }
 }
 
 // The test `prefix:*`.
-fn read_any_of(prefix: &str, scope: &Scope) -> Result<Option<NameTest>, Refusal> {
+fn read_any_of(prefix: &str, scope: &Scope) -> Result<Option<NameTest>, Refusal>
+    ensures { Gives (λ test. IsTest test (prefix.now ++ codes ":*")) (test_meaning scope.now) result }
+{
     if !is_ncname(prefix) {
         return Err(Refusal::Syntax);
     }
-    Ok(scope.resolve(Some(prefix)).ok().map(NameTest::Namespace))
+    match scope.resolve(Some(prefix)) {
+        Ok(space) => Ok(Some(NameTest::Namespace(space))),
+        Err(_) => Ok(None),
+    }
+}
+
+// The test `prefix:local`.
+fn read_prefixed(alloc: Global, prefix: &str, local: &str, scope: &Scope) -> Result<Option<NameTest>, Refusal>
+    requires prefix { IsName prefix.now }
+    requires local { IsName local.now }
+    ensures { Gives (λ test. IsTest test (joined (Some prefix.now) local.now)) (test_meaning scope.now) result }
+{
+    match scope.resolve(Some(prefix)) {
+        Ok(space) => Ok(Some(NameTest::Name(space, Text::new(alloc, local)?))),
+        Err(_) => Ok(None),
+    }
 }
 
 // A step to elements.
