@@ -1,6 +1,7 @@
 -- How a name test can be written as a text.
 use Rattle.std.proofs.Common.{lit<, ◌≡◌, ℕ, ◌==◌, ◌||◌, ◌+◌, ◌<◌, Bool, true, false, List, [], ◌∷◌, ◌++◌, Option, None, Some, length, take, drop, refl, sym, ◌∙◌, ap, subst, true≢false, arith, length-append, append_assoc, rules, ◌≢◌}
 use Rattle.std.specs.Prelude.{codes}
+use Rattle.std.specs.Prelude.{bytes_eq}
 use Rattle.std.specs.Option.{option_map}
 use Rattle.std.specs.List.{list_any, slice_split}
 use Rattle.std.specs.Str.{chars, IsUtf8}
@@ -12,8 +13,9 @@ use Rattle.xs_names.specs.Scope.{resolved}
 use Rattle.xpath_subset.specs.declared.path.NameTest.{NameTest}
 use Rattle.xpath_subset.specs.declared.path.NameTest.TheVariants as tests
 use Rattle.xpath_subset.specs.Grammar.{WrittenTest, star, any_of, name, IsName, IsTest, test_meaning}
+use Rattle.xpath_subset.proofs.Trims.{both}
 use Rattle.xpath_subset.proofs.Pieces.{split_none, split_at, any_append, eqb_true}
-use Rattle.xpath_subset.proofs.Plain.{is_inner, name_without, equal_outside}
+use Rattle.xpath_subset.proofs.Plain.{is_inner, name_without, name_some, equal_outside}
 
 pub any_at : (p : ℕ → Bool) (xs : List ℕ) (y : ℕ) (ys : List ℕ) → p y ≡ true → list_any p (xs ++ y ∷ ys) ≡ true
 any_at p [] y ys e = ap (λ b. b || list_any p ys) e
@@ -80,3 +82,46 @@ no_test (name (Some prefix) local) text never one end reads =
     let utf8 : IsUtf8 (58 ∷ local) = IsUtf8-append (58 ∷ []) local (subst IsUtf8 (encode_ascii 58 (lit< tt)) (IsUtf8-encode 58 (search rules))) reads.1.1.0 in
     let colon : chars (58 ∷ local) ≡ 58 ∷ chars local = chars_past_char (58 ∷ local) local 58 utf8 (ap (λ code. code ++ local) (sym (encode_ascii 58 (lit< tt)))) in
     never (Some (chars prefix)) (chars local) (ap chars reads.0 ∙ chars-append prefix (58 ∷ local) reads.1.0.0 ∙ ap (λ rest. chars prefix ++ rest) colon, reads.1.0.1, reads.1.1.1)
+
+-- texts that are equal byte by byte, and that are not
+pub bytes_same : (xs ys : List ℕ) → bytes_eq xs ys ≡ true → xs ≡ ys
+bytes_same [] [] e = refl
+bytes_same [] (y ∷ ys) e = absurd (true≢false (sym e))
+bytes_same (x ∷ xs) [] e = absurd (true≢false (sym e))
+bytes_same (x ∷ xs) (y ∷ ys) e =
+    let parts = both (x == y) (bytes_eq xs ys) e in
+    ap (λ z. z ∷ xs) (eqb_true x y parts.0) ∙ ap (λ zs. y ∷ zs) (bytes_same xs ys parts.1)
+
+eqb_same : (b : ℕ) → b == b ≡ true
+eqb_same b = grind arith
+
+bytes_self : (xs : List ℕ) → bytes_eq xs xs ≡ true
+bytes_self [] = refl
+bytes_self (x ∷ xs) = rw (eqb_same x) (bytes_self xs)
+
+pub bytes_other : (xs ys : List ℕ) → false ≡ bytes_eq xs ys → xs ≢ ys
+bytes_other xs ys e same = true≢false (sym (bytes_self ys) ∙ ap (λ zs. bytes_eq zs ys) (sym same) ∙ sym e)
+
+length-cons : (b : ℕ) (bs : List ℕ) → length (b ∷ bs) ≡ length bs + 1
+length-cons b bs = omega arith
+
+-- no name test has two colons side by side
+abbrev second : List (List ℕ) → List ℕ
+second [] = []
+second (x ∷ []) = []
+second (x ∷ y ∷ pieces) = y
+
+pub test_no_colons : (front more : List ℕ) → list_any (λ b. b == 58) front ≡ false → (test : WrittenTest) → IsTest test (front ++ 58 ∷ 58 ∷ more) → ⊥
+test_no_colons front more none star reads = true≢false (sym (any_at (λ b. b == 58) front 58 (58 ∷ more) refl) ∙ ap (list_any (λ b. b == 58)) reads.0)
+test_no_colons front more none (any_of prefix) reads =
+    let cuts : front ∷ [] ∷ slice_split (λ b. b == 58) more ≡ prefix ∷ (42 ∷ []) ∷ [] = ap (λ rest. front ∷ rest) (sym (split_at (λ b. b == 58) [] 58 more refl refl)) ∙ sym (split_at (λ b. b == 58) front 58 (58 ∷ more) none refl) ∙ ap (slice_split (λ b. b == 58)) reads.0 ∙ split_at (λ b. b == 58) prefix 58 (42 ∷ []) (no_colon prefix reads.1) refl in
+    let seconds : [] ≡ 42 ∷ [] = ap second cuts in
+    let lengths : 0 ≡ 1 = ap length seconds in
+    omega (arith, lengths)
+test_no_colons front more none (name None local) reads = true≢false (sym (any_at (λ b. b == 58) front 58 (58 ∷ more) refl) ∙ ap (list_any (λ b. b == 58)) reads.0 ∙ no_colon local reads.1)
+test_no_colons front more none (name (Some prefix) local) reads =
+    let cuts : front ∷ [] ∷ slice_split (λ b. b == 58) more ≡ prefix ∷ local ∷ [] = ap (λ rest. front ∷ rest) (sym (split_at (λ b. b == 58) [] 58 more refl refl)) ∙ sym (split_at (λ b. b == 58) front 58 (58 ∷ more) none refl) ∙ ap (slice_split (λ b. b == 58)) reads.0 ∙ split_at (λ b. b == 58) prefix 58 local (no_colon prefix reads.1.0) refl ∙ ap (λ rest. prefix ∷ rest) (split_none (λ b. b == 58) local (no_colon local reads.1.1)) in
+    let seconds : [] ≡ local = ap second cuts in
+    let some = name_some local reads.1.1 in
+    let lengths : 0 ≡ length some.1 + 1 = ap length (seconds ∙ some.2) ∙ length-cons some.0 some.1 in
+    omega (arith, lengths)

@@ -1,7 +1,7 @@
-ghost use Rattle.std.specs.Prelude.{◌≡◌, ◌==◌, ◌<◌, ◌++◌, Some, codes, map, IfOk, MatchOption};
+ghost use Rattle.std.specs.Prelude.{◌≡◌, ◌==◌, ◌<◌, ◌++◌, Bool, Some, codes, map, IfOk, MatchOption};
 ghost use Rattle.std.specs.List.{slice_split};
 ghost use Rattle.xs_names.specs.QName.{joined};
-ghost use Rattle.xpath_subset.specs.Grammar.{IsName, IsTest, IsElementStep, IsSelector, IsField, IsReading, test_meaning, step_meaning, paths_meaning};
+ghost use Rattle.xpath_subset.specs.Grammar.{WrittenTest, child, IsName, IsTest, IsElementStep, IsSelector, IsField, IsReading, test_meaning, step_meaning, paths_meaning};
 ghost use Rattle.xpath_subset.specs.inside.Gives.{Gives, LacksToken, IsAfter};
 ghost use Rattle.xpath_subset.specs.inside.Trims.{trim_front, trim_end, trim_white};
 
@@ -159,9 +159,21 @@ fn read_step(alloc: Global, text: &str, scope: &Scope) -> Result<Option<Step>, R
     if text == "." {
         return Ok(Some(Step::Itself));
     }
-    let test = after(text, "child::").unwrap_or(text);
-    let test = read_test(alloc, test, scope)?;
-    Ok(test.map(Step::Child))
+    match read_child(alloc, text, scope) {
+        Ok(Some(test)) => Ok(Some(Step::Child(test))),
+        Ok(None) => Ok(None),
+        Err(refusal) => Err(refusal),
+    }
+}
+
+// A name test after `child::` or alone.
+fn read_child(alloc: Global, text: &str, scope: &Scope) -> Result<Option<NameTest>, Refusal>
+    ensures { Gives {W = Bool × WrittenTest} (λ step. IsElementStep (child step.0 step.1) text.now) (λ step. test_meaning scope.now step.1) result }
+{
+    match after(text, "child::") {
+        Some(test) => read_test(alloc, test, scope),
+        None => read_test(alloc, text, scope),
+    }
 }
 
 // What follows `@` or `attribute::`.

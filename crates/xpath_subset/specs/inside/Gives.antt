@@ -16,3 +16,10 @@ LacksToken token text = (rest : List ℕ) → ¬ (text ≡ token ++ rest)
 
 abbrev pub IsAfter : List ℕ → List ℕ → List ℕ → Type 0
 IsAfter token text rest = (more : List ℕ) × (text ≡ token ++ more) × (rest ≡ trim_front more)
+
+-- texts that are written so, one by one
+abbrev pub AreWritten : {W : Type 0} → (W → List ℕ → Type 0) → List W → List (List ℕ) → Type 0
+AreWritten IsWritten [] [] = Unit {0}
+AreWritten IsWritten [] (text ∷ texts) = ⊥
+AreWritten IsWritten (written ∷ more) [] = ⊥
+AreWritten IsWritten (written ∷ more) (text ∷ texts) = IsWritten written text × AreWritten IsWritten more texts
