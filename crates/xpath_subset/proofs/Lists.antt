@@ -1,15 +1,11 @@
 -- Texts that are read one by one.
-use Rattle.std.proofs.Common.{◌≡◌, ℕ, List, [], ◌∷◌, ◌++◌, map, Option, None, Some, Result, Ok, Err, refl, sym, ◌∙◌, ap, subst}
+use Rattle.std.proofs.Common.{◌≡◌, ℕ, ◌+◌, ◌<◌, suc, length, get_or, take, drop, drop-cons, List, [], ◌∷◌, ◌++◌, map, Option, None, Some, Result, Ok, Err, refl, sym, ◌∙◌, ap, subst}
 use Rattle.std.specs.Option.{option_map}
-use Rattle.xpath_subset.specs.declared.reading.Refusal.TheVariants.{Syntax}
-use Rattle.xpath_subset.specs.inside.Gives.{Gives, AreWritten}
+use Rattle.std.proofs.lemmas.List.{take_more, take-append-drop, map-append}
+use Rattle.xpath_subset.specs.declared.reading.Refusal.{Refusal}
+use Rattle.xpath_subset.specs.declared.reading.Refusal.TheVariants.{Memory, Syntax}
+use Rattle.xpath_subset.specs.inside.Gives.{Gives, AreWritten, with_one}
 use Rattle.xpath_subset.specs.Grammar.{all_there}
-
--- the values so far and one more
-abbrev pub with_one : {V : Type 0} → Option (List V) → Option V → Option (List V)
-with_one None read = None
-with_one (Some values) None = None
-with_one (Some values) (Some value) = Some (values ++ value ∷ [])
 
 module _ {W V : Type 0} (I : W → List ℕ → Type 0) (m : W → Option V) where
   put : V → Option (List V) → Option (List V)
@@ -60,3 +56,25 @@ module _ {W V : Type 0} (I : W → List ℕ → Type 0) (m : W → Option V) whe
   gives_none [] text later never (w ∷ ws) are = never w are.0
   gives_none (t ∷ texts) text later never [] are = are
   gives_none (t ∷ texts) text later never (w ∷ ws) are = gives_none texts text later never ws are.1
+
+  -- no texts
+  pub gives_nothing : Gives (λ ws. AreWritten I ws []) (λ ws. all_there (map m ws)) (Ok (Some []))
+  gives_nothing = (([], tt), by)
+    where
+      by : (ws : List W) → AreWritten I ws [] → all_there (map m ws) ≡ Some []
+      by [] are = refl
+      by (w ∷ ws) are = absurd are
+
+  -- the texts up to an index, and up to the next
+  pub gives_next : {X : Type 0} (f : X → List ℕ) (xs : List X) (i : ℕ) (d : X) (text : List ℕ) (values : Option (List V)) (read : Option V) → i < length xs → text ≡ f (get_or xs i d) → Gives (λ ws. AreWritten I ws (map f (take i xs))) (λ ws. all_there (map m ws)) (Ok values) → Gives (λ w. I w text) m (Ok read) → Gives (λ ws. AreWritten I ws (map f (take (i + 1) xs))) (λ ws. all_there (map m ws)) (Ok (with_one values read))
+  gives_next f xs i d text values read below is all one =
+      let more : map f (take (i + 1) xs) ≡ map f (take i xs) ++ text ∷ [] = ap (map f) (take_more xs i d below) ∙ map-append f (take i xs) (get_or xs i d ∷ []) ∙ ap (λ t. map f (take i xs) ++ t ∷ []) (sym is) in
+      subst (λ texts. Gives (λ ws. AreWritten I ws texts) (λ ws. all_there (map m ws)) (Ok (with_one values read))) (sym more) (gives_more (map f (take i xs)) text values read all one)
+
+  -- the texts where the one at an index is written in no way
+  pub gives_not : {X : Type 0} (f : X → List ℕ) (xs : List X) (i : ℕ) (d : X) (text : List ℕ) → i < length xs → text ≡ f (get_or xs i d) → (refusal : Refusal) → Gives {V = V} (λ w. I w text) m (Err refusal) → Gives {V = List V} (λ ws. AreWritten I ws (map f xs)) (λ ws. all_there (map m ws)) (Err refusal)
+  gives_not f xs i d text below is Memory none = tt
+  gives_not f xs i d text below is Syntax none = λ ws are.
+      let whole : xs ≡ take i xs ++ get_or xs i d ∷ drop (suc i) xs = sym (take-append-drop i xs) ∙ ap (λ rest. take i xs ++ rest) (drop-cons xs i d below) in
+      let texts : map f xs ≡ map f (take i xs) ++ text ∷ map f (drop (suc i) xs) = ap (map f) whole ∙ map-append f (take i xs) (get_or xs i d ∷ drop (suc i) xs) ∙ ap (λ t. map f (take i xs) ++ t ∷ map f (drop (suc i) xs)) (sym is) in
+      gives_none (map f (take i xs)) text (map f (drop (suc i) xs)) none ws (subst (AreWritten I ws) texts are)

@@ -1,8 +1,8 @@
 ghost use Rattle.std.specs.Prelude.{◌≡◌, ◌==◌, ◌<◌, ◌++◌, Bool, Some, codes, map, IfOk, MatchOption};
 ghost use Rattle.std.specs.List.{slice_split};
 ghost use Rattle.xs_names.specs.QName.{joined};
-ghost use Rattle.xpath_subset.specs.Grammar.{WrittenTest, child, IsName, IsTest, IsElementStep, IsSelector, IsField, IsReading, test_meaning, step_meaning, paths_meaning};
-ghost use Rattle.xpath_subset.specs.inside.Gives.{Gives, LacksToken, IsAfter};
+ghost use Rattle.xpath_subset.specs.Grammar.{WrittenTest, child, IsName, IsTest, IsElementStep, IsSelector, IsField, IsReading, test_meaning, step_meaning, steps_meaning, paths_meaning};
+ghost use Rattle.xpath_subset.specs.inside.Gives.{AreWritten, Gives, LacksToken, IsAfter, with_one};
 ghost use Rattle.xpath_subset.specs.inside.Trims.{trim_front, trim_end, trim_white};
 
 use crate::{NameTest, Path, Paths, Step};
@@ -182,16 +182,31 @@ fn attribute_test(text: &str) -> Option<&str> {
 }
 
 // Steps to elements; `None` where a prefix is not bound.
-fn read_steps(alloc: Global, pieces: &[&str], scope: &Scope) -> Result<Option<Listed<Step>>, Refusal> {
-    let mut steps = Listed::new(alloc);
-    let mut bound = true;
+fn read_steps(alloc: Global, pieces: &[&str], scope: &Scope) -> Result<Option<Listed<Step>>, Refusal>
+    ensures { Gives (λ steps. AreWritten IsElementStep steps (map (λ p. trim_white p.now) pieces.now)) (steps_meaning scope.now) result }
+{
+    let mut steps = Some(Listed::new(alloc));
     for piece in pieces {
-        match read_step(alloc, trimmed(piece), scope)? {
-            Some(step) => steps.push(step)?,
-            None => bound = false,
+        match read_step(alloc, trimmed(piece), scope) {
+            Ok(read) => steps = and_one(steps, read)?,
+            Err(refusal) => return Err(refusal),
         }
     }
-    Ok(bound.then_some(steps))
+    Ok(steps)
+}
+
+// The values so far and one more; `None` where a prefix is not bound.
+fn and_one<T: Drop>(values: Option<Listed<T>>, read: Option<T>) -> Result<Option<Listed<T>>, AllocError>
+    ensures { IfOk result (λ all. all ≡ with_one values read) }
+{
+    let Some(mut values) = values else {
+        return Ok(None);
+    };
+    let Some(value) = read else {
+        return Ok(None);
+    };
+    values.push(value)?;
+    Ok(Some(values))
 }
 
 // A path, with no white space at its ends.
@@ -230,13 +245,12 @@ fn read_paths(alloc: Global, text: &str, kind: Kind, scope: &Scope) -> Result<Op
     if trimmed(text).len() != text.len() {
         return Err(Refusal::Syntax);
     }
-    let mut paths = Paths::new(alloc);
-    let mut bound = true;
+    let mut paths = Some(Paths::new(alloc));
     for piece in pieces(alloc, text, '|')?.as_slice() {
-        match read_path(alloc, trimmed(piece), kind, scope)? {
-            Some(path) => paths.push(path)?,
-            None => bound = false,
+        match read_path(alloc, trimmed(piece), kind, scope) {
+            Ok(read) => paths = and_one(paths, read)?,
+            Err(refusal) => return Err(refusal),
         }
     }
-    Ok(bound.then_some(paths))
+    Ok(paths)
 }

@@ -23,3 +23,9 @@ AreWritten IsWritten [] [] = Unit {0}
 AreWritten IsWritten [] (text ∷ texts) = ⊥
 AreWritten IsWritten (written ∷ more) [] = ⊥
 AreWritten IsWritten (written ∷ more) (text ∷ texts) = IsWritten written text × AreWritten IsWritten more texts
+
+-- the values so far and one more
+abbrev pub with_one : {V : Type 0} → Option (List V) → Option V → Option (List V)
+with_one None read = None
+with_one (Some values) None = None
+with_one (Some values) (Some value) = Some (values ++ value ∷ [])
