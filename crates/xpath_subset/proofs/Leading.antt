@@ -1,13 +1,12 @@
 -- Steps that lead down, one at a time and by their number.
-use Rattle.std.proofs.Common.{◌≡◌, ℕ, ◌+◌, ◌-◌, ◌<◌, ◌≤◌, Bool, true, false, if◌then◌else◌, List, [], ◌∷◌, ◌++◌, length, take, drop, refl, sym, ◌∙◌, ap, subst, arith, Option, None, Some, suc, zero, map, length-append, length-drop, get_or, true≢false, ◌↔◌}
+use Rattle.std.proofs.Common.{◌≡◌, ℕ, ◌+◌, ◌-◌, ◌<◌, true, false, if◌then◌else◌, List, [], ◌∷◌, ◌++◌, length, take, drop, refl, sym, ◌∙◌, ap, subst, arith, Option, suc, length-append, length-drop, get_or, true≢false, ◌↔◌}
 use Rattle.std.proofs.lemmas.List.{take-append-drop, take_all}
 use Rattle.std.proofs.lemmas.List.Sums.{sum_by-cons}
 use Rattle.std.proofs.Math.Seq.{drop-append_seam}
-use Rattle.xpath_subset.specs.declared.path.NameTest.{NameTest}
 use Rattle.xpath_subset.specs.declared.path.Step.{Step}
 use Rattle.xpath_subset.specs.declared.path.Step.TheVariants.{Itself, Child}
 use Rattle.xpath_subset.specs.declared.path.Path.{Path}
-use Rattle.xpath_subset.specs.Reaches.{ExpandedName, Admits, LeadsDown, AdmitsAttribute, Reaches, child_count, is_child}
+use Rattle.xpath_subset.specs.Reaches.{ExpandedName, LeadsDown, AdmitsAttribute, Reaches, child_count, is_child}
 
 -- steps lead down along as many elements as they have name tests
 pub length-from_leads : (steps : List Step) (names : List ExpandedName) → LeadsDown steps names → length names ≡ child_count steps
@@ -26,14 +25,17 @@ Reaches-too_few path elements attribute few reaches =
 
 -- a way whose end has as many elements as the path has name tests
 pub Reaches-anywhere : (path : Path) (elements : List ExpandedName) (attribute : Option ExpandedName) (n : ℕ) → path.anywhere ≡ true → n + child_count path.steps ≡ length elements → Reaches path elements attribute ↔ (AdmitsAttribute path.attribute attribute × LeadsDown path.steps (drop n elements))
-Reaches-anywhere path elements attribute n anywhere same = (λ reaches. (reaches.last, to reaches), λ both. record {
+Reaches-anywhere path elements attribute n anywhere same = (
+  λ reaches. (reaches.last, to reaches),
+  λ both. record {
     skipped = take n elements;
     followed = drop n elements;
     way = sym (take-append-drop n elements);
     from_the_element = λ here. absurd (true≢false (sym anywhere ∙ here));
     steps = both.1;
-    last = both.0
-  })
+    last = both.0;
+  },
+)
   where
     to : Reaches path elements attribute → LeadsDown path.steps (drop n elements)
     to reaches =
@@ -45,14 +47,17 @@ Reaches-anywhere path elements attribute n anywhere same = (λ reaches. (reaches
 
 -- a path without `.//`
 pub Reaches-here : (path : Path) (elements : List ExpandedName) (attribute : Option ExpandedName) → path.anywhere ≡ false → Reaches path elements attribute ↔ (AdmitsAttribute path.attribute attribute × LeadsDown path.steps elements)
-Reaches-here path elements attribute here = (λ reaches. (reaches.last, to reaches), λ both. record {
+Reaches-here path elements attribute here = (
+  λ reaches. (reaches.last, to reaches),
+  λ both. record {
     skipped = [];
     followed = elements;
     way = refl;
     from_the_element = λ _. refl;
     steps = both.1;
-    last = both.0
-  })
+    last = both.0;
+  },
+)
   where
     to : Reaches path elements attribute → LeadsDown path.steps elements
     to reaches = subst (LeadsDown path.steps) (sym (reaches.way ∙ ap (λ front. front ++ reaches.followed) (reaches.from_the_element here))) reaches.steps

@@ -1,5 +1,5 @@
 -- Texts that are read one by one.
-use Rattle.std.proofs.Common.{◌≡◌, ℕ, ◌+◌, ◌<◌, suc, length, get_or, take, drop, drop-cons, List, [], ◌∷◌, ◌++◌, map, Option, None, Some, Result, Ok, Err, refl, sym, ◌∙◌, ap, subst}
+use Rattle.std.proofs.Common.{◌≡◌, ℕ, ◌+◌, ◌<◌, suc, length, get_or, take, drop, drop-cons, List, [], ◌∷◌, ◌++◌, map, Option, None, Some, Ok, Err, refl, sym, ◌∙◌, ap, subst}
 use Rattle.std.specs.Option.{option_map}
 use Rattle.std.proofs.lemmas.List.{take_more, take-append-drop, map-append}
 use Rattle.xpath_subset.specs.declared.reading.Refusal.{Refusal}
@@ -45,10 +45,12 @@ module _ {W V : Type 0} (I : W → List ℕ → Type 0) (m : W → Option V) whe
 
   -- one text more
   pub gives_more : (texts : List (List ℕ)) (text : List ℕ) (values : Option (List V)) (read : Option V) → Gives (λ ws. AreWritten I ws texts) (λ ws. all_there (map m ws)) (Ok values) → Gives (λ w. I w text) m (Ok read) → Gives (λ ws. AreWritten I ws (texts ++ text ∷ [])) (λ ws. all_there (map m ws)) (Ok (with_one values read))
-  gives_more texts text values read all one =
-      ((all.0.0 ++ one.0.0 ∷ [], written_more all.0.0 one.0.0 texts text all.0.1 one.0.1), λ ws are.
+  gives_more texts text values read all one = (
+    (all.0.0 ++ one.0.0 ∷ [], written_more all.0.0 one.0.0 texts text all.0.1 one.0.1),
+    λ ws are.
         let cut = written_cut ws texts text are in
-        ap (λ list. all_there (map m list)) cut.2 ∙ there_more cut.0 cut.1 ∙ ap (λ values. with_one values (m cut.1)) (all.1 cut.0 cut.3) ∙ ap (with_one values) (one.1 cut.1 cut.4))
+        ap (λ list. all_there (map m list)) cut.2 ∙ there_more cut.0 cut.1 ∙ ap (λ values. with_one values (m cut.1)) (all.1 cut.0 cut.3) ∙ ap (with_one values) (one.1 cut.1 cut.4),
+  )
 
   -- a text that is written in no way
   pub gives_none : (texts : List (List ℕ)) (text : List ℕ) (later : List (List ℕ)) → ((w : W) → ¬ (I w text)) → (ws : List W) → AreWritten I ws (texts ++ text ∷ later) → ⊥

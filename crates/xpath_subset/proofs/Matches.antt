@@ -1,12 +1,12 @@
 -- What std's cuts of white space leave.
-use Rattle.std.proofs.Common.{◌≡◌, ℕ, ◌<◌, ◌==◌, ◌+◌, ◌-◌, Bool, true, false, List, [], ◌∷◌, ◌++◌, Option, None, Some, drop, take, length, refl, sym, ◌∙◌, ap, subst, true≢false, arith, append_assoc}
+use Rattle.std.proofs.Common.{◌≡◌, ℕ, ◌<◌, ◌-◌, Bool, true, false, List, [], ◌∷◌, ◌++◌, Option, None, Some, drop, take, length, refl, sym, ◌∙◌, ap, true≢false, arith, append_assoc}
 use Rattle.std.specs.Option.{IfSome}
-use Rattle.std.specs.Char.{char_set_contains, IsScalar, len_utf8}
+use Rattle.std.specs.Char.{char_set_contains, IsScalar}
 use Rattle.std.specs.Str.Pattern.{FindsPrefixBy, FindsSuffixBy, CutsPrefixes, CutsSuffixes, IsFullyTrimmed}
 use Rattle.std.proofs.lemmas.List.{take-append-drop, drop_all, append-nil}
 use Rattle.std.proofs.lemmas.Str.{encode_ascii, len_utf8_ascii}
 use Rattle.xs_names.specs.White.{is_white}
-use Rattle.xpath_subset.specs.inside.Trims.{is_white_byte, trim_front, put_before, trim_end, trim_white}
+use Rattle.xpath_subset.specs.inside.Trims.{is_white_byte, trim_front, trim_end}
 use Rattle.xpath_subset.proofs.Trims.{white_cons, front_white, front_other, trim_end-gap, end_cut}
 
 abbrev pub white_set : List ℕ

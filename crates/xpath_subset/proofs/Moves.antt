@@ -6,7 +6,6 @@ use Rattle.std.proofs.lemmas.List.{append_cancel_left, append-nil}
 use Rattle.std.specs.List.{list_any}
 use Rattle.std.specs.Str.{chars}
 use Rattle.xs_names.specs.Characters.{is_ncname}
-use Rattle.xs_names.specs.White.{is_white}
 use Rattle.xpath_subset.specs.declared.reading.Refusal.{Refusal}
 use Rattle.xpath_subset.specs.declared.reading.Refusal.TheVariants.{Memory, Syntax}
 use Rattle.xpath_subset.specs.inside.Gives.{Gives, IsAfter, LacksToken}

@@ -1,12 +1,12 @@
 -- A text of items with separators, by the pieces between the separators.
-use Rattle.std.proofs.Common.{◌≡◌, ◌⊎◌, inl, inr, cond, suc, ℕ, ◌==◌, ◌||◌, ◌+◌, Bool, true, false, List, [], ◌∷◌, ◌++◌, map, length, refl, sym, ◌∙◌, ap, subst, true≢false, arith, append_assoc}
+use Rattle.std.proofs.Common.{◌≡◌, ◌⊎◌, inl, inr, cond, ℕ, ◌==◌, ◌||◌, ◌+◌, Bool, true, false, List, [], ◌∷◌, ◌++◌, map, length, refl, sym, ◌∙◌, ap, subst, true≢false, arith, append_assoc}
 use Rattle.std.specs.List.{slice_split, onto_first, list_any}
 use Rattle.std.proofs.lemmas.List.{append-nil}
 use Rattle.std.proofs.lemmas.List.Splits.{slice_split-cons_yes, slice_split-cons_no, length-slice_split}
 use Rattle.xs_names.specs.White.{is_white}
-use Rattle.xpath_subset.specs.Grammar.{Follows, EndsIn}
+use Rattle.xpath_subset.specs.Grammar.{EndsIn}
 use Rattle.xpath_subset.specs.inside.Trims.{is_white_byte, trim_front, put_before, trim_end, trim_white, IsTight}
-use Rattle.xpath_subset.proofs.Trims.{white_cons, front_white, trim_white-tight, trim_white-gap, front_cut, end_cut, trim_front-gap}
+use Rattle.xpath_subset.proofs.Trims.{white_cons, front_white, trim_white-tight, front_cut, end_cut, trim_front-gap}
 
 pub neither : (a b : Bool) → a || b ≡ false → (a ≡ false) × (b ≡ false)
 neither true b e = absurd (true≢false e)
@@ -128,7 +128,7 @@ module _ {A B : Type 0} (sep : ℕ) (IsItem : A → List ℕ → Type 0) (IsLast
   from_item item items last text later ends (inr cut) zip =
       let y_is : cut.1 ≡ sep = eqb_true cut.1 sep cut.5 in
       let parts : ZipLast IsItem IsLast (item ∷ items) last (trim_white cut.0 ∷ map trim_white (slice_split (λ b. b == sep) cut.2)) =
-          subst (λ pieces. ZipLast IsItem IsLast (item ∷ items) last (map trim_white pieces)) (ap (slice_split (λ b. b == sep)) cut.3 ∙ split_at (λ b. b == sep) cut.0 cut.1 cut.2 cut.4 cut.5) zip in
+      subst (λ pieces. ZipLast IsItem IsLast (item ∷ items) last (map trim_white pieces)) (ap (slice_split (λ b. b == sep)) cut.3 ∙ split_at (λ b. b == sep) cut.0 cut.1 cut.2 cut.4 cut.5) zip in
       let tight = (item_plain item (trim_white cut.0) parts.0).tight in
       let seam : (cut.0 ++ cut.1 ∷ []) ++ cut.2 ≡ cut.0 ++ cut.1 ∷ cut.2 = append_assoc cut.0 (cut.1 ∷ []) cut.2 in
       let rest_ends = end_of (cut.0 ++ cut.1 ∷ []) cut.2 (subst (λ t. trim_end t ≡ t) (cut.3 ∙ sym seam) ends) in
@@ -137,9 +137,9 @@ module _ {A B : Type 0} (sep : ℕ) (IsItem : A → List ℕ → Type 0) (IsLast
       let next = front_cut cut.2 in
       let front_is : cut.0 ≡ before.0 ++ (trim_white cut.0 ++ after.0) = before.2 ∙ ap (λ t. before.0 ++ t) after.2 in
       let whole : text ≡ before.0 ++ (trim_white cut.0 ++ (after.0 ++ cut.1 ∷ cut.2)) =
-          cut.3 ∙ ap (λ t. t ++ cut.1 ∷ cut.2) front_is ∙ append_assoc before.0 (trim_white cut.0 ++ after.0) (cut.1 ∷ cut.2) ∙ ap (λ t. before.0 ++ t) (append_assoc (trim_white cut.0) after.0 (cut.1 ∷ cut.2)) in
+      cut.3 ∙ ap (λ t. t ++ cut.1 ∷ cut.2) front_is ∙ append_assoc before.0 (trim_white cut.0 ++ after.0) (cut.1 ∷ cut.2) ∙ ap (λ t. before.0 ++ t) (append_assoc (trim_white cut.0) after.0 (cut.1 ∷ cut.2)) in
       let cut_off : trim_front text ≡ trim_white cut.0 ++ (after.0 ++ cut.1 ∷ cut.2) =
-          ap trim_front whole ∙ trim_front-gap before.0 (trim_white cut.0 ++ (after.0 ++ cut.1 ∷ cut.2)) before.1 ∙ tight.begins (after.0 ++ cut.1 ∷ cut.2) in
+      ap trim_front whole ∙ trim_front-gap before.0 (trim_white cut.0 ++ (after.0 ++ cut.1 ∷ cut.2)) before.1 ∙ tight.begins (after.0 ++ cut.1 ∷ cut.2) in
       (trim_white cut.0, after.0, cut.1 ∷ cut.2, cut_off, after.1, parts.0, (next.0, trim_front cut.2, ap (λ y. y ∷ cut.2) y_is ∙ ap (λ t. sep ∷ t) next.2, next.1, later cut.2 rest_ends parts.1))
 
   pub EndsIn-from_pieces : (items : List A) (last : B) (text : List ℕ) → trim_end text ≡ text → ZipLast IsItem IsLast items last (map trim_white (slice_split (λ b. b == sep) text)) → EndsIn sep IsItem IsLast items last (trim_front text)

@@ -1,13 +1,12 @@
 -- What is read between separators is tight, and has no separator.
-use Rattle.std.proofs.Common.{lit<, ◌≡◌, ℕ, ◌==◌, ◌&&◌, ◌||◌, ◌+◌, ◌<◌, Bool, true, false, not, List, [], ◌∷◌, ◌++◌, Option, None, Some, length, get_or, suc, zero, refl, sym, ◌∙◌, ap, subst, true≢false, arith, append_assoc}
+use Rattle.std.proofs.Common.{lit<, ◌≡◌, ℕ, ◌==◌, ◌&&◌, ◌||◌, ◌<◌, Bool, true, false, not, List, [], ◌∷◌, ◌++◌, None, Some, length, get_or, suc, refl, sym, ◌∙◌, ap, subst, true≢false, arith}
 use Rattle.std.specs.Prelude.{codes}
 use Rattle.std.specs.List.{list_any, list_all}
-use Rattle.std.specs.Str.{chars, IsUtf8, NonePass, NoCharPasses}
+use Rattle.std.specs.Str.{chars, NonePass}
 use Rattle.std.proofs.lemmas.Str.{encodes-chars, NoCharPasses-byte, chars-nil}
 use Rattle.xs_names.specs.Characters.{is_ncname, is_name, is_name_char, is_name_start, is_colon}
-use Rattle.xs_names.specs.White.{is_white}
 use Rattle.xpath_subset.specs.Grammar.{WrittenTest, star, any_of, name, WrittenStep, itself, child, attribute, WrittenPath, IsName, IsTest, Follows, IsElementStep, IsLastOfField, EndsIn, StartsAnywhere, IsPath}
-use Rattle.xpath_subset.specs.inside.Trims.{is_white_byte, trim_front, put_before, trim_end, IsTight}
+use Rattle.xpath_subset.specs.inside.Trims.{is_white_byte, put_before, trim_end, IsTight}
 use Rattle.xpath_subset.proofs.Trims.{front_other, put_other, tight-join, both}
 use Rattle.xpath_subset.proofs.Pieces.{IsPlain, any_append, white_pieces, neither, eqb_true}
 
@@ -40,6 +39,7 @@ ncname_inner (c ∷ cs) e =
     by : (a b : Bool) → a ≡ true → b ≡ true → a && b ≡ true
     by true b e f = f
     by false b e f = absurd (true≢false (sym e))
+
     off : (b : Bool) → not b ≡ true → b ≡ false
     off true e = absurd (true≢false (sym e))
     off false e = refl
@@ -97,9 +97,9 @@ ends_from (c ∷ front) b bs e = ap (put_before c) (ends_from front b bs e) ∙ 
 
 pub tight_cons : (b : ℕ) (bs : List ℕ) → list_any is_white_byte (b ∷ bs) ≡ false → IsTight (b ∷ bs)
 tight_cons b bs e = record {
-    begins = λ more. front_other b (bs ++ more) (neither (is_white_byte b) (list_any is_white_byte bs) e).0;
-    ends = λ front. ends_from front b bs (no_white_end (b ∷ bs) e)
-  }
+  begins = λ more. front_other b (bs ++ more) (neither (is_white_byte b) (list_any is_white_byte bs) e).0;
+  ends = λ front. ends_from front b bs (no_white_end (b ∷ bs) e);
+}
 
 -- a test of bytes that passes no byte of a name, of white space or of a name test
 pub record IsApart (p : ℕ → Bool) : Type 0 where
@@ -141,7 +141,7 @@ follows_plain p apart token tight none IsRest plain text follows =
     let rest = plain follows.1 follows.4 in
     subst (IsPlain p) (sym follows.2) (record {
       tight = tight-join token follows.0 follows.1 tight rest.tight;
-      whole = any_append p token (follows.0 ++ follows.1) none (any_append p follows.0 follows.1 (white_pieces p apart.white follows.0 follows.3) rest.whole)
+      whole = any_append p token (follows.0 ++ follows.1) none (any_append p follows.0 follows.1 (white_pieces p apart.white follows.0 follows.3) rest.whole);
     })
 
 tight_dot : IsTight (codes ".")
@@ -178,7 +178,7 @@ ends_plain IsLast plain (step ∷ steps) last text reads =
     let end = follows_plain (λ b. b == 124) bar_apart (47 ∷ []) (tight_cons 47 [] refl) refl (EndsIn 47 IsElementStep IsLast steps last) (λ t r. ends_plain IsLast plain steps last t r) reads.2 reads.6 in
     subst (IsPlain (λ b. b == 124)) (sym reads.3) (record {
       tight = tight-join reads.0 reads.1 reads.2 front.tight end.tight;
-      whole = any_append (λ b. b == 124) reads.0 (reads.1 ++ reads.2) front.whole (any_append (λ b. b == 124) reads.1 reads.2 (white_pieces (λ b. b == 124) bar_apart.white reads.1 reads.4) end.whole)
+      whole = any_append (λ b. b == 124) reads.0 (reads.1 ++ reads.2) front.whole (any_append (λ b. b == 124) reads.1 reads.2 (white_pieces (λ b. b == 124) bar_apart.white reads.1 reads.4) end.whole);
     })
 
 pub path_plain : (IsLast : WrittenStep → List ℕ → Type 0) → ((step : WrittenStep) (text : List ℕ) → IsLast step text → IsPlain (λ b. b == 124) text) → (path : WrittenPath) (text : List ℕ) → IsPath IsLast path text → IsPlain (λ b. b == 124) text

@@ -1,5 +1,5 @@
 -- How a name test can be written as a text.
-use Rattle.std.proofs.Common.{lit<, ◌≡◌, ℕ, ◌==◌, ◌||◌, ◌+◌, ◌<◌, Bool, true, false, List, [], ◌∷◌, ◌++◌, Option, None, Some, length, take, drop, refl, sym, ◌∙◌, ap, subst, true≢false, arith, length-append, append_assoc, rules, ◌≢◌}
+use Rattle.std.proofs.Common.{lit<, ◌≡◌, ℕ, ◌==◌, ◌||◌, ◌+◌, Bool, true, false, List, [], ◌∷◌, ◌++◌, Option, None, Some, length, refl, sym, ◌∙◌, ap, subst, true≢false, arith, length-append, append_assoc, rules, ◌≢◌}
 use Rattle.std.specs.Prelude.{codes}
 use Rattle.std.specs.Prelude.{bytes_eq}
 use Rattle.std.specs.Option.{option_map}
@@ -7,15 +7,13 @@ use Rattle.std.specs.List.{list_any, slice_split}
 use Rattle.std.specs.Str.{chars, IsUtf8}
 use Rattle.std.proofs.lemmas.List.{append_cancel_right}
 use Rattle.std.proofs.lemmas.Str.{chars-append, chars_past_char, encode_ascii, IsUtf8-append, IsUtf8-encode}
-use Rattle.xs_names.specs.Characters.{is_ncname}
-use Rattle.xs_names.specs.QName.{IsQName, IsNoQName, joined}
+use Rattle.xs_names.specs.QName.{IsNoQName}
 use Rattle.xs_names.specs.Scope.{resolved}
-use Rattle.xpath_subset.specs.declared.path.NameTest.{NameTest}
 use Rattle.xpath_subset.specs.declared.path.NameTest.TheVariants as tests
 use Rattle.xpath_subset.specs.Grammar.{WrittenTest, star, any_of, name, IsName, IsTest, test_meaning}
 use Rattle.xpath_subset.proofs.Trims.{both}
 use Rattle.xpath_subset.proofs.Pieces.{split_none, split_at, any_append, eqb_true}
-use Rattle.xpath_subset.proofs.Plain.{is_inner, name_without, name_some, equal_outside}
+use Rattle.xpath_subset.proofs.Plain.{name_without, name_some, equal_outside}
 
 pub any_at : (p : ℕ → Bool) (xs : List ℕ) (y : ℕ) (ys : List ℕ) → p y ≡ true → list_any p (xs ++ y ∷ ys) ≡ true
 any_at p [] y ys e = ap (λ b. b || list_any p ys) e

@@ -1,5 +1,5 @@
 -- White space at the ends of texts.
-use Rattle.std.proofs.Common.{◌≡◌, ℕ, ◌==◌, ◌&&◌, ◌||◌, Bool, true, false, if◌then◌else◌, List, [], ◌∷◌, ◌++◌, refl, sym, ◌∙◌, ap, subst, true≢false, append_assoc}
+use Rattle.std.proofs.Common.{◌≡◌, ℕ, ◌&&◌, Bool, true, false, if◌then◌else◌, List, [], ◌∷◌, ◌++◌, refl, sym, ◌∙◌, ap, subst, true≢false, append_assoc}
 use Rattle.xs_names.specs.White.{is_white}
 use Rattle.xpath_subset.specs.inside.Trims.{is_white_byte, trim_front, put_before, trim_end, trim_white, IsTight}
 
@@ -76,6 +76,6 @@ trim_white-gap gap text e = ap trim_end (trim_front-gap gap text e)
 -- tight texts at the ends make a tight text
 pub tight-join : (front middle end : List ℕ) → IsTight front → IsTight end → IsTight (front ++ (middle ++ end))
 tight-join front middle end f e = record {
-    begins = λ more. subst (λ text. trim_front text ≡ text) (sym (append_assoc front (middle ++ end) more)) (f.begins ((middle ++ end) ++ more));
-    ends = λ before. subst (λ text. trim_end text ≡ text) (append_assoc before (front ++ middle) end ∙ ap (λ text. before ++ text) (append_assoc front middle end)) (e.ends (before ++ (front ++ middle)))
-  }
+  begins = λ more. subst (λ text. trim_front text ≡ text) (sym (append_assoc front (middle ++ end) more)) (f.begins ((middle ++ end) ++ more));
+  ends = λ before. subst (λ text. trim_end text ≡ text) (append_assoc before (front ++ middle) end ∙ ap (λ text. before ++ text) (append_assoc front middle end)) (e.ends (before ++ (front ++ middle)));
+}

@@ -1,5 +1,5 @@
 -- What a path reaches: Structures 3.11.6, with XPath 1.0, 2.
-use Rattle.std.specs.Prelude.{◌≡◌, ℕ, ◌+◌, Bool, true, false, List, [], ◌∷◌, ◌++◌, Option, None, Some, count_by, ◌↔◌}
+use Rattle.std.specs.Prelude.{◌≡◌, ℕ, Bool, true, false, List, [], ◌∷◌, ◌++◌, Option, None, Some, count_by, ◌↔◌}
 use Rattle.xs_names.specs.Names.{NameTable, space_of, local_of}
 use Rattle.xpath_subset.specs.declared.path.NameTest.{NameTest}
 use Rattle.xpath_subset.specs.declared.path.NameTest.TheVariants.{Any, Namespace, Name}

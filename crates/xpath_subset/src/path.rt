@@ -48,7 +48,8 @@ impl NameTest {
         match self {
             NameTest::Any => true,
             NameTest::Namespace(ns) => names.ns(name) == *ns,
-            NameTest::Name(ns, local) => names.ns(name) == *ns && names.local(name) == local.as_str(),
+            NameTest::Name(ns, local) => names.ns(name) == *ns
+                && names.local(name) == local.as_str(),
         }
     }
 }
@@ -57,7 +58,10 @@ impl NameTest {
 fn count_children(steps: &[Step]) -> usize
     ensures { result ≡ child_count steps.now }
 {
-    steps.iter().filter(|step| matches!(step, Step::Child(_))).count()
+    steps
+        .iter()
+        .filter(|step| matches!(step, Step::Child(_)))
+        .count()
 }
 
 // The names that are left after a step down along elements of these names; `None` where it leads nowhere.

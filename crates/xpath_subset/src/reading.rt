@@ -141,7 +141,12 @@ fn read_any_of(prefix: &str, scope: &Scope) -> Result<Option<NameTest>, Refusal>
 }
 
 // The test `prefix:local`.
-fn read_prefixed(alloc: Global, prefix: &str, local: &str, scope: &Scope) -> Result<Option<NameTest>, Refusal>
+fn read_prefixed(
+    alloc: Global,
+    prefix: &str,
+    local: &str,
+    scope: &Scope,
+) -> Result<Option<NameTest>, Refusal>
     requires prefix { IsName prefix.now }
     requires local { IsName local.now }
     ensures { Gives (λ test. IsTest test (joined (Some prefix.now) local.now)) (test_meaning scope.now) result }
@@ -182,7 +187,11 @@ fn attribute_test(text: &str) -> Option<&str> {
 }
 
 // Steps to elements; `None` where a prefix is not bound.
-fn read_steps(alloc: Global, pieces: &[&str], scope: &Scope) -> Result<Option<Listed<Step>>, Refusal>
+fn read_steps(
+    alloc: Global,
+    pieces: &[&str],
+    scope: &Scope,
+) -> Result<Option<Listed<Step>>, Refusal>
     ensures { Gives (λ steps. AreWritten IsElementStep steps (map (λ p. trim_white p.now) pieces.now)) (steps_meaning scope.now) result }
 {
     let mut steps = Some(Listed::new(alloc));
@@ -196,7 +205,10 @@ fn read_steps(alloc: Global, pieces: &[&str], scope: &Scope) -> Result<Option<Li
 }
 
 // The values so far and one more; `None` where a prefix is not bound.
-fn and_one<T: Drop>(values: Option<Listed<T>>, read: Option<T>) -> Result<Option<Listed<T>>, AllocError>
+fn and_one<T: Drop>(
+    values: Option<Listed<T>>,
+    read: Option<T>,
+) -> Result<Option<Listed<T>>, AllocError>
     ensures { IfOk result (λ all. all ≡ with_one values read) }
 {
     let Some(mut values) = values else {
@@ -210,7 +222,12 @@ fn and_one<T: Drop>(values: Option<Listed<T>>, read: Option<T>) -> Result<Option
 }
 
 // A path, with no white space at its ends.
-fn read_path(alloc: Global, text: &str, kind: Kind, scope: &Scope) -> Result<Option<Path>, Refusal> {
+fn read_path(
+    alloc: Global,
+    text: &str,
+    kind: Kind,
+    scope: &Scope,
+) -> Result<Option<Path>, Refusal> {
     let (anywhere, way) = match after(text, ".//") {
         Some(rest) => (true, rest),
         None => (false, text),
@@ -241,7 +258,12 @@ fn read_path(alloc: Global, text: &str, kind: Kind, scope: &Scope) -> Result<Opt
 }
 
 // Paths joined by `|`; `None` where a prefix is not bound.
-fn read_paths(alloc: Global, text: &str, kind: Kind, scope: &Scope) -> Result<Option<Paths>, Refusal> {
+fn read_paths(
+    alloc: Global,
+    text: &str,
+    kind: Kind,
+    scope: &Scope,
+) -> Result<Option<Paths>, Refusal> {
     if trimmed(text).len() != text.len() {
         return Err(Refusal::Syntax);
     }

@@ -1,5 +1,5 @@
 -- Texts without the white space at their ends, as the reader cuts them.
-use Rattle.std.specs.Prelude.{◌≡◌, ℕ, ◌==◌, ◌||◌, Bool, true, false, if◌then◌else◌, List, [], ◌∷◌, ◌++◌}
+use Rattle.std.specs.Prelude.{◌≡◌, ℕ, ◌==◌, ◌||◌, Bool, if◌then◌else◌, List, [], ◌∷◌, ◌++◌}
 
 abbrev pub is_white_byte : ℕ → Bool
 is_white_byte b = (b == 32 || b == 9) || (b == 10 || b == 13)

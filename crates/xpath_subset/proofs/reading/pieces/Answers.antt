@@ -1,7 +1,5 @@
-use Rattle.std.proofs.Common.{◌≡◌, ◌==◌, map}
 use Rattle.std.proofs.lemmas.Iterator.Consumers.{map_from_collect}
 use Rattle.std.proofs.lemmas.Iterator.Splits.{YieldsList-from_str_split}
-use Rattle.xpath_subset.proofs.Tests.{no_test}
 use Rattle.xpath_subset.proofs.reading.pieces.Goals as goal
 
 pub returns : goal.returns

@@ -1,7 +1,7 @@
-use Rattle.std.proofs.Common.{◌≡◌, Some, ◌∙◌, sym, ap, refl, true≢false}
+use Rattle.std.proofs.Common.{◌∙◌, sym, ap, refl, true≢false}
 use Rattle.std.specs.Option.{option_map}
 use Rattle.xpath_subset.specs.declared.path.NameTest.TheVariants as tests
-use Rattle.xpath_subset.specs.Grammar.{any_of, IsTest, test_meaning}
+use Rattle.xpath_subset.specs.Grammar.{any_of}
 use Rattle.xpath_subset.proofs.Tests.{any_of_only}
 use Rattle.xpath_subset.proofs.reading.read_any_of.Goals as goal
 

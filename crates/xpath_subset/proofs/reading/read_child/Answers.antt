@@ -1,6 +1,6 @@
-use Rattle.std.proofs.Common.{◌≡◌, Bool, true, false, refl}
+use Rattle.std.proofs.Common.{true, false, refl}
 use Rattle.std.specs.Prelude.{codes}
-use Rattle.xpath_subset.specs.Grammar.{WrittenTest, child, IsTest, IsElementStep, test_meaning}
+use Rattle.xpath_subset.specs.Grammar.{child, IsTest, IsElementStep, test_meaning}
 use Rattle.xpath_subset.proofs.Moves.{gives_move, after_follows, child_after, child_alone}
 use Rattle.xpath_subset.proofs.reading.read_child.Goals as goal
 

@@ -1,7 +1,6 @@
-use Rattle.std.proofs.Common.{◌≡◌, Some, None, sym}
+use Rattle.std.proofs.Common.{Some, None, sym}
 use Rattle.std.specs.Prelude.{codes}
 use Rattle.xpath_subset.proofs.Tests.{bytes_same, bytes_other}
-use Rattle.xpath_subset.proofs.Lists.{gives_more, gives_none}
 use Rattle.xpath_subset.proofs.Moves.{dot_step, child_step, no_step}
 use Rattle.xpath_subset.proofs.reading.read_step.Goals as goal
 

@@ -1,4 +1,4 @@
-use Rattle.std.proofs.Common.{Some, None, sym, ap, subst, Ok, [], map, take, ◌+◌}
+use Rattle.std.proofs.Common.{Some, sym, subst, Ok, [], map, take, ◌+◌}
 use Rattle.xpath_subset.specs.Grammar.{IsElementStep, step_meaning, steps_meaning}
 use Rattle.xpath_subset.specs.inside.Gives.{AreWritten, Gives}
 use Rattle.xpath_subset.specs.inside.Trims.{trim_white}

@@ -1,4 +1,4 @@
-use Rattle.std.proofs.Common.{Some, None, Ok, map, take, if◌then◌else◌}
+use Rattle.std.proofs.Common.{Ok, map, take}
 use Rattle.xpath_subset.specs.Grammar.{IsElementStep, steps_meaning}
 use Rattle.xpath_subset.specs.inside.Gives.{AreWritten, Gives}
 use Rattle.xpath_subset.specs.inside.Trims.{trim_white}

@@ -1,11 +1,10 @@
 use Rattle.std.proofs.Common.{◌≡◌, None, Some, ◌∙◌, sym, ap, refl, subst}
-use Rattle.std.specs.Option.{option_map}
 use Rattle.std.specs.Prelude.{codes}
 use Rattle.std.specs.Str.{chars}
 use Rattle.xs_names.specs.Characters.{is_ncname}
 use Rattle.xs_names.specs.QName.{IsQName, joined, prefix_of}
 use Rattle.xpath_subset.specs.declared.path.NameTest.TheVariants as tests
-use Rattle.xpath_subset.specs.Grammar.{star, name, IsName, IsTest, test_meaning}
+use Rattle.xpath_subset.specs.Grammar.{star, name, IsName}
 use Rattle.xpath_subset.proofs.Tests.{star_only, local_only, no_test, bytes_same, bytes_other}
 use Rattle.xpath_subset.proofs.reading.read_test.Goals as goal
 

@@ -1,5 +1,4 @@
 use Rattle.xpath_subset.proofs.Matches.{trim_end_is}
-use Rattle.xpath_subset.proofs.Plain.{tight_cons}
 use Rattle.xpath_subset.proofs.reading.trimmed_end.Goals as goal
 
 pub returns : goal.returns
