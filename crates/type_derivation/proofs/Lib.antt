@@ -1,0 +1,2 @@
+pub mod DerivesLaws
+pub mod MemberLaws

@@ -1,0 +1,8 @@
+//! Which types are derived from which (Structures 3.4.6, 3.14.6).
+#![tactic(auto)]
+
+mod bases;
+mod derived;
+mod members;
+
+pub use derived::derives;
