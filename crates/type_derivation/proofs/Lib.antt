@@ -1,2 +1,3 @@
 pub mod DerivesLaws
 pub mod MemberLaws
+pub mod GraphLaws

@@ -1,2 +1,3 @@
 pub mod Derives
 pub mod Within
+pub mod Graph

@@ -4,5 +4,7 @@
 mod bases;
 mod derived;
 mod members;
+mod ranking;
 
 pub use derived::derives;
+pub use ranking::rank_types;
