@@ -1,11 +1,11 @@
 -- Ranks that fall in the graph are ranks of the types.
-use Rattle.std.proofs.Common.{◌≡◌, ℕ, zero, suc, ◌+◌, ◌-◌, ◌<◌, ◌≤◌, ◌⊎◌, inl, inr, List, [], ◌∷◌, ◌++◌, None, Some, length, length-append, map, take, drop, set, get_or, slice_get, slice_index, refl, sym, ap, ◌∙◌, subst, arith}
+use Rattle.std.proofs.Common.{◌≡◌, ℕ, zero, suc, ◌+◌, ◌-◌, ◌<◌, ◌≤◌, ◌⊎◌, inl, inr, List, [], ◌∷◌, ◌++◌, None, Some, length, length-append, take, drop, set, get_or, slice_get, slice_index, refl, sym, ap, ◌∙◌, subst, arith}
 use Rattle.std.specs.Prelude.{All, Contains}
 use Rattle.std.specs.List.{flat_map}
 use Rattle.std.proofs.lemmas.Bool.{cases_lt}
 use Rattle.std.proofs.lemmas.Option.{get_or_from_slice_get, slice_get_cases}
 use Rattle.std.proofs.lemmas.List.{length-map, get_or-map, get_or_append_left, get_or-append-add, get_or-take, get_or-drop, get_or_past}
-use Rattle.std.proofs.lemmas.List.Elements.{All-nil, All-cons, All-append, All-head, All-tail, Contains-append_left, Contains-append_right, Contains-get_or}
+use Rattle.std.proofs.lemmas.List.Elements.{All-nil, All-cons, All-append, All-head, All-tail, Contains-append_left, Contains-append_right}
 use Rattle.xs_circles.specs.Circles.{refs_of, IsWithin}
 use Rattle.xs_circles.specs.Ranking.{AreFalling}
 use Rattle.xs_components.specs.Tables.{Tables}
@@ -13,7 +13,7 @@ use Rattle.xs_components.specs.declared.common.TypeId.{TypeId}
 use Rattle.xs_components.specs.declared.common.TypeId.TheVariants.{AnyType, Builtin, Simple, Complex}
 use Rattle.xs_components.specs.declared.complex.ComplexType.{ComplexType}
 use Rattle.xs_components.specs.declared.simple.SimpleType.{SimpleType}
-use Rattle.xs_references.specs.Heights.{first_height, type_height, IsType, IsLower}
+use Rattle.xs_references.specs.Heights.{first_height, IsType, IsLower}
 use Rattle.xs_references.specs.Ranked.{named_types}
 use Rattle.xs_references.proofs.HeightLaws.{builtin-below}
 use Rattle.type_derivation.specs.Graph.{type_node, type_nodes, IsNode, simple_refs, complex_refs, graph, IsClosed, with_ranks, AreTypesRanked}

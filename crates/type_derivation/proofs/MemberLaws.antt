@@ -1,5 +1,5 @@
 -- Members and bases along the tables, and what is within a type.
-use Rattle.std.proofs.Common.{◌≡◌, ◌↔◌, ◌<◌, ◌≤◌, ◌+◌, ◌⊎◌, ℕ, inl, inr, List, [], ◌∷◌, Bool, true, false, Option, None, Some, slice_get, slice_index, refl, sym, ap, ◌∙◌, subst, arith}
+use Rattle.std.proofs.Common.{◌≡◌, ◌↔◌, ◌<◌, ◌⊎◌, ℕ, inl, inr, List, [], true, Option, None, Some, slice_get, refl, sym, subst, arith}
 use Rattle.std.specs.Prelude.{All, Contains, IfSome}
 use Rattle.std.specs.Option.{option_map}
 use Rattle.std.proofs.lemmas.List.Elements.{All-head, All-contains}
@@ -13,10 +13,11 @@ use Rattle.xs_components.specs.declared.simple.FacetItem.{FacetItem}
 use Rattle.xs_components.specs.declared.simple.SimpleForm.{SimpleForm}
 use Rattle.xs_components.specs.declared.simple.SimpleForm.TheVariants.{Restrict, ListOf, UnionOf}
 use Rattle.xs_components.specs.declared.simple.SimpleType.{SimpleType}
-use Rattle.xs_references.specs.Heights.{first_height, builtin_height, type_height, IsType, IsLower}
+use Rattle.xs_references.specs.Heights.{builtin_height, type_height, IsType, IsLower}
 use Rattle.xs_references.specs.Ranked.{named_types, IsRanked}
 use Rattle.simple_values.specs.Builtins as builtins
 use Rattle.type_derivation.specs.Derives.{is_simple, form_of, form_base, builtin_base, base_of, HasMember, named, inherited}
+use Rattle.type_derivation.specs.Graph.{AreTypesRanked}
 use Rattle.type_derivation.specs.Within.{Within, itself, inside}
 
 module _ (t : Tables) where
@@ -107,7 +108,15 @@ module _ (t : Tables) where
   base-built None = tt
   base-built (Some kind) = tt
 
-module _ (t : Tables) (ranked : IsRanked t) where
+-- ranks of all parts are ranks of the types
+pub types-ranked : (t : Tables) → IsRanked t → AreTypesRanked t
+types-ranked t ranked = record { simples = ranked.simples; complexes = ranked.complexes }
+
+module _ (t : Tables) (ranked : AreTypesRanked t) where
+  -- what the simple type of a number names, where its form was read
+  pub named-lower : (of : TypeId) (id : ℕ) (part : SimpleType) (form : SimpleForm) → of ≡ Simple id → slice_get t.simples.parts id ≡ Some part → part.form ≡ form → All (IsLower t (type_height t of)) (named_types form)
+  named-lower of id part form this e f = rw this (rw f at (ranked.simples id part e))
+
   -- a base type definition is there, and lower
   pub base-lower : (of : TypeId) → IsType t of → IfSome (base_of t of) (IsLower t (type_height t of))
   base-lower AnyType is = tt

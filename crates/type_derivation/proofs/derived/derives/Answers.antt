@@ -1,7 +1,7 @@
-use Rattle.std.proofs.Common.{◌≡◌, true, None, Some, refl, sym, subst, ◌∙◌}
+use Rattle.std.proofs.Common.{◌≡◌, Some, refl, sym, ◌∙◌}
 use Rattle.std.proofs.lemmas.Bool.{true≢false}
 use Rattle.xs_references.specs.Heights.{IsLower, type_height}
-use Rattle.type_derivation.specs.Derives.{base_of, Derives}
+use Rattle.type_derivation.specs.Derives.{base_of}
 use Rattle.type_derivation.specs.Within.{IsCovered}
 use Rattle.type_derivation.proofs.DerivesLaws.{covered-derives, up-excluded, up-none, up-same}
 use Rattle.type_derivation.proofs.MemberLaws.{base-lower}

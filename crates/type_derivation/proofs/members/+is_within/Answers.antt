@@ -4,7 +4,7 @@ use Rattle.std.specs.Prelude.{All}
 use Rattle.std.proofs.lemmas.List.{take_all}
 use Rattle.type_derivation.specs.Derives.{is_simple}
 use Rattle.type_derivation.specs.Within.{Within, itself, inside}
-use Rattle.type_derivation.proofs.MemberLaws.{within-cases, within-none}
+use Rattle.type_derivation.proofs.MemberLaws.{within-none}
 use Rattle.type_derivation.proofs.members.+is_within.Goals as goal
 
 pub returns-then-is_same : goal.returns-then-is_same

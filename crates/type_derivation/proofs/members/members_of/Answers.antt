@@ -1,11 +1,9 @@
-use Rattle.std.proofs.Common.{◌≡◌, ◌↔◌, List, [], Some, Contains, sym, subst, arith}
-use Rattle.std.specs.Prelude.{All}
+use Rattle.std.proofs.Common.{◌↔◌, [], subst, arith}
 use Rattle.std.proofs.lemmas.List.Elements.{All-head, All-weaker}
 use Rattle.xs_components.specs.declared.common.TypeId.{TypeId}
 use Rattle.xs_references.specs.Heights.{IsLower, type_height}
-use Rattle.xs_references.proofs.RankedLaws.{named-lower}
-use Rattle.type_derivation.specs.Derives.{is_simple, HasMember}
-use Rattle.type_derivation.proofs.MemberLaws.{form-read, members-restrict, members-union}
+use Rattle.type_derivation.specs.Derives.{HasMember}
+use Rattle.type_derivation.proofs.MemberLaws.{named-lower, form-read, members-restrict, members-union}
 use Rattle.type_derivation.proofs.members.members_of.Goals as goal
 
 pub down-smaller : goal.down-smaller

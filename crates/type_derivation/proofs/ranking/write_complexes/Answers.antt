@@ -1,4 +1,4 @@
-use Rattle.std.proofs.Common.{◌≡◌, ℕ, List, ◌+◌, ◌++◌, take, drop, set, get_or, length, suc, ap, ◌∙◌, add-one, arith}
+use Rattle.std.proofs.Common.{◌≡◌, ℕ, List, ◌+◌, ◌++◌, take, drop, set, get_or, length, ap, ◌∙◌, add-one, arith}
 use Rattle.xs_components.specs.Tables.{Tables}
 use Rattle.type_derivation.proofs.GraphLaws.{seam}
 use Rattle.type_derivation.proofs.ranking.write_complexes.Goals as goal
