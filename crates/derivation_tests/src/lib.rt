@@ -4,6 +4,8 @@
 #[cfg(test)]
 mod chains;
 #[cfg(test)]
+mod closed;
+#[cfg(test)]
 mod derived;
 #[cfg(test)]
 mod parts;

@@ -120,12 +120,14 @@ module _ (t : Tables) (closed : IsClosed t) where
   complex-within x low (inr f) = absurd (omega (arith, f.0))
 
   small-refs : (x : ℕ) → All Small (refs_of (graph t) x)
-  small-refs x = elim (cases_lt x (length t.simples.parts))
-      [ inl low ↦ simple-within x low ((slice_get_cases t.simples.parts x).1)
-      | inr high ↦ elim (cases_lt x (length (graph t)))
-          [ inl low ↦ (let e : length t.simples.parts + (x - length t.simples.parts) ≡ x = omega arith in
-              subst (λ n. All Small (refs_of (graph t) n)) e (complex-within (x - length t.simples.parts) (omega (arith, length-graph t)) ((slice_get_cases t.complexes.parts (x - length t.simples.parts)).1)))
-          | inr past ↦ rw (get_or_past (graph t) x [] past) (All-nil Small) ] ]
+  small-refs x = elim (cases_lt x (length t.simples.parts)) [
+    | inl low ↦ simple-within x low ((slice_get_cases t.simples.parts x).1)
+    | inr high ↦ elim (cases_lt x (length (graph t))) [
+      | inl low ↦ (let e : length t.simples.parts + (x - length t.simples.parts) ≡ x = omega arith in
+          subst (λ n. All Small (refs_of (graph t) n)) e (complex-within (x - length t.simples.parts) (omega (arith, length-graph t)) ((slice_get_cases t.complexes.parts (x - length t.simples.parts)).1)))
+      | inr past ↦ rw (get_or_past (graph t) x [] past) (All-nil Small)
+    ]
+  ]
 
   -- every number in the graph is that of a type
   pub graph-within : IsWithin (graph t)

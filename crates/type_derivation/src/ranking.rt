@@ -5,10 +5,10 @@ ghost use Rattle.xs_circles.specs.Circles.{ComesBack};
 ghost use Rattle.xs_circles.specs.Ranking.{AreCircular, ArePlaces};
 ghost use Rattle.type_derivation.specs.Graph.{type_node, type_nodes, simple_refs, complex_refs, graph, IsClosed, IsNode, with_ranks, AreTypesRanked};
 
+use std::alloc::{AllocError, Global};
 use xs_circles::{Ranking, rank_all};
 use xs_components::{Components, SimpleForm, TypeId};
 use xs_lists::Listed;
-use std::alloc::{AllocError, Global};
 
 // Puts the number of a type in the graph at the end, if it has one.
 fn add_node(nodes: &mut Listed<u32>, simples: u32, most: u32, of: TypeId) -> Result<(), AllocError>
@@ -24,7 +24,12 @@ fn add_node(nodes: &mut Listed<u32>, simples: u32, most: u32, of: TypeId) -> Res
 }
 
 // The numbers of some types in the graph.
-fn nodes_of(alloc: Global, simples: u32, most: u32, types: &[TypeId]) -> Result<Listed<u32>, AllocError>
+fn nodes_of(
+    alloc: Global,
+    simples: u32,
+    most: u32,
+    types: &[TypeId],
+) -> Result<Listed<u32>, AllocError>
     requires few { All (IsNode simples most) types.now }
     ensures { IfOk result (λ nodes. nodes ≡ type_nodes simples types.now) }
 {
@@ -36,7 +41,12 @@ fn nodes_of(alloc: Global, simples: u32, most: u32, types: &[TypeId]) -> Result<
 }
 
 // The numbers of the types that a simple type names.
-fn form_nodes(alloc: Global, simples: u32, most: u32, form: &SimpleForm) -> Result<Listed<u32>, AllocError>
+fn form_nodes(
+    alloc: Global,
+    simples: u32,
+    most: u32,
+    form: &SimpleForm,
+) -> Result<Listed<u32>, AllocError>
     requires few { All (IsNode simples most) (named_types form.now) }
     ensures { IfOk result (λ nodes. nodes ≡ type_nodes simples (named_types form.now)) }
 {

@@ -3,8 +3,8 @@ ghost use Rattle.xs_circles.specs.Circles.{IsWithin, refs_of, LeadsTo};
 ghost use Rattle.xs_circles.specs.Marks.{marked, unmarked, IsMarking};
 
 use crate::rounds::refs_at;
-use xs_lists::Listed;
 use std::alloc::{AllocError, Global};
+use xs_lists::Listed;
 
 // Marks some parts, and puts those that were not marked to what is to be done.
 fn mark(xs: &[u32], seen: &mut [bool], todo: &mut Vec<u32>) -> Result<(), AllocError>

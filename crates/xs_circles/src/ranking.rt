@@ -6,8 +6,8 @@ ghost use Rattle.xs_circles.specs.Ranking.{IsRanking};
 
 use crate::leading::reach;
 use crate::rounds::peel;
-use xs_lists::Listed;
 use std::alloc::{AllocError, Global};
+use xs_lists::Listed;
 
 /// What references come to: ranks that fall along them, or the parts that come back to themselves.
 #[derive(Debug, Drop)]

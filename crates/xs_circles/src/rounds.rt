@@ -2,8 +2,8 @@ ghost use Rattle.std.specs.Prelude.{◌≡◌, ◌+◌, ◌<◌, ◌≤◌, ◌^
 ghost use Rattle.xs_circles.specs.Circles.{IsWithin, refs_of};
 ghost use Rattle.xs_circles.specs.Ranks.{rank_of, IsBelow, RanksFall, HasUnranked, AreStuck, unranked};
 
-use xs_lists::Listed;
 use std::alloc::{AllocError, Global};
+use xs_lists::Listed;
 
 // The parts that a part refers to.
 #[tactic(auto, using(crate::proofs::RankLaws::refs_of_read))]
@@ -73,7 +73,13 @@ fn first_unranked(xs: &[u32], ranks: &[Option<u32>], next: u32) -> Option<u32>
 }
 
 // Gives ranks to parts, each behind what it refers to, in at most so many steps. Answers the number after the last.
-fn climb(refs: &[Listed<u32>], ranks: &mut [Option<u32>], next: u32, todo: &mut Vec<u32>, steps: usize) -> Result<u32, AllocError>
+fn climb(
+    refs: &[Listed<u32>],
+    ranks: &mut [Option<u32>],
+    next: u32,
+    todo: &mut Vec<u32>,
+    steps: usize,
+) -> Result<u32, AllocError>
     requires few { length refs.now < 2 ^ 32 }
     requires len { length ranks.old ≡ length refs.now }
     requires within { IsWithin refs.now }
@@ -135,7 +141,11 @@ fn countdown(alloc: Global, count: usize) -> Result<Vec<u32>, AllocError>
 }
 
 // Gives ranks, first by climbing, which is enough where nothing is circular, then by rounds.
-fn rank_slice(alloc: Global, refs: &[Listed<u32>], ranks: &mut [Option<u32>]) -> Result<(), AllocError>
+fn rank_slice(
+    alloc: Global,
+    refs: &[Listed<u32>],
+    ranks: &mut [Option<u32>],
+) -> Result<(), AllocError>
     requires few { length refs.now < 2 ^ 32 }
     requires len { length ranks.old ≡ length refs.now }
     requires within { IsWithin refs.now }

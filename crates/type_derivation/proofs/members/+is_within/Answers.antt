@@ -20,7 +20,7 @@ pub returns : goal.returns
 returns t c =
     let parts = c.args.parts.now in
     let none : ¬ (Within parts c.args.base.now c.args.of.now) =
-        within-none parts c.args.base.now c.args.of.now c.members_of-member-items.result.now c.members_of-member-items.ensures.exact
-        (λ e. true≢false (sym (c.is_same.ensures.1 e) ∙ c.if-is_same.false))
-        (subst (All (λ member. is_simple member ≡ true → ¬ (Within parts member c.args.of.now))) (take_all c.loop-member.member-index c.members_of-member-items.result.now c.loop-member-test.false) c.loop-member.invariant) in
+    within-none parts c.args.base.now c.args.of.now c.members_of-member-items.result.now c.members_of-member-items.ensures.exact
+    (λ e. true≢false (sym (c.is_same.ensures.1 e) ∙ c.if-is_same.false))
+    (subst (All (λ member. is_simple member ≡ true → ¬ (Within parts member c.args.of.now))) (take_all c.loop-member.member-index c.members_of-member-items.result.now c.loop-member-test.false) c.loop-member.invariant) in
     ((λ e. absurd (true≢false (sym e))), λ w. absurd (none w))

@@ -23,5 +23,5 @@ climb-preserved c =
       len = rw length-set inv.len;
       todo = popped.0;
       fall = fall-more c.climb.ranks c.in-Some.x c.climb.after free there c.args.refs.now inv.fall (rw c.refs_at.ensures at c.in_default-first_unranked.ensures.none);
-      count = omega (arith, law, inv.count)
+      count = omega (arith, law, inv.count);
     }

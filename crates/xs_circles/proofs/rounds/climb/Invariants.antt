@@ -8,5 +8,5 @@ invariant-climb l = record {
   len : length l.ranks ≡ length l.refs;
   todo : All (λ y. y < length l.refs) l.todo.items;
   fall : RanksFall l.refs l.ranks l.after;
-  count : l.after + unranked l.ranks ≡ l.next + unranked l.initial.ranks
+  count : l.after + unranked l.ranks ≡ l.next + unranked l.initial.ranks;
 }

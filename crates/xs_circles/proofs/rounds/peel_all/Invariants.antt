@@ -6,7 +6,7 @@ abbrev pub invariant-peel : goal.invariant-peel
 invariant-peel l = record {
   len : length l.ranks ≡ length l.refs;
   fall : RanksFall l.refs l.ranks l.last;
-  room : l.last + unranked l.ranks ≤ length l.refs
+  room : l.last + unranked l.ranks ≤ length l.refs;
 }
 
 abbrev pub decreases-peel : goal.decreases-peel
