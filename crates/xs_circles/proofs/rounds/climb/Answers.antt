@@ -1,4 +1,4 @@
-use Rattle.std.proofs.Common.{◌≡◌, ◌+◌, ◌<◌, length, length-set, None, Some, sym, ◌∙◌, arith}
+use Rattle.std.proofs.Common.{◌≡◌, ◌<◌, length, length-set, None, Some, sym, ◌∙◌, arith}
 use Rattle.std.proofs.lemmas.List.Elements.{All-pop}
 use Rattle.xs_circles.specs.Ranks.{rank_of}
 use Rattle.xs_circles.proofs.RankLaws.{is_some-none, fall-more, unranked-more}
