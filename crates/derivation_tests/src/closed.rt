@@ -40,21 +40,36 @@ fn names_there(parts: &Components, form: &SimpleForm) -> bool
     }
 }
 
-// Whether every type that is named is there.
-fn is_closed(parts: &Components) -> bool
-    ensures { result ≡ true → IsClosed parts.now }
+fn are_simples_closed(parts: &Components) -> bool
+    ensures { result ≡ true → All (λ part. All (IsType parts.now) (named_types part.form)) parts.now.simples.parts }
 {
     for part in parts.simples() {
         if !names_there(parts, &part.form) {
             return false;
         }
     }
+    true
+}
+
+fn are_complexes_closed(parts: &Components) -> bool
+    ensures { result ≡ true → All (λ part. IsType parts.now part.base) parts.now.complexes.parts }
+{
     for part in parts.complexes() {
         if !is_there(parts, &part.base) {
             return false;
         }
     }
     true
+}
+
+// Whether every type that is named is there.
+fn is_closed(parts: &Components) -> bool
+    ensures { result ≡ true → IsClosed parts.now }
+{
+    if !are_simples_closed(parts) {
+        return false;
+    }
+    are_complexes_closed(parts)
 }
 
 // Whether the types could be ranked.

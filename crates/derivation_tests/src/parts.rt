@@ -1,8 +1,5 @@
 use std::alloc::{AllocError, Global};
-use xs_components::{
-    AttrGroupIdList, AttrUseList, ComplexType, Components, ContentForm, FacetStep, Methods,
-    NameIdList, Place, SimpleForm, SimpleType, TypeId, TypeIdList,
-};
+use xs_components::{FacetStep, Methods, Place, SimpleForm, SimpleType, TypeId, TypeIdList};
 
 pub fn no_methods() -> Methods {
     Methods {
@@ -33,36 +30,9 @@ pub fn restriction(alloc: Global, base: TypeId) -> SimpleType {
     })
 }
 
-pub fn list(item: TypeId) -> SimpleType {
-    simple_type(SimpleForm::ListOf { item })
-}
-
 pub fn union(alloc: Global, first: TypeId, second: TypeId) -> Result<SimpleType, AllocError> {
     let mut members = TypeIdList::new(alloc);
     members.push(first)?;
     members.push(second)?;
     Ok(simple_type(SimpleForm::UnionOf { members }))
-}
-
-pub fn complex_type(alloc: Global, base: TypeId, by_extension: bool) -> ComplexType {
-    ComplexType {
-        name: None,
-        at: Place {
-            document: 0,
-            item: 0,
-        },
-        base,
-        by_extension,
-        is_abstract: false,
-        finals: no_methods(),
-        blocks: no_methods(),
-        content: ContentForm::Complex {
-            effective: None,
-            mixed: false,
-        },
-        uses: AttrUseList::new(alloc),
-        groups: AttrGroupIdList::new(alloc),
-        prohibited: NameIdList::new(alloc),
-        wildcard: None,
-    }
 }
