@@ -183,142 +183,150 @@ fn refused(
     Ok(steps.len())
 }
 
+/// Edits one after another, and the nodes after each.
+const EDITS: &[(Step<'static>, &str)] = &[
+    (
+        Step::Insert(1, 0, Block::Lines(&["(a", "(c", ")c", "-t", ")a"])),
+        "1.1 r 6.2 a 7.3 c 8.3 't' 2.2 'x' 3.2 b 4.3 'y' 5.2 'z' ",
+    ),
+    (Step::Remove(6), "1.1 r 2.2 'x' 3.2 b 4.3 'y' 5.2 'z' "),
+    (
+        Step::AddText(1, 1, "u"),
+        "1.1 r 2.2 'x' 9.2 'u' 3.2 b 4.3 'y' 5.2 'z' ",
+    ),
+    (
+        Step::SetText(4, ""),
+        "1.1 r 2.2 'x' 9.2 'u' 3.2 b 4.3 '' 5.2 'z' ",
+    ),
+    (
+        Step::Insert(3, 1, Block::Lines(&["(f", ")f"])),
+        "1.1 r 2.2 'x' 9.2 'u' 3.2 b 4.3 '' 10.3 f 5.2 'z' ",
+    ),
+    (
+        Step::AddText(10, 0, ""),
+        "1.1 r 2.2 'x' 9.2 'u' 3.2 b 4.3 '' 10.3 f 11.4 '' 5.2 'z' ",
+    ),
+    (Step::Remove(3), "1.1 r 2.2 'x' 9.2 'u' 5.2 'z' "),
+];
+
 #[test]
 fn makes_edits(rt: HostRuntime) -> Result<(), Fail> {
     let alloc = rt.alloc();
     let mut rows = rows_of(alloc, &["(r", "-x", "(b", "-y", ")b", "-z", ")r"])?;
-    let steps = [
-        (
-            Step::Insert(1, 0, Block::Lines(&["(a", "(c", ")c", "-t", ")a"])),
-            "1.1 r 6.2 a 7.3 c 8.3 't' 2.2 'x' 3.2 b 4.3 'y' 5.2 'z' ",
-        ),
-        (Step::Remove(6), "1.1 r 2.2 'x' 3.2 b 4.3 'y' 5.2 'z' "),
-        (
-            Step::AddText(1, 1, "u"),
-            "1.1 r 2.2 'x' 9.2 'u' 3.2 b 4.3 'y' 5.2 'z' ",
-        ),
-        (
-            Step::SetText(4, ""),
-            "1.1 r 2.2 'x' 9.2 'u' 3.2 b 4.3 '' 5.2 'z' ",
-        ),
-        (
-            Step::Insert(3, 1, Block::Lines(&["(f", ")f"])),
-            "1.1 r 2.2 'x' 9.2 'u' 3.2 b 4.3 '' 10.3 f 5.2 'z' ",
-        ),
-        (
-            Step::AddText(10, 0, ""),
-            "1.1 r 2.2 'x' 9.2 'u' 3.2 b 4.3 '' 10.3 f 11.4 '' 5.2 'z' ",
-        ),
-        (Step::Remove(3), "1.1 r 2.2 'x' 9.2 'u' 5.2 'z' "),
-    ];
-    assert_eq!(rt; made(alloc, &mut rows, 6, &steps)?, 7);
+    assert_eq!(rt; made(alloc, &mut rows, 6, EDITS)?, 7);
     Ok(())
 }
+
+/// Edits whose blocks have names, and the nodes after each.
+const NAMED_EDITS: &[(Step<'static>, &str)] = &[
+    (
+        Step::Insert(1, 0, Block::Lines(&["(c", "Ap:k 1", "Ak 2", ")c"])),
+        "1.1 {d}r :d p:u 4.2 {d}c {u}k=1 k=2 2.2 {v}a p:v 3.2 b : ",
+    ),
+    (
+        Step::Insert(2, 0, Block::Lines(&["(p:c", "(c", ")c", ")p:c"])),
+        "1.1 {d}r :d p:u 4.2 {d}c {u}k=1 k=2 2.2 {v}a p:v 5.3 {v}c 6.4 {d}c 3.2 b : ",
+    ),
+    (
+        Step::Remove(4),
+        "1.1 {d}r :d p:u 2.2 {v}a p:v 5.3 {v}c 6.4 {d}c 3.2 b : ",
+    ),
+    (Step::Remove(2), "1.1 {d}r :d p:u 3.2 b : "),
+    (
+        Step::Insert(
+            3,
+            0,
+            Block::Lines(&[
+                "(q:c",
+                "Axmlns:q w",
+                "(q:e",
+                "Axmlns e",
+                ")q:e",
+                "(p:c",
+                ")p:c",
+                ")q:c",
+            ]),
+        ),
+        "1.1 {d}r :d p:u 3.2 b : 7.3 {w}c q:w 8.4 {w}e :e 9.4 {u}c ",
+    ),
+    (
+        Step::Insert(
+            8,
+            0,
+            Block::Lines(&["(g", "Axml:lang l", "Axmlns:p x", "Ap:h 1", ")g"]),
+        ),
+        "1.1 {d}r :d p:u 3.2 b : 7.3 {w}c q:w 8.4 {w}e :e 10.5 {e}g p:x \
+             {http://www.w3.org/XML/1998/namespace}lang=l {x}h=1 9.4 {u}c ",
+    ),
+];
+
+/// A document that binds prefixes at several depths.
+const SCOPES: &[&str] = &[
+    "(r",
+    "Axmlns d",
+    "Axmlns:p u",
+    "(p:a",
+    "Axmlns:p v",
+    ")p:a",
+    "(b",
+    "Axmlns ",
+    ")b",
+    ")r",
+];
 
 #[test]
 fn resolves_names_in_the_scope_of_the_parent(rt: HostRuntime) -> Result<(), Fail> {
     let alloc = rt.alloc();
-    let lines = [
-        "(r",
-        "Axmlns d",
-        "Axmlns:p u",
-        "(p:a",
-        "Axmlns:p v",
-        ")p:a",
-        "(b",
-        "Axmlns ",
-        ")b",
-        ")r",
-    ];
-    let mut rows = rows_of(alloc, &lines)?;
-    let steps = [
-        (
-            Step::Insert(1, 0, Block::Lines(&["(c", "Ap:k 1", "Ak 2", ")c"])),
-            "1.1 {d}r :d p:u 4.2 {d}c {u}k=1 k=2 2.2 {v}a p:v 3.2 b : ",
-        ),
-        (
-            Step::Insert(2, 0, Block::Lines(&["(p:c", "(c", ")c", ")p:c"])),
-            "1.1 {d}r :d p:u 4.2 {d}c {u}k=1 k=2 2.2 {v}a p:v 5.3 {v}c 6.4 {d}c 3.2 b : ",
-        ),
-        (
-            Step::Remove(4),
-            "1.1 {d}r :d p:u 2.2 {v}a p:v 5.3 {v}c 6.4 {d}c 3.2 b : ",
-        ),
-        (Step::Remove(2), "1.1 {d}r :d p:u 3.2 b : "),
-        (
-            Step::Insert(
-                3,
-                0,
-                Block::Lines(&[
-                    "(q:c",
-                    "Axmlns:q w",
-                    "(q:e",
-                    "Axmlns e",
-                    ")q:e",
-                    "(p:c",
-                    ")p:c",
-                    ")q:c",
-                ]),
-            ),
-            "1.1 {d}r :d p:u 3.2 b : 7.3 {w}c q:w 8.4 {w}e :e 9.4 {u}c ",
-        ),
-        (
-            Step::Insert(
-                8,
-                0,
-                Block::Lines(&["(g", "Axml:lang l", "Axmlns:p x", "Ap:h 1", ")g"]),
-            ),
-            "1.1 {d}r :d p:u 3.2 b : 7.3 {w}c q:w 8.4 {w}e :e 10.5 {e}g p:x \
-             {http://www.w3.org/XML/1998/namespace}lang=l {x}h=1 9.4 {u}c ",
-        ),
-    ];
-    assert_eq!(rt; made(alloc, &mut rows, 4, &steps)?, 6);
+    let mut rows = rows_of(alloc, SCOPES)?;
+    assert_eq!(rt; made(alloc, &mut rows, 4, NAMED_EDITS)?, 6);
     Ok(())
 }
+
+/// Edits from a next free number, and why they are refused.
+const REFUSED: &[(u32, Step<'static>, EditError)] = &[
+    (
+        4,
+        Step::Insert(9, 9, Block::Lines(&["(1", ")1"])),
+        EditError::UnknownNode,
+    ),
+    (4, Step::AddText(0, 9, "t"), EditError::UnknownNode),
+    (4, Step::SetText(4, "t"), EditError::UnknownNode),
+    (4, Step::Remove(4), EditError::UnknownNode),
+    (
+        4,
+        Step::Insert(2, 9, Block::Lines(&["(a", ")a"])),
+        EditError::NotElement,
+    ),
+    (4, Step::SetText(1, "t"), EditError::NotText),
+    (4, Step::Remove(1), EditError::RootFixed),
+    (4, Step::AddText(1, 3, "t"), EditError::BadIndex),
+    (
+        4,
+        Step::Insert(1, 3, Block::Lines(&["(1", ")1"])),
+        EditError::BadIndex,
+    ),
+    (
+        4_294_967_295,
+        Step::AddText(1, 0, ""),
+        EditError::TooManyNodes,
+    ),
+    (
+        4_294_967_295,
+        Step::Insert(1, 0, Block::Deep(128, &[])),
+        EditError::TooManyNodes,
+    ),
+    (
+        4,
+        Step::Insert(1, 0, Block::Deep(128, &[])),
+        EditError::TooDeep,
+    ),
+];
 
 #[test]
 fn refuses_edits_by_their_least_reason(rt: HostRuntime) -> Result<(), Fail> {
     let alloc = rt.alloc();
     let mut rows = rows_of(alloc, &["(r", "-x", "(b", ")b", ")r"])?;
-    let steps = [
-        (
-            4,
-            Step::Insert(9, 9, Block::Lines(&["(1", ")1"])),
-            EditError::UnknownNode,
-        ),
-        (4, Step::AddText(0, 9, "t"), EditError::UnknownNode),
-        (4, Step::SetText(4, "t"), EditError::UnknownNode),
-        (4, Step::Remove(4), EditError::UnknownNode),
-        (
-            4,
-            Step::Insert(2, 9, Block::Lines(&["(a", ")a"])),
-            EditError::NotElement,
-        ),
-        (4, Step::SetText(1, "t"), EditError::NotText),
-        (4, Step::Remove(1), EditError::RootFixed),
-        (4, Step::AddText(1, 3, "t"), EditError::BadIndex),
-        (
-            4,
-            Step::Insert(1, 3, Block::Lines(&["(1", ")1"])),
-            EditError::BadIndex,
-        ),
-        (
-            4_294_967_295,
-            Step::AddText(1, 0, ""),
-            EditError::TooManyNodes,
-        ),
-        (
-            4_294_967_295,
-            Step::Insert(1, 0, Block::Deep(128, &[])),
-            EditError::TooManyNodes,
-        ),
-        (
-            4,
-            Step::Insert(1, 0, Block::Deep(128, &[])),
-            EditError::TooDeep,
-        ),
-    ];
-    assert_eq!(rt; refused(alloc, &mut rows, &steps)?, 12);
+    assert_eq!(rt; refused(alloc, &mut rows, REFUSED)?, 12);
     assert!(rt; shown(alloc, &rows)?.as_str() == "1.1 r 2.2 'x' 3.2 b ");
     let last = Step::AddText(3, 0, "t");
     assert!(rt;
@@ -332,109 +340,111 @@ fn refuses_edits_by_their_least_reason(rt: HostRuntime) -> Result<(), Fail> {
     Ok(())
 }
 
+/// Blocks whose names are refused, from a next free number.
+const REFUSED_NAMES: &[(u32, Step<'static>, EditError)] = &[
+    (
+        3,
+        Step::Insert(1, 0, Block::Lines(&["(1", ")1"])),
+        EditError::BadName,
+    ),
+    (
+        3,
+        Step::Insert(1, 0, Block::Lines(&["(z:a", "(b", "Ax: 1", ")b", ")z:a"])),
+        EditError::BadName,
+    ),
+    (
+        3,
+        Step::Insert(1, 0, Block::Lines(&["(a", "(z:b", ")z:b", ")a"])),
+        EditError::UnboundPrefix,
+    ),
+    (
+        3,
+        Step::Insert(
+            1,
+            0,
+            Block::Lines(&["(a", "(b", "Axmlns:z v", ")b", "(c", "Az:k 1", ")c", ")a"]),
+        ),
+        EditError::UnboundPrefix,
+    ),
+    (
+        3,
+        Step::Insert(
+            1,
+            0,
+            Block::Lines(&["(a", "Axmlns:xml v", "(z:b", ")z:b", ")a"]),
+        ),
+        EditError::UnboundPrefix,
+    ),
+    (
+        3,
+        Step::Insert(1, 0, Block::Lines(&["(z:a", "Axmlns:z ", ")z:a"])),
+        EditError::ReservedName,
+    ),
+    (
+        3,
+        Step::Insert(1, 0, Block::Lines(&["(xmlns:a", ")xmlns:a"])),
+        EditError::ReservedName,
+    ),
+    (
+        4_294_967_295,
+        Step::Insert(1, 0, Block::Lines(&["(a", "Axmlns:xmlns v", ")a"])),
+        EditError::ReservedName,
+    ),
+    (
+        4,
+        Step::Insert(1, 0, Block::Deep(128, &["(a", "Ak 1", "Ak 2", ")a"])),
+        EditError::TooDeep,
+    ),
+    (
+        4_294_967_295,
+        Step::Insert(1, 0, Block::Wide(257, &[])),
+        EditError::TooManyNodes,
+    ),
+    (
+        4,
+        Step::Insert(1, 0, Block::Wide(257, &["(p:c", ")p:c"])),
+        EditError::TooManyAttributes,
+    ),
+    (
+        4,
+        Step::Insert(1, 0, Block::Wide(257, &["(c", "Ak 1", "Ak 2", ")c"])),
+        EditError::TooManyAttributes,
+    ),
+    (
+        4,
+        Step::Insert(1, 0, Block::Wide(256, &["Aa7 "])),
+        EditError::TooManyAttributes,
+    ),
+    (
+        4,
+        Step::Insert(1, 0, Block::Wide(255, &["Aa7 "])),
+        EditError::DoubleAttribute,
+    ),
+    (
+        4,
+        Step::Insert(
+            1,
+            0,
+            Block::Lines(&["(a", "Axmlns:q u", "Ap:k 1", "Aq:k 2", ")a"]),
+        ),
+        EditError::DoubleAttribute,
+    ),
+    (
+        4,
+        Step::Insert(
+            1,
+            0,
+            Block::Lines(&["(a", "Axmlns:q u", "Axmlns:q v", ")a"]),
+        ),
+        EditError::DoubleAttribute,
+    ),
+];
+
 #[test]
 fn refuses_names_by_their_least_reason(rt: HostRuntime) -> Result<(), Fail> {
     let alloc = rt.alloc();
     let mut rows = rows_of(alloc, &["(r", "Axmlns:p u", "(b", ")b", ")r"])?;
-    let steps = [
-        (
-            3,
-            Step::Insert(1, 0, Block::Lines(&["(1", ")1"])),
-            EditError::BadName,
-        ),
-        (
-            3,
-            Step::Insert(1, 0, Block::Lines(&["(z:a", "(b", "Ax: 1", ")b", ")z:a"])),
-            EditError::BadName,
-        ),
-        (
-            3,
-            Step::Insert(1, 0, Block::Lines(&["(a", "(z:b", ")z:b", ")a"])),
-            EditError::UnboundPrefix,
-        ),
-        (
-            3,
-            Step::Insert(
-                1,
-                0,
-                Block::Lines(&["(a", "(b", "Axmlns:z v", ")b", "(c", "Az:k 1", ")c", ")a"]),
-            ),
-            EditError::UnboundPrefix,
-        ),
-        (
-            3,
-            Step::Insert(
-                1,
-                0,
-                Block::Lines(&["(a", "Axmlns:xml v", "(z:b", ")z:b", ")a"]),
-            ),
-            EditError::UnboundPrefix,
-        ),
-        (
-            3,
-            Step::Insert(1, 0, Block::Lines(&["(z:a", "Axmlns:z ", ")z:a"])),
-            EditError::ReservedName,
-        ),
-        (
-            3,
-            Step::Insert(1, 0, Block::Lines(&["(xmlns:a", ")xmlns:a"])),
-            EditError::ReservedName,
-        ),
-        (
-            4_294_967_295,
-            Step::Insert(1, 0, Block::Lines(&["(a", "Axmlns:xmlns v", ")a"])),
-            EditError::ReservedName,
-        ),
-        (
-            4,
-            Step::Insert(1, 0, Block::Deep(128, &["(a", "Ak 1", "Ak 2", ")a"])),
-            EditError::TooDeep,
-        ),
-        (
-            4_294_967_295,
-            Step::Insert(1, 0, Block::Wide(257, &[])),
-            EditError::TooManyNodes,
-        ),
-        (
-            4,
-            Step::Insert(1, 0, Block::Wide(257, &["(p:c", ")p:c"])),
-            EditError::TooManyAttributes,
-        ),
-        (
-            4,
-            Step::Insert(1, 0, Block::Wide(257, &["(c", "Ak 1", "Ak 2", ")c"])),
-            EditError::TooManyAttributes,
-        ),
-        (
-            4,
-            Step::Insert(1, 0, Block::Wide(256, &["Aa7 "])),
-            EditError::TooManyAttributes,
-        ),
-        (
-            4,
-            Step::Insert(1, 0, Block::Wide(255, &["Aa7 "])),
-            EditError::DoubleAttribute,
-        ),
-        (
-            4,
-            Step::Insert(
-                1,
-                0,
-                Block::Lines(&["(a", "Axmlns:q u", "Ap:k 1", "Aq:k 2", ")a"]),
-            ),
-            EditError::DoubleAttribute,
-        ),
-        (
-            4,
-            Step::Insert(
-                1,
-                0,
-                Block::Lines(&["(a", "Axmlns:q u", "Axmlns:q v", ")a"]),
-            ),
-            EditError::DoubleAttribute,
-        ),
-    ];
-    assert_eq!(rt; refused(alloc, &mut rows, &steps)?, 16);
+    assert_eq!(rt; refused(alloc, &mut rows, REFUSED_NAMES)?, 16);
     assert!(rt; shown(alloc, &rows)?.as_str() == "1.1 r p:u 2.2 b ");
     let wide = Step::Insert(1, 0, Block::Wide(256, &["(p:c", ")p:c"]));
     assert!(rt; matches!(take_step(alloc, &mut rows, 3, wide)?, Some(Ok(5))));
