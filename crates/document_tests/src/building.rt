@@ -175,7 +175,7 @@ fn attributed(alloc: Global, count: u32, last: Item) -> Result<Items, Fail> {
     items.push(Item::Start(Text::new(alloc, "r")?))?;
     for number in 0..count {
         let name = format!(in alloc; "a{number}")?;
-        items.push(Item::Attr(Text::from_string(name), Text::new(alloc, "")?))?;
+        items.push(Item::Attr(Text::from_string(name)?, Text::new(alloc, "")?))?;
     }
     items.push(last)?;
     items.push(Item::Close(Text::new(alloc, "r")?))?;

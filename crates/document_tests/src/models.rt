@@ -13,7 +13,7 @@ struct Open {
 }
 
 fn named(alloc: Global, letter: char) -> Result<Text, AllocError> {
-    Ok(Text::from_string(format!(in alloc; "{letter}")?))
+    Ok(Text::from_string(format!(in alloc; "{letter}")?)?)
 }
 
 fn occurs(sign: char) -> Occurs {

@@ -24,7 +24,7 @@ fn compares_and_writes_names(rt: HostRuntime) -> Result<(), Fail> {
     assert!(rt; !spaced.is_same(&plain));
     assert!(rt; !spaced.is_same(&name(alloc, "urn:v", "a")?));
     assert!(rt; !spaced.is_same(&name(alloc, "urn:u", "b")?));
-    assert!(rt; spaced.is_same(&spaced.try_clone(alloc)?));
+    assert!(rt; spaced.is_same(&spaced.try_clone()?));
     assert!(rt; plain.clark_name(alloc)?.as_str() == "a");
     assert!(rt; spaced.clark_name(alloc)?.as_str() == "{urn:u}a");
     Ok(())

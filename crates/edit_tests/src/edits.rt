@@ -48,7 +48,7 @@ fn items_of(alloc: Global, block: Block) -> Result<Items, Fail> {
         Block::Wide(count, lines) => {
             items.push(Item::Start(Text::new(alloc, "w")?))?;
             for number in 0..count {
-                let name = Text::from_string(format!(in alloc; "a{number}")?);
+                let name = Text::from_string(format!(in alloc; "a{number}")?)?;
                 items.push(Item::Attr(name, Text::new(alloc, "")?))?;
             }
             push_lines(alloc, &mut items, lines)?;

@@ -35,7 +35,7 @@ fn put_element(
         Some(declaration) => match next {
             None => Ok(None),
             Some(members) => {
-                let name = declaration.name.try_clone(alloc)?;
+                let name = declaration.name.try_clone()?;
                 let found = Particles::element(
                     alloc,
                     name,

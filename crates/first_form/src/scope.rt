@@ -49,8 +49,8 @@ fn put_bindings(
     for binding in bindings {
         scope.push(Held {
             depth,
-            prefix: binding.prefix.try_clone(alloc)?,
-            namespace: binding.namespace.try_clone(alloc)?,
+            prefix: binding.prefix.try_clone()?,
+            namespace: binding.namespace.try_clone()?,
         })?;
     }
     Ok(())

@@ -24,7 +24,7 @@ fn global_as(
     match declared_type(depth, declared.is_string, later) {
         None => Ok(None),
         Some(of) => Ok(Some(Declaration {
-            name: declared.name.try_clone(alloc)?,
+            name: declared.name.try_clone()?,
             of,
         })),
     }

@@ -47,7 +47,7 @@ fn space_by(
     match of_prefix(own, scope, prefix) {
         None => Ok(None),
         Some(namespace) if namespace.as_str().is_empty() => Ok(None),
-        Some(namespace) => Ok(Some(namespace.try_clone(alloc)?)),
+        Some(namespace) => Ok(Some(namespace.try_clone()?)),
     }
 }
 
@@ -97,7 +97,7 @@ fn put_binding(
         None => Ok(()),
         Some(prefix) => {
             let prefix = Text::new(alloc, prefix)?;
-            let namespace = line.value.try_clone(alloc)?;
+            let namespace = line.value.try_clone()?;
             bindings.push(Binding { prefix, namespace })?;
             Ok(())
         }
@@ -130,7 +130,7 @@ fn put_attribute(
         Some(_) => Ok(()),
         None => {
             let name = attribute_name(alloc, own, scope, line.name.as_str())?;
-            let value = line.value.try_clone(alloc)?;
+            let value = line.value.try_clone()?;
             attributes.push(Attribute { name, value })?;
             Ok(())
         }

@@ -17,8 +17,8 @@ fn copy_of(alloc: Global, binding: &Binding) -> Result<Binding, AllocError>
     ensures { IfOk result (λ copy. copy ≡ binding.now) }
 {
     Ok(Binding {
-        prefix: binding.prefix.try_clone(alloc)?,
-        namespace: binding.namespace.try_clone(alloc)?,
+        prefix: binding.prefix.try_clone()?,
+        namespace: binding.namespace.try_clone()?,
     })
 }
 

@@ -154,7 +154,7 @@ impl Building {
             Pending::Chars(_) => Ok(None),
             Pending::Start(tag, item) => {
                 judge(alloc, self.rules, self.nest.scope(), tag, *item)?;
-                let name = tag.name.try_clone(alloc)?;
+                let name = tag.name.try_clone()?;
                 let row = self.element_row(alloc, tag)?;
                 Ok(Some((name, row)))
             }
@@ -257,7 +257,7 @@ impl Building {
     {
         after(self.taken)?;
         let tag = Tag {
-            name: name.try_clone(alloc)?,
+            name: name.try_clone()?,
             attributes: AttributeLines::new(alloc),
         };
         self.settle(alloc)?;
@@ -277,8 +277,8 @@ impl Building {
             Pending::Nothing => Err(Stop::Refused(refusal)),
             Pending::Chars(_) => Err(Stop::Refused(refusal)),
             Pending::Start(tag, _) => {
-                let name = name.try_clone(alloc)?;
-                let value = value.try_clone(alloc)?;
+                let name = name.try_clone()?;
+                let value = value.try_clone()?;
                 tag.attributes.push(AttributeLine { name, value })?;
                 self.taken = taken;
                 Ok(())

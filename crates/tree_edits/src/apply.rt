@@ -129,7 +129,7 @@ fn text_row(alloc: Global, text: &Text) -> Result<Vec<Row>, AllocError>
     rows.push(Row {
         number: 0,
         depth: 1,
-        content: Content::Chars(text.try_clone(alloc)?),
+        content: Content::Chars(text.try_clone()?),
         bindings: Bindings::new(alloc),
         attributes: Attributes::new(alloc),
     })?;
@@ -174,7 +174,7 @@ fn set_text(alloc: Global, rows: &mut Vec<Row>, node: u32, text: &Text) -> Resul
     ensures kept { OnErr result (rows.new.items ≡ rows.old.items) }
 {
     let place = text_place(rows, node)?;
-    let text = text.try_clone(alloc)?;
+    let text = text.try_clone()?;
     write_text(rows, place, text);
     Ok(())
 }

@@ -65,8 +65,8 @@ fn lines_of(alloc: Global, items: &[Item]) -> Result<AttributeLines, AllocError>
             break;
         };
         lines.push(AttributeLine {
-            name: name.try_clone(alloc)?,
-            value: value.try_clone(alloc)?,
+            name: name.try_clone()?,
+            value: value.try_clone()?,
         })?;
     }
     Ok(lines)
@@ -124,7 +124,7 @@ impl Walk {
         ensures { OnOk result (outcome self.new rest.now ≡ outcome self.old (items.Start name.now ∷ rest.now)) }
     {
         let tag = Tag {
-            name: name.try_clone(self.alloc)?,
+            name: name.try_clone()?,
             attributes: lines_of(self.alloc, rest)?,
         };
         self.names = self.judge(&tag)?;

@@ -26,13 +26,13 @@ fn is_same_space(one: &Option<Text>, other: &Option<Text>) -> bool
     }
 }
 
-/// A copy of the name of a namespace.
-fn clone_space(alloc: Global, space: &Option<Text>) -> Result<Option<Text>, AllocError>
+/// The name of a namespace once more.
+fn clone_space(space: &Option<Text>) -> Result<Option<Text>, AllocError>
     ensures { IfOk result (λ copy. copy ≡ space.now) }
 {
     match space {
         None => Ok(None),
-        Some(space) => Ok(Some(space.try_clone(alloc)?)),
+        Some(space) => Ok(Some(space.try_clone()?)),
     }
 }
 
@@ -45,13 +45,13 @@ impl Expanded {
             && self.local.as_str() == other.local.as_str()
     }
 
-    /// A copy with memory of its own.
-    pub fn try_clone(&self, alloc: Global) -> Result<Self, AllocError>
+    /// The same name once more. Its texts are shared, and not copied.
+    pub fn try_clone(&self) -> Result<Self, AllocError>
         ensures { IfOk result (λ copy. copy ≡ self.now) }
     {
         Ok(Expanded {
-            namespace: clone_space(alloc, &self.namespace)?,
-            local: self.local.try_clone(alloc)?,
+            namespace: clone_space(&self.namespace)?,
+            local: self.local.try_clone()?,
         })
     }
 
@@ -60,13 +60,13 @@ impl Expanded {
         ensures { IfOk result (λ text. text ≡ clark_name self.now) }
     {
         match &self.namespace {
-            None => self.local.try_clone(alloc),
+            None => self.local.try_clone(),
             Some(space) => {
                 let mut text = String::from_str(alloc, "{")?;
                 text.push_str(space.as_str())?;
                 text.push_str("}")?;
                 text.push_str(self.local.as_str())?;
-                Ok(Text::from_string(text))
+                Text::from_string(text)
             }
         }
     }

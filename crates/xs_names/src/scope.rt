@@ -104,7 +104,7 @@ impl Scope {
         let mut bindings = Vec::new(alloc);
         for binding in held {
             bindings.push(Binding {
-                prefix: binding.prefix.try_clone(alloc)?,
+                prefix: binding.prefix.try_clone()?,
                 ns: binding.ns,
             })?;
         }

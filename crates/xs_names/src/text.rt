@@ -2,13 +2,14 @@ ghost use Rattle.std.specs.Prelude.{◌≡◌, IfOk, string_bytes};
 
 use std::alloc::{AllocError, Global};
 use std::marker::Model;
+use std::rc::RcStr;
 
-/// A text that owns its characters. Contracts see its bytes in UTF-8, as they see those of a `&str`.
+/// A text whose characters its copies share. Contracts see its bytes in UTF-8, as they see those of a `&str`.
 ///
 /// Texts are compared by `as_str`.
 #[derive(Debug, Drop)]
 pub struct Text {
-    inner: String,
+    pub(crate) inner: RcStr,
 }
 
 impl Model for Text {
@@ -22,20 +23,22 @@ impl Model for Text {
 }
 
 impl Text {
-    /// A copy of the text.
+    /// A text of these characters.
     pub fn new(alloc: Global, text: &str) -> Result<Self, AllocError>
         ensures { IfOk result (λ t. t ≡ text.now) }
     {
         Ok(Text {
-            inner: String::from_str(alloc, text)?,
+            inner: RcStr::from_str(alloc, text)?,
         })
     }
 
     /// The text of a string.
-    pub fn from_string(inner: String) -> Self
-        ensures { result ≡ string_bytes inner }
+    pub fn from_string(text: String) -> Result<Self, AllocError>
+        ensures { IfOk result (λ t. t ≡ string_bytes text) }
     {
-        Text { inner }
+        Ok(Text {
+            inner: RcStr::from_string(text)?,
+        })
     }
 
     /// The text's characters.
@@ -45,10 +48,12 @@ impl Text {
         self.inner.as_str()
     }
 
-    /// A copy with memory of its own.
-    pub fn try_clone(&self, alloc: Global) -> Result<Self, AllocError>
+    /// The same text once more. The characters are shared, and not copied.
+    pub fn try_clone(&self) -> Result<Self, AllocError>
         ensures { IfOk result (λ t. t ≡ self.now) }
     {
-        Text::new(alloc, self.as_str())
+        Ok(Text {
+            inner: self.inner.clone()?,
+        })
     }
 }
