@@ -1,4 +1,4 @@
-use Rattle.std.proofs.Common.{◌≡◌, ap, refl, bytes_eq, Some, []}
+use Rattle.std.proofs.Common.{◌≡◌, refl, bytes_eq, Some, []}
 use Rattle.xs_names.specs.Numbering.{number_of, with_item}
 use Rattle.xs_names.specs.Names.{xml_name}
 use Rattle.xs_names.proofs.KeptLaws.{IsSound-IsKept, IsKept-space, first_number}
