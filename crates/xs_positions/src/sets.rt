@@ -1,6 +1,6 @@
 //! The sets of a part of an expression, and how the sets of a whole come from those of its parts.
 
-ghost use Rattle.std.specs.Prelude.{◌≡◌, ℕ, ◌+◌, ◌<◌, ◌≤◌, ◌^◌, ◌↔◌, ◌⊎◌, ◌++◌, map, length, All, Contains, IfOk, OnOk, IsTrue};
+ghost use Rattle.std.specs.Prelude.{◌≡◌, ℕ, ◌+◌, ◌<◌, ◌≤◌, ◌^◌, ◌↔◌, ◌⊎◌, ◌++◌, ◌&&◌, ◌||◌, false, map, length, All, Contains, IfOk, OnOk, IsTrue};
 ghost use Rattle.std.specs.List.Sorted.{IsStrictlyIncreasing};
 ghost use Rattle.xs_positions.specs.Sets.{IsLinked};
 
@@ -17,6 +17,8 @@ pub(crate) struct Part {
     pub(crate) follow: Vec<Vec<u32>>,
     /// For each position, whether some word goes through it.
     pub(crate) useful: Vec<bool>,
+    /// Whether the empty word is one.
+    pub(crate) nullable: bool,
 }
 
 impl Part {
@@ -24,19 +26,22 @@ impl Part {
 
     /// One position, which is a word.
     pub(crate) fn one(alloc: Global, p: u32) -> Result<Part, AllocError>
-        ensures { IfOk result (λ part. sets_of part ≡ one_position p) }
+        ensures sets { IfOk result (λ part. sets_of part ≡ one_position p) }
+        ensures nullable { IfOk result (λ part. part.nullable ≡ false) }
     {
         Ok(Part {
             first: vec![in alloc; p]?,
             last: vec![in alloc; p]?,
             follow: vec![in alloc; Vec::new(alloc)]?,
             useful: vec![in alloc; true]?,
+            nullable: false,
         })
     }
 
     /// So many positions through which no word goes.
-    pub(crate) fn unused(alloc: Global, count: u64) -> Result<Part, AllocError>
-        ensures { IfOk result (λ part. sets_of part ≡ unused count) }
+    pub(crate) fn unused(alloc: Global, count: u64, nullable: bool) -> Result<Part, AllocError>
+        ensures sets { IfOk result (λ part. sets_of part ≡ unused count) }
+        ensures nullable { IfOk result (λ part. part.nullable ≡ nullable) }
     {
         let mut follow = Vec::new(alloc);
         let mut useful = Vec::new(alloc);
@@ -49,31 +54,31 @@ impl Part {
             last: Vec::new(alloc),
             follow,
             useful,
+            nullable,
         })
     }
 
     /// The words of this part, and those of the other.
     pub(crate) fn or(mut self, mut other: Part) -> Result<Part, AllocError>
-        ensures { IfOk result (λ part. sets_of part ≡ beside (sets_of self) (sets_of other)) }
+        ensures sets { IfOk result (λ part. sets_of part ≡ beside (sets_of self) (sets_of other)) }
+        ensures nullable { IfOk result (λ part. part.nullable ≡ (self.nullable || other.nullable)) }
     {
         self.first.append(&mut other.first)?;
         self.last.append(&mut other.last)?;
         self.follow.append(&mut other.follow)?;
         self.useful.append(&mut other.useful)?;
+        self.nullable = self.nullable || other.nullable;
         Ok(self)
     }
 
     /// The words of this part, which begins at the base, each with a word of the next part behind it.
-    pub(crate) fn then(
-        mut self,
-        base: u32,
-        nullable: bool,
-        mut next: Part,
-        next_nullable: bool,
-    ) -> Result<Part, AllocError>
+    pub(crate) fn then(mut self, base: u32, mut next: Part) -> Result<Part, AllocError>
         requires { All (λ p. (base ≤ p) × (p < base + length self.follow.items)) self.last.items }
-        ensures { IfOk result (λ part. IsJoined base (sets_of self) nullable (sets_of next) next_nullable (sets_of part)) }
+        ensures joined { IfOk result (λ part. IsJoined base (sets_of self) self.nullable (sets_of next) next.nullable (sets_of part)) }
+        ensures nullable { IfOk result (λ part. part.nullable ≡ (self.nullable && next.nullable)) }
     {
+        let nullable = self.nullable;
+        let next_nullable = next.nullable;
         link(&mut self.follow, base, &self.last, &next.first)?;
         self.follow.append(&mut next.follow)?;
         self.useful.append(&mut next.useful)?;
@@ -84,13 +89,15 @@ impl Part {
             self.last.clear();
         }
         self.last.append(&mut next.last)?;
+        self.nullable = nullable && next_nullable;
         Ok(self)
     }
 
     /// One or more words of this part, which begins at the base, in a row.
     pub(crate) fn looped(mut self, base: u32) -> Result<Part, AllocError>
         requires { All (λ p. (base ≤ p) × (p < base + length self.follow.items)) self.last.items }
-        ensures { IfOk result (λ part. IsLooped base (sets_of self) (sets_of part)) }
+        ensures looped { IfOk result (λ part. IsLooped base (sets_of self) (sets_of part)) }
+        ensures nullable { IfOk result (λ part. part.nullable ≡ self.nullable) }
     {
         link(&mut self.follow, base, &self.last, &self.first)?;
         Ok(self)
