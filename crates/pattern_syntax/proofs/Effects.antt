@@ -3,7 +3,7 @@ use Rattle.std.proofs.Common.{◌≡◌, ℕ, Bool, true, false, List, [], ◌�
 use Rattle.std.proofs.lemmas.List.{append-nil}
 use Rattle.pattern_terms.specs.declared.class.ClassItem.TheVariants.{One}
 use Rattle.pattern_terms.specs.Classes.{Group}
-use Rattle.pattern_terms.specs.Regex.{Regex, repeated, all_of, any_of}
+use Rattle.pattern_terms.specs.Regex.{Regex, repeated, sequence_of, choice_of}
 use Rattle.pattern_syntax.specs.declared.fault.Notes.{Notes}
 use Rattle.pattern_syntax.specs.Built.{Frame, Built, with_piece, with_bounds, opened, barred, closed, closed_into, all_branches}
 use Rattle.pattern_syntax.specs.Classed.{Classed, no_group, with_item, with_negation, with_group, whole_class}
@@ -155,11 +155,11 @@ pub regexp_branches : (r : RegExp) (outer : List Frame) (bs : List Regex) →
 regexp_branches (alone branch) outer bs = ap (λ x. all_branches x.here) (branch_built_is branch (record { outer = outer; here = record { branches = bs; pieces = [] } }))
 regexp_branches (joined branch branches) outer bs =
     ap (λ x. all_branches (regexp_built branches (barred x)).here) (branch_built_is branch (record { outer = outer; here = record { branches = bs; pieces = [] } }))
-    ∙ regexp_branches branches outer (bs ++ all_of (pieces_of branch) ∷ [])
-    ∙ append_assoc bs (all_of (pieces_of branch) ∷ []) (branches_of branches)
+    ∙ regexp_branches branches outer (bs ++ sequence_of (pieces_of branch) ∷ [])
+    ∙ append_assoc bs (sequence_of (pieces_of branch) ∷ []) (branches_of branches)
 
 -- a group that is read whole is one piece more
-pub closed_group : (r : RegExp) (b : Built) → closed (regexp_built r (opened b)) ≡ Some (with_piece b (any_of (branches_of r)))
+pub closed_group : (r : RegExp) (b : Built) → closed (regexp_built r (opened b)) ≡ Some (with_piece b (choice_of (branches_of r)))
 closed_group r b =
     ap (λ l. closed_into (regexp_built r (opened b)).here l) (regexp_outer r (opened b))
-    ∙ ap (λ l. Some (with_piece b (any_of l))) (regexp_branches r (b.here ∷ b.outer) [])
+    ∙ ap (λ l. Some (with_piece b (choice_of l))) (regexp_branches r (b.here ∷ b.outer) [])

@@ -2,7 +2,7 @@
 use Rattle.std.proofs.Common.{◌≡◌, ℕ, suc, ◌+◌, ◌≤◌, ◌<◌, Bool, true, false, not, List, [], ◌∷◌, ◌++◌, length, get_or, take, drop, Option, Some, None, Result, Ok, Err, refl, ap, sym, ◌∙◌, subst, arith}
 use Rattle.std.proofs.lemmas.List.{append-nil, take-take, take-append-drop, take_more}
 use Rattle.std.specs.List.{list_any}
-use Rattle.pattern_terms.specs.Regex.{Regex, any_of}
+use Rattle.pattern_terms.specs.Regex.{Regex, choice_of}
 use Rattle.pattern_syntax.specs.declared.fault.PatternFault.{PatternFault}
 use Rattle.pattern_syntax.specs.declared.fault.PatternFault.TheVariants.{Syntax, UnsupportedBlock, UnknownClass, TooLarge}
 use Rattle.pattern_syntax.specs.Built.{no_frame, all_branches}
@@ -48,8 +48,8 @@ end_is_end r = ap (λ l. not (is_given l)) (regexp_outer r (record { outer = [];
 end_answers : (r : RegExp) → answer_at (end_of r) ≡ answer_of r
 unfolding end_of
 end_answers r =
-    ap (λ m. refused_or m.bad_name m.too_large (any_of (all_branches (regexp_built r (record { outer = []; here = no_frame })).here))) (regexp_noted_is r no_notes)
-    ∙ ap (λ l. refused_or (first_fault (regexp_names r)) (list_any is_large (regexp_numbers r)) (any_of l)) (regexp_branches r [] [])
+    ap (λ m. refused_or m.bad_name m.too_large (choice_of (all_branches (regexp_built r (record { outer = []; here = no_frame })).here))) (regexp_noted_is r no_notes)
+    ∙ ap (λ l. refused_or (first_fault (regexp_names r)) (list_any is_large (regexp_numbers r)) (choice_of l)) (regexp_branches r [] [])
 
 -- ---- fronts of patterns
 

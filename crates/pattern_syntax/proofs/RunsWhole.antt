@@ -4,7 +4,7 @@ use Rattle.std.specs.List.{list_all}
 use Rattle.std.proofs.lemmas.List.{append-nil}
 use Rattle.pattern_terms.specs.declared.class.ClassItem.TheVariants.{One, In}
 use Rattle.pattern_terms.specs.declared.set.CharSet.TheVariants.{NotLineEnd}
-use Rattle.pattern_terms.specs.Regex.{character, any_of}
+use Rattle.pattern_terms.specs.Regex.{character, choice_of}
 use Rattle.pattern_syntax.specs.declared.fault.Notes.{Notes}
 use Rattle.pattern_syntax.specs.Built.{Built, with_piece, opened, barred, closed}
 use Rattle.pattern_syntax.specs.Classed.{no_class}
@@ -165,7 +165,7 @@ class_run class repeatable more b m e =
     ∙ bracketed_run class [] more b m (at_class no_class) e
     ∙ ap (λ k. after (Some (at (at_piece true) (with_piece b (character k)) (bracketed_noted m class))) more) (whole_bracketed [] class)
 
-closed_step : (r : RegExp) (repeatable : Bool) (b : Built) (m : Notes) → step_piece (at (at_piece repeatable) (regexp_built r (opened b)) m) repeatable 41 ≡ Some (at (at_piece true) (with_piece b (any_of (branches_of r))) m)
+closed_step : (r : RegExp) (repeatable : Bool) (b : Built) (m : Notes) → step_piece (at (at_piece repeatable) (regexp_built r (opened b)) m) repeatable 41 ≡ Some (at (at_piece true) (with_piece b (choice_of (branches_of r))) m)
 closed_step r repeatable b m =
     close_step (at (at_piece repeatable) (regexp_built r (opened b)) m) repeatable
     ∙ ap (step_closed (at (at_piece repeatable) (regexp_built r (opened b)) m)) (closed_group r b)

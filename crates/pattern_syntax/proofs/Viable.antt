@@ -3,7 +3,7 @@ use Rattle.std.proofs.Common.{◌≡◌, ℕ, zero, suc, ◌+◌, ◌-◌, ◌*�
 use Rattle.std.specs.List.{list_all}
 use Rattle.pattern_terms.specs.declared.class.ClassItem.{ClassItem}
 use Rattle.pattern_terms.specs.declared.class.ClassItem.TheVariants.{One}
-use Rattle.pattern_terms.specs.Regex.{character, any_of}
+use Rattle.pattern_terms.specs.Regex.{character, choice_of}
 use Rattle.pattern_syntax.specs.declared.fault.Notes.{Notes}
 use Rattle.pattern_syntax.specs.Built.{Frame, Built, with_piece, with_bounds, all_branches}
 use Rattle.pattern_syntax.specs.Classed.{Classed, with_item, with_range, with_group, whole_class}
@@ -34,7 +34,7 @@ runs s t cs e f = record { rest = cs ++ f.rest; last = f.last; run = e f.rest �
 piece_finishes : (outer : List Frame) (here : Frame) (repeatable : Bool) (m : Notes) → Finishes (at (at_piece repeatable) (record { outer = outer; here = here }) m)
 piece_finishes [] here repeatable m = record { rest = []; last = at (at_piece repeatable) (record { outer = []; here = here }) m; run = refl; ends = refl }
 piece_finishes (f ∷ fs) here repeatable m =
-    let b : Built = with_piece (record { outer = fs; here = f }) (any_of (all_branches here)) in
+    let b : Built = with_piece (record { outer = fs; here = f }) (choice_of (all_branches here)) in
     steps (at (at_piece repeatable) (record { outer = f ∷ fs; here = here }) m) (at (at_piece true) b m) 41 (close_step _ repeatable) (piece_finishes fs b.here true m)
 
 closing_finishes : (k : Classed) (more : ℕ) (x : Stage) (b : Built) (m : Notes) → Finishes (closing (at x b m) k more)

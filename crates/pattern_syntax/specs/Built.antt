@@ -1,6 +1,6 @@
 -- The expressions of a text that is being read.
 use Rattle.std.specs.Prelude.{ℕ, List, [], ◌∷◌, ◌++◌, Option, Some, None}
-use Rattle.pattern_terms.specs.Regex.{Regex, repeated, all_of, any_of}
+use Rattle.pattern_terms.specs.Regex.{Regex, repeated, sequence_of, choice_of}
 
 -- a group that is open: its branches that are done, and the pieces of the one in hand
 pub record Frame : Type 0 where
@@ -31,14 +31,14 @@ abbrev pub opened : Built → Built
 opened b = record { outer = b.here ∷ b.outer; here = no_frame }
 
 abbrev pub all_branches : Frame → List Regex
-all_branches f = f.branches ++ all_of f.pieces ∷ []
+all_branches f = f.branches ++ sequence_of f.pieces ∷ []
 
 abbrev pub barred : Built → Built
 barred b = record { outer = b.outer; here = record { branches = all_branches b.here; pieces = [] } }
 
 abbrev pub closed_into : Frame → List Frame → Option Built
 closed_into here [] = None
-closed_into here (f ∷ fs) = Some (with_piece (record { outer = fs; here = f }) (any_of (all_branches here)))
+closed_into here (f ∷ fs) = Some (with_piece (record { outer = fs; here = f }) (choice_of (all_branches here)))
 
 -- the innermost group becomes a piece of the one around it, where there is one
 abbrev pub closed : Built → Option Built

@@ -6,7 +6,7 @@ use Rattle.pattern_terms.specs.declared.class.ClassItem.{ClassItem}
 use Rattle.pattern_terms.specs.declared.class.ClassItem.TheVariants.{One, Range, In, NotIn}
 use Rattle.pattern_terms.specs.declared.set.CharSet.TheVariants.{NotLineEnd}
 use Rattle.pattern_terms.specs.Classes.{Group, Class}
-use Rattle.pattern_terms.specs.Regex.{Regex, character, repeated, all_of, any_of}
+use Rattle.pattern_terms.specs.Regex.{Regex, character, repeated, sequence_of, choice_of}
 use Rattle.pattern_syntax.specs.Characters.{is_normal, is_plain, is_single, single_value, several_item, is_ascii_digit, is_word}
 use Rattle.pattern_syntax.specs.Names.{set_named}
 
@@ -250,10 +250,10 @@ quantified r (at_least digits) = repeated r (bound digits) None
 quantified r (between least most) = repeated r (bound least) (Some (bound most))
 
 abbrev mutual
-  -- the branches' expressions; a branch of one piece, and a group of one branch, is that
+  -- the branches' expressions
   pub branches_of : RegExp → List Regex
-  branches_of (alone branch) = all_of (pieces_of branch) ∷ []
-  branches_of (joined branch branches) = all_of (pieces_of branch) ∷ branches_of branches
+  branches_of (alone branch) = sequence_of (pieces_of branch) ∷ []
+  branches_of (joined branch branches) = sequence_of (pieces_of branch) ∷ branches_of branches
 
   -- the pieces' expressions
   pub pieces_of : Branch → List Regex
@@ -266,10 +266,10 @@ abbrev mutual
   atom_regex (single e) = item_regex (One (single_value e))
   atom_regex (special of) = item_regex (escape_item of)
   atom_regex (bracketed class) = character (bracketed_class class)
-  atom_regex (group inside) = any_of (branches_of inside)
+  atom_regex (group inside) = choice_of (branches_of inside)
 
 abbrev pub meaning : RegExp → Regex
-meaning regexp = any_of (branches_of regexp)
+meaning regexp = choice_of (branches_of regexp)
 
 -- ---- its class names and numbers, in order
 

@@ -1,6 +1,6 @@
 -- What the program answers.
 use Rattle.std.specs.Prelude.{Result, Ok, Err}
-use Rattle.pattern_terms.specs.Regex.{Regex, regex_at, any_of}
+use Rattle.pattern_terms.specs.Regex.{Regex, regex_at, choice_of}
 use Rattle.pattern_terms.specs.Terms.{regexes_of}
 use Rattle.pattern_syntax.specs.declared.building.Term.{Term}
 use Rattle.pattern_syntax.specs.declared.fault.PatternFault.{PatternFault}
@@ -18,4 +18,4 @@ outcome_of (Err fault) = Err fault
 
 -- the answer where the text ends in a state
 abbrev pub answer_at : State → Result Regex PatternFault
-answer_at s = refused_or s.noted.bad_name s.noted.too_large (any_of (all_branches s.built.here))
+answer_at s = refused_or s.noted.bad_name s.noted.too_large (choice_of (all_branches s.built.here))

@@ -1,9 +1,9 @@
 //! The expressions of the text that is being read.
 
-ghost use Rattle.std.specs.Prelude.{◌≡◌, ◌≢◌, ◌<◌, IfOk, OnOk, IfSome, IsNone, length, IsTrue, [], ◌∷◌};
+ghost use Rattle.std.specs.Prelude.{◌≡◌, ◌<◌, IfOk, OnOk, length, IsTrue, []};
 ghost use Rattle.std.specs.List.{list_all};
 ghost use Rattle.pattern_terms.specs.Classes.{class_of};
-ghost use Rattle.pattern_terms.specs.Regex.{character, all_of, any_of, regex_at};
+ghost use Rattle.pattern_terms.specs.Regex.{character, choice_of, regex_at};
 ghost use Rattle.pattern_terms.specs.Terms.{regexes_of};
 ghost use Rattle.pattern_syntax.specs.Built.{no_frame, with_piece, with_bounds, opened, barred, all_branches};
 ghost use Rattle.pattern_syntax.specs.Grammar.{is_given};
@@ -101,35 +101,11 @@ impl Building {
         Ok(())
     }
 
-    /// The expression of the branch in hand. That of one piece is the piece, and adds no term.
-    fn branch(&mut self) -> Result<ExprId, AllocError>
-        ensures same { OnOk result (built_of self.new ≡ built_of self.old) }
-        ensures known { IfOk result (λ id. id < length (regexes_of self.new.terms)) }
-        ensures is { IfOk result (λ id. regex_at (regexes_of self.new.terms) id ≡ all_of (built_of self.old).here.pieces) }
-    {
-        match only(&self.pieces) {
-            Some(piece) => Ok(piece),
-            None => self.terms.sequence(&self.pieces),
-        }
-    }
-
-    /// The expression of the branches that are done. That of one branch is the branch, and adds no term.
-    fn group(&mut self) -> Result<ExprId, AllocError>
-        ensures same { OnOk result (built_of self.new ≡ built_of self.old) }
-        ensures known { IfOk result (λ id. id < length (regexes_of self.new.terms)) }
-        ensures is { IfOk result (λ id. regex_at (regexes_of self.new.terms) id ≡ any_of (built_of self.old).here.branches) }
-    {
-        match only(&self.branches) {
-            Some(branch) => Ok(branch),
-            None => self.terms.choice(&self.branches),
-        }
-    }
-
     /// The branch in hand is done, and another begins.
     pub fn bar(&mut self) -> Result<(), AllocError>
         ensures { OnOk result (built_of self.new ≡ barred (built_of self.old)) }
     {
-        let branch = self.branch()?;
+        let branch = self.terms.sequence(&self.pieces)?;
         self.pieces.clear();
         self.branches.push(branch)?;
         Ok(())
@@ -143,7 +119,7 @@ impl Building {
             return Ok(false);
         }
         self.bar()?;
-        let group = self.group()?;
+        let group = self.terms.choice(&self.branches)?;
         match self.outer.pop() {
             None => Ok(false),
             Some(around) => {
@@ -157,24 +133,15 @@ impl Building {
 
     /// The expression of the group in hand.
     pub fn finish(mut self) -> Result<Term, AllocError>
-        ensures { IfOk result (λ term. regex_at (regexes_of term.terms) term.root ≡ any_of (all_branches (built_of self).here)) }
+        ensures { IfOk result (λ term. regex_at (regexes_of term.terms) term.root ≡ choice_of (all_branches (built_of self).here)) }
     {
         self.bar()?;
-        let root = self.group()?;
-        Ok(Term {
-            terms: self.terms,
-            root,
-        })
-    }
-}
-
-/// The one term of the list, where it has one.
-fn only(ids: &[ExprId]) -> Option<ExprId>
-    ensures one { IfSome result (λ id. ids.now ≡ id ∷ []) }
-    ensures other { IsNone result → length ids.now ≢ 1 }
-{
-    match ids {
-        [id] => Some(*id),
-        _ => None,
+        let Building {
+            mut terms,
+            branches,
+            ..
+        } = self;
+        let root = terms.choice(&branches)?;
+        Ok(Term { terms, root })
     }
 }

@@ -18,18 +18,6 @@ character class = one class
 abbrev pub repeated : Regex → ℕ → Option ℕ → Regex
 repeated part least most = repeat part least most
 
--- a text of each part, in order; of one part alone, a text of it
-abbrev pub all_of : List Regex → Regex
-all_of [] = sequence_of []
-all_of (part ∷ []) = part
-all_of (part ∷ (next ∷ parts)) = sequence_of (part ∷ (next ∷ parts))
-
--- a text of one of the parts; of one part alone, a text of it
-abbrev pub any_of : List Regex → Regex
-any_of [] = choice_of []
-any_of (part ∷ []) = part
-any_of (part ∷ (next ∷ parts)) = choice_of (part ∷ (next ∷ parts))
-
 -- the expression of a number
 abbrev pub regex_at : List Regex → ℕ → Regex
 regex_at regexes id = expression_at regexes id

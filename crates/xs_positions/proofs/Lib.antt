@@ -15,4 +15,3 @@ pub mod Listed
 pub mod Exchange
 pub mod Spelling
 pub mod Finding
-pub mod Bounds

@@ -1,5 +1,5 @@
 -- Symbols of expressions that wait, where more wait.
-use Rattle.std.proofs.Common.{◌≡◌, ℕ, zero, suc, ◌+◌, ◌*◌, ◌<◌, List, [], ◌∷◌, ◌++◌, length, map, reverse, replicate, All, sym, refl, ap, ◌∙◌, arith, append_assoc, append-nil}
+use Rattle.std.proofs.Common.{◌≡◌, ℕ, zero, suc, ◌+◌, ◌<◌, List, [], ◌∷◌, ◌++◌, length, map, reverse, replicate, All, sym, refl, ap, ◌∙◌, arith, append_assoc, append-nil}
 use Rattle.std.specs.List.{flat_map}
 use Rattle.std.specs.Prelude.{Result, Ok, Err, OnOk}
 use Rattle.std.proofs.lemmas.List.{reverse-append}
@@ -8,6 +8,7 @@ use Rattle.xs_positions.specs.Tree.{Tree, symbols, times}
 use Rattle.xs_positions.specs.Walk.{tree_in, trees_in}
 use Rattle.xs_positions.specs.Listing.{steps, waiting, steps_of, IsListed}
 use Rattle.xs_positions.specs.declared.expr.Node.{Node}
+use Rattle.xs_positions.specs.declared.walk.Task.TheVariants.{Visit}
 use Rattle.xs_positions.proofs.Tasks.{all_steps}
 
 pub on_ok : {T E : Type 0} (r : Result T E) (P Q : Type 0) → (P → Q) → OnOk r P → OnOk r Q
@@ -31,9 +32,12 @@ pub reverse_copies : {X : Type 0} (n : ℕ) (x : X) → reverse (replicate n x) 
 reverse_copies zero x = refl
 reverse_copies (suc n) x = reverse-append (x ∷ []) (replicate n x) ∙ (ap (λ l. l ++ x ∷ []) (reverse_copies n x) ∙ copies_push n x)
 
-pub copy_pushed : {X : Type 0} (old now new : List X) (x : X) (n : ℕ) → now ≡ old ++ replicate n x → new ≡ now ++ x ∷ [] → new ≡ old ++ replicate (n + 1) x
-copy_pushed old now new x n before pushed =
-    pushed ∙ (ap (λ l. l ++ x ∷ []) before ∙ (append_assoc old (replicate n x) (x ∷ []) ∙ ap (λ l. old ++ l) (copies_push n x ∙ (let e : n + 1 ≡ suc n = omega arith in sym (ap (λ k. replicate k x) e)))))
+map_visits : (n x : ℕ) → map Visit (replicate n x) ≡ replicate n (Visit x)
+map_visits zero x = refl
+map_visits (suc n) x = ap (λ l. Visit x ∷ l) (map_visits n x)
+
+pub visit_copies : (n k x : ℕ) → n ≡ k → replicate n (Visit x) ≡ reverse (map Visit (replicate k x))
+visit_copies n k x e = ap (λ j. replicate j (Visit x)) e ∙ (sym (reverse_copies k (Visit x)) ∙ ap reverse (sym (map_visits k x)))
 
 pub symbols-copies : (n : ℕ) (t : Tree) → flat_map symbols (replicate n t) ≡ times n (symbols t)
 symbols-copies zero t = refl

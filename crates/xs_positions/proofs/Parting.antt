@@ -1,5 +1,5 @@
 -- The parts of expressions, one after the other.
-use Rattle.std.proofs.Common.{◌≡◌, ℕ, zero, suc, ◌+◌, ◌*◌, ◌<◌, ◌≤◌, List, [], ◌∷◌, ◌++◌, length, get_or, take, drop, replicate, sym, refl, ap, ◌∙◌, arith, suc-mul, zero-mul}
+use Rattle.std.proofs.Common.{◌≡◌, ℕ, zero, suc, ◌+◌, ◌*◌, ◌<◌, ◌≤◌, ◌^◌, List, [], ◌∷◌, ◌++◌, length, get_or, take, drop, replicate, sym, refl, ap, ◌∙◌, arith, suc-mul, zero-mul}
 use Rattle.xs_positions.specs.Tree.{Tree, nothing, size, sequence_of}
 use Rattle.xs_positions.specs.Parts.{IsPartOf, AreParts}
 use Rattle.xs_positions.specs.declared.sets.Part.{Part}
@@ -71,6 +71,12 @@ copy_part base n t ps i p h l e =
 
 pub copies_count : (base n : ℕ) (t : Tree) (ps : List Part) → AreParts base (replicate n t) ps → length ps ≡ n
 copies_count base n t ps h = parts_length base (replicate n t) ps h ∙ length_copies n t
+
+pub counted_copies : (base n : ℕ) (t : Tree) (ps : List Part) → AreParts base (replicate n t) ps → AreParts base (replicate (length ps) t) ps
+counted_copies base n t ps h = rw (copies_count base n t ps h) h
+
+pub before_fits : (base n k s len : ℕ) → n ≡ k + 1 → base + n * s < 2 ^ 32 → len ≡ k * s → base + len < 2 ^ 32
+before_fits base n k s len e l m = let a : n * s ≡ k * s + s = (let b : n ≡ suc k = omega arith in rw b (suc-mul k s)) in omega arith
 
 -- the last of some copies, and those before it
 pub last_copy : (base n : ℕ) (t : Tree) (ps : List Part) (p : Part) → AreParts base (replicate n t) (ps ++ p ∷ []) →

@@ -1,7 +1,7 @@
 -- One part more in a sequence, a choice or a repeat: what the walk's loops keep.
-use Rattle.std.proofs.Common.{◌≡◌, ℕ, zero, suc, ◌+◌, ◌*◌, ◌^◌, ◌<◌, ◌≤◌, max, ◌⊎◌, ◌↔◌, Bool, true, false, ◌&&◌, ◌||◌, ◌==◌, IsTrue, if◌then◌else◌, List, [], ◌∷◌, ◌++◌, Option, Some, None, length, get_or, take, Contains, sym, refl, ap, ◌∙◌, inl, inr, arith, suc-mul, zero-mul, Result, Ok, Err, IfOk, Vec, Global, eq-eqb, ne_eqb, leb-true}
+use Rattle.std.proofs.Common.{◌≡◌, ℕ, zero, suc, ◌+◌, ◌*◌, ◌^◌, ◌<◌, ◌≤◌, max, ◌⊎◌, ◌↔◌, Bool, true, false, ◌&&◌, ◌||◌, ◌==◌, IsTrue, if◌then◌else◌, List, [], ◌∷◌, ◌++◌, Option, Some, None, length, get_or, take, replicate, Contains, sym, refl, ap, ◌∙◌, inl, inr, arith, suc-mul, zero-mul, Result, Ok, Err, IfOk, Vec, Global, ne_eqb, leb-true}
 use Rattle.std.specs.List.Sorted.{IsStrictlyIncreasing}
-use Rattle.std.proofs.lemmas.Bool.{and_parts, or_left, false≢true}
+use Rattle.std.proofs.lemmas.Bool.{and_parts, false≢true}
 use Rattle.std.proofs.lemmas.List.{length-map, take_more, take_all}
 use Rattle.std.proofs.lemmas.List.Elements.{Contains-get_or}
 use Rattle.xs_positions.specs.Tree.{Tree, nothing, repeat, copies, size, sequence_of, choice_of}
@@ -10,8 +10,7 @@ use Rattle.xs_positions.specs.Measures.{has_rounds, has_empty, has_word, measure
 use Rattle.xs_positions.specs.Sets.{Describes}
 use Rattle.xs_positions.specs.Parts.{sets_of, unused, beside, IsJoined, IsLooped, IsPartOf, AreParts}
 use Rattle.xs_positions.specs.Copies.{AreJoined}
-use Rattle.xs_positions.specs.Walk.{tree_in, trees_in, CopyOf, WithinRounds}
-use Rattle.xs_positions.specs.declared.expr.Node.{Node}
+use Rattle.xs_positions.specs.Walk.{CopyOf, WithinRounds}
 use Rattle.xs_positions.specs.declared.sets.Part.{Part}
 use Rattle.xs_positions.specs.declared.measures.Measure.{Measure}
 use Rattle.xs_positions.proofs.Languages.{Joins}
@@ -19,7 +18,7 @@ use Rattle.xs_positions.proofs.Rounds.{rounds_last, last_round, some_rounds, Plu
 use Rattle.xs_positions.proofs.Rising.{rises-nil, rises-append, Contains-none, Contains-both}
 use Rattle.xs_positions.proofs.Parting.{parts_length, part_at, copy_part}
 use Rattle.xs_positions.proofs.Describing.{Describes-same, Describes-none, Describes-or, Describes-join, Describes-plus, Or, ends_passes}
-use Rattle.xs_positions.proofs.Measuring.{taken_more, size-sequence_of, size-choice_of, has_empty-sequence_of, has_empty-choice_of, has_word-sequence_of}
+use Rattle.xs_positions.proofs.Measuring.{size-sequence_of, size-choice_of, has_empty-sequence_of, has_empty-choice_of, has_word-sequence_of}
 use Rattle.xs_positions.proofs.Worded.{empty_is, word_is, words_within, passes_at, sequence_words, choice_words}
 use Rattle.xs_positions.proofs.Repeating.{copy_words, rounds_empty, ends_go_on, ends_last, ends_before, ends_more, more_ends, Describes-within, Describes-unbounded}
 
@@ -170,21 +169,6 @@ pub if_ok : {T E : Type 0} (P Q : T → Type 0) (r : Result T E) → ((x : T) �
 if_ok P Q (Ok x) f h = f x h
 if_ok P Q (Err e) f h = h
 
--- ---- tests of the walk
-pub flag_zero : (k : ℕ) (f e : Bool) → k ≡ 0 → f ≡ (k == 0) → f ≡ (k == 0 || e)
-flag_zero k f e z t = t ∙ (eq-eqb k 0 z ∙ sym (or_left (k == 0) e (eq-eqb k 0 z)))
-
-pub flag_other : (k : ℕ) (f n e : Bool) → (k ≡ 0 → ⊥) → f ≡ n → n ≡ e → f ≡ (k == 0 || e)
-flag_other k f n e z t s =
-    let o : (k == 0) ≡ false = ne_eqb k 0 z in
-    rw o (t ∙ s)
-
-pub both_flag : (z x y : Bool) → x ≡ true → z ≡ y → z ≡ (x && y)
-both_flag z x y e f = rw e f
-
-pub no_flag : (z x y : Bool) → x ≡ false → z ≡ x → z ≡ (x && y)
-no_flag z x y e f = f ∙ (rw e refl)
-
 -- ---- positions that no word goes through
 pub unused_sets : (t : Tree) (base : ℕ) (m : Measure) (part : Part) → m ≡ measure_of t → size t < 2 ^ 32 → ((p : ℕ) → Passes (IsWord t base) p → ⊥) →
     sets_of part ≡ unused m.size → Describes (IsWord t base) base (size t) (sets_of part)
@@ -268,7 +252,7 @@ more_copies t base least n k parts whole next new ends ends' are l is some old m
     ] in
     record {
       sets = sets;
-      nullable = both ∙ (rw (old.nullable, dn.nullable) (both_empty (k == 0) (has_empty t))) ∙ (let z : (k + 1 == 0) ≡ false = ne_eqb (k + 1) 0 (λ h. omega arith) in rw z refl);
+      nullable = (let z : (k + 1 == 0) ≡ false = ne_eqb (k + 1) 0 (λ h. omega arith) in both ∙ (rw (old.nullable, dn.nullable, z) (both_empty (k == 0) (has_empty t))));
       ends = lasts.0;
       ends_rise = lasts.1;
     }

@@ -1,23 +1,30 @@
 -- What the tasks of a walk lead to, and how much they are.
-use Rattle.std.proofs.Common.{◌≡◌, ℕ, zero, suc, ◌+◌, ◌*◌, ◌<◌, ◌≤◌, ◌^◌, ◌⊎◌, IsTrue, List, [], ◌∷◌, ◌++◌, length, map, take, drop, reverse, get_or, replicate, All, sym, refl, ap, ◌∙◌, inl, inr, arith, append_assoc, append-nil, length-append, suc-mul, zero-mul}
+use Rattle.std.proofs.Common.{◌≡◌, ℕ, zero, suc, ◌+◌, ◌*◌, ◌<◌, ◌≤◌, ◌^◌, ◌==◌, ◌||◌, IsTrue, Option, List, [], ◌∷◌, ◌++◌, length, map, take, reverse, get_or, replicate, All, sym, refl, ap, ◌∙◌, inl, inr, arith, append_assoc, append-nil, length-append, suc-mul, zero-mul}
 use Rattle.std.proofs.lemmas.List.{reverse-append, reverse-reverse}
-use Rattle.xs_positions.specs.Tree.{Tree, one, empty, chain, nothing, either, repeat, size, copies, sequence_of, choice_of, symbols}
+use Rattle.std.proofs.lemmas.Bool.{and_parts}
+use Rattle.std.proofs.lemmas.List.Elements.{All-nil}
+use Rattle.xs_positions.specs.Tree.{Tree, one, empty, chain, nothing, either, repeat, size, copies, sequence_of, choice_of}
 use Rattle.xs_positions.specs.Nodes.{tree_at, tree_of, trees_of, ids_of, ids_at, PartsBelow, IsOrdered}
-use Rattle.xs_positions.specs.Measures.{has_word}
-use Rattle.xs_positions.specs.Parts.{IsPartOf, AreParts}
+use Rattle.xs_positions.specs.Words.{IsWord, Passes}
+use Rattle.xs_positions.specs.Measures.{has_word, has_rounds, measure_of}
+use Rattle.xs_positions.specs.Sets.{Describes}
+use Rattle.xs_positions.specs.Parts.{IsPartOf, AreParts, sets_of, unused}
 use Rattle.xs_positions.specs.Walk.{tree_in, trees_in}
-use Rattle.xs_positions.specs.Walking.{IsReady, CanDo, IsPassed, IsOpened, IsBuilt, Does}
+use Rattle.xs_positions.specs.Walking.{CanDo, IsBuilt, Does, Visits}
 use Rattle.xs_positions.specs.Listing.{steps}
+use Rattle.xs_positions.specs.Copies.{AreCopies}
 use Rattle.xs_positions.specs.declared.expr.Node.{Node}
 use Rattle.xs_positions.specs.declared.expr.Node.TheVariants.{Symbol, Sequence, Choice, Repeat}
 use Rattle.xs_positions.specs.declared.sets.Part.{Part}
+use Rattle.xs_positions.specs.declared.measures.Measure.{Measure}
 use Rattle.xs_positions.specs.declared.walk.Task.{Task}
 use Rattle.xs_positions.specs.declared.walk.Task.TheVariants.{Visit, Build}
 use Rattle.xs_positions.specs.declared.walk.Walk.{Walk}
 use Rattle.xs_positions.proofs.Growing.{tree_is}
+use Rattle.xs_positions.proofs.Walking.{node_tree}
 use Rattle.xs_positions.proofs.Measuring.{get_or-map, size-sequence_of}
 use Rattle.xs_positions.proofs.Parting.{parts_length, part_pushed, parts_split, copies_size}
-use Rattle.xs_positions.proofs.Steps.{choice_size}
+use Rattle.xs_positions.proofs.Steps.{choice_size, unused_sets}
 
 -- ---- the parts of a node
 abbrev pub all_steps : List Tree → ℕ
@@ -61,7 +68,7 @@ All-copies P (suc n) x h zero d l = h
 All-copies P (suc n) x h (suc k) d l = All-copies P n x h k d (omega arith)
 
 node_ids : (b : ℕ) (n : Node) → PartsBelow b n → All (λ p. p < b) (ids_of n)
-node_ids b (Symbol s) h k d l = absurd (omega arith)
+node_ids b (Symbol s) h = All-nil (λ p. p < b)
 node_ids b (Sequence parts) h = h
 node_ids b (Choice parts) h = h
 node_ids b (Repeat part n m) h = All-copies (λ p. p < b) (copies n m) part h
@@ -85,12 +92,59 @@ module _ (ns : List Node) (ordered : IsOrdered ns) (id : ℕ) (l : id < length n
   pub parts_known : All (λ p. p < length ns) (ids_at ns id)
   parts_known = rw ids_is (λ k d h. let b = node_ids id (get_or ns id some_node) (ordered id some_node l) k d h in omega arith)
 
+pub ids_here : (ns : List Node) (id j : ℕ) (n : Node) → id < length ns → j ≡ id → n ≡ get_or ns j n → ids_at ns id ≡ ids_of n
+ids_here ns id j n l same is = get_or-map ids_of ns id n [] l ∙ (ap (λ k. ids_of (get_or ns k n)) (sym same) ∙ ap ids_of (sym is))
+
 -- the parts that are read at a number take fewer steps, and have numbers of nodes
 pub parts_inside : (ns : List Node) → IsOrdered ns → (id : ℕ) → id < length ns → (j : ℕ) (n x : Node) → j ≡ id → n ≡ get_or ns j n → n ≡ x → (ids : List ℕ) → ids ≡ ids_of x →
     (all_steps (trees_in ns ids) < steps (tree_in ns id)) × All (λ p. p < length ns) ids
 parts_inside ns ordered id l j n x same is e ids f =
     let here : ids_at ns id ≡ ids = get_or-map ids_of ns id n [] l ∙ (ap (λ k. ids_of (get_or ns k n)) (sym same) ∙ (ap ids_of (sym is ∙ e) ∙ sym f)) in
     (rw here at (parts_steps ns ordered id l), rw here at (parts_known ns ordered id l))
+
+-- ---- the copies of a repeat's part
+pub copies_given : (ns : List Node) → IsOrdered ns → (id : ℕ) → id < length ns → (j : ℕ) (n : Node) → j ≡ id → n ≡ get_or ns j n →
+    {part least : ℕ} {most : Option ℕ} → n ≡ Repeat part least most → (base : ℕ) (found : List Part) → AreParts base (trees_in ns (ids_at ns id)) found →
+    IsTrue (has_word (tree_in ns id)) → base + size (tree_in ns id) < 2 ^ 32 → IsTrue (has_word (tree_in ns part)) → AreCopies (tree_in ns part) base least most found
+copies_given ns ordered id l j n same is {part} {least} {most} e base found parts words fits word =
+    let t : tree_in ns id ≡ repeat (tree_in ns part) least most = node_tree ns id j n (Repeat part least most) ordered l same is e in
+    let h : ids_at ns id ≡ replicate (copies least most) part = ids_here ns id j n l same is ∙ ap ids_of e in
+    let m : trees_in ns (replicate (copies least most) part) ≡ replicate (copies least most) (tree_in ns part) = map-copies (tree_in ns) (copies least most) part in
+    let rounds = and_parts (has_rounds least most) (least == 0 || has_word (tree_in ns part)) (rw t at words) in
+    record { parts = rw m at (rw h at parts); word = word; rounds = rounds.0; fits = rw t at fits }
+
+-- ---- one task
+pub passes : (ns : List Node) (id : ℕ) (old new : Walk) (m : Measure) (part : Part) → m ≡ measure_of (tree_in ns id) → size (tree_in ns id) < 2 ^ 32 →
+    ((p : ℕ) → Passes (IsWord (tree_in ns id) old.count) p → ⊥) → sets_of part ≡ unused m.size → part.nullable ≡ m.nullable →
+    new.found.items ≡ old.found.items ++ part ∷ [] → new.count ≡ old.count + m.size → new.tasks.items ≡ old.tasks.items → Visits ns id old new
+passes ns id old new m part e l none made n f k t = inl record {
+  part = part;
+  is = record { sets = unused_sets (tree_in ns id) old.count m part e l none made; nullable = n ∙ ap (λ x. x.nullable) e };
+  found = f;
+  count = (let s = ap (λ x. x.size) e in omega arith);
+  tasks = t;
+}
+
+pub opens : (ns : List Node) (id : ℕ) (old new : Walk) (m : Measure) (ids : List ℕ) → m ≡ measure_of (tree_in ns id) → IsTrue m.inhabited → ids_at ns id ≡ ids →
+    new.found.items ≡ old.found.items → new.count ≡ old.count →
+    new.tasks.items ≡ (old.tasks.items ++ Build id old.count (length old.found.items) ∷ []) ++ reverse (map Visit ids) → Visits ns id old new
+opens ns id old new m ids e w here f k t = inr record {
+  words = sym (ap (λ x. x.inhabited) e) ∙ w;
+  found = f;
+  count = k;
+  tasks = t ∙ ap (λ l. (old.tasks.items ++ Build id old.count (length old.found.items) ∷ []) ++ reverse (map Visit l)) (sym here);
+}
+
+pub builds_one : (ns : List Node) (id base below : ℕ) (old new : Walk) (m : Measure) (part : Part) → m ≡ measure_of (tree_in ns id) → base + size (tree_in ns id) < 2 ^ 32 →
+    Describes (IsWord (tree_in ns id) base) base (size (tree_in ns id)) (sets_of part) → part.nullable ≡ m.nullable →
+    new.found.items ≡ take below old.found.items ++ part ∷ [] → new.count ≡ base + m.size → new.tasks.items ≡ old.tasks.items → IsBuilt ns id base below old new
+builds_one ns id base below old new m part e l d n f k t = record {
+  part = part;
+  is = record { sets = d; nullable = n ∙ ap (λ x. x.nullable) e };
+  found = f;
+  count = (let s = ap (λ x. x.size) e in omega arith);
+  tasks = t;
+}
 
 -- ---- what tasks lead to
 -- The sets of an expression are to be made of the last ones, which are those of its parts.

@@ -72,24 +72,31 @@ impl Part {
     }
 
     /// The words of this part, which begins at the base, each with a word of the next part behind it.
-    pub(crate) fn then(mut self, base: u32, mut next: Part) -> Result<Part, AllocError>
+    pub(crate) fn then(self, base: u32, next: Part) -> Result<Part, AllocError>
         requires { All (λ p. (base ≤ p) × (p < base + length self.follow.items)) self.last.items }
         ensures joined { IfOk result (λ part. IsJoined base (sets_of self) self.nullable (sets_of next) next.nullable (sets_of part)) }
         ensures nullable { IfOk result (λ part. part.nullable ≡ (self.nullable && next.nullable)) }
     {
-        let nullable = self.nullable;
-        let next_nullable = next.nullable;
+        let nullable = self.nullable && next.nullable;
+        let mut whole = self.joined(base, next)?;
+        whole.nullable = nullable;
+        Ok(whole)
+    }
+
+    fn joined(mut self, base: u32, mut next: Part) -> Result<Part, AllocError>
+        requires { All (λ p. (base ≤ p) × (p < base + length self.follow.items)) self.last.items }
+        ensures { IfOk result (λ part. IsJoined base (sets_of self) self.nullable (sets_of next) next.nullable (sets_of part)) }
+    {
         link(&mut self.follow, base, &self.last, &next.first)?;
         self.follow.append(&mut next.follow)?;
         self.useful.append(&mut next.useful)?;
-        if nullable {
+        if self.nullable {
             self.first.append(&mut next.first)?;
         }
-        if !next_nullable {
+        if !next.nullable {
             self.last.clear();
         }
         self.last.append(&mut next.last)?;
-        self.nullable = nullable && next_nullable;
         Ok(self)
     }
 

@@ -7,7 +7,7 @@ ghost use Rattle.xs_positions.specs.Words.{IsWord, Ends, Rounds};
 ghost use Rattle.xs_positions.specs.Sets.{Describes};
 ghost use Rattle.xs_positions.specs.Measures.{AreMeasured, has_word, has_rounds};
 ghost use Rattle.xs_positions.specs.Parts.{sets_of, IsPartOf, AreParts};
-ghost use Rattle.xs_positions.specs.Nodes.{ids_at};
+ghost use Rattle.xs_positions.specs.Nodes.{ids_at, ids_of};
 ghost use Rattle.xs_positions.specs.Walk.{tree_in, trees_in};
 ghost use Rattle.xs_positions.specs.Copies.{AreCopies, AreJoined};
 
@@ -17,8 +17,8 @@ use crate::sets::Part;
 use std::alloc::{AllocError, Global};
 
 /// What is still to be done.
-#[derive(Clone, Copy, Debug)]
-pub(crate) enum Task {
+#[derive(Clone, Copy)]
+enum Task {
     /// The sets of this expression are to be found.
     Visit(ExprId),
     /// They are to be made of those of its parts: the expression, the number of its first position, and how many sets
@@ -27,8 +27,8 @@ pub(crate) enum Task {
 }
 
 /// Sets that were found, and what is still to be done.
-#[derive(Debug, Drop)]
-pub(crate) struct Walk {
+#[derive(Drop)]
+struct Walk {
     alloc: Global,
     /// The tasks, the next one last.
     tasks: Vec<Task>,
@@ -65,12 +65,7 @@ pub(crate) fn find_sets(
 impl Walk {
     ghost use Rattle.xs_positions.specs.Walking.{CanDo, Does, Visits, IsReady, IsBuilt};
 
-    fn step(
-        &mut self,
-        nodes: &[Node],
-        measures: &[Measure],
-        task: Task,
-    ) -> Result<(), AllocError>
+    fn step(&mut self, nodes: &[Node], measures: &[Measure], task: Task) -> Result<(), AllocError>
         requires measured { AreMeasured nodes.now measures.now }
         requires can { CanDo nodes.now task self.old }
         ensures { OnOk result (Does nodes.now task self.old self.new) }
@@ -83,12 +78,7 @@ impl Walk {
 
     /// Puts the sets of an expression that has no positions or no word to those that were found. Of another its parts
     /// are to be visited, the first of them first, and then it is to be built.
-    fn visit(
-        &mut self,
-        nodes: &[Node],
-        measures: &[Measure],
-        id: ExprId,
-    ) -> Result<(), AllocError>
+    fn visit(&mut self, nodes: &[Node], measures: &[Measure], id: ExprId) -> Result<(), AllocError>
         requires measured { AreMeasured nodes.now measures.now }
         requires id { id < length nodes.now }
         requires fits { self.old.count + size (tree_in nodes.now id) < 2 ^ 32 }
@@ -103,14 +93,7 @@ impl Walk {
         }
         self.tasks
             .push(Task::Build(id, self.count, self.found.len()))?;
-        match &nodes[id.index()] {
-            Node::Symbol(_) => Ok(()),
-            Node::Sequence(parts) => wait_for(&mut self.tasks, parts),
-            Node::Choice(parts) => wait_for(&mut self.tasks, parts),
-            Node::Repeat(part, min, max) => {
-                wait_for_copies(&mut self.tasks, *part, copies(*min, *max))
-            }
-        }
+        wait_for_parts(&mut self.tasks, &nodes[id.index()])
     }
 
     /// Makes the sets of an expression of those of its parts, which it takes.
@@ -127,10 +110,24 @@ impl Walk {
         ensures { OnOk result (IsBuilt nodes.now id base below self.old self.new) }
     {
         let parts = self.found.split_off(below)?;
-        let part = build_part(self.alloc, nodes, measures, id, base, parts)?;
+        let measure = measures[id.index()];
+        let mut part = build_part(self.alloc, nodes, measures, id, base, parts)?;
+        part.nullable = measure.nullable;
         self.found.push(part)?;
-        self.count = base + measures[id.index()].size as u32;
+        self.count = base + measure.size as u32;
         Ok(())
+    }
+}
+
+/// The parts of the node are to be visited, the first of them first.
+fn wait_for_parts(tasks: &mut Vec<Task>, node: &Node) -> Result<(), AllocError>
+    ensures { OnOk result (tasks.new.items ≡ tasks.old.items ++ reverse (map Task.Visit (ids_of node.now))) }
+{
+    match node {
+        Node::Symbol(_) => Ok(()),
+        Node::Sequence(parts) => wait_for(tasks, parts),
+        Node::Choice(parts) => wait_for(tasks, parts),
+        Node::Repeat(part, min, max) => wait_for_copies(tasks, *part, copies(*min, *max)),
     }
 }
 
@@ -156,7 +153,8 @@ fn wait_for_copies(tasks: &mut Vec<Task>, part: ExprId, count: u32) -> Result<()
     Ok(())
 }
 
-/// The sets of an expression with a word, from those of its parts, whose positions begin at the base.
+/// The sets of an expression with a word, from those of its parts, whose positions begin at the base. Whether the empty
+/// word is one is not said.
 fn build_part(
     alloc: Global,
     nodes: &[Node],
@@ -170,23 +168,20 @@ fn build_part(
     requires inhabited { IsTrue (has_word (tree_in nodes.now id)) }
     requires fits { base + size (tree_in nodes.now id) < 2 ^ 32 }
     requires parts { AreParts base (trees_in nodes.now (ids_at nodes.now id)) parts.items }
-    ensures { IfOk result (IsPartOf (tree_in nodes.now id) base) }
+    ensures { IfOk result (λ part. Describes (IsWord (tree_in nodes.now id) base) base (size (tree_in nodes.now id)) (sets_of part)) }
 {
-    let measure = measures[id.index()];
-    let mut whole = match &nodes[id.index()] {
-        Node::Symbol(_) => Part::one(alloc, base)?,
-        Node::Sequence(_) => join_all(alloc, base, parts)?,
-        Node::Choice(_) => choose(alloc, base, parts)?,
+    match &nodes[id.index()] {
+        Node::Symbol(_) => Part::one(alloc, base),
+        Node::Sequence(_) => join_all(alloc, base, parts),
+        Node::Choice(_) => choose(alloc, base, parts),
         Node::Repeat(part, min, max) => {
             if measures[part.index()].inhabited {
-                repeat(alloc, base, *min, *max, parts)?
+                repeat(alloc, base, *min, *max, parts)
             } else {
-                Part::unused(alloc, measure.size, measure.nullable)?
+                Part::unused(alloc, measures[id.index()].size, false)
             }
         }
-    };
-    whole.nullable = measure.nullable;
-    Ok(whole)
+    }
 }
 
 /// A word of each part, in order.
@@ -233,12 +228,7 @@ fn repeat(
 }
 
 /// Words of copies of a part, of which the last comes over and over.
-fn repeat_last(
-    alloc: Global,
-    base: u32,
-    min: u32,
-    mut parts: Vec<Part>,
-) -> Result<Part, AllocError>
+fn repeat_last(alloc: Global, base: u32, min: u32, mut parts: Vec<Part>) -> Result<Part, AllocError>
     requires { (tree : Tree) × AreCopies tree base min None parts.items }
     ensures { (tree : Tree) → AreCopies tree base min None parts.items → IfOk result (λ whole. Describes (IsWord (repeat tree min None) base) base (size (repeat tree min None)) (sets_of whole)) }
 {
@@ -271,12 +261,7 @@ impl Copies {
     }
 }
 
-fn find_copies(
-    alloc: Global,
-    base: u32,
-    least: u32,
-    parts: Vec<Part>,
-) -> Result<Copies, AllocError>
+fn find_copies(alloc: Global, base: u32, least: u32, parts: Vec<Part>) -> Result<Copies, AllocError>
     requires { (tree : Tree) × AreParts base (replicate (length parts.items) tree) parts.items × IsTrue (has_word tree) }
     ensures { (tree : Tree) → AreParts base (replicate (length parts.items) tree) parts.items → IsTrue (has_word tree) → IfOk result (λ copies. AreJoined tree base least (length parts.items) copies.whole copies.ends.items) }
 {

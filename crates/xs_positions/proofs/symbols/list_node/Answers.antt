@@ -1,10 +1,9 @@
 -- What a node's number reads is its tree, whose parts have smaller numbers.
-use Rattle.std.proofs.Common.{◌≡◌, ◌<◌, ◌++◌, [], ◌∷◌, length, replicate, sym, ap, ◌∙◌, arith}
+use Rattle.std.proofs.Common.{◌≡◌, ◌<◌, ◌++◌, length, replicate, sym, ap, ◌∙◌, arith}
 use Rattle.std.specs.List.{flat_map}
 use Rattle.xs_positions.specs.Tree.{symbols, times}
 use Rattle.xs_positions.specs.Walk.{tree_in, trees_in}
-use Rattle.xs_positions.specs.Listing.{IsListed}
-use Rattle.xs_positions.proofs.Walking.{length_measured, measured_at, node_tree, node_parts, all_below, symbols-sequence_of, symbols-choice_of, no_symbols}
+use Rattle.xs_positions.proofs.Walking.{length_measured, measured_at, node_tree, symbols-sequence_of, symbols-choice_of, no_symbols}
 use Rattle.xs_positions.proofs.Tasks.{steps_some, parts_inside, map-copies}
 use Rattle.xs_positions.proofs.Listed.{on_ok, listed_none, listed_symbol, listed_wait, reverse_copies, symbols-copies}
 use Rattle.xs_positions.proofs.symbols.list_node.Goals as goal
@@ -52,4 +51,4 @@ returns-in-Repeat c =
     let e : symbols (tree_in ns c.args.id) ≡ flat_map symbols (trees_in ns (replicate c.copies.result c.in-Repeat.part)) =
     ap symbols n ∙ (ap (λ k. times k (symbols (tree_in ns c.in-Repeat.part))) (sym c.copies.ensures) ∙ (sym (symbols-copies c.copies.result (tree_in ns c.in-Repeat.part)) ∙
     ap (flat_map symbols) (sym (map-copies (tree_in ns) c.copies.result c.in-Repeat.part)))) in
-    on_ok c.wait_for_copies.result _ _ (λ h. rw (h, ← reverse_copies c.copies.result c.in-Repeat.part) (listed_wait ns c.args.id c.args.listed.now.items c.args.todo.now.items (replicate c.copies.result c.in-Repeat.part) e inside.0 inside.1)) c.wait_for_copies.ensures
+    on_ok c.wait_for_copies.result (c.wait_for_copies.new.todo.items ≡ c.args.todo.now.items ++ replicate c.copies.result c.in-Repeat.part) _ (λ h. rw (h ∙ ap (λ l. c.args.todo.now.items ++ l) (sym (reverse_copies c.copies.result c.in-Repeat.part))) (listed_wait ns c.args.id c.args.listed.now.items c.args.todo.now.items (replicate c.copies.result c.in-Repeat.part) e inside.0 inside.1)) c.wait_for_copies.ensures

@@ -1,5 +1,5 @@
-use Rattle.std.proofs.Common.{◌≡◌, ◌<◌, ◌++◌, ◌∷◌, [], Some, length, refl, sym, ap, ◌∙◌, append-nil, arith}
-use Rattle.std.proofs.lemmas.List.Elements.{All-cons, All-nil, All-pop}
+use Rattle.std.proofs.Common.{◌<◌, ◌++◌, Some, length, sym, ap, ◌∙◌, arith}
+use Rattle.std.proofs.lemmas.List.Elements.{All-pop}
 use Rattle.xs_positions.specs.Tree.{symbols}
 use Rattle.xs_positions.specs.Walk.{tree_in}
 use Rattle.xs_positions.specs.Listing.{waiting, steps_of}

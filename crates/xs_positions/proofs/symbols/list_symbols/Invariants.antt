@@ -8,7 +8,7 @@ use Rattle.xs_positions.proofs.symbols.list_symbols.Given as goal
 abbrev pub invariant-loop-id : goal.invariant-loop-id
 invariant-loop-id l = record {
   known : All (λ id. id < length l.nodes) l.todo.items;
-  same : l.listed.items ++ waiting l.nodes l.todo.items ≡ symbols (tree_in l.nodes l.root);
+  same : l.listed.items ++ waiting l.nodes l.todo.items ≡ symbols (tree_in l.nodes l.fn.root);
 }
 
 abbrev pub decreases-loop-id : goal.decreases-loop-id

@@ -1,4 +1,4 @@
-use Rattle.std.proofs.Common.{◌≡◌, List, length, replicate, IsTrue}
+use Rattle.std.proofs.Common.{◌≡◌, length, replicate, IsTrue}
 use Rattle.xs_positions.specs.Tree.{Tree}
 use Rattle.xs_positions.specs.Measures.{has_word}
 use Rattle.xs_positions.specs.Parts.{AreParts}
