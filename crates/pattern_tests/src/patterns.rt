@@ -51,11 +51,12 @@ fn stars_of_stars_are_read(rt: HostRuntime) -> Result<(), Fail> {
     Ok(())
 }
 
-/// Ten thousand groups, one in the other, and as many with an empty branch beside.
+/// Ten thousand groups, one in the other, as many with an empty branch beside, and as many stars.
 #[test]
 fn deep_groups_are_read(rt: HostRuntime) -> Result<(), Fail> {
     check_deep(&rt, rt.alloc(), "(", ")")?;
-    check_deep(&rt, rt.alloc(), "(()", "|)")
+    check_deep(&rt, rt.alloc(), "(", "|)")?;
+    check_deep(&rt, rt.alloc(), "(", ")*")
 }
 
 fn check_deep(rt: &impl Abort, alloc: Global, before: &str, behind: &str) -> Result<(), Fail> {
@@ -71,5 +72,18 @@ fn check_deep(rt: &impl Abort, alloc: Global, before: &str, behind: &str) -> Res
         panic!(rt; "the groups are refused");
     };
     assert!(rt; pattern.matches("a") && !pattern.matches("b"));
+    Ok(())
+}
+
+#[test]
+fn a_copy_matches_the_same_texts(rt: HostRuntime) -> Result<(), Fail> {
+    let alloc = rt.alloc();
+    let Ok(mut pattern) = Pattern::read(alloc, "[a-c-[b]]{2}|d*")? else {
+        panic!(rt; "the pattern is refused");
+    };
+    let mut copy = pattern.try_clone(alloc)?;
+    assert!(rt; copy.matches("ac") && copy.matches("") && copy.matches("ddd"));
+    assert!(rt; !copy.matches("ab") && !copy.matches("acd"));
+    assert!(rt; pattern.matches("ac") && !pattern.matches("ab"));
     Ok(())
 }

@@ -11,7 +11,7 @@ use crate::measures::measure_nodes;
 use crate::sets::Part;
 use crate::symbols::list_symbols;
 use crate::walk::find_sets;
-use std::alloc::AllocError;
+use std::alloc::{AllocError, Global};
 use std::marker::Model;
 
 /// Why an expression's positions are not listed.
@@ -42,6 +42,19 @@ impl Model for Positions {
 }
 
 impl Positions {
+    /// A copy with memory of its own.
+    ///
+    /// # Errors
+    /// When memory runs out.
+    pub fn try_clone(&self, alloc: Global) -> Result<Positions, AllocError>
+        ensures { IfOk result (λ positions. positions ≡ self.now) }
+    {
+        Ok(Positions {
+            symbols: Vec::from_slice(alloc, &self.symbols)?,
+            sets: self.sets.try_clone(alloc)?,
+        })
+    }
+
     /// How many positions there are.
     pub fn count(&self) -> u32
         ensures { result ≡ length self.now.symbols }

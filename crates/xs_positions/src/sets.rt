@@ -58,6 +58,20 @@ impl Part {
         })
     }
 
+    /// A copy with memory of its own.
+    pub(crate) fn try_clone(&self, alloc: Global) -> Result<Part, AllocError>
+        ensures sets { IfOk result (λ part. sets_of part ≡ sets_of self.now) }
+        ensures nullable { IfOk result (λ part. part.nullable ≡ self.now.nullable) }
+    {
+        Ok(Part {
+            first: Vec::from_slice(alloc, &self.first)?,
+            last: Vec::from_slice(alloc, &self.last)?,
+            follow: clone_rows(alloc, &self.follow)?,
+            useful: Vec::from_slice(alloc, &self.useful)?,
+            nullable: self.nullable,
+        })
+    }
+
     /// The words of this part, and those of the other.
     pub(crate) fn or(mut self, mut other: Part) -> Result<Part, AllocError>
         ensures sets { IfOk result (λ part. sets_of part ≡ beside (sets_of self) (sets_of other)) }
@@ -116,6 +130,16 @@ impl Part {
     {
         self.follow.len()
     }
+}
+
+fn clone_rows(alloc: Global, rows: &[Vec<u32>]) -> Result<Vec<Vec<u32>>, AllocError>
+    ensures { IfOk result (λ copy. map (λ row. row.items) copy.items ≡ map (λ row. row.items) rows.now) }
+{
+    let mut copy = Vec::new(alloc);
+    for row in rows {
+        copy.push(Vec::from_slice(alloc, row)?)?;
+    }
+    Ok(copy)
 }
 
 /// Adds each number of `to` to the row of each position of `from`; the rows are those of the positions from the base on.
