@@ -12,7 +12,8 @@ use Rattle.pattern_syntax.specs.Characters.{is_ascii_digit}
 use Rattle.pattern_syntax.specs.Grammar.{is_given, number, bound, property_item, item_regex}
 use Rattle.pattern_syntax.specs.Machine.{Within, in_branch, in_class, Stage, at_piece, at_least_digits, at_most_digits, at_backslash, at_property, at_name, at_class, at_first, at_part, at_hyphen, at_less, at_range_escape, at_end, State, in_stage, give, give_one, closing, after, step, step_escape, step_property, step_name, step_first, step_class, step_range_escape, step_end}
 use Rattle.std.proofs.lemmas.Bool.Decides.{nat_tests}
-use Rattle.pattern_syntax.specs.Grammar.{number_after}
+use Rattle.std.specs.Char.{digit_value}
+use Rattle.std.specs.Str.Parse.{digits_value_after}
 use Rattle.pattern_syntax.specs.Machine.{is_end, with_notes}
 use Rattle.pattern_syntax.proofs.Runs.{at, taken, goes}
 use Rattle.pattern_syntax.proofs.RunsInClass.{end_step, hyphen_end, less_class, step_end_suc}
@@ -109,19 +110,19 @@ unfolding nines
 nines_digits zero = refl
 nines_digits (suc k) = nines_digits k
 
-many_nines : (n k : ℕ) → n + k ≤ number_after n (nines k)
+many_nines : (n k : ℕ) → n + k ≤ digits_value_after 10 n (nines k)
 unfolding nines
 many_nines n zero = omega arith
-many_nines n (suc k) = let more = many_nines (n * 10 + 9) k in omega (arith, more)
+many_nines n (suc k) = let more : (n * 10 + 9) + k ≤ digits_value_after 10 n (57 ∷ nines k) = many_nines (n * 10 + 9) k in omega (arith, more)
 
-number_after_append : (n : ℕ) (xs ys : List ℕ) → number_after n (xs ++ ys) ≡ number_after (number_after n xs) ys
-number_after_append n [] ys = refl
-number_after_append n (x ∷ xs) ys = number_after_append (n * 10 + (x - 48)) xs ys
+value_after_append : (n : ℕ) (xs ys : List ℕ) → digits_value_after 10 n (xs ++ ys) ≡ digits_value_after 10 (digits_value_after 10 n xs) ys
+value_after_append n [] ys = refl
+value_after_append n (x ∷ xs) ys = value_after_append (n * 10 + digit_value x) xs ys
 
 enough : (least most : List ℕ) → nat_le (number least) (number (most ++ nines (suc (number least)))) ≡ true
 enough least most =
     let more = many_nines (number most) (suc (number least)) in
-    let split = number_after_append 0 most (nines (suc (number least))) in
+    let split = value_after_append 0 most (nines (suc (number least))) in
     grind (arith, nat_tests)
 
 given_nines : (most : List ℕ) (k : ℕ) → is_given (most ++ nines (suc k)) ≡ true

@@ -2,6 +2,7 @@
 use Rattle.std.specs.Prelude.{ℕ, ◌+◌, ◌-◌, ◌*◌, min, Bool, true, false, not, ◌&&◌, ◌||◌, ◌==◌, nat_le, if◌then◌else◌, List, [], ◌∷◌, ◌++◌, Option, Some, None}
 use Rattle.std.specs.List.{list_all}
 use Rattle.std.specs.Option.{unwrap_or}
+use Rattle.std.specs.Str.Parse.{digits_value}
 use Rattle.pattern_terms.specs.declared.class.ClassItem.{ClassItem}
 use Rattle.pattern_terms.specs.declared.class.ClassItem.TheVariants.{One, Range, In, NotIn}
 use Rattle.pattern_terms.specs.declared.set.CharSet.TheVariants.{NotLineEnd}
@@ -131,13 +132,9 @@ abbrev pub letter_value : Letter → ℕ
 letter_value (plain c) = c
 letter_value (escaped e) = single_value e
 
--- the number that decimal digits write behind those of another number
-abbrev pub number_after : ℕ → List ℕ → ℕ
-number_after n [] = n
-number_after n (d ∷ ds) = number_after (n * 10 + (d - 48)) ds
-
+-- the number that decimal digits write
 abbrev pub number : List ℕ → ℕ
-number digits = number_after 0 digits
+number digits = digits_value 10 digits
 
 abbrev pub is_some : {A : Type 0} → Option A → Bool
 is_some None = false

@@ -1,10 +1,11 @@
 //! Classes of characters.
 
-ghost use Rattle.std.specs.Prelude.{◌≡◌, map};
+ghost use Rattle.std.specs.Prelude.{◌≡◌, map, IfOk};
 ghost use Rattle.std.specs.List.{list_any};
 ghost use Rattle.pattern_terms.specs.Classes.{is_item, in_group, has, group_of, class_of};
 
 use crate::set::CharSet;
+use std::alloc::{AllocError, Global};
 
 /// An item of a group: a character, a range from one character to another, or a set that an escape names.
 #[derive(Clone, Copy, Debug, PartialEq, Eq)]
@@ -61,6 +62,19 @@ impl CharGroup {
     {
         some_item(&self.items, c) != self.negated
     }
+
+    /// A copy with memory of its own.
+    ///
+    /// # Errors
+    /// When memory runs out.
+    pub fn try_clone(&self, alloc: Global) -> Result<CharGroup, AllocError>
+        ensures { IfOk result (λ group. group_of group ≡ group_of self.now) }
+    {
+        Ok(CharGroup {
+            negated: self.negated,
+            items: Vec::from_slice(alloc, &self.items)?,
+        })
+    }
 }
 
 fn some_item(items: &[ClassItem], c: char) -> bool
@@ -79,6 +93,19 @@ impl CharClass {
             CharClass::Groups(groups) => groups_contain(groups, c),
         }
     }
+
+    /// A copy with memory of its own.
+    ///
+    /// # Errors
+    /// When memory runs out.
+    pub fn try_clone(&self, alloc: Global) -> Result<CharClass, AllocError>
+        ensures { IfOk result (λ class. class_of class ≡ class_of self.now) }
+    {
+        match self {
+            CharClass::Item(item) => Ok(CharClass::Item(*item)),
+            CharClass::Groups(groups) => Ok(CharClass::Groups(clone_groups(alloc, groups)?)),
+        }
+    }
 }
 
 /// Whether the first group has the character and the class of those after it lacks it.
@@ -93,4 +120,14 @@ fn groups_contain(groups: &[CharGroup], c: char) -> bool
         inside = !inside;
     }
     inside
+}
+
+fn clone_groups(alloc: Global, groups: &[CharGroup]) -> Result<Vec<CharGroup>, AllocError>
+    ensures { IfOk result (λ copy. map group_of copy.items ≡ map group_of groups.now) }
+{
+    let mut copy = Vec::new(alloc);
+    for group in groups {
+        copy.push(group.try_clone(alloc)?)?;
+    }
+    Ok(copy)
 }

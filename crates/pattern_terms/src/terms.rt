@@ -35,6 +35,20 @@ impl Terms {
         })
     }
 
+    /// A copy of the terms, under the same numbers, with memory of its own.
+    ///
+    /// # Errors
+    /// When memory runs out.
+    pub fn try_clone(&self, alloc: Global) -> Result<Terms, AllocError>
+        ensures classes { IfOk result (λ terms. classes_of terms ≡ classes_of self.now) }
+        ensures trees { IfOk result (λ terms. trees_of terms ≡ trees_of self.now) }
+    {
+        Ok(Terms {
+            classes: clone_classes(alloc, &self.classes)?,
+            expr: self.expr.try_clone(alloc)?,
+        })
+    }
+
     /// The term that one character of the class matches.
     ///
     /// # Errors
@@ -110,4 +124,14 @@ impl Terms {
     {
         &self.expr
     }
+}
+
+fn clone_classes(alloc: Global, classes: &[CharClass]) -> Result<Vec<CharClass>, AllocError>
+    ensures { IfOk result (λ copy. map class_of copy.items ≡ map class_of classes.now) }
+{
+    let mut copy = Vec::new(alloc);
+    for class in classes {
+        copy.push(class.try_clone(alloc)?)?;
+    }
+    Ok(copy)
 }

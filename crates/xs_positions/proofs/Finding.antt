@@ -25,7 +25,7 @@ module _ (tree : Tree) (inside : Inside) (listed : inside.symbols.items ≡ symb
     (let e = count_is in omega arith),
   )
 
-  pub positions_are : inside.nullable ≡ has_empty tree → ArePositionsOf tree (table_of inside)
+  pub positions_are : inside.sets.nullable ≡ has_empty tree → ArePositionsOf tree (table_of inside)
   positions_are e = record {
     symbols = listed;
     nullable = rw e (empty_is tree 0);

@@ -92,3 +92,15 @@ ordered_push ns n trees new ordered below e pushed i d l =
       | inl k ↦ rw (get_or_append_left ns (n ∷ []) d i k) (ordered i d k)
       | inr g ↦ let same : i ≡ length ns = omega arith in rw (get_or_push ns n d i (sym same)) (rw (same, ← long) below)
     ])
+
+-- ---- copies of nodes
+module _ (ns : List Node) (i : ℕ) (n copy : Node) (trees : List Tree) (more : i < length ns) (is : n ≡ get_or ns i n) (e : trees ≡ trees_of (take i ns)) where
+  pub clone_below : IsOrdered ns → ((b : ℕ) → PartsBelow b n → PartsBelow b copy) → PartsBelow (length trees) copy
+  clone_below ordered below =
+      let c : length trees ≡ i = ap length e ∙ (length-trees_of (take i ns) ∙ length-take-le i ns (omega arith)) in
+      rw c (below i (rw (sym is) at (ordered i n more)))
+
+  pub clone_more : (new : List Tree) → tree_of trees copy ≡ tree_of trees n → new ≡ trees ++ tree_of trees copy ∷ [] → new ≡ trees_of (take (i + 1) ns)
+  clone_more new same came =
+      let taken : take (i + 1) ns ≡ take i ns ++ n ∷ [] = take_more ns i n more ∙ ap (λ x. take i ns ++ x ∷ []) (sym is) in
+      came ∙ (ap (λ t. trees ++ t ∷ []) same ∙ (ap (λ ts. ts ++ tree_of ts n ∷ []) e ∙ sym (ap trees_of taken ∙ trees_of-push (take i ns) n)))

@@ -8,8 +8,10 @@ pub mod Linking
 pub mod Walking
 pub mod Worded
 pub mod Repeating
+pub mod Parting
 pub mod Steps
+pub mod Tasks
+pub mod Listed
 pub mod Exchange
 pub mod Spelling
 pub mod Finding
-pub mod Bounds

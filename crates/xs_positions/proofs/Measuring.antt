@@ -55,7 +55,7 @@ pub has_word-sequence_of : (ts : List Tree) (t : Tree) → has_word (sequence_of
 has_word-sequence_of [] t = and-true (has_word t)
 has_word-sequence_of (s ∷ ts) t = ap (λ b. has_word s && b) (has_word-sequence_of ts t) ∙ and_assoc (has_word s) (has_word (sequence_of ts)) (has_word t)
 
-has_empty-choice_of : (ts : List Tree) (t : Tree) → has_empty (choice_of (ts ++ t ∷ [])) ≡ (has_empty (choice_of ts) || has_empty t)
+pub has_empty-choice_of : (ts : List Tree) (t : Tree) → has_empty (choice_of (ts ++ t ∷ [])) ≡ (has_empty (choice_of ts) || has_empty t)
 has_empty-choice_of [] t = or-false (has_empty t)
 has_empty-choice_of (s ∷ ts) t = ap (λ b. has_empty s || b) (has_empty-choice_of ts t) ∙ or_assoc (has_empty s) (has_empty (choice_of ts)) (has_empty t)
 

@@ -1,23 +1,24 @@
 -- One part more in a sequence, a choice or a repeat: what the walk's loops keep.
-use Rattle.std.proofs.Common.{◌≡◌, ℕ, zero, suc, ◌+◌, ◌*◌, ◌^◌, ◌<◌, ◌≤◌, max, ◌⊎◌, ◌↔◌, Bool, true, false, ◌&&◌, ◌||◌, ◌==◌, IsTrue, if◌then◌else◌, List, [], ◌∷◌, ◌++◌, Option, Some, None, length, get_or, take, Contains, sym, refl, ap, ◌∙◌, inl, inr, arith, suc-mul, Result, Ok, Err, IfOk, Vec, Global, eq-eqb, ne_eqb, leb-true}
+use Rattle.std.proofs.Common.{◌≡◌, ℕ, zero, suc, ◌+◌, ◌*◌, ◌^◌, ◌<◌, ◌≤◌, max, ◌⊎◌, ◌↔◌, Bool, true, false, ◌&&◌, ◌||◌, ◌==◌, IsTrue, if◌then◌else◌, List, [], ◌∷◌, ◌++◌, Option, Some, None, length, get_or, take, replicate, Contains, sym, refl, ap, ◌∙◌, inl, inr, arith, suc-mul, zero-mul, Result, Ok, Err, IfOk, Vec, Global, ne_eqb, leb-true}
 use Rattle.std.specs.List.Sorted.{IsStrictlyIncreasing}
-use Rattle.std.proofs.lemmas.Bool.{and_parts, or_left, false≢true}
-use Rattle.std.proofs.lemmas.List.{length-map}
+use Rattle.std.proofs.lemmas.Bool.{and_parts, false≢true}
+use Rattle.std.proofs.lemmas.List.{length-map, take_more, take_all}
 use Rattle.std.proofs.lemmas.List.Elements.{Contains-get_or}
-use Rattle.xs_positions.specs.Tree.{Tree, repeat, copies, size, sequence_of, choice_of}
+use Rattle.xs_positions.specs.Tree.{Tree, nothing, repeat, copies, size, sequence_of, choice_of}
 use Rattle.xs_positions.specs.Words.{IsWord, Rounds, place, Ends, Passes}
 use Rattle.xs_positions.specs.Measures.{has_rounds, has_empty, has_word, measure_of}
 use Rattle.xs_positions.specs.Sets.{Describes}
-use Rattle.xs_positions.specs.Parts.{sets_of, unused, beside, IsJoined, IsLooped}
-use Rattle.xs_positions.specs.Walk.{tree_in, trees_in, CopyOf, WithinRounds}
-use Rattle.xs_positions.specs.declared.expr.Node.{Node}
+use Rattle.xs_positions.specs.Parts.{sets_of, unused, beside, IsJoined, IsLooped, IsPartOf, AreParts}
+use Rattle.xs_positions.specs.Copies.{AreJoined}
+use Rattle.xs_positions.specs.Walk.{CopyOf, WithinRounds}
 use Rattle.xs_positions.specs.declared.sets.Part.{Part}
 use Rattle.xs_positions.specs.declared.measures.Measure.{Measure}
 use Rattle.xs_positions.proofs.Languages.{Joins}
 use Rattle.xs_positions.proofs.Rounds.{rounds_last, last_round, some_rounds, Plus, plus_one, empty_plus}
-use Rattle.xs_positions.proofs.Rising.{rises-append, Contains-both}
+use Rattle.xs_positions.proofs.Rising.{rises-nil, rises-append, Contains-none, Contains-both}
+use Rattle.xs_positions.proofs.Parting.{parts_length, part_at, copy_part}
 use Rattle.xs_positions.proofs.Describing.{Describes-same, Describes-none, Describes-or, Describes-join, Describes-plus, Or, ends_passes}
-use Rattle.xs_positions.proofs.Measuring.{taken_more, size-sequence_of, size-choice_of, has_empty-sequence_of, has_word-sequence_of}
+use Rattle.xs_positions.proofs.Measuring.{size-sequence_of, size-choice_of, has_empty-sequence_of, has_empty-choice_of, has_word-sequence_of}
 use Rattle.xs_positions.proofs.Worded.{empty_is, word_is, words_within, passes_at, sequence_words, choice_words}
 use Rattle.xs_positions.proofs.Repeating.{copy_words, rounds_empty, ends_go_on, ends_last, ends_before, ends_more, more_ends, Describes-within, Describes-unbounded}
 
@@ -34,16 +35,6 @@ module _ (L : List ℕ → Type 0) (base n : ℕ) (part : Part) (d : Describes L
       (w.0, let u : p < base + n = w.1 in omega arith)
 
 -- ---- a front of the parts
-size_front_sequence : (ts : List Tree) (k : ℕ) → size (sequence_of (take k ts)) ≤ size (sequence_of ts)
-size_front_sequence ts zero = omega arith
-size_front_sequence [] (suc k) = omega arith
-size_front_sequence (t ∷ ts) (suc k) = let a = size_front_sequence ts k in omega arith
-
-size_front_choice : (ts : List Tree) (k : ℕ) → size (choice_of (take k ts)) ≤ size (choice_of ts)
-size_front_choice ts zero = omega arith
-size_front_choice [] (suc k) = omega arith
-size_front_choice (t ∷ ts) (suc k) = let a = size_front_choice ts k in omega arith
-
 has_word_front : (ts : List Tree) (k : ℕ) → IsTrue (has_word (sequence_of ts)) → IsTrue (has_word (sequence_of (take k ts)))
 has_word_front ts zero h = refl
 has_word_front [] (suc k) h = refl
@@ -52,64 +43,45 @@ has_word_front (t ∷ ts) (suc k) h =
     let a : has_word t ≡ true = p.0 in
     rw a (has_word_front ts k p.1)
 
-module _ (ns : List Node) (parts : List ℕ) (i p : ℕ) (more : i < length parts) (is : p ≡ get_or parts i p) where
-  pub taken : take (i + 1) (trees_in ns parts) ≡ take i (trees_in ns parts) ++ tree_in ns p ∷ []
-  taken = taken_more (tree_in ns) parts i p more is
+pub choice_size : (ts : List Tree) → size (choice_of ts) ≡ size (sequence_of ts)
+choice_size [] = refl
+choice_size (t ∷ ts) = let e = choice_size ts in omega arith
 
-  pub next_choice_fits : size (choice_of (take i (trees_in ns parts))) + size (tree_in ns p) ≤ size (choice_of (trees_in ns parts))
-  next_choice_fits =
-      let a = size_front_choice (trees_in ns parts) (i + 1) in
-      let b = size-choice_of (take i (trees_in ns parts)) (tree_in ns p) in
-      let c = ap (λ ts. size (choice_of ts)) taken in
-      omega arith
-
-  pub next_sequence_fits : size (sequence_of (take i (trees_in ns parts))) + size (tree_in ns p) ≤ size (sequence_of (trees_in ns parts))
-  next_sequence_fits =
-      let a = size_front_sequence (trees_in ns parts) (i + 1) in
-      let b = size-sequence_of (take i (trees_in ns parts)) (tree_in ns p) in
-      let c = ap (λ ts. size (sequence_of ts)) taken in
-      omega arith
-
-  pub next_words : IsTrue (has_word (sequence_of (trees_in ns parts))) → (IsTrue (has_word (sequence_of (take i (trees_in ns parts))))) × (IsTrue (has_word (tree_in ns p)))
+module _ (ts : List Tree) (i : ℕ) (t : Tree) (taken : take (i + 1) ts ≡ take i ts ++ t ∷ []) (base : ℕ) (whole next new : Part)
+    (dn : IsPartOf t (base + size (sequence_of (take i ts))) next) where
+  next_words : IsTrue (has_word (sequence_of ts)) → (IsTrue (has_word (sequence_of (take i ts)))) × (IsTrue (has_word t))
   next_words h =
-      let a = has_word_front (trees_in ns parts) (i + 1) h in
-      let e = ap (λ ts. has_word (sequence_of ts)) taken ∙ has_word-sequence_of (take i (trees_in ns parts)) (tree_in ns p) in
-      and_parts (has_word (sequence_of (take i (trees_in ns parts)))) (has_word (tree_in ns p)) (sym e ∙ a)
+      let a = has_word_front ts (i + 1) h in
+      let e = ap (λ us. has_word (sequence_of us)) taken ∙ has_word-sequence_of (take i ts) t in
+      and_parts (has_word (sequence_of (take i ts))) (has_word t) (sym e ∙ a)
 
-  module _ (base len : ℕ) (whole next new : Part) (len_is : len ≡ length whole.follow.items)
-      (dn : Describes (IsWord (tree_in ns p) (base + len)) (base + len) (size (tree_in ns p)) (sets_of next)) where
-    pub choice_next : Describes (IsWord (choice_of (take i (trees_in ns parts))) base) base (size (choice_of (take i (trees_in ns parts)))) (sets_of whole) →
-        sets_of new ≡ beside (sets_of whole) (sets_of next) →
-        Describes (IsWord (choice_of (take (i + 1) (trees_in ns parts))) base) base (size (choice_of (take (i + 1) (trees_in ns parts)))) (sets_of new)
-    choice_next dw made =
-        let S : List Tree = take i (trees_in ns parts) in
-        let t : Tree = tree_in ns p in
-        let c : len ≡ size (choice_of S) = len_is ∙ row_count (IsWord (choice_of S) base) base (size (choice_of S)) whole dw in
-        let both = Describes-or (IsWord (choice_of S) base) (IsWord t (base + size (choice_of S))) base (size (choice_of S)) (size t) (sets_of whole) (sets_of next) dw (rw c at dn) in
+  pub choice_next : IsPartOf (choice_of (take i ts)) base whole → sets_of new ≡ beside (sets_of whole) (sets_of next) → new.nullable ≡ (whole.nullable || next.nullable) →
+      IsPartOf (choice_of (take (i + 1) ts)) base new
+  choice_next dw made either = record {
+    sets =
+        let S : List Tree = take i ts in
+        let both = Describes-or (IsWord (choice_of S) base) (IsWord t (base + size (choice_of S))) base (size (choice_of S)) (size t) (sets_of whole) (sets_of next) dw.sets (rw (choice_size S) dn.sets) in
         rw (taken, size-choice_of S t, made)
         (Describes-same (Or (IsWord (choice_of S) base) (IsWord t (base + size (choice_of S)))) (IsWord (choice_of (S ++ t ∷ [])) base) base (size (choice_of S) + size t) (beside (sets_of whole) (sets_of next))
-        (λ w. (choice_words S t base w).1) (λ w. (choice_words S t base w).0) both)
+        (λ w. (choice_words S t base w).1) (λ w. (choice_words S t base w).0) both);
+    nullable = either ∙ (rw (dw.nullable, dn.nullable, taken) (sym (has_empty-choice_of (take i ts) t)));
+  }
 
-    pub sequence_next : (x y : Bool) → Describes (IsWord (sequence_of (take i (trees_in ns parts))) base) base (size (sequence_of (take i (trees_in ns parts)))) (sets_of whole) →
-        x ≡ has_empty (sequence_of (take i (trees_in ns parts))) → y ≡ has_empty (tree_in ns p) → IsTrue (has_word (sequence_of (trees_in ns parts))) →
-        IsJoined base (sets_of whole) x (sets_of next) y (sets_of new) →
-        Describes (IsWord (sequence_of (take (i + 1) (trees_in ns parts))) base) base (size (sequence_of (take (i + 1) (trees_in ns parts)))) (sets_of new)
-    sequence_next x y dw ex ey words made =
-        let S : List Tree = take i (trees_in ns parts) in
-        let t : Tree = tree_in ns p in
-        let c : len ≡ size (sequence_of S) = len_is ∙ row_count (IsWord (sequence_of S) base) base (size (sequence_of S)) whole dw in
+  pub sequence_next : IsPartOf (sequence_of (take i ts)) base whole → IsTrue (has_word (sequence_of ts)) →
+      IsJoined base (sets_of whole) whole.nullable (sets_of next) next.nullable (sets_of new) → new.nullable ≡ (whole.nullable && next.nullable) →
+      IsPartOf (sequence_of (take (i + 1) ts)) base new
+  sequence_next dw words made both_empty = record {
+    sets =
+        let S : List Tree = take i ts in
         let w2 = next_words words in
-        let both = Describes-join (IsWord (sequence_of S) base) (IsWord t (base + size (sequence_of S))) base (size (sequence_of S)) (size t) (sets_of whole) (sets_of next) dw (rw c at dn)
-        x y (sets_of new) made (rw ex (empty_is (sequence_of S) base)) (rw ey (empty_is t (base + size (sequence_of S))))
+        let both = Describes-join (IsWord (sequence_of S) base) (IsWord t (base + size (sequence_of S))) base (size (sequence_of S)) (size t) (sets_of whole) (sets_of next) dw.sets dn.sets
+        whole.nullable next.nullable (sets_of new) made (rw dw.nullable (empty_is (sequence_of S) base)) (rw dn.nullable (empty_is t (base + size (sequence_of S))))
         ((word_is (sequence_of S) base).0 w2.0) ((word_is t (base + size (sequence_of S))).0 w2.1) in
         rw (taken, size-sequence_of S t)
         (Describes-same (Joins (IsWord (sequence_of S) base) (IsWord t (base + size (sequence_of S)))) (IsWord (sequence_of (S ++ t ∷ [])) base) base (size (sequence_of S) + size t) (sets_of new)
-        (λ w. (sequence_words S t base w).1) (λ w. (sequence_words S t base w).0) both)
-
-  pub nullable_next : (x y z : Bool) → x ≡ has_empty (sequence_of (take i (trees_in ns parts))) → y ≡ has_empty (tree_in ns p) → z ≡ (x && y) →
-      z ≡ has_empty (sequence_of (take (i + 1) (trees_in ns parts)))
-  nullable_next x y z ex ey ez =
-      ez ∙ (rw (ex, ey, taken) (sym (has_empty-sequence_of (take i (trees_in ns parts)) (tree_in ns p))))
+        (λ w. (sequence_words S t base w).1) (λ w. (sequence_words S t base w).0) both);
+    nullable = both_empty ∙ (rw (dw.nullable, dn.nullable, taken) (sym (has_empty-sequence_of (take i ts) t)));
+  }
 
 -- ---- no part, no copy
 no_word_passes : (w v : List ℕ) (p : ℕ) → w ++ p ∷ v ≡ [] → ⊥
@@ -123,16 +95,13 @@ nothing_sets t base h = Describes-none (IsWord t base) base (size t) (λ p g. el
 ])
 
 -- ---- a copy more
-module _ (t : Tree) (base k len : ℕ) (whole next new : Part) (some : IsTrue (has_word t)) (len_is : len ≡ length whole.follow.items)
+module _ (t : Tree) (base k : ℕ) (whole next new : Part) (some : IsTrue (has_word t))
     (dw : Describes (Rounds (CopyOf t base) k 0) base (k * size t) (sets_of whole))
-    (dn : Describes (IsWord t (base + len)) (base + len) (size t) (sets_of next)) where
-  copies_len : len ≡ k * size t
-  copies_len = len_is ∙ row_count (Rounds (CopyOf t base) k 0) base (k * size t) whole dw
-
+    (dn : Describes (IsWord t (base + k * size t)) (base + k * size t) (size t) (sets_of next)) where
   pub copies_next : (x y : Bool) → x ≡ (k == 0 || has_empty t) → y ≡ has_empty t → IsJoined base (sets_of whole) x (sets_of next) y (sets_of new) →
       Describes (Rounds (CopyOf t base) (k + 1) 0) base ((k + 1) * size t) (sets_of new)
   copies_next x y ex ey made =
-      let both = Describes-join (Rounds (CopyOf t base) k 0) (CopyOf t base k) base (k * size t) (size t) (sets_of whole) (sets_of next) dw (rw copies_len at dn)
+      let both = Describes-join (Rounds (CopyOf t base) k 0) (CopyOf t base k) base (k * size t) (size t) (sets_of whole) (sets_of next) dw dn
       x y (sets_of new) made (rw ex (rounds_empty t base k)) (rw ey (empty_is t (base + k * size t)))
       (some_rounds (CopyOf t base) (copy_words t base some) k 0) (copy_words t base some k) in
       let e : (k + 1) * size t ≡ k * size t + size t = (let a : k + 1 ≡ suc k = omega arith in rw a (suc-mul k (size t))) in
@@ -141,11 +110,11 @@ module _ (t : Tree) (base k len : ℕ) (whole next new : Part) (some : IsTrue (h
 
   -- ---- the copies of a repeat with no upper bound, of which the last comes over and over
   pub unbounded_sets : (n : ℕ) (looped : Part) (x y : Bool) → max n 1 ≡ k + 1 → x ≡ (k == 0 || has_empty t) → y ≡ has_empty t →
-      IsLooped (base + len) (sets_of next) (sets_of looped) → IsJoined base (sets_of whole) x (sets_of looped) y (sets_of new) →
+      IsLooped (base + k * size t) (sets_of next) (sets_of looped) → IsJoined base (sets_of whole) x (sets_of looped) y (sets_of new) →
       Describes (IsWord (repeat t n None) base) base (size (repeat t n None)) (sets_of new)
   unbounded_sets n looped x y top ex ey round made =
       let N : List ℕ → Type 0 = CopyOf t base k in
-      let dl = Describes-plus N (base + k * size t) (size t) (sets_of next) (sets_of looped) (rw copies_len at round) (rw copies_len at dn) in
+      let dl = Describes-plus N (base + k * size t) (size t) (sets_of next) (sets_of looped) round dn in
       let both = Describes-join (Rounds (CopyOf t base) k 0) (Plus N) base (k * size t) (size t) (sets_of whole) (sets_of looped) dw dl
       x y (sets_of new) made (rw ex (rounds_empty t base k))
       (rw ey ((λ h. plus_one N [] ((empty_is t (base + k * size t)).0 h)), (λ h. (empty_is t (base + k * size t)).1 (empty_plus N h))))
@@ -200,21 +169,6 @@ pub if_ok : {T E : Type 0} (P Q : T → Type 0) (r : Result T E) → ((x : T) �
 if_ok P Q (Ok x) f h = f x h
 if_ok P Q (Err e) f h = h
 
--- ---- tests of the walk
-pub flag_zero : (k : ℕ) (f e : Bool) → k ≡ 0 → f ≡ (k == 0) → f ≡ (k == 0 || e)
-flag_zero k f e z t = t ∙ (eq-eqb k 0 z ∙ sym (or_left (k == 0) e (eq-eqb k 0 z)))
-
-pub flag_other : (k : ℕ) (f n e : Bool) → (k ≡ 0 → ⊥) → f ≡ n → n ≡ e → f ≡ (k == 0 || e)
-flag_other k f n e z t s =
-    let o : (k == 0) ≡ false = ne_eqb k 0 z in
-    rw o (t ∙ s)
-
-pub both_flag : (z x y : Bool) → x ≡ true → z ≡ y → z ≡ (x && y)
-both_flag z x y e f = rw e f
-
-pub no_flag : (z x y : Bool) → x ≡ false → z ≡ x → z ≡ (x && y)
-no_flag z x y e f = f ∙ (rw e refl)
-
 -- ---- positions that no word goes through
 pub unused_sets : (t : Tree) (base : ℕ) (m : Measure) (part : Part) → m ≡ measure_of t → size t < 2 ^ 32 → ((p : ℕ) → Passes (IsWord t base) p → ⊥) →
     sets_of part ≡ unused m.size → Describes (IsWord t base) base (size t) (sets_of part)
@@ -242,3 +196,63 @@ pub bounded_sets : (t : Tree) (base n most : ℕ) (m : Option ℕ) (whole part :
 bounded_sets t base n most m whole part ends e rounds some d last rises made =
     let l : n ≤ most = leb-true n most (rw e at rounds) in
     rw (e, made) (Describes-within t base n most l some (sets_of whole) ends.items d last rises)
+
+-- ---- parts so far
+pub empty_sequence : (base : ℕ) (part : Part) → sets_of part ≡ unused 0 → part.nullable ≡ true → IsPartOf (sequence_of []) base part
+empty_sequence base part e n = record { sets = rw e (nothing_sets (sequence_of []) base (inl refl)); nullable = n }
+
+pub empty_choice : (base : ℕ) (part : Part) → sets_of part ≡ unused 0 → part.nullable ≡ false → IsPartOf (choice_of []) base part
+empty_choice base part e n = record { sets = rw e (nothing_sets (choice_of []) base (inl refl)); nullable = n }
+
+module _ (base : ℕ) (ts : List Tree) (parts : List Part) (are : AreParts base ts parts) (i : ℕ) (whole next new : Part) (l : i < length parts) (is : next ≡ get_or parts i next) where
+  taken_part : take (i + 1) ts ≡ take i ts ++ get_or ts i nothing ∷ []
+  taken_part = take_more ts i nothing (let e = parts_length base ts parts are in omega arith)
+
+  pub join_more : IsTrue (has_word (sequence_of ts)) → IsPartOf (sequence_of (take i ts)) base whole →
+      IsJoined base (sets_of whole) whole.nullable (sets_of next) next.nullable (sets_of new) → new.nullable ≡ (whole.nullable && next.nullable) →
+      IsPartOf (sequence_of (take (i + 1) ts)) base new
+  join_more words dw made both = sequence_next ts i (get_or ts i nothing) taken_part base whole next new (part_at base ts parts i next are l is) dw words made both
+
+  pub choose_more : IsPartOf (choice_of (take i ts)) base whole → sets_of new ≡ beside (sets_of whole) (sets_of next) → new.nullable ≡ (whole.nullable || next.nullable) →
+      IsPartOf (choice_of (take (i + 1) ts)) base new
+  choose_more dw made either = choice_next ts i (get_or ts i nothing) taken_part base whole next new (part_at base ts parts i next are l is) dw made either
+
+pub all_taken : (base : ℕ) (ts : List Tree) (parts : List Part) (n : ℕ) → AreParts base ts parts → n ≡ length parts → take n ts ≡ ts
+all_taken base ts parts n are e = take_all n ts (let l = parts_length base ts parts are in omega arith)
+
+-- ---- copies so far
+none_ends : (W : ℕ → List ℕ → Type 0) (r p : ℕ) (front : List ℕ) → r ≤ 0 → Rounds W r 0 (front ++ p ∷ []) → ⊥
+none_ends W zero p front l h = no_word_passes front [] p h
+none_ends W (suc r) p front l h = absurd (omega arith)
+
+pub first_copies : (t : Tree) (base least : ℕ) (whole : Part) → sets_of whole ≡ unused 0 → whole.nullable ≡ true → AreJoined t base least 0 whole []
+first_copies t base least whole e n = record {
+  sets = rw (e, zero-mul (size t)) (Describes-none (Rounds (CopyOf t base) 0 0) base 0 (λ p h. no_word_passes h.0 h.1 p h.2));
+  nullable = n;
+  ends = λ p. ((λ h. absurd (Contains-none p h)), (λ h. absurd (none_ends (CopyOf t base) h.1.0 p h.0 h.1.1.1 h.1.2)));
+  ends_rise = rises-nil;
+}
+
+both_empty : (z e : Bool) → ((z || e) && e) ≡ e
+both_empty true e = refl
+both_empty false true = refl
+both_empty false false = refl
+
+pub more_copies : (t : Tree) (base least n k : ℕ) (parts : List Part) (whole next new : Part) (ends ends' : List ℕ) → AreParts base (replicate n t) parts → k < length parts → next ≡ get_or parts k next →
+    IsTrue (has_word t) → AreJoined t base least k whole ends → IsJoined base (sets_of whole) whole.nullable (sets_of next) next.nullable (sets_of new) →
+    new.nullable ≡ (whole.nullable && next.nullable) →
+    ((least ≤ k + 1) × (ends' ≡ (if next.nullable then new.last.items else ends ++ new.last.items))) ⊎ ((k + 1 < least) × (ends' ≡ ends)) →
+    AreJoined t base least (k + 1) new ends'
+more_copies t base least n k parts whole next new ends ends' are l is some old made both e =
+    let dn = copy_part base n t parts k next are l is in
+    let sets = copies_next t base k whole next new some old.sets dn.sets whole.nullable next.nullable old.nullable dn.nullable made in
+    let lasts : ((p : ℕ) → Contains ends' p ↔ Ends (WithinRounds t base least (k + 1)) p) × IsStrictlyIncreasing ends' = elim e [
+      | inl h ↦ ends_next t base least k ends new.last.items ends' old.ends sets.last old.ends_rise sets.last_rises next.nullable dn.nullable h.0 h.1
+      | inr h ↦ (rw h.1 (no_ends_next t base least k ends old.ends h.0), rw h.1 old.ends_rise)
+    ] in
+    record {
+      sets = sets;
+      nullable = (let z : (k + 1 == 0) ≡ false = ne_eqb (k + 1) 0 (λ h. omega arith) in both ∙ (rw (old.nullable, dn.nullable, z) (both_empty (k == 0) (has_empty t))));
+      ends = lasts.0;
+      ends_rise = lasts.1;
+    }

@@ -10,7 +10,7 @@ table_of inside = record {
   last = inside.sets.last.items;
   follow = map (λ row. row.items) inside.sets.follow.items;
   useful = inside.sets.useful.items;
-  nullable = inside.nullable;
+  nullable = inside.sets.nullable;
 }
 
 -- each position has a symbol, a set and a flag, and each has a number of 32 bits

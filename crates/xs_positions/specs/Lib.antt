@@ -6,5 +6,8 @@ pub mod Nodes
 pub mod Measures
 pub mod Parts
 pub mod Walk
+pub mod Copies
+pub mod Walking
+pub mod Listing
 pub mod Positions
 pub mod Found

@@ -1,6 +1,6 @@
 -- The nodes of an expression as trees, each over the trees of the nodes before it.
-use Rattle.std.specs.Prelude.{ℕ, ◌<◌, ⊤, List, [], ◌∷◌, ◌++◌, map, length, slice_index_or, All}
-use Rattle.xs_positions.specs.Tree.{Tree, one, nothing, repeat, sequence_of, choice_of}
+use Rattle.std.specs.Prelude.{ℕ, ◌<◌, ⊤, List, [], ◌∷◌, ◌++◌, map, length, replicate, slice_index_or, All}
+use Rattle.xs_positions.specs.Tree.{Tree, one, nothing, repeat, sequence_of, choice_of, copies}
 use Rattle.xs_positions.specs.declared.expr.Node.{Node}
 use Rattle.xs_positions.specs.declared.expr.Node.TheVariants.{Symbol, Sequence, Choice, Repeat}
 
@@ -33,3 +33,13 @@ PartsBelow bound (Repeat part least most) = part < bound
 -- the parts of each node come before it
 abbrev pub IsOrdered : List Node → Type 0
 IsOrdered nodes = (i : ℕ) (node : Node) → i < length nodes → PartsBelow i (slice_index_or nodes i node)
+
+-- the parts of a node, each copy of a repeat's part, by their numbers
+abbrev pub ids_of : Node → List ℕ
+ids_of (Symbol symbol) = []
+ids_of (Sequence parts) = parts.items
+ids_of (Choice parts) = parts.items
+ids_of (Repeat part least most) = replicate (copies least most) part
+
+abbrev pub ids_at : List Node → ℕ → List ℕ
+ids_at nodes id = slice_index_or (map ids_of nodes) id []

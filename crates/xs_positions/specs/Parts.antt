@@ -1,6 +1,9 @@
 -- The sets that a `Part` holds, and what its calls make of them.
-use Rattle.std.specs.Prelude.{◌≡◌, ℕ, Bool, true, false, List, [], ◌∷◌, ◌++◌, map, replicate, if◌then◌else◌}
-use Rattle.xs_positions.specs.Sets.{Sets, IsLinked}
+use Rattle.std.specs.Prelude.{◌≡◌, ℕ, ◌+◌, Bool, true, false, List, [], ◌∷◌, ◌++◌, map, replicate, if◌then◌else◌, ⊤}
+use Rattle.xs_positions.specs.Tree.{Tree, size}
+use Rattle.xs_positions.specs.Words.{IsWord}
+use Rattle.xs_positions.specs.Measures.{has_empty}
+use Rattle.xs_positions.specs.Sets.{Sets, IsLinked, Describes}
 use Rattle.xs_positions.specs.declared.sets.Part.{Part}
 
 abbrev pub sets_of : Part → Sets
@@ -33,3 +36,15 @@ pub record IsLooped (base : ℕ) (a sets : Sets) : Type 0 where
   pub last : sets.last ≡ a.last
   pub linked : IsLinked base a.last a.first a.follow sets.follow
   pub useful : sets.useful ≡ a.useful
+
+-- the part has the sets of an expression whose positions begin at the base, and knows whether the empty word is one
+pub record IsPartOf (tree : Tree) (base : ℕ) (part : Part) : Type 0 where
+  pub sets : Describes (IsWord tree base) base (size tree) (sets_of part)
+  pub nullable : part.nullable ≡ has_empty tree
+
+-- these are the parts of these expressions, whose positions lie one after the other from the base on
+abbrev pub AreParts : ℕ → List Tree → List Part → Type 0
+AreParts base [] [] = ⊤
+AreParts base [] (part ∷ parts) = ⊥
+AreParts base (tree ∷ trees) [] = ⊥
+AreParts base (tree ∷ trees) (part ∷ parts) = IsPartOf tree base part × AreParts (base + size tree) trees parts

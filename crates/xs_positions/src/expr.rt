@@ -1,7 +1,7 @@
 //! Expressions, each over earlier ones by number.
 
-ghost use Rattle.std.specs.Prelude.{◌≡◌, ℕ, ◌<◌, [], ◌∷◌, ◌++◌, map, length, All, IfOk, OnOk, OnErr};
-ghost use Rattle.xs_positions.specs.Tree.{one, repeat, sequence_of, choice_of};
+ghost use Rattle.std.specs.Prelude.{◌≡◌, ℕ, ◌<◌, [], ◌∷◌, ◌++◌, List, map, length, All, IfOk, OnOk, OnErr};
+ghost use Rattle.xs_positions.specs.Tree.{Tree, one, repeat, sequence_of, choice_of};
 ghost use Rattle.xs_positions.specs.Nodes.{tree_at, tree_of, trees_of, PartsBelow, IsOrdered};
 
 use std::alloc::{AllocError, Global};
@@ -46,6 +46,21 @@ pub(crate) enum Node {
     Repeat(ExprId, u32, Option<u32>),
 }
 
+impl Node {
+    /// A copy with memory of its own.
+    fn try_clone(&self, alloc: Global) -> Result<Node, AllocError>
+        ensures tree { IfOk result (λ node. (trees : List Tree) → tree_of trees node ≡ tree_of trees self.now) }
+        ensures below { IfOk result (λ node. (bound : ℕ) → PartsBelow bound self.now → PartsBelow bound node) }
+    {
+        match self {
+            Node::Symbol(symbol) => Ok(Node::Symbol(*symbol)),
+            Node::Sequence(parts) => Ok(Node::Sequence(Vec::from_slice(alloc, parts)?)),
+            Node::Choice(parts) => Ok(Node::Choice(Vec::from_slice(alloc, parts)?)),
+            Node::Repeat(part, min, max) => Ok(Node::Repeat(*part, *min, *max)),
+        }
+    }
+}
+
 /// Expressions, each under its number. Contracts see the list of their trees, which only grows.
 #[derive(Debug, Drop)]
 pub struct Expr {
@@ -82,6 +97,22 @@ impl Expr {
             alloc,
             nodes: Vec::new(alloc),
         })
+    }
+
+    /// A copy of the expressions, under the same numbers, with memory of its own.
+    ///
+    /// # Errors
+    /// When memory runs out.
+    pub fn try_clone(&self, alloc: Global) -> Result<Expr, AllocError>
+        ensures { IfOk result (λ expr. expr ≡ self.now) }
+    {
+        let nodes = self.nodes();
+        let mut copy = Expr::new(alloc)?;
+        for node in nodes {
+            let node = node.try_clone(alloc)?;
+            copy.add(node)?;
+        }
+        Ok(copy)
     }
 
     /// The expression whose one word is this symbol.

@@ -9,9 +9,9 @@ ghost use Rattle.xs_positions.specs.Positions.{ArePositionsOf};
 use crate::expr::{Expr, ExprId};
 use crate::measures::measure_nodes;
 use crate::sets::Part;
-use crate::symbols::push_symbols;
+use crate::symbols::list_symbols;
 use crate::walk::find_sets;
-use std::alloc::AllocError;
+use std::alloc::{AllocError, Global};
 use std::marker::Model;
 
 /// Why an expression's positions are not listed.
@@ -26,7 +26,6 @@ pub enum PositionsError {
 pub struct Positions {
     symbols: Vec<u32>,
     sets: Part,
-    nullable: bool,
 }
 
 impl Model for Positions {
@@ -43,6 +42,19 @@ impl Model for Positions {
 }
 
 impl Positions {
+    /// A copy with memory of its own.
+    ///
+    /// # Errors
+    /// When memory runs out.
+    pub fn try_clone(&self, alloc: Global) -> Result<Positions, AllocError>
+        ensures { IfOk result (λ positions. positions ≡ self.now) }
+    {
+        Ok(Positions {
+            symbols: Vec::from_slice(alloc, &self.symbols)?,
+            sets: self.sets.try_clone(alloc)?,
+        })
+    }
+
     /// How many positions there are.
     pub fn count(&self) -> u32
         ensures { result ≡ length self.now.symbols }
@@ -76,7 +88,7 @@ impl Positions {
     pub fn nullable(&self) -> bool
         ensures { result ≡ self.now.nullable }
     {
-        self.nullable
+        self.sets.nullable
     }
 
     /// The symbol of a position.
@@ -112,16 +124,10 @@ pub fn find_positions(
     let alloc = expr.alloc();
     let nodes = expr.nodes();
     let measures = measure_nodes(alloc, nodes)?;
-    let measure = measures[root.index()];
-    if measure.size > u64::from(limit) {
+    if measures[root.index()].size > u64::from(limit) {
         return Ok(Err(PositionsError::TooMany));
     }
-    let mut symbols = Vec::new(alloc);
-    push_symbols(&mut symbols, nodes, &measures, root)?;
-    let sets = find_sets(alloc, nodes, &measures, root, 0)?;
-    Ok(Ok(Positions {
-        symbols,
-        sets,
-        nullable: measure.nullable,
-    }))
+    let symbols = list_symbols(alloc, nodes, &measures, root)?;
+    let sets = find_sets(alloc, nodes, &measures, root)?;
+    Ok(Ok(Positions { symbols, sets }))
 }

@@ -1,6 +1,6 @@
 //! The sets of a part of an expression, and how the sets of a whole come from those of its parts.
 
-ghost use Rattle.std.specs.Prelude.{◌≡◌, ℕ, ◌+◌, ◌<◌, ◌≤◌, ◌^◌, ◌↔◌, ◌⊎◌, ◌++◌, map, length, All, Contains, IfOk, OnOk, IsTrue};
+ghost use Rattle.std.specs.Prelude.{◌≡◌, ℕ, ◌+◌, ◌<◌, ◌≤◌, ◌^◌, ◌↔◌, ◌⊎◌, ◌++◌, ◌&&◌, ◌||◌, false, map, length, All, Contains, IfOk, OnOk, IsTrue};
 ghost use Rattle.std.specs.List.Sorted.{IsStrictlyIncreasing};
 ghost use Rattle.xs_positions.specs.Sets.{IsLinked};
 
@@ -17,6 +17,8 @@ pub(crate) struct Part {
     pub(crate) follow: Vec<Vec<u32>>,
     /// For each position, whether some word goes through it.
     pub(crate) useful: Vec<bool>,
+    /// Whether the empty word is one.
+    pub(crate) nullable: bool,
 }
 
 impl Part {
@@ -24,19 +26,22 @@ impl Part {
 
     /// One position, which is a word.
     pub(crate) fn one(alloc: Global, p: u32) -> Result<Part, AllocError>
-        ensures { IfOk result (λ part. sets_of part ≡ one_position p) }
+        ensures sets { IfOk result (λ part. sets_of part ≡ one_position p) }
+        ensures nullable { IfOk result (λ part. part.nullable ≡ false) }
     {
         Ok(Part {
             first: vec![in alloc; p]?,
             last: vec![in alloc; p]?,
             follow: vec![in alloc; Vec::new(alloc)]?,
             useful: vec![in alloc; true]?,
+            nullable: false,
         })
     }
 
     /// So many positions through which no word goes.
-    pub(crate) fn unused(alloc: Global, count: u64) -> Result<Part, AllocError>
-        ensures { IfOk result (λ part. sets_of part ≡ unused count) }
+    pub(crate) fn unused(alloc: Global, count: u64, nullable: bool) -> Result<Part, AllocError>
+        ensures sets { IfOk result (λ part. sets_of part ≡ unused count) }
+        ensures nullable { IfOk result (λ part. part.nullable ≡ nullable) }
     {
         let mut follow = Vec::new(alloc);
         let mut useful = Vec::new(alloc);
@@ -49,38 +54,60 @@ impl Part {
             last: Vec::new(alloc),
             follow,
             useful,
+            nullable,
+        })
+    }
+
+    /// A copy with memory of its own.
+    pub(crate) fn try_clone(&self, alloc: Global) -> Result<Part, AllocError>
+        ensures sets { IfOk result (λ part. sets_of part ≡ sets_of self.now) }
+        ensures nullable { IfOk result (λ part. part.nullable ≡ self.now.nullable) }
+    {
+        Ok(Part {
+            first: Vec::from_slice(alloc, &self.first)?,
+            last: Vec::from_slice(alloc, &self.last)?,
+            follow: clone_rows(alloc, &self.follow)?,
+            useful: Vec::from_slice(alloc, &self.useful)?,
+            nullable: self.nullable,
         })
     }
 
     /// The words of this part, and those of the other.
     pub(crate) fn or(mut self, mut other: Part) -> Result<Part, AllocError>
-        ensures { IfOk result (λ part. sets_of part ≡ beside (sets_of self) (sets_of other)) }
+        ensures sets { IfOk result (λ part. sets_of part ≡ beside (sets_of self) (sets_of other)) }
+        ensures nullable { IfOk result (λ part. part.nullable ≡ (self.nullable || other.nullable)) }
     {
         self.first.append(&mut other.first)?;
         self.last.append(&mut other.last)?;
         self.follow.append(&mut other.follow)?;
         self.useful.append(&mut other.useful)?;
+        self.nullable = self.nullable || other.nullable;
         Ok(self)
     }
 
     /// The words of this part, which begins at the base, each with a word of the next part behind it.
-    pub(crate) fn then(
-        mut self,
-        base: u32,
-        nullable: bool,
-        mut next: Part,
-        next_nullable: bool,
-    ) -> Result<Part, AllocError>
+    pub(crate) fn then(self, base: u32, next: Part) -> Result<Part, AllocError>
         requires { All (λ p. (base ≤ p) × (p < base + length self.follow.items)) self.last.items }
-        ensures { IfOk result (λ part. IsJoined base (sets_of self) nullable (sets_of next) next_nullable (sets_of part)) }
+        ensures joined { IfOk result (λ part. IsJoined base (sets_of self) self.nullable (sets_of next) next.nullable (sets_of part)) }
+        ensures nullable { IfOk result (λ part. part.nullable ≡ (self.nullable && next.nullable)) }
+    {
+        let nullable = self.nullable && next.nullable;
+        let mut whole = self.joined(base, next)?;
+        whole.nullable = nullable;
+        Ok(whole)
+    }
+
+    fn joined(mut self, base: u32, mut next: Part) -> Result<Part, AllocError>
+        requires { All (λ p. (base ≤ p) × (p < base + length self.follow.items)) self.last.items }
+        ensures { IfOk result (λ part. IsJoined base (sets_of self) self.nullable (sets_of next) next.nullable (sets_of part)) }
     {
         link(&mut self.follow, base, &self.last, &next.first)?;
         self.follow.append(&mut next.follow)?;
         self.useful.append(&mut next.useful)?;
-        if nullable {
+        if self.nullable {
             self.first.append(&mut next.first)?;
         }
-        if !next_nullable {
+        if !next.nullable {
             self.last.clear();
         }
         self.last.append(&mut next.last)?;
@@ -90,7 +117,8 @@ impl Part {
     /// One or more words of this part, which begins at the base, in a row.
     pub(crate) fn looped(mut self, base: u32) -> Result<Part, AllocError>
         requires { All (λ p. (base ≤ p) × (p < base + length self.follow.items)) self.last.items }
-        ensures { IfOk result (λ part. IsLooped base (sets_of self) (sets_of part)) }
+        ensures looped { IfOk result (λ part. IsLooped base (sets_of self) (sets_of part)) }
+        ensures nullable { IfOk result (λ part. part.nullable ≡ self.nullable) }
     {
         link(&mut self.follow, base, &self.last, &self.first)?;
         Ok(self)
@@ -102,6 +130,16 @@ impl Part {
     {
         self.follow.len()
     }
+}
+
+fn clone_rows(alloc: Global, rows: &[Vec<u32>]) -> Result<Vec<Vec<u32>>, AllocError>
+    ensures { IfOk result (λ copy. map (λ row. row.items) copy.items ≡ map (λ row. row.items) rows.now) }
+{
+    let mut copy = Vec::new(alloc);
+    for row in rows {
+        copy.push(Vec::from_slice(alloc, row)?)?;
+    }
+    Ok(copy)
 }
 
 /// Adds each number of `to` to the row of each position of `from`; the rows are those of the positions from the base on.

@@ -1,78 +1,76 @@
 //! The symbols of an expression's positions, in order.
 
-ghost use Rattle.std.specs.Prelude.{◌≡◌, ℕ, ◌*◌, ◌<◌, ◌^◌, ◌++◌, length, All, OnOk};
-ghost use Rattle.std.specs.List.{flat_map};
-ghost use Rattle.xs_positions.specs.Tree.{size, symbols, times};
+ghost use Rattle.std.specs.Prelude.{◌≡◌, ◌<◌, ◌++◌, length, replicate, reverse, IfOk, OnOk};
+ghost use Rattle.xs_positions.specs.Tree.{symbols};
 ghost use Rattle.xs_positions.specs.Measures.{AreMeasured};
-ghost use Rattle.xs_positions.specs.Walk.{tree_in, trees_in};
+ghost use Rattle.xs_positions.specs.Walk.{tree_in};
+ghost use Rattle.xs_positions.specs.Listing.{IsListed};
 
 use crate::expr::{ExprId, Node};
 use crate::measures::{Measure, copies};
-use std::alloc::AllocError;
+use std::alloc::{AllocError, Global};
 
-/// Adds the symbols of an expression's positions.
-#[cycle(symbols)]
-pub(crate) fn push_symbols(
-    out: &mut Vec<u32>,
+/// The symbols of an expression's positions.
+pub(crate) fn list_symbols(
+    alloc: Global,
+    nodes: &[Node],
+    measures: &[Measure],
+    root: ExprId,
+) -> Result<Vec<u32>, AllocError>
+    requires measured { AreMeasured nodes.now measures.now }
+    requires root { root < length nodes.now }
+    ensures { IfOk result (λ listed. listed.items ≡ symbols (tree_in nodes.now root)) }
+{
+    let mut listed = Vec::new(alloc);
+    let mut todo = vec![in alloc; root]?;
+    while let Some(id) = todo.pop() {
+        list_node(&mut listed, &mut todo, nodes, measures, id)?;
+    }
+    Ok(listed)
+}
+
+/// Lists the symbol of an expression that is one; else its parts wait, the first of them last.
+fn list_node(
+    listed: &mut Vec<u32>,
+    todo: &mut Vec<ExprId>,
     nodes: &[Node],
     measures: &[Measure],
     id: ExprId,
 ) -> Result<(), AllocError>
     requires measured { AreMeasured nodes.now measures.now }
     requires id { id < length nodes.now }
-    ensures { OnOk result (out.new.items ≡ out.old.items ++ symbols (tree_in nodes.now id)) }
+    ensures { OnOk result (IsListed nodes.now id listed.old.items listed.new.items todo.old.items todo.new.items) }
 {
     if measures[id.index()].size == 0 {
         return Ok(());
     }
     match &nodes[id.index()] {
         Node::Symbol(symbol) => {
-            out.push(*symbol)?;
+            listed.push(*symbol)?;
             Ok(())
         }
-        Node::Sequence(parts) => push_parts(out, nodes, measures, parts),
-        Node::Choice(parts) => push_parts(out, nodes, measures, parts),
-        Node::Repeat(part, min, max) => push_copies(
-            out,
-            nodes,
-            measures,
-            *part,
-            copies(*min, *max),
-        ),
+        Node::Sequence(parts) => wait_for(todo, parts),
+        Node::Choice(parts) => wait_for(todo, parts),
+        Node::Repeat(part, min, max) => wait_for_copies(todo, *part, copies(*min, *max)),
     }
 }
 
-#[cycle(symbols)]
-fn push_parts(
-    out: &mut Vec<u32>,
-    nodes: &[Node],
-    measures: &[Measure],
-    parts: &[ExprId],
-) -> Result<(), AllocError>
-    requires measured { AreMeasured nodes.now measures.now }
-    requires parts { All (λ part. part < length nodes.now) parts.now }
-    ensures { OnOk result (out.new.items ≡ out.old.items ++ flat_map symbols (trees_in nodes.now parts.now)) }
+fn wait_for(todo: &mut Vec<ExprId>, parts: &[ExprId]) -> Result<(), AllocError>
+    ensures { OnOk result (todo.new.items ≡ todo.old.items ++ reverse parts.now) }
 {
-    for part in parts {
-        push_symbols(out, nodes, measures, *part)?;
+    let mut i = parts.len();
+    while i > 0 {
+        i -= 1;
+        todo.push(parts[i])?;
     }
     Ok(())
 }
 
-#[cycle(symbols)]
-fn push_copies(
-    out: &mut Vec<u32>,
-    nodes: &[Node],
-    measures: &[Measure],
-    part: ExprId,
-    count: u32,
-) -> Result<(), AllocError>
-    requires measured { AreMeasured nodes.now measures.now }
-    requires part { part < length nodes.now }
-    ensures { OnOk result (out.new.items ≡ out.old.items ++ times count (symbols (tree_in nodes.now part))) }
+fn wait_for_copies(todo: &mut Vec<ExprId>, part: ExprId, count: u32) -> Result<(), AllocError>
+    ensures { OnOk result (todo.new.items ≡ todo.old.items ++ replicate count part) }
 {
     for _ in 0..count {
-        push_symbols(out, nodes, measures, part)?;
+        todo.push(part)?;
     }
     Ok(())
 }

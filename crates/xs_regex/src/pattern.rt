@@ -84,6 +84,22 @@ impl Pattern {
         }))
     }
 
+    /// A copy of the pattern with memory of its own.
+    ///
+    /// # Errors
+    /// When memory runs out.
+    pub fn try_clone(&self, alloc: Global) -> Result<Pattern, AllocError>
+        ensures { IfOk result (λ pattern. pattern ≡ self.now) }
+    {
+        let program = self.program.try_clone(alloc)?;
+        let count = program.len();
+        Ok(Pattern {
+            program,
+            waiting: PositionSet::new(alloc, count)?,
+            next: PositionSet::new(alloc, count)?,
+        })
+    }
+
     /// Whether the whole text is in the language of the pattern. It takes no memory.
     pub fn matches(&mut self, text: &str) -> bool
         ensures answer { IsTrue result ↔ Matches (regex self.old) (chars text.now) }

@@ -55,6 +55,20 @@ impl Program {
         }))
     }
 
+    /// A copy with memory of its own.
+    pub(crate) fn try_clone(&self, alloc: Global) -> Result<Program, AllocError>
+        requires { IsProgram self.now }
+        ensures program { IfOk result IsProgram }
+        ensures term { IfOk result (λ program. expression_of program ≡ expression_of self.now) }
+    {
+        Ok(Program {
+            terms: self.terms.try_clone(alloc)?,
+            root: self.root,
+            positions: self.positions.try_clone(alloc)?,
+            ends: Vec::from_slice(alloc, &self.ends)?,
+        })
+    }
+
     /// How many positions there are.
     pub(crate) fn len(&self) -> u32
         ensures { result ≡ length self.now.positions.symbols }

@@ -1,0 +1,60 @@
+use Rattle.std.proofs.Common.{◌≡◌, ◌+◌, ◌*◌, ◌<◌, ◌^◌, None, length, ◌∙◌, arith}
+use Rattle.xs_positions.specs.Tree.{repeat, size}
+use Rattle.xs_positions.specs.Words.{IsWord}
+use Rattle.xs_positions.specs.Sets.{Describes}
+use Rattle.xs_positions.specs.Parts.{sets_of, IsJoined}
+use Rattle.xs_positions.proofs.Parting.{last_copy, before_fits}
+use Rattle.xs_positions.proofs.Steps.{row_count, last_within, unbounded_sets, if_ok}
+use Rattle.xs_positions.proofs.walk.repeat_last.Goals as goal
+
+pub find_copies-requires : goal.find_copies-requires
+find_copies-requires c =
+    let split = last_copy c.args.base _ c.requires.0 c.pop.new.self.items c.in-Some.last (rw c.in-Some.ensures.items at c.requires.1.parts) in
+    (c.requires.0, split.1, c.requires.1.word)
+
+pub overflow_cast-start : goal.overflow_cast-start
+overflow_cast-start c =
+    let tree = c.requires.0 in
+    let split = last_copy c.args.base _ tree c.pop.new.self.items c.in-Some.last (rw c.in-Some.ensures.items at c.requires.1.parts) in
+    let joined = c.in_ok-whole.ensures tree split.1 c.requires.1.word in
+    let len : c.len.result ≡ length c.pop.new.self.items * size tree = c.len.ensures ∙ row_count _ c.args.base _ c.in_ok-whole.field-0.whole joined.sets in
+    let f : c.args.base + c.len.result < 2 ^ 32 = before_fits c.args.base _ (length c.pop.new.self.items) (size tree) c.len.result split.0 c.requires.1.fits len in
+    omega arith
+
+pub overflow_add-start : goal.overflow_add-start
+overflow_add-start c =
+    let tree = c.requires.0 in
+    let split = last_copy c.args.base _ tree c.pop.new.self.items c.in-Some.last (rw c.in-Some.ensures.items at c.requires.1.parts) in
+    let joined = c.in_ok-whole.ensures tree split.1 c.requires.1.word in
+    let len : c.len.result ≡ length c.pop.new.self.items * size tree = c.len.ensures ∙ row_count _ c.args.base _ c.in_ok-whole.field-0.whole joined.sets in
+    let f : c.args.base + c.len.result < 2 ^ 32 = before_fits c.args.base _ (length c.pop.new.self.items) (size tree) c.len.result split.0 c.requires.1.fits len in
+    omega arith
+
+pub looped-requires : goal.looped-requires
+looped-requires c =
+    let tree = c.requires.0 in
+    let split = last_copy c.args.base _ tree c.pop.new.self.items c.in-Some.last (rw c.in-Some.ensures.items at c.requires.1.parts) in
+    let joined = c.in_ok-whole.ensures tree split.1 c.requires.1.word in
+    let len : c.len.result ≡ length c.pop.new.self.items * size tree = c.len.ensures ∙ row_count _ c.args.base _ c.in_ok-whole.field-0.whole joined.sets in
+    rw len (last_within _ (c.args.base + length c.pop.new.self.items * size tree) _ c.in-Some.last split.2.sets)
+
+pub then-requires : goal.then-requires
+then-requires c =
+    let tree = c.requires.0 in
+    let split = last_copy c.args.base _ tree c.pop.new.self.items c.in-Some.last (rw c.in-Some.ensures.items at c.requires.1.parts) in
+    last_within _ c.args.base _ c.in_ok-whole.field-0.whole (c.in_ok-whole.ensures tree split.1 c.requires.1.word).sets
+
+pub returns : goal.returns
+returns c = λ tree are.
+    let k = length c.pop.new.self.items in
+    let whole = c.in_ok-whole.field-0.whole in
+    let looped = c.in_ok-last.last in
+    let split = last_copy c.args.base _ tree c.pop.new.self.items c.in-Some.last (rw c.in-Some.ensures.items at are.parts) in
+    let joined = c.in_ok-whole.ensures tree split.1 are.word in
+    let len : c.len.result ≡ k * size tree = c.len.ensures ∙ row_count _ c.args.base _ whole joined.sets in
+    if_ok (λ part. IsJoined c.args.base (sets_of whole) whole.nullable (sets_of looped) looped.nullable (sets_of part))
+    (λ part. Describes (IsWord (repeat tree c.args.min None) c.args.base) c.args.base (size (repeat tree c.args.min None)) (sets_of part))
+    c.then.result
+    (λ part made. unbounded_sets tree c.args.base k whole c.in-Some.last part are.word joined.sets split.2.sets c.args.min looped whole.nullable looped.nullable split.0 joined.nullable
+    (c.in_ok-last.ensures.nullable ∙ split.2.nullable) (rw len at c.in_ok-last.ensures.looped) made)
+    c.then.ensures.joined
