@@ -1,11 +1,16 @@
 -- Which forks a change of a tree leaves as they were.
-use Rattle.std.proofs.Common.{◌≡◌, ◌≢◌, ℕ, zero, suc, ◌+◌, ◌-◌, ◌<◌, ◌≤◌, refl, sym, subst, inl, inr, arith}
+use Rattle.std.proofs.Common.{◌≡◌, ◌≢◌, ◌⊎◌, ℕ, zero, suc, ◌+◌, ◌-◌, ◌<◌, ◌≤◌, refl, sym, ap, ◌∙◌, subst, inl, inr, arith}
 use Rattle.std.specs.Prelude.{nat_lt, MatchBool}
 use Rattle.std.proofs.lemmas.Bool.{cases_lt}
 use Rattle.leaf_trees.specs.declared.node.Flags.{Flags}
+use Rattle.leaf_trees.specs.declared.side.Side.{Side}
+use Rattle.leaf_trees.specs.declared.side.Side.TheVariants.{Left, Right}
 use Rattle.leaf_trees.specs.Tree.{Item, Tree, leaf, fork, size, height, IsAvl, IsPart}
-use Rattle.leaf_trees.specs.Balance.{turn_left, turn_right, left_heavy, right_heavy, balanced, put_in, flag_at, HasOldSides, ChangesAlong}
-use Rattle.leaf_trees.proofs.Lean.{le_is, gt_is, lt_is, ge_is, balanced_left, balanced_right, balanced_even}
+use Rattle.leaf_trees.specs.Side.{other, fork_on, place_on}
+use Rattle.leaf_trees.specs.Balance.{turned, heavy, balanced, put_in, flag_at, HasOldSides, ChangesAlong}
+use Rattle.leaf_trees.proofs.Lean.{le_is, gt_is, lt_is, ge_is, balanced_high, balanced_even}
+use Rattle.leaf_trees.proofs.Turns.{size-fork_on}
+use Rattle.leaf_trees.proofs.Leaned.{leaned, IsEven, even_sides, height-fork_on, other_fork}
 use Rattle.leaf_trees.proofs.Put.{avl-put_in, size-put_in}
 use Rattle.leaf_trees.proofs.Flag.{size-flag_at}
 
@@ -62,15 +67,50 @@ along_part w k (fork i l r) p =
       | inr ge ↦ go_right w k i l r ge (sides_of_part w l (part_left w i l r p)) (along_part w (k - size l) r (part_right w i l r p))
     ]
 
+-- the same by side
+pub part_here : (s : Side) (i : ℕ) (t u x : Tree) → IsPart t x → IsPart (fork_on s i t u) x
+part_here Left i t u x p = inr (inl p)
+part_here Right i t u x p = inr (inr p)
+
+pub part_there : (s : Side) (i : ℕ) (t u : Tree) → IsPart (fork_on s i t u) u
+part_there Left i t u = right_part i t u
+part_there Right i t u = left_part i u t
+
+pub parts_on : (s : Side) (w : Tree) (i : ℕ) (t u : Tree) → IsPart w (fork_on s i t u) → IsPart w t × IsPart w u
+parts_on Left w i t u p = (part_left w i t u p, part_right w i t u p)
+parts_on Right w i t u p = (part_right w i u t p, part_left w i u t p)
+
+pub sides_on : (s : Side) (w : Tree) (i : ℕ) (t u : Tree) → IsPart w t → IsPart w u → HasOldSides w (fork_on s i t u)
+sides_on Left w i t u p q = (p, q)
+sides_on Right w i t u p q = (q, p)
+
+pub go : (s : Side) (w : Tree) (k i : ℕ) (t u : Tree) → k < size t → ChangesAlong w k t → HasOldSides w u → ChangesAlong w (place_on s (size u) k) (fork_on s i t u)
+go Left w k i t u h a o = go_left w k i t u h a o
+go Right w k i t u h a o = let e : k ≡ (size u + k) - size u = omega arith in go_right w (size u + k) i u t (omega arith) o (subst (λ j. ChangesAlong w j t) e a)
+
+-- and to a part of that side, where the place is known
+pub go_to : (s : Side) (w : Tree) (k p i : ℕ) (t u : Tree) → k < size t → ChangesAlong w k t → HasOldSides w u → place_on s (size u) k ≡ p → ChangesAlong w p (fork_on s i t u)
+go_to s w k p i t u h a o e = subst (λ j. ChangesAlong w j (fork_on s i t u)) e (go s w k i t u h a o)
+
+pub place_within : (s : Side) (k i : ℕ) (t u : Tree) → k < size t → place_on s (size u) k < size (fork_on s i t u)
+place_within Left k i t u h = omega arith
+place_within Right k i t u h = omega arith
+
+pub back : (k n : ℕ) → n ≤ k → n + (k - n) ≡ k
+back k n h = omega arith
+
 -- other flags
-pub along-flag_at : (f : Flags) (k : ℕ) (t : Tree) → ChangesAlong t k (flag_at f k t)
-along-flag_at f k (leaf x) = tt
-along-flag_at f k (fork b l r) =
+flag_on : (f : Flags) (s : Side) (k b : ℕ) (t u : Tree) → k < size t → ChangesAlong t k (flag_at f k t) → ChangesAlong (fork_on s b t u) (place_on s (size u) k) (fork_on s b (flag_at f k t) u)
+flag_on f s k b t u h a = go s (fork_on s b t u) k b (flag_at f k t) u (let e = size-flag_at f k t in omega arith)
+    (along_wider t (fork_on s b t u) k (flag_at f k t) (part_here s b t u) a) (sides_of_part (fork_on s b t u) u (part_there s b t u))
+
+pub along-flag_at : (f : Flags) (k : ℕ) (t : Tree) → k < size t → ChangesAlong t k (flag_at f k t)
+along-flag_at f k (leaf x) h = tt
+along-flag_at f k (fork b l r) h =
     elim (cases_lt k (size l)) [
-      | inl lt ↦ rw (lt_is k (size l) lt) (go_left (fork b l r) k b (flag_at f k l) r (let e = size-flag_at f k l in omega arith)
-          (along_wider l (fork b l r) k (flag_at f k l) (λ x p. inr (inl p)) (along-flag_at f k l)) (sides_of_part (fork b l r) r (right_part b l r)))
-      | inr ge ↦ rw (ge_is k (size l) ge) (go_right (fork b l r) k b l (flag_at f (k - size l) r) ge
-          (sides_of_part (fork b l r) l (left_part b l r)) (along_wider r (fork b l r) (k - size l) (flag_at f (k - size l) r) (λ x p. inr (inr p)) (along-flag_at f (k - size l) r)))
+      | inl lt ↦ rw (lt_is k (size l) lt) (flag_on f Left k b l r lt (along-flag_at f k l lt))
+      | inr ge ↦ rw (ge_is k (size l) ge) (subst (λ n. ChangesAlong (fork b l r) n (fork b l (flag_at f (k - size l) r))) (back k (size l) ge)
+          (flag_on f Right (k - size l) b r l (omega arith) (along-flag_at f (k - size l) r (omega arith))))
     ]
 
 -- each part beside the way is a part of the old tree
@@ -114,6 +154,28 @@ straight_along w k (fork i l r) h =
       | inr ge ↦ (let g = straight_right w k i l r ge h in go_right w k i l r ge (sides_of_part w l g.0) (straight_along w (k - size l) r g.1))
     ]
 
+make_straight : (s : Side) (w : Tree) (k i : ℕ) (t u : Tree) → k < size t → IsStraight w k t → IsPart w u → IsStraight w (place_on s (size u) k) (fork_on s i t u)
+make_straight Left w k i t u h a p = make_left w k i t u h a p
+make_straight Right w k i t u h a p = let e : k ≡ (size u + k) - size u = omega arith in make_right w (size u + k) i u t (omega arith) p (subst (λ j. IsStraight w j t) e a)
+
+-- the way goes to t, which is on this side, and u beside it is an old part
+record Takes (s : Side) (w : Tree) (k : ℕ) (t u : Tree) : Type 0 where
+  pub j : ℕ
+  pub place_is : k ≡ place_on s (size u) j
+  pub within : j < size t
+  pub straight : IsStraight w j t
+  pub beside : IsPart w u
+
+takes : (s : Side) (w : Tree) (k i : ℕ) (t u : Tree) → k < size t + size u → IsStraight w k (fork_on s i t u) → Takes s w k t u ⊎ Takes (other s) w k u t
+takes Left w k i t u h a = elim (cases_lt k (size t)) [
+  | inl lt ↦ (let g = straight_left w k i t u lt a in inl (record { j = k; place_is = refl; within = lt; straight = g.0; beside = g.1 }))
+  | inr ge ↦ (let g = straight_right w k i t u ge a in inr (record { j = k - size t; place_is = omega arith; within = omega arith; straight = g.1; beside = g.0 }))
+]
+takes Right w k i t u h a = elim (cases_lt k (size u)) [
+  | inl lt ↦ (let g = straight_left w k i u t lt a in inr (record { j = k; place_is = refl; within = lt; straight = g.0; beside = g.1 }))
+  | inr ge ↦ (let g = straight_right w k i u t ge a in inl (record { j = k - size u; place_is = omega arith; within = omega arith; straight = g.1; beside = g.0 }))
+]
+
 -- a higher tree after an insertion leans
 abbrev pub Uneven : Tree → Type 0
 Uneven (leaf x) = Unit {0}
@@ -124,159 +186,123 @@ pub record PutsAlong (t : Tree) (k : ℕ) (now : Tree) : Type 0 where
   pub straight : height t < height now → IsStraight t k now
   pub uneven : height t < height now → 1 < height now → Uneven now
 
--- a straight left side that is turned, with all else a part of the old tree
-turned_along : (w : Tree) (k b c : ℕ) (ll lr r : Tree) → k < size ll + size lr → height ll ≢ height lr → IsStraight w k (fork c ll lr) → IsPart w r → ChangesAlong w k (turn_right b (left_heavy (fork c ll lr)) r)
-turned_along w k b c ll (leaf x) r h n s p =
-    rw (le_is 0 (height ll) (omega arith)) (elim (cases_lt k (size ll)) [
-      | inl lt ↦ (let g = straight_left w k c ll (leaf x) lt s in go_left w k c ll (fork b (leaf x) r) lt (straight_along w k ll g.0) (g.1, p))
-      | inr ge ↦ (let g = straight_right w k c ll (leaf x) ge s in go_right w k c ll (fork b (leaf x) r) ge (sides_of_part w ll g.0) (go_left w (k - size ll) b (leaf x) r (omega arith) tt (sides_of_part w r p)))
-    ])
-turned_along w k b c ll (fork d u v) r h n s p =
-    elim (cases_lt (height ll) (height (fork d u v))) [
-      | inl double ↦ rw (gt_is (height (fork d u v)) (height ll) double) (elim (cases_lt k (size ll)) [
-        | inl lt ↦
-            (let g = straight_left w k c ll (fork d u v) lt s in
-            go_left w k d (fork c ll u) (fork b v r) (omega arith) (go_left w k c ll u lt (straight_along w k ll g.0) (sides_of_part w u (part_left w d u v g.1))) (part_right w d u v g.1, p))
-        | inr ge ↦
-            (let g = straight_right w k c ll (fork d u v) ge s in
-            elim (cases_lt (k - size ll) (size u)) [
-              | inl lt ↦
-                  (let m = straight_left w (k - size ll) d u v lt g.1 in
-                  go_left w k d (fork c ll u) (fork b v r) (omega arith) (go_right w k c ll u ge (sides_of_part w ll g.0) (straight_along w (k - size ll) u m.0)) (m.1, p))
-              | inr more ↦
-                  (let m = straight_right w (k - size ll) d u v more g.1 in
-                  let e : (k - size ll) - size u ≡ k - (size ll + size u) = omega arith in
-                  go_right w k d (fork c ll u) (fork b v r) (omega arith) (g.0, m.0) (go_left w (k - (size ll + size u)) b v r (omega arith) (subst (λ j. ChangesAlong w j v) e (straight_along w ((k - size ll) - size u) v m.1)) (sides_of_part w r p)))
-            ])
-      ])
-      | inr single ↦ rw (le_is (height (fork d u v)) (height ll) single) (elim (cases_lt k (size ll)) [
-        | inl lt ↦ (let g = straight_left w k c ll (fork d u v) lt s in go_left w k c ll (fork b (fork d u v) r) lt (straight_along w k ll g.0) (g.1, p))
-        | inr ge ↦ (let g = straight_right w k c ll (fork d u v) ge s in go_right w k c ll (fork b (fork d u v) r) ge (sides_of_part w ll g.0) (go_left w (k - size ll) b (fork d u v) r (omega arith) (straight_along w (k - size ll) (fork d u v) g.1) (sides_of_part w r p)))
-      ])
-    ]
+uneven_sides : (s : Side) (i : ℕ) (t u : Tree) → Uneven (fork_on s i t u) → height t ≢ height u
+uneven_sides Left i t u n = n
+uneven_sides Right i t u n = λ e. n (sym e)
+
+make_uneven : (s : Side) (i : ℕ) (t u : Tree) → height t ≢ height u → Uneven (fork_on s i t u)
+make_uneven Left i t u n = n
+make_uneven Right i t u n = λ e. n (sym e)
+
+-- places after a turn
+outer_place : (s : Side) (i k j : ℕ) (n u : Tree) → k ≡ place_on s (size n) j → place_on s (size (fork_on s i n u)) j ≡ place_on s (size u) k
+outer_place Left i k j n u e = sym e
+outer_place Right i k j n u e = omega arith
+
+inner_place : (s : Side) (k j a b : ℕ) → k ≡ place_on (other s) a j → place_on (other s) a (place_on s b j) ≡ place_on s b k
+inner_place Left k j a b e = sym e
+inner_place Right k j a b e = ap (λ n. b + n) (sym e)
+
+-- and after two
+first_place : (s : Side) (i c k j : ℕ) (p q u : Tree) → k ≡ place_on s (size (fork_on s c p q)) j → place_on s (size (fork_on s i q u)) (place_on s (size p) j) ≡ place_on s (size u) k
+first_place Left i c k j p q u e = sym e
+first_place Right i c k j p q u e = omega arith
+
+second_place : (s : Side) (i k m j : ℕ) (o q u : Tree) → k ≡ place_on (other s) (size o) m → m ≡ place_on s (size q) j → place_on s (size (fork_on s i q u)) (place_on (other s) (size o) j) ≡ place_on s (size u) k
+second_place Left i k m j o q u e f = omega arith
+second_place Right i k m j o q u e f = omega arith
+
+third_place : (s : Side) (b k m j : ℕ) (o p u : Tree) → k ≡ place_on (other s) (size o) m → m ≡ place_on (other s) (size p) j → place_on (other s) (size (fork_on s b o p)) (place_on s (size u) j) ≡ place_on s (size u) k
+third_place Left b k m j o p u e f = omega arith
+third_place Right b k m j o p u e f = omega arith
+
+-- a straight tree that is turned once, with u beside it a part of the old tree
+once_along : (s : Side) (w : Tree) (k i b : ℕ) (o n u : Tree) → k < size o + size n → IsStraight w k (fork_on s b o n) → IsPart w u → ChangesAlong w (place_on s (size u) k) (fork_on s b o (fork_on s i n u))
+once_along s w k i b o n u h a p = elim (takes s w k b o n h a) [
+  | inl A ↦ go_to s w A.j (place_on s (size u) k) b o (fork_on s i n u) A.within (straight_along w A.j o A.straight) (sides_on s w i n u A.beside p) (outer_place s i k A.j n u A.place_is)
+  | inr A ↦ subst (ChangesAlong w (place_on s (size u) k)) (other_fork s b o (fork_on s i n u))
+      (go_to (other s) w (place_on s (size u) A.j) (place_on s (size u) k) b (fork_on s i n u) o (place_within s A.j i n u A.within)
+      (go s w A.j i n u A.within (straight_along w A.j n A.straight) (sides_of_part w u p)) (sides_of_part w o A.beside) (inner_place s k A.j (size o) (size u) A.place_is))
+]
+
+-- and twice
+twice_along : (s : Side) (w : Tree) (k i b c : ℕ) (o p q u : Tree) → k < size o + (size p + size q) → IsStraight w k (fork_on s b o (fork_on s c p q)) → IsPart w u → ChangesAlong w (place_on s (size u) k) (fork_on s c (fork_on s b o p) (fork_on s i q u))
+twice_along s w k i b c o p q u h a old = elim (takes s w k b o (fork_on s c p q) (let e = size-fork_on s c p q in omega arith) a) [
+  | inl A ↦
+      (let B = parts_on s w c p q A.beside in
+      go_to s w (place_on s (size p) A.j) (place_on s (size u) k) c (fork_on s b o p) (fork_on s i q u) (place_within s A.j b o p A.within)
+      (go s w A.j b o p A.within (straight_along w A.j o A.straight) (sides_of_part w p B.0)) (sides_on s w i q u B.1 old) (first_place s i c k A.j p q u A.place_is))
+  | inr A ↦ elim (takes s w A.j c p q (let e = size-fork_on s c p q in let g = A.within in omega arith) A.straight) [
+    | inl B ↦ go_to s w (place_on (other s) (size o) B.j) (place_on s (size u) k) c (fork_on s b o p) (fork_on s i q u)
+        (subst (λ (x : Tree). place_on (other s) (size o) B.j < size x) (other_fork s b o p) (place_within (other s) B.j b p o B.within))
+        (subst (ChangesAlong w (place_on (other s) (size o) B.j)) (other_fork s b o p) (go (other s) w B.j b p o B.within (straight_along w B.j p B.straight) (sides_of_part w o A.beside)))
+        (sides_on s w i q u B.beside old) (second_place s i k A.j B.j o q u A.place_is B.place_is)
+    | inr B ↦ subst (ChangesAlong w (place_on s (size u) k)) (other_fork s c (fork_on s b o p) (fork_on s i q u))
+        (go_to (other s) w (place_on s (size u) B.j) (place_on s (size u) k) c (fork_on s i q u) (fork_on s b o p) (place_within s B.j i q u B.within)
+        (go s w B.j i q u B.within (straight_along w B.j q B.straight) (sides_of_part w u old)) (sides_on s w b o p A.beside B.beside) (third_place s b k A.j B.j o p u A.place_is B.place_is))
+  ]
+]
+
+turned_along : (s : Side) (w : Tree) (k i : ℕ) (t u : Tree) → 0 < height t → k < size t → IsStraight w k t → IsPart w u → ChangesAlong w (place_on s (size u) k) (turned s i (heavy s t) u)
+turned_along s w k i t u high h a p = elim (leaned s i t u high) [
+  | inl S ↦ subst (ChangesAlong w (place_on s (size u) k)) (sym S.now_is)
+      (once_along s w k i S.b S.o S.n u (let e = size-fork_on s S.b S.o S.n in let f = ap size S.is in omega arith) (subst (IsStraight w k) S.is a) p)
+  | inr D ↦ subst (ChangesAlong w (place_on s (size u) k)) (sym D.now_is)
+      (twice_along s w k i D.b D.c D.o D.p D.q u (let e = size-fork_on s D.b D.o (fork_on s D.c D.p D.q) in let g = size-fork_on s D.c D.p D.q in let f = ap size D.is in omega arith) (subst (IsStraight w k) D.is a) p)
+]
 
 -- the height after that
-turned_high : (b c : ℕ) (ll lr r : Tree) → IsAvl (fork c ll lr) → height ll ≢ height lr → height (fork c ll lr) ≡ height r + 2 → height (turn_right b (left_heavy (fork c ll lr)) r) ≡ height r + 2
-turned_high b c ll (leaf x) r avl n e = rw (le_is 0 (height ll) (omega arith)) (omega (arith, avl.0, avl.1))
-turned_high b c ll (fork d u v) r avl n e =
-    elim (cases_lt (height ll) (height (fork d u v))) [
-      | inl h ↦ rw (gt_is (height (fork d u v)) (height ll) h) (omega (arith, avl.0, avl.1, avl.3.0, avl.3.1))
-      | inr h ↦ rw (le_is (height (fork d u v)) (height ll) h) (omega (arith, avl.0, avl.1))
-    ]
+turned_high : (s : Side) (i : ℕ) (t u : Tree) → IsAvl t → Uneven t → height t ≡ height u + 2 → height (turned s i (heavy s t) u) ≡ height u + 2
+turned_high s i t u avl n e = elim (leaned s i t u (omega arith)) [
+  | inl S ↦
+      (let E = even_sides s S.b S.o S.n (subst IsAvl S.is avl) in let m = uneven_sides s S.b S.o S.n (subst Uneven S.is n) in
+      let d = E.left_most in let lower = S.lower in let top = ap height S.is ∙ height-fork_on s S.b S.o S.n in
+      let low = height-fork_on s i S.n u in let all = height-fork_on s S.b S.o (fork_on s i S.n u) in
+      ap height S.now_is ∙ omega arith)
+  | inr D ↦
+      (let E = even_sides s D.b D.o (fork_on s D.c D.p D.q) (subst IsAvl D.is avl) in let M = even_sides s D.c D.p D.q E.right_avl in
+      let d = E.right_most in let higher = D.higher in let top = ap height D.is ∙ height-fork_on s D.b D.o (fork_on s D.c D.p D.q) in
+      let inner = height-fork_on s D.c D.p D.q in let f = M.left_most in let g = M.right_most in
+      let one = height-fork_on s D.b D.o D.p in let two = height-fork_on s i D.q u in let all = height-fork_on s D.c (fork_on s D.b D.o D.p) (fork_on s i D.q u) in
+      ap height D.now_is ∙ omega arith)
+]
 
--- the same on the right
-turned_along_right : (w : Tree) (k b c : ℕ) (l rl rr : Tree) → size l ≤ k → k < size l + (size rl + size rr) → height rl ≢ height rr → IsStraight w (k - size l) (fork c rl rr) → IsPart w l → ChangesAlong w k (turn_left b l (right_heavy (fork c rl rr)))
-turned_along_right w k b c l (leaf x) rr g0 h n s p =
-    rw (le_is 0 (height rr) (omega arith)) (elim (cases_lt (k - size l) 1) [
-      | inl lt ↦ (let g = straight_left w (k - size l) c (leaf x) rr lt s in go_left w k c (fork b l (leaf x)) rr (omega arith) (go_right w k b l (leaf x) g0 (sides_of_part w l p) tt) (sides_of_part w rr g.1))
-      | inr ge ↦
-          (let g = straight_right w (k - size l) c (leaf x) rr ge s in
-          let e : (k - size l) - 1 ≡ k - (size l + 1) = omega arith in
-          go_right w k c (fork b l (leaf x)) rr (omega arith) (p, g.0) (subst (λ j. ChangesAlong w j rr) e (straight_along w ((k - size l) - 1) rr g.1)))
-    ])
-turned_along_right w k b c l (fork d u v) rr g0 h n s p =
-    elim (cases_lt (height rr) (height (fork d u v))) [
-      | inl double ↦ rw (gt_is (height (fork d u v)) (height rr) double) (elim (cases_lt (k - size l) (size (fork d u v))) [
-        | inl lt ↦
-            (let g = straight_left w (k - size l) c (fork d u v) rr lt s in
-            elim (cases_lt (k - size l) (size u)) [
-              | inl less ↦
-                  (let m = straight_left w (k - size l) d u v less g.0 in
-                  go_left w k d (fork b l u) (fork c v rr) (omega arith) (go_right w k b l u g0 (sides_of_part w l p) (straight_along w (k - size l) u m.0)) (m.1, g.1))
-              | inr more ↦
-                  (let m = straight_right w (k - size l) d u v more g.0 in
-                  let e : (k - size l) - size u ≡ k - (size l + size u) = omega arith in
-                  go_right w k d (fork b l u) (fork c v rr) (omega arith) (p, m.0) (go_left w (k - (size l + size u)) c v rr (omega arith) (subst (λ j. ChangesAlong w j v) e (straight_along w ((k - size l) - size u) v m.1)) (sides_of_part w rr g.1)))
-            ])
-        | inr ge ↦
-            (let g = straight_right w (k - size l) c (fork d u v) rr ge s in
-            let e : (k - size l) - (size u + size v) ≡ (k - (size l + size u)) - size v = omega arith in
-            go_right w k d (fork b l u) (fork c v rr) (omega arith) (p, part_left w d u v g.0)
-            (go_right w (k - (size l + size u)) c v rr (omega arith) (sides_of_part w v (part_right w d u v g.0)) (subst (λ j. ChangesAlong w j rr) e (straight_along w ((k - size l) - (size u + size v)) rr g.1))))
-      ])
-      | inr single ↦ rw (le_is (height (fork d u v)) (height rr) single) (elim (cases_lt (k - size l) (size (fork d u v))) [
-        | inl lt ↦
-            (let g = straight_left w (k - size l) c (fork d u v) rr lt s in
-            go_left w k c (fork b l (fork d u v)) rr (omega arith) (go_right w k b l (fork d u v) g0 (sides_of_part w l p) (straight_along w (k - size l) (fork d u v) g.0)) (sides_of_part w rr g.1))
-        | inr ge ↦
-            (let g = straight_right w (k - size l) c (fork d u v) rr ge s in
-            let e : (k - size l) - (size u + size v) ≡ k - (size l + (size u + size v)) = omega arith in
-            go_right w k c (fork b l (fork d u v)) rr (omega arith) (p, g.0) (subst (λ j. ChangesAlong w j rr) e (straight_along w ((k - size l) - (size u + size v)) rr g.1)))
-      ])
-    ]
+-- a leaf was put into the tree on one side
+module _ (s : Side) (k b : ℕ) (t u now : Tree) (avl : IsAvl (fork_on s b t u)) (avl' : IsAvl now) (P : PutsAlong t k now) (size_is : size now ≡ size t + 1) (least : height t ≤ height now) (most : height now ≤ height t + 1) (place : k ≤ size t) where
+  abbrev was : Tree
+  was = fork_on s b t u
 
-turned_high_right : (b c : ℕ) (l rl rr : Tree) → IsAvl (fork c rl rr) → height rl ≢ height rr → height (fork c rl rr) ≡ height l + 2 → height (turn_left b l (right_heavy (fork c rl rr))) ≡ height l + 2
-turned_high_right b c l (leaf x) rr avl n e = rw (le_is 0 (height rr) (omega arith)) (omega (arith, avl.0, avl.1))
-turned_high_right b c l (fork d u v) rr avl n e =
-    elim (cases_lt (height rr) (height (fork d u v))) [
-      | inl h ↦ rw (gt_is (height (fork d u v)) (height rr) h) (omega (arith, avl.0, avl.1, avl.2.0, avl.2.1))
-      | inr h ↦ rw (le_is (height (fork d u v)) (height rr) h) (omega (arith, avl.0, avl.1))
-    ]
+  even : IsEven t u
+  even = even_sides s b t u avl
 
--- a leaf was put in on the left
-module _ (k b : ℕ) (l r l' : Tree) (avl : IsAvl (fork b l r)) (avl' : IsAvl l') (P : PutsAlong l k l') (size_is : size l' ≡ size l + 1) (least : height l ≤ height l') (most : height l' ≤ height l + 1) (place : k ≤ size l) where
-  from_left : (x : Tree) → IsPart l x → IsPart (fork b l r) x
-  from_left x p = inr (inl p)
+  from_here : (x : Tree) → IsPart t x → IsPart was x
+  from_here = part_here s b t u
 
-  put_left_even : height l' ≤ height r + 1 → PutsAlong (fork b l r) k (fork b l' r)
-  put_left_even h = record {
-    along = go_left (fork b l r) k b l' r (omega arith) (along_wider l (fork b l r) k l' from_left P.along) (sides_of_part (fork b l r) r (right_part b l r));
-    straight = λ g. make_left (fork b l r) k b l' r (omega arith) (straight_wider l (fork b l r) k l' from_left (P.straight (omega arith))) (right_part b l r);
-    uneven = λ g m. omega arith;
-  }
+  put_even : height now ≤ height u + 1 → PutsAlong was (place_on s (size u) k) (fork_on s b now u)
+  put_even h =
+      let e = height-fork_on s b t u in let e' = height-fork_on s b now u in let d = even.left_most in let d' = even.right_most in
+      record {
+        along = go s was k b now u (omega arith) (along_wider t was k now from_here P.along) (sides_of_part was u (part_there s b t u));
+        straight = λ g. make_straight s was k b now u (omega arith) (straight_wider t was k now from_here (P.straight (omega arith))) (part_there s b t u);
+        uneven = λ g m. make_uneven s b now u (omega arith);
+      }
 
-  put_left_turned : height r + 1 < height l' → PutsAlong (fork b l r) k (turn_right b (left_heavy l') r)
-  put_left_turned h = cases l' avl' size_is most h (P.straight (let d : height l ≤ height r + 1 = avl.0 in omega arith)) (P.uneven (let d : height l ≤ height r + 1 = avl.0 in omega arith) (omega arith))
-    where
-      cases : (t : Tree) → IsAvl t → size t ≡ size l + 1 → height t ≤ height l + 1 → height r + 1 < height t → IsStraight l k t → Uneven t → PutsAlong (fork b l r) k (turn_right b (left_heavy t) r)
-      cases (leaf x) a n m g s u = absurd (omega arith)
-      cases (fork c ll lr) a n m g s u =
-          let d : height l ≤ height r + 1 = avl.0 in
-          let e = turned_high b c ll lr r a u (omega arith) in
-          record {
-            along = turned_along (fork b l r) k b c ll lr r (omega arith) u (straight_wider l (fork b l r) k (fork c ll lr) from_left s) (right_part b l r);
-            straight = λ f. absurd (omega arith);
-            uneven = λ f _. absurd (omega arith);
-          }
+  put_turned : height u + 1 < height now → PutsAlong was (place_on s (size u) k) (turned s b (heavy s now) u)
+  put_turned h =
+      let d = even.left_most in let e = height-fork_on s b t u in
+      let higher : height t < height now = omega arith in
+      let f = turned_high s b now u avl' (P.uneven higher (omega arith)) (omega arith) in
+      record {
+        along = turned_along s was k b now u (omega arith) (omega arith) (straight_wider t was k now from_here (P.straight higher)) (part_there s b t u);
+        straight = λ g. absurd (omega arith);
+        uneven = λ g _. absurd (omega arith);
+      }
 
-  pub put_left : PutsAlong (fork b l r) k (balanced b l' r)
-  put_left =
-      elim (cases_lt (height r + 1) (height l')) [
-        | inl h ↦ subst (PutsAlong (fork b l r) k) (sym (balanced_left b l' r h)) (put_left_turned h)
-        | inr h ↦ subst (PutsAlong (fork b l r) k) (sym (balanced_even b l' r h (let e : height r ≤ height l + 1 = avl.1 in omega arith))) (put_left_even h)
-      ]
-
--- a leaf was put in on the right
-module _ (k b : ℕ) (l r r' : Tree) (avl : IsAvl (fork b l r)) (avl' : IsAvl r') (P : PutsAlong r (k - size l) r') (size_is : size r' ≡ size r + 1) (least : height r ≤ height r') (most : height r' ≤ height r + 1) (place : size l < k) (inside : k ≤ size l + size r) where
-  from_right : (x : Tree) → IsPart r x → IsPart (fork b l r) x
-  from_right x p = inr (inr p)
-
-  put_right_even : height r' ≤ height l + 1 → PutsAlong (fork b l r) k (fork b l r')
-  put_right_even h = record {
-    along = go_right (fork b l r) k b l r' (omega arith) (sides_of_part (fork b l r) l (left_part b l r)) (along_wider r (fork b l r) (k - size l) r' from_right P.along);
-    straight = λ g. make_right (fork b l r) k b l r' (omega arith) (left_part b l r) (straight_wider r (fork b l r) (k - size l) r' from_right (P.straight (omega arith)));
-    uneven = λ g m. omega arith;
-  }
-
-  put_right_turned : height l + 1 < height r' → PutsAlong (fork b l r) k (turn_left b l (right_heavy r'))
-  put_right_turned h = cases r' avl' size_is most h (P.straight (let d : height r ≤ height l + 1 = avl.1 in omega arith)) (P.uneven (let d : height r ≤ height l + 1 = avl.1 in omega arith) (omega arith))
-    where
-      cases : (t : Tree) → IsAvl t → size t ≡ size r + 1 → height t ≤ height r + 1 → height l + 1 < height t → IsStraight r (k - size l) t → Uneven t → PutsAlong (fork b l r) k (turn_left b l (right_heavy t))
-      cases (leaf x) a n m g s u = absurd (omega arith)
-      cases (fork c rl rr) a n m g s u =
-          let d : height r ≤ height l + 1 = avl.1 in
-          let e = turned_high_right b c l rl rr a u (omega arith) in
-          record {
-            along = turned_along_right (fork b l r) k b c l rl rr (omega arith) (omega arith) u (straight_wider r (fork b l r) (k - size l) (fork c rl rr) from_right s) (left_part b l r);
-            straight = λ f. absurd (omega arith);
-            uneven = λ f _. absurd (omega arith);
-          }
-
-  pub put_right : PutsAlong (fork b l r) k (balanced b l r')
-  put_right =
-      elim (cases_lt (height l + 1) (height r')) [
-        | inl h ↦ subst (PutsAlong (fork b l r) k) (sym (balanced_right b l r' h)) (put_right_turned h)
-        | inr h ↦ subst (PutsAlong (fork b l r) k) (sym (balanced_even b l r' (let e : height l ≤ height r + 1 = avl.0 in omega arith) h)) (put_right_even h)
+  put_side : PutsAlong was (place_on s (size u) k) (balanced s b now u)
+  put_side =
+      elim (cases_lt (height u + 1) (height now)) [
+        | inl h ↦ subst (PutsAlong was (place_on s (size u) k)) (sym (balanced_high s b now u h)) (put_turned h)
+        | inr h ↦ subst (PutsAlong was (place_on s (size u) k)) (sym (balanced_even s b now u h (let d = even.right_most in omega arith))) (put_even h)
       ]
 
 puts_along : (i : ℕ) (x : Item) (k : ℕ) (t : Tree) → IsAvl t → k ≤ size t → PutsAlong t k (put_in i x k t)
@@ -286,9 +312,11 @@ puts_along i x (suc (suc k)) (leaf y) avl h = absurd (omega arith)
 puts_along i x k (fork b l r) avl h =
     elim (cases_lt (size l) k) [
       | inl gt ↦ rw (gt_is k (size l) gt)
-          (let p = avl-put_in i x (k - size l) r avl.3 in put_right k b l r (put_in i x (k - size l) r) avl p.avl (puts_along i x (k - size l) r avl.3 (omega arith)) (size-put_in i x (k - size l) r) p.least p.most gt h)
+          (let p = avl-put_in i x (k - size l) r avl.3 in
+          subst (λ n. PutsAlong (fork b l r) n (balanced Right b (put_in i x (k - size l) r) l)) (back k (size l) (omega arith))
+          (put_side Right (k - size l) b r l (put_in i x (k - size l) r) avl p.avl (puts_along i x (k - size l) r avl.3 (omega arith)) (size-put_in i x (k - size l) r) p.least p.most (omega arith)))
       | inr le ↦ rw (le_is k (size l) le)
-          (let p = avl-put_in i x k l avl.2 in put_left k b l r (put_in i x k l) avl p.avl (puts_along i x k l avl.2 le) (size-put_in i x k l) p.least p.most le)
+          (let p = avl-put_in i x k l avl.2 in put_side Left k b l r (put_in i x k l) avl p.avl (puts_along i x k l avl.2 le) (size-put_in i x k l) p.least p.most le)
     ]
 
 pub along-put_in : (i : ℕ) (x : Item) (k : ℕ) (t : Tree) → IsAvl t → k ≤ size t → ChangesAlong t k (put_in i x k t)

@@ -1,13 +1,17 @@
 -- Which forks a removal leaves as they were.
-use Rattle.std.proofs.Common.{◌≡◌, ℕ, ◌+◌, ◌-◌, ◌<◌, ◌≤◌, cond, Option, Some, None, refl, sym, subst, inl, inr, arith}
+use Rattle.std.proofs.Common.{◌≡◌, ℕ, ◌+◌, ◌-◌, ◌<◌, cond, Option, Some, None, refl, sym, ap, ◌∙◌, subst, inl, inr, arith}
 use Rattle.std.specs.Prelude.{nat_eq}
 use Rattle.std.proofs.lemmas.Bool.{cases_lt}
 use Rattle.leaf_trees.specs.Tree.{Tree, leaf, fork, size, height, IsAvl, IsPart}
-use Rattle.leaf_trees.specs.Balance.{turn_left, turn_right, left_heavy, right_heavy, take_out, beside_left, beside_right, rest_place, ChangesAlong}
+use Rattle.leaf_trees.specs.declared.side.Side.{Side}
+use Rattle.leaf_trees.specs.declared.side.Side.TheVariants.{Left, Right}
+use Rattle.leaf_trees.specs.Side.{other, fork_on, place_on, nearest}
+use Rattle.leaf_trees.specs.Balance.{turned, heavy, take_out, beside, rest_place, ChangesAlong}
 use Rattle.leaf_trees.proofs.Held.{positive}
-use Rattle.leaf_trees.proofs.Lean.{le_is, gt_is, lt_is, ge_is, balanced_left, balanced_right, balanced_even}
+use Rattle.leaf_trees.proofs.Lean.{lt_is, ge_is, balanced_low, balanced_even}
+use Rattle.leaf_trees.proofs.Leaned.{leaned, even_sides, other_fork}
 use Rattle.leaf_trees.proofs.TakeOut.{TakesHigh, high-take_out, size_left, some_fork, eq_zero, ne_zero}
-use Rattle.leaf_trees.proofs.Along.{part_left, part_right, left_part, right_part, sides_of_part, go_left, go_right, along_wider, along_part}
+use Rattle.leaf_trees.proofs.Along.{part_here, part_there, parts_on, sides_on, sides_of_part, go, go_to, place_within, along_wider, along_part}
 
 -- a leaf beside is not the last place but one of what is left
 pub rest_place-inside : (k : ℕ) (t : Tree) → 0 < height t → rest_place k t + 1 < size t
@@ -25,72 +29,50 @@ rest_place-inside k (fork b l r) h =
       ])
     ]
 
--- the left side shrank, and the right one, a part of the old tree, is turned
-lean_along_left : (w : Tree) (p b : ℕ) (l' r : Tree) → p < size l' → 0 < height r → ChangesAlong w p l' → IsPart w r → ChangesAlong w p (turn_left b l' (right_heavy r))
-lean_along_left w p b l' (leaf x) h high a q = absurd (omega arith)
-lean_along_left w p b l' (fork c (leaf x) rr) h high a q =
-    rw (le_is 0 (height rr) (omega arith)) (go_left w p c (fork b l' (leaf x)) rr (omega arith) (go_left w p b l' (leaf x) h a tt) (sides_of_part w rr (part_right w c (leaf x) rr q)))
-lean_along_left w p b l' (fork c (fork d u v) rr) h high a q =
-    let m = part_left w c (fork d u v) rr q in let n = part_right w c (fork d u v) rr q in
-    elim (cases_lt (height rr) (height (fork d u v))) [
-      | inl double ↦ rw (gt_is (height (fork d u v)) (height rr) double)
-          (go_left w p d (fork b l' u) (fork c v rr) (omega arith) (go_left w p b l' u h a (sides_of_part w u (part_left w d u v m))) (part_right w d u v m, n))
-      | inr single ↦ rw (le_is (height (fork d u v)) (height rr) single)
-          (go_left w p c (fork b l' (fork d u v)) rr (omega arith) (go_left w p b l' (fork d u v) h a (sides_of_part w (fork d u v) m)) (sides_of_part w rr n))
-    ]
+-- places after one turn, and after two
+once_place : (s : Side) (c p : ℕ) (o n u : Tree) → u ≡ fork_on (other s) c o n → place_on s (size o) (place_on s (size n) p) ≡ place_on s (size u) p
+once_place Left c p o n u e = refl
+once_place Right c p o n u e = let f = ap size e in omega arith
 
-lean_along_right : (w : Tree) (p b : ℕ) (l r' : Tree) → 0 < height l → ChangesAlong w p r' → IsPart w l → ChangesAlong w (size l + p) (turn_right b (left_heavy l) r')
-lean_along_right w p b (leaf x) r' high a q = absurd (omega arith)
-lean_along_right w p b (fork c ll (leaf x)) r' high a q =
-    let e : p ≡ ((size ll + 1) + p - size ll) - 1 = omega arith in
-    rw (le_is 0 (height ll) (omega arith)) (go_right w ((size ll + 1) + p) c ll (fork b (leaf x) r') (omega arith) (sides_of_part w ll (part_left w c ll (leaf x) q))
-    (go_right w ((size ll + 1) + p - size ll) b (leaf x) r' (omega arith) tt (subst (λ j. ChangesAlong w j r') e a)))
-lean_along_right w p b (fork c ll (fork d u v)) r' high a q =
-    let m = part_left w c ll (fork d u v) q in let n = part_right w c ll (fork d u v) q in
-    let all : ℕ = (size ll + (size u + size v)) + p in
-    elim (cases_lt (height ll) (height (fork d u v))) [
-      | inl double ↦ rw (gt_is (height (fork d u v)) (height ll) double)
-          (let e : p ≡ (((size ll + (size u + size v)) + p) - (size ll + size u)) - size v = omega arith in
-          go_right w ((size ll + (size u + size v)) + p) d (fork c ll u) (fork b v r') (omega arith) (m, part_left w d u v n)
-          (go_right w (((size ll + (size u + size v)) + p) - (size ll + size u)) b v r' (omega arith) (sides_of_part w v (part_right w d u v n)) (subst (λ j. ChangesAlong w j r') e a)))
-      | inr single ↦ rw (le_is (height (fork d u v)) (height ll) single)
-          (let e : p ≡ (((size ll + (size u + size v)) + p) - size ll) - (size u + size v) = omega arith in
-          go_right w ((size ll + (size u + size v)) + p) c ll (fork b (fork d u v) r') (omega arith) (sides_of_part w ll m)
-          (go_right w (((size ll + (size u + size v)) + p) - size ll) b (fork d u v) r' (omega arith) (sides_of_part w (fork d u v) n) (subst (λ j. ChangesAlong w j r') e a)))
-    ]
+twice_place : (s : Side) (c d p : ℕ) (o x q u : Tree) → u ≡ fork_on (other s) c o (fork_on (other s) d x q) → place_on s (size (fork_on (other s) c o x)) (place_on s (size q) p) ≡ place_on s (size u) p
+twice_place Left c d p o x q u e = refl
+twice_place Right c d p o x q u e = let f = ap size e in omega arith
+
+-- t, on this side, shrank, and u, a part of the old tree, is turned
+lean_along : (s : Side) (w : Tree) (p b : ℕ) (t u : Tree) → p < size t → 0 < height u → ChangesAlong w p t → IsPart w u → ChangesAlong w (place_on s (size u) p) (turned (other s) b (heavy (other s) u) t)
+lean_along s w p b t u h high a old = elim (leaned (other s) b u t high) [
+  | inl S ↦
+      (let B = parts_on (other s) w S.b S.o S.n (subst (IsPart w) S.is old) in
+      subst (ChangesAlong w (place_on s (size u) p)) (sym (S.now_is ∙ ap (fork_on (other s) S.b S.o) (other_fork s b t S.n) ∙ other_fork s S.b (fork_on s b t S.n) S.o))
+      (go_to s w (place_on s (size S.n) p) (place_on s (size u) p) S.b (fork_on s b t S.n) S.o (place_within s p b t S.n h)
+      (go s w p b t S.n h a (sides_of_part w S.n B.1)) (sides_of_part w S.o B.0) (once_place s S.b p S.o S.n u S.is)))
+  | inr D ↦
+      (let B = parts_on (other s) w D.b D.o (fork_on (other s) D.c D.p D.q) (subst (IsPart w) D.is old) in let C = parts_on (other s) w D.c D.p D.q B.1 in
+      subst (ChangesAlong w (place_on s (size u) p)) (sym (D.now_is ∙ ap (fork_on (other s) D.c (fork_on (other s) D.b D.o D.p)) (other_fork s b t D.q) ∙ other_fork s D.c (fork_on s b t D.q) (fork_on (other s) D.b D.o D.p)))
+      (go_to s w (place_on s (size D.q) p) (place_on s (size u) p) D.c (fork_on s b t D.q) (fork_on (other s) D.b D.o D.p) (place_within s p b t D.q h)
+      (go s w p b t D.q h a (sides_of_part w D.q C.1)) (sides_on (other s) w D.b D.o D.p B.0 C.0) (twice_place s D.b D.c p D.o D.p D.q u D.is)))
+]
 
 -- what is left, where the side left something or not
 RestAlong : Tree → ℕ → Option Tree → Type 0
 RestAlong t p None = Unit {0}
 RestAlong t p (Some u) = ChangesAlong t p u
 
-left_gone : (k b : ℕ) (l r : Tree) (o : Option Tree) → take_out k l ≡ o → k < size l → IsAvl (fork b l r) → TakesHigh l o → RestAlong l (rest_place k l) o → ChangesAlong (fork b l r) (cond (nat_eq (height l) 0) 0 (rest_place k l)) (beside_right b o r)
+gone_along : (s : Side) (k b : ℕ) (t u : Tree) (o : Option Tree) → take_out k t ≡ o → IsAvl (fork_on s b t u) → TakesHigh t o → RestAlong t (rest_place k t) o → ChangesAlong (fork_on s b t u) (cond (nat_eq (height t) 0) (nearest s (size u)) (place_on s (size u) (rest_place k t))) (beside s b o u)
 unfolding RestAlong TakesHigh
-left_gone k b l r None e h avl t a = along_part (fork b l r) (cond (nat_eq (height l) 0) 0 (rest_place k l)) r (right_part b l r)
-left_gone k b l r (Some l') e h avl t a =
-    let d : height l ≤ height r + 1 = avl.0 in let d' : height r ≤ height l + 1 = avl.1 in
-    let some = some_fork k l l' e in
-    let n = size_left k l l' e in let inside = rest_place-inside k l some in
-    let most = t.1 in let least = t.2 in
-    let a' = along_wider l (fork b l r) (rest_place k l) l' (λ x p. inr (inl p)) a in
-    rw (ne_zero (height l) some) (elim (cases_lt (height l' + 1) (height r)) [
-      | inl lean ↦ subst (ChangesAlong (fork b l r) (rest_place k l)) (sym (balanced_right b l' r lean)) (lean_along_left (fork b l r) (rest_place k l) b l' r (omega arith) (omega arith) a' (right_part b l r))
-      | inr even ↦ subst (ChangesAlong (fork b l r) (rest_place k l)) (sym (balanced_even b l' r (omega arith) even)) (go_left (fork b l r) (rest_place k l) b l' r (omega arith) a' (sides_of_part (fork b l r) r (right_part b l r)))
-    ])
-
-right_gone : (k b : ℕ) (l r : Tree) (o : Option Tree) → take_out k r ≡ o → IsAvl (fork b l r) → TakesHigh r o → RestAlong r (rest_place k r) o → ChangesAlong (fork b l r) (cond (nat_eq (height r) 0) (size l - 1) (size l + rest_place k r)) (beside_left b l o)
-unfolding RestAlong TakesHigh
-right_gone k b l r None e avl t a = along_part (fork b l r) (cond (nat_eq (height r) 0) (size l - 1) (size l + rest_place k r)) l (left_part b l r)
-right_gone k b l r (Some r') e avl t a =
-    let d : height l ≤ height r + 1 = avl.0 in let d' : height r ≤ height l + 1 = avl.1 in
-    let some = some_fork k r r' e in
-    let most = t.1 in let least = t.2 in
-    let a' = along_wider r (fork b l r) (rest_place k r) r' (λ x p. inr (inr p)) a in
-    let e' : rest_place k r ≡ (size l + rest_place k r) - size l = omega arith in
-    rw (ne_zero (height r) some) (elim (cases_lt (height r' + 1) (height l)) [
-      | inl lean ↦ subst (ChangesAlong (fork b l r) (size l + rest_place k r)) (sym (balanced_left b l r' lean)) (lean_along_right (fork b l r) (rest_place k r) b l r' (omega arith) a' (left_part b l r))
-      | inr even ↦ subst (ChangesAlong (fork b l r) (size l + rest_place k r)) (sym (balanced_even b l r' even (omega arith)))
-          (go_right (fork b l r) (size l + rest_place k r) b l r' (omega arith) (sides_of_part (fork b l r) l (left_part b l r)) (subst (λ j. ChangesAlong (fork b l r) j r') e' a'))
+gone_along s k b t u None e avl h a = along_part (fork_on s b t u) (cond (nat_eq (height t) 0) (nearest s (size u)) (place_on s (size u) (rest_place k t))) u (part_there s b t u)
+gone_along s k b t u (Some v) e avl h a =
+    let was : Tree = fork_on s b t u in
+    let E = even_sides s b t u avl in let d = E.left_most in let d' = E.right_most in
+    let some = some_fork k t v e in
+    let n = size_left k t v e in let inside = rest_place-inside k t some in
+    let most = h.1 in let least = h.2 in
+    let a' = along_wider t (fork_on s b t u) (rest_place k t) v (part_here s b t u) a in
+    rw (ne_zero (height t) some) (elim (cases_lt (height v + 1) (height u)) [
+      | inl lean ↦ subst (ChangesAlong (fork_on s b t u) (place_on s (size u) (rest_place k t))) (sym (balanced_low s b v u lean))
+          (lean_along s (fork_on s b t u) (rest_place k t) b v u (omega arith) (omega arith) a' (part_there s b t u))
+      | inr even ↦ subst (ChangesAlong (fork_on s b t u) (place_on s (size u) (rest_place k t))) (sym (balanced_even s b v u (omega arith) even))
+          (go s (fork_on s b t u) (rest_place k t) b v u (omega arith) a' (sides_of_part (fork_on s b t u) u (part_there s b t u)))
     ])
 
 rests_along : (k : ℕ) (t : Tree) → IsAvl t → RestAlong t (rest_place k t) (take_out k t)
@@ -98,8 +80,8 @@ unfolding RestAlong
 rests_along k (leaf x) avl = tt
 rests_along k (fork b l r) avl =
     elim (cases_lt k (size l)) [
-      | inl lt ↦ rw (lt_is k (size l) lt) (left_gone k b l r (take_out k l) refl lt avl (high-take_out k l avl.2) (rests_along k l avl.2))
-      | inr ge ↦ rw (ge_is k (size l) ge) (right_gone (k - size l) b l r (take_out (k - size l) r) refl avl (high-take_out (k - size l) r avl.3) (rests_along (k - size l) r avl.3))
+      | inl lt ↦ rw (lt_is k (size l) lt) (gone_along Left k b l r (take_out k l) refl avl (high-take_out k l avl.2) (rests_along k l avl.2))
+      | inr ge ↦ rw (ge_is k (size l) ge) (gone_along Right (k - size l) b r l (take_out (k - size l) r) refl avl (high-take_out (k - size l) r avl.3) (rests_along (k - size l) r avl.3))
     ]
 
 pub along-take_out : (k : ℕ) (t u : Tree) → IsAvl t → take_out k t ≡ Some u → ChangesAlong t (rest_place k t) u

@@ -92,7 +92,7 @@ flag_changes ns ms list top place t f T h R = record {
   now = flag_at f place t;
   tree = R.tree;
   leaves_are = leaves-flag_at f place t h;
-  along = along-flag_at f place t;
+  along = along-flag_at f place t h;
   others = replanted_others ns ms list top top t (flag_at f place t) T R;
 }
 

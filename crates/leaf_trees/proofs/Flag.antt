@@ -4,13 +4,15 @@ use Rattle.std.specs.Prelude.{nat_lt}
 use Rattle.std.proofs.lemmas.Bool.{cases_lt}
 use Rattle.leaf_trees.specs.declared.node.Node.{Node}
 use Rattle.leaf_trees.specs.declared.node.Flags.{Flags}
+use Rattle.leaf_trees.specs.declared.side.Side.{Side}
+use Rattle.leaf_trees.specs.Side.{other, on, fork_on}
 use Rattle.leaf_trees.specs.Tree.{Item, Tree, leaf, fork, size, height, leaves, items, item_of, IsAvl}
 use Rattle.leaf_trees.specs.Balance.{flag_at}
-use Rattle.leaf_trees.specs.Arena.{at}
 use Rattle.leaf_trees.specs.Change.{Sides, Becomes}
-use Rattle.leaf_trees.proofs.Turns.{new_left, new_right}
-use Rattle.leaf_trees.proofs.Lean.{lt_is, ge_is, then_left, then_right, beside_left, beside_right}
-use Rattle.leaf_trees.proofs.Parts.{Parts}
+use Rattle.leaf_trees.proofs.Turns.{new_first, then_first, beside_first, in_side}
+use Rattle.leaf_trees.proofs.Lean.{lt_is, ge_is}
+use Rattle.leaf_trees.proofs.Ways.{Goes}
+use Rattle.leaf_trees.proofs.Parts.{Down}
 use Rattle.leaf_trees.proofs.Balanced.{length-leaves}
 use Rattle.leaf_trees.proofs.Items.{items_left, items_right}
 use Rattle.std.proofs.lemmas.List.{set-append_left, set-append_right}
@@ -23,22 +25,22 @@ size-flag_at f k (fork b l r) =
       | false ↦ (let e = size-flag_at f (k - size l) r in omega arith)
     ]
 
-module _ (ns : List Node) (top : ℕ) (f : Flags) (k : ℕ) (t : Tree) (P : Parts ns top t) where
-  pub flagged_left_sides : (ms : List Node) → Becomes ns ms (at ns top).left P.l (flag_at f k P.l) → Sides ms top (at ns top).left (at ns top).right (flag_at f k P.l) P.r
-  flagged_left_sides ms B = new_left ns ms top (at ns top).left (at ns top).right P.l (flag_at f k P.l) P.r (beside_left ns top (at ns top).left (at ns top).right P.l P.r P.sides) B (let few = P.sides.few in omega (arith, size-flag_at f k P.l))
+module _ (s : Side) (ns : List Node) (top a b : ℕ) (f : Flags) (k j : ℕ) (t : Tree) (P : Down s ns top a b t) (G : Goes s k j P.l P.r) (ms : List Node) (B : Becomes ns ms a (on s P.l P.r) (flag_at f j (on s P.l P.r))) where
+  abbrev here : Tree
+  here = on s P.l P.r
 
-  pub flagged_right_sides : (ms : List Node) → Becomes ns ms (at ns top).right P.r (flag_at f (k - size P.l) P.r) → Sides ms top (at ns top).left (at ns top).right P.l (flag_at f (k - size P.l) P.r)
-  flagged_right_sides ms B = new_right ns ms top (at ns top).right (at ns top).left P.r (flag_at f (k - size P.l) P.r) P.l (beside_right ns top (at ns top).left (at ns top).right P.l P.r P.sides) B (let few = P.sides.few in omega (arith, size-flag_at f (k - size P.l) P.r))
+  abbrev there : Tree
+  there = on (other s) P.l P.r
 
-  pub flagged_left : k < size P.l → (ms ks : List Node) → Becomes ns ms (at ns top).left P.l (flag_at f k P.l) → Becomes ms ks top (fork top (flag_at f k P.l) P.r) (fork top (flag_at f k P.l) P.r) → Becomes ns ks top t (flag_at f k t)
-  flagged_left h ms ks B C =
-      subst (λ (x : Tree). Becomes ns ks top x (flag_at f k x)) (sym P.is) (rw (lt_is k (size P.l) h)
-      (then_left ns ms ks top (at ns top).left top P.l (flag_at f k P.l) P.r (fork top (flag_at f k P.l) P.r) (fork top P.l P.r) B C (λ j a. inr (inl a)) (inl refl) (λ j a. inr (inr a))))
+  pub flagged_sides : Sides ms top a b (flag_at f j here) there
+  flagged_sides = new_first ns ms top a b here (flag_at f j here) there
+      (beside_first ns top a b here there P.both) B
+      (let few = P.both.few in omega (arith, few, size-flag_at f j here))
 
-  pub flagged_right : size P.l ≤ k → (ms ks : List Node) → Becomes ns ms (at ns top).right P.r (flag_at f (k - size P.l) P.r) → Becomes ms ks top (fork top P.l (flag_at f (k - size P.l) P.r)) (fork top P.l (flag_at f (k - size P.l) P.r)) → Becomes ns ks top t (flag_at f k t)
-  flagged_right h ms ks B C =
-      subst (λ (x : Tree). Becomes ns ks top x (flag_at f k x)) (sym P.is) (rw (ge_is k (size P.l) h)
-      (then_right ns ms ks top (at ns top).right top P.r (flag_at f (k - size P.l) P.r) P.l (fork top P.l (flag_at f (k - size P.l) P.r)) (fork top P.l P.r) B C (λ j a. inr (inr a)) (inl refl) (λ j a. inr (inl a))))
+  pub flagged : (ks : List Node) → Becomes ms ks top (fork top (flag_at f j here) there) (fork_on s top (flag_at f j here) there) → Becomes ns ks top t (flag_at f k t)
+  flagged ks C =
+      subst (λ (x : Tree). Becomes ns ks top x (flag_at f k x)) (sym P.is) (rw (G.flag_is f top)
+      (then_first ns ms ks top a top here (flag_at f j here) there (fork_on s top (flag_at f j here) there) (fork top P.l P.r) B C (in_side s top P.l P.r) (inl refl) (in_side (other s) top P.l P.r)))
 
 pub height-flag_at : (f : Flags) (k : ℕ) (t : Tree) → height (flag_at f k t) ≡ height t
 height-flag_at f k (leaf x) = refl

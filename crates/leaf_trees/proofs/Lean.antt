@@ -3,11 +3,14 @@ use Rattle.std.proofs.Common.{◌≡◌, ℕ, ◌+◌, ◌<◌, ◌≤◌, true,
 use Rattle.std.specs.Prelude.{nat_le, nat_lt}
 use Rattle.std.proofs.lemmas.Bool.Decides.{nat_tests}
 use Rattle.leaf_trees.specs.declared.node.Node.{Node}
+use Rattle.leaf_trees.specs.declared.side.Side.{Side}
+use Rattle.leaf_trees.specs.declared.side.Side.TheVariants.{Left, Right}
 use Rattle.leaf_trees.specs.Tree.{Tree, leaf, fork, size, height, Has}
-use Rattle.leaf_trees.specs.Balance.{turn_left, turn_right, left_heavy, right_heavy, balanced}
+use Rattle.leaf_trees.specs.Side.{other, on, fork_on}
+use Rattle.leaf_trees.specs.Balance.{turned, heavy, balanced}
 use Rattle.leaf_trees.specs.Change.{Sides, Becomes}
 use Rattle.leaf_trees.proofs.Held.{left_height, right_height}
-use Rattle.leaf_trees.proofs.Turns.{Beside, flip, Becomes-then, new_left, new_right}
+use Rattle.leaf_trees.proofs.Turns.{Becomes-wider, beside_first, new_first, then_first, size-fork_on}
 
 pub le_is : (a b : ℕ) → a ≤ b → nat_le a b ≡ true
 le_is a b h = grind (arith, nat_tests)
@@ -21,93 +24,64 @@ lt_is a b h = grind (arith, nat_tests)
 pub ge_is : (a b : ℕ) → b ≤ a → nat_lt a b ≡ false
 ge_is a b h = grind (arith, nat_tests)
 
-pub size-turn_left : (i : ℕ) (l r : Tree) → size (turn_left i l r) ≡ size l + size r
-size-turn_left i l (leaf x) = refl
-size-turn_left i l (fork b rl rr) = omega arith
+-- what a turn keeps
+pub size-turned : (s : Side) (i : ℕ) (t u : Tree) → size (turned s i t u) ≡ size t + size u
+size-turned s i (leaf x) u = size-fork_on s i (leaf x) u
+size-turned Left i (fork b l r) u = omega arith
+size-turned Right i (fork b l r) u = omega arith
 
-pub size-turn_right : (i : ℕ) (l r : Tree) → size (turn_right i l r) ≡ size l + size r
-size-turn_right i (leaf x) r = refl
-size-turn_right i (fork b ll lr) r = omega arith
-
-pub high-turn_left : (i : ℕ) (l r : Tree) → 0 < height (turn_left i l r)
-high-turn_left i l (leaf x) = omega arith
-high-turn_left i l (fork b rl rr) = omega arith
-
-pub high-turn_right : (i : ℕ) (l r : Tree) → 0 < height (turn_right i l r)
-high-turn_right i (leaf x) r = omega arith
-high-turn_right i (fork b ll lr) r = omega arith
+pub high-turned : (s : Side) (i : ℕ) (t u : Tree) → 0 < height (turned s i t u)
+high-turned Left i (leaf x) u = omega arith
+high-turned Right i (leaf x) u = omega arith
+high-turned Left i (fork b l r) u = omega arith
+high-turned Right i (fork b l r) u = omega arith
 
 -- two trees with these roots are equally high
-pub high_left : (ns : List Node) (i l r : ℕ) (lt rt lt' rt' : Tree) → Sides ns i l r lt rt → Sides ns i l r lt' rt' → height rt + 1 < height lt → height rt' + 1 < height lt'
-high_left ns i l r lt rt lt' rt' s s' h =
-    let a = left_height ns i l r lt rt s in let b = left_height ns i l r lt' rt' s' in
-    let a' = right_height ns i l r lt rt s in let b' = right_height ns i l r lt' rt' s' in
+pub high_same : (ns : List Node) (i a b : ℕ) (t u t' u' : Tree) → Sides ns i a b t u → Sides ns i a b t' u' → height u + 1 < height t → height u' + 1 < height t'
+high_same ns i a b t u t' u' s s' h =
+    let e = left_height ns i a b t u s in let e' = left_height ns i a b t' u' s' in
+    let f = right_height ns i a b t u s in let f' = right_height ns i a b t' u' s' in
     omega arith
 
-pub high_right : (ns : List Node) (i l r : ℕ) (lt rt lt' rt' : Tree) → Sides ns i l r lt rt → Sides ns i l r lt' rt' → height lt + 1 < height rt → height lt' + 1 < height rt'
-high_right ns i l r lt rt lt' rt' s s' h =
-    let a = left_height ns i l r lt rt s in let b = left_height ns i l r lt' rt' s' in
-    let a' = right_height ns i l r lt rt s in let b' = right_height ns i l r lt' rt' s' in
-    omega arith
+-- a tree that leans as it should, and one that is turned
+pub heavy_same : (s : Side) (t : Tree) (b : ℕ) (l r : Tree) → t ≡ fork b l r → height (on (other s) l r) ≤ height (on s l r) → heavy s t ≡ t
+heavy_same s t b l r e h = ap (heavy s) e ∙ rw (le_is (height (on (other s) l r)) (height (on s l r)) h) (sym e)
 
--- what stays where one of two sides is changed
-pub beside_left : (ns : List Node) (i l r : ℕ) (lt rt : Tree) → Sides ns i l r lt rt → Beside ns i r lt rt
-beside_left ns i l r lt rt s = record { within = s.within; top_is = s.right; holds = s.holds_right; apart = s.apart.4; not_here = s.apart.1; not_there = s.apart.0; disjoint = s.apart.2 }
+pub heavy_turned : (s : Side) (t : Tree) (b : ℕ) (l r : Tree) → t ≡ fork b l r → height (on s l r) < height (on (other s) l r) → heavy s t ≡ turned (other s) b (on (other s) l r) (on s l r)
+heavy_turned s t b l r e h = ap (heavy s) e ∙ rw (gt_is (height (on (other s) l r)) (height (on s l r)) h) refl
 
-pub beside_right : (ns : List Node) (i l r : ℕ) (lt rt : Tree) → Sides ns i l r lt rt → Beside ns i l rt lt
-beside_right ns i l r lt rt s = record { within = s.within; top_is = s.left; holds = s.holds_left; apart = s.apart.3; not_here = s.apart.0; not_there = s.apart.1; disjoint = flip lt rt s.apart.2 }
+-- the nodes of a fork, its sides in either order
+of_sides : (s : Side) (b : ℕ) (l r : Tree) (j : ℕ) → Has (fork b (on (other s) l r) (on s l r)) j → Has (fork b l r) j
+of_sides Left b l r j h = elim h [ inl e ↦ inl e | inr y ↦ elim y [ inl x ↦ inr (inr x) | inr x ↦ inr (inl x) ] ]
+of_sides Right b l r j h = h
 
--- a side is changed, and then the tree of both
-pub then_left : (ns ms ks : List Node) (i a b : ℕ) (w u t now W : Tree) → Becomes ns ms a w u → Becomes ms ks b (fork i u t) now → ((j : ℕ) → Has w j → Has W j) → Has W i → ((j : ℕ) → Has t j → Has W j) → Becomes ns ks b W now
-then_left ns ms ks i a b w u t now W B C in_w in_i in_t =
-    Becomes-then ns ms ks a b w (fork i u t) u now W B C in_w
-    (λ j h. elim h [ inl e ↦ subst (Has W) (sym e) in_i | inr y ↦ elim y [ inl x ↦ in_w j (B.inside j x) | inr x ↦ in_t j x ] ])
+-- the first tree is turned, and then both
+module _ (s : Side) (ns ms : List Node) (i b low a : ℕ) (l r u : Tree) (S : Sides ns i b low (fork b l r) u) (B : Becomes ns ms a (fork b (on (other s) l r) (on s l r)) (turned (other s) b (on (other s) l r) (on s l r))) where
+  abbrev now : Tree
+  now = turned (other s) b (on (other s) l r) (on s l r)
 
-pub then_right : (ns ms ks : List Node) (i a b : ℕ) (w u t now W : Tree) → Becomes ns ms a w u → Becomes ms ks b (fork i t u) now → ((j : ℕ) → Has w j → Has W j) → Has W i → ((j : ℕ) → Has t j → Has W j) → Becomes ns ks b W now
-then_right ns ms ks i a b w u t now W B C in_w in_i in_t =
-    Becomes-then ns ms ks a b w (fork i t u) u now W B C in_w
-    (λ j h. elim h [ inl e ↦ subst (Has W) (sym e) in_i | inr y ↦ elim y [ inl x ↦ in_t j x | inr x ↦ in_w j (B.inside j x) ] ])
+  whole : Becomes ns ms a (fork b l r) now
+  whole = Becomes-wider ns ms a (fork b (on (other s) l r) (on s l r)) (fork b l r) now B (of_sides s b l r)
 
--- a side that leans as it should, and one that is turned
-pub left_heavy_same : (t : Tree) (b : ℕ) (l r : Tree) → t ≡ fork b l r → height r ≤ height l → left_heavy t ≡ t
-left_heavy_same t b l r e h = ap left_heavy e ∙ rw (le_is (height r) (height l) h) (sym e)
+  few : (s : Side) → size (on (other s) l r) + size (on s l r) ≡ size l + size r
+  few Left = omega arith
+  few Right = refl
 
-pub left_heavy_turned : (t : Tree) (b : ℕ) (l r : Tree) → t ≡ fork b l r → height l < height r → left_heavy t ≡ turn_left b l r
-left_heavy_turned t b l r e h = ap left_heavy e ∙ rw (gt_is (height r) (height l) h) refl
+  pub turned_sides : Sides ms i a low now u
+  turned_sides = new_first ns ms i a low (fork b l r) now u (beside_first ns i b low (fork b l r) u S) whole
+      (let e = size-turned (other s) b (on (other s) l r) (on s l r) in let f = S.few in omega (arith, e, f, few s))
 
-pub right_heavy_same : (t : Tree) (b : ℕ) (l r : Tree) → t ≡ fork b l r → height l ≤ height r → right_heavy t ≡ t
-right_heavy_same t b l r e h = ap right_heavy e ∙ rw (le_is (height l) (height r) h) (sym e)
+  pub double : (ks : List Node) (c : ℕ) (t : Tree) → t ≡ fork b l r → height (on s l r) < height (on (other s) l r) → Becomes ms ks c (fork i now u) (turned s i now u) → Becomes ns ks c (fork i t u) (turned s i (heavy s t) u)
+  double ks c t e h C =
+      rw (heavy_turned s t b l r e h)
+      (subst (λ (x : Tree). Becomes ns ks c (fork i x u) (turned s i now u)) (sym e)
+      (then_first ns ms ks i a c (fork b l r) now u (turned s i now u) (fork i (fork b l r) u) whole C (λ j h. inr (inl h)) (inl refl) (λ j h. inr (inr h))))
 
-pub right_heavy_turned : (t : Tree) (b : ℕ) (l r : Tree) → t ≡ fork b l r → height r < height l → right_heavy t ≡ turn_right b l r
-right_heavy_turned t b l r e h = ap right_heavy e ∙ rw (gt_is (height l) (height r) h) refl
+pub balanced_high : (s : Side) (i : ℕ) (t u : Tree) → height u + 1 < height t → balanced s i t u ≡ turned s i (heavy s t) u
+balanced_high s i t u h = rw (lt_is (height u + 1) (height t) h) refl
 
--- the sides below i once the left one was turned
-pub turned_sides_left : (ns ms : List Node) (i b r a : ℕ) (l' r' rt : Tree) → Sides ns i b r (fork b l' r') rt → Becomes ns ms a (fork b l' r') (turn_left b l' r') → Sides ms i a r (turn_left b l' r') rt
-turned_sides_left ns ms i b r a l' r' rt s B =
-    new_left ns ms i a r (fork b l' r') (turn_left b l' r') rt (beside_left ns i b r (fork b l' r') rt s) B (let e = size-turn_left b l' r' in let f = s.few in omega arith)
+pub balanced_low : (s : Side) (i : ℕ) (t u : Tree) → height t + 1 < height u → balanced s i t u ≡ turned (other s) i (heavy (other s) u) t
+balanced_low s i t u h = rw (ge_is (height u + 1) (height t) (omega arith), lt_is (height t + 1) (height u) h) refl
 
-pub turned_sides_right : (ns ms : List Node) (i l b a : ℕ) (lt l' r' : Tree) → Sides ns i l b lt (fork b l' r') → Becomes ns ms a (fork b l' r') (turn_right b l' r') → Sides ms i l a lt (turn_right b l' r')
-turned_sides_right ns ms i l b a lt l' r' s B =
-    new_right ns ms i a l (fork b l' r') (turn_right b l' r') lt (beside_right ns i l b lt (fork b l' r') s) B (let e = size-turn_right b l' r' in let f = s.few in omega arith)
-
--- a double turn
-pub left_double : (ns ms ks : List Node) (i b r a c : ℕ) (l' r' lt rt : Tree) → lt ≡ fork b l' r' → height l' < height r' → Becomes ns ms a (fork b l' r') (turn_left b l' r') → Becomes ms ks c (fork i (turn_left b l' r') rt) (turn_right i (turn_left b l' r') rt) → Becomes ns ks c (fork i lt rt) (turn_right i (left_heavy lt) rt)
-left_double ns ms ks i b r a c l' r' lt rt e h B C =
-    rw (left_heavy_turned lt b l' r' e h)
-    (subst (λ (x : Tree). Becomes ns ks c (fork i x rt) (turn_right i (turn_left b l' r') rt)) (sym e)
-    (then_left ns ms ks i a c (fork b l' r') (turn_left b l' r') rt (turn_right i (turn_left b l' r') rt) (fork i (fork b l' r') rt) B C (λ j h. inr (inl h)) (inl refl) (λ j h. inr (inr h))))
-
-pub right_double : (ns ms ks : List Node) (i b l a c : ℕ) (l' r' lt rt : Tree) → rt ≡ fork b l' r' → height r' < height l' → Becomes ns ms a (fork b l' r') (turn_right b l' r') → Becomes ms ks c (fork i lt (turn_right b l' r')) (turn_left i lt (turn_right b l' r')) → Becomes ns ks c (fork i lt rt) (turn_left i lt (right_heavy rt))
-right_double ns ms ks i b l a c l' r' lt rt e h B C =
-    rw (right_heavy_turned rt b l' r' e h)
-    (subst (λ (x : Tree). Becomes ns ks c (fork i lt x) (turn_left i lt (turn_right b l' r'))) (sym e)
-    (then_right ns ms ks i a c (fork b l' r') (turn_right b l' r') lt (turn_left i lt (turn_right b l' r')) (fork i lt (fork b l' r')) B C (λ j h. inr (inr h)) (inl refl) (λ j h. inr (inl h))))
-
-pub balanced_left : (i : ℕ) (l r : Tree) → height r + 1 < height l → balanced i l r ≡ turn_right i (left_heavy l) r
-balanced_left i l r h = rw (lt_is (height r + 1) (height l) h) refl
-
-pub balanced_right : (i : ℕ) (l r : Tree) → height l + 1 < height r → balanced i l r ≡ turn_left i l (right_heavy r)
-balanced_right i l r h = rw (ge_is (height r + 1) (height l) (omega arith), lt_is (height l + 1) (height r) h) refl
-
-pub balanced_even : (i : ℕ) (l r : Tree) → height l ≤ height r + 1 → height r ≤ height l + 1 → balanced i l r ≡ fork i l r
-balanced_even i l r a b = rw (ge_is (height r + 1) (height l) a, ge_is (height l + 1) (height r) b) refl
+pub balanced_even : (s : Side) (i : ℕ) (t u : Tree) → height t ≤ height u + 1 → height u ≤ height t + 1 → balanced s i t u ≡ fork_on s i t u
+balanced_even s i t u a b = rw (ge_is (height u + 1) (height t) a, ge_is (height t + 1) (height u) b) refl

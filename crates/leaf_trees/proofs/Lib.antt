@@ -1,6 +1,8 @@
 pub mod Held
 pub mod Turns
 pub mod Lean
+pub mod Leaned
+pub mod Ways
 pub mod Balanced
 pub mod Height
 pub mod Put

@@ -4,21 +4,25 @@ use Rattle.std.specs.Prelude.{nat_lt, nat_le}
 use Rattle.std.proofs.lemmas.Bool.{cases_lt, cases_eq}
 use Rattle.std.proofs.lemmas.List.Edits.{insert-append_left, insert-append_right}
 use Rattle.leaf_trees.specs.declared.node.Node.{Node}
-use Rattle.leaf_trees.specs.Tree.{Item, Tree, leaf, fork, size, height, leaves, Has, Disjoint, IsAvl}
+use Rattle.leaf_trees.specs.declared.side.Side.{Side}
+use Rattle.leaf_trees.specs.declared.side.Side.TheVariants.{Left, Right}
+use Rattle.leaf_trees.specs.Tree.{Item, Tree, leaf, fork, size, height, leaves, Has, IsAvl}
+use Rattle.leaf_trees.specs.Side.{other, below, on, fork_on}
 use Rattle.leaf_trees.specs.Balance.{put_in, balanced}
 use Rattle.leaf_trees.specs.Arena.{at, IsTaken, IsUsed}
 use Rattle.leaf_trees.specs.Change.{Sides, Becomes, Ready, HasRoom, WritesLeaf}
-use Rattle.leaf_trees.proofs.Held.{positive, height_of_top, counts_of_top, Holds-same}
-use Rattle.leaf_trees.proofs.Turns.{new_left, new_right, forked, flip}
-use Rattle.leaf_trees.proofs.Lean.{le_is, gt_is, then_left, then_right}
+use Rattle.leaf_trees.proofs.Held.{height_of_top, counts_of_top, Holds-same}
+use Rattle.leaf_trees.proofs.Turns.{new_first, then_first, forked, opened, in_side, size-sides}
+use Rattle.leaf_trees.proofs.Lean.{le_is, gt_is}
+use Rattle.leaf_trees.proofs.Leaned.{even_sides, height-fork_on}
 use Rattle.leaf_trees.proofs.Balanced.{size-balanced, leaves-balanced, length-leaves, balances}
 
 pub size-put_in : (i : ℕ) (x : Item) (k : ℕ) (t : Tree) → size (put_in i x k t) ≡ size t + 1
 size-put_in i x k (leaf y) = elim (nat_lt 0 k) as (λ b. size (cond b (fork i (leaf y) (leaf x)) (fork i (leaf x) (leaf y))) ≡ 2) [ true ↦ refl | false ↦ refl ]
 size-put_in i x k (fork b l r) =
-    elim (nat_le k (size l)) as (λ c. size (cond c (balanced b (put_in i x k l) r) (balanced b l (put_in i x (k - size l) r))) ≡ size l + size r + 1) [
-      | true ↦ (let e = size-put_in i x k l in let f = size-balanced b (put_in i x k l) r in omega arith)
-      | false ↦ (let e = size-put_in i x (k - size l) r in let f = size-balanced b l (put_in i x (k - size l) r) in omega arith)
+    elim (nat_le k (size l)) as (λ c. size (cond c (balanced Left b (put_in i x k l) r) (balanced Right b (put_in i x (k - size l) r) l)) ≡ size l + size r + 1) [
+      | true ↦ (let e = size-put_in i x k l in let f = size-balanced Left b (put_in i x k l) r in omega arith)
+      | false ↦ (let e = size-put_in i x (k - size l) r in let f = size-balanced Right b (put_in i x (k - size l) r) l in omega arith)
     ]
 
 -- the item comes before the place
@@ -29,9 +33,9 @@ leaves-put_in i x (suc (suc k)) (leaf y) h = absurd (omega arith)
 leaves-put_in i x k (fork b l r) h =
     elim (cases_lt (size l) k) [
       | inl gt ↦ rw (gt_is k (size l) gt)
-          (leaves-balanced b l (put_in i x (k - size l) r) ∙ ap (λ (xs : List Item). leaves l ++ xs) (leaves-put_in i x (k - size l) r (omega arith)) ∙ sym (insert-append_right (leaves l) (leaves r) (size l) k x (length-leaves l) (omega arith)))
+          (leaves-balanced Right b (put_in i x (k - size l) r) l ∙ ap (λ (xs : List Item). leaves l ++ xs) (leaves-put_in i x (k - size l) r (omega arith)) ∙ sym (insert-append_right (leaves l) (leaves r) (size l) k x (length-leaves l) (omega arith)))
       | inr le ↦ rw (le_is k (size l) le)
-          (leaves-balanced b (put_in i x k l) r ∙ ap (λ (xs : List Item). xs ++ leaves r) (leaves-put_in i x k l le) ∙ sym (insert-append_left (leaves l) (leaves r) k x (rw length-leaves le)))
+          (leaves-balanced Left b (put_in i x k l) r ∙ ap (λ (xs : List Item). xs ++ leaves r) (leaves-put_in i x k l le) ∙ sym (insert-append_left (leaves l) (leaves r) k x (rw length-leaves le)))
     ]
 
 -- the tree stays balanced, and is at most one level higher
@@ -51,30 +55,25 @@ grown l r l' r' n a a' b b' c c' least most even =
       ]
     ]
 
+-- one side of a tree was put in
+side_grown : (s : Side) (b : ℕ) (t u now : Tree) → IsAvl (fork_on s b t u) → PutsHigh t now → PutsHigh (fork_on s b t u) (balanced s b now u)
+side_grown s b t u now avl p =
+    let E = even_sides s b t u avl in let a = E.left_most in let a' = E.right_most in let least = p.least in let most = p.most in
+    let B = balances s b now u p.avl E.right_avl (omega arith) (omega arith) in
+    let g = grown (height t) (height u) (height now) (height u) (height (balanced s b now u)) a a' least most (omega arith) (omega arith) B.least B.most B.even in
+    let h = height-fork_on s b t u in
+    record { avl = B.avl; least = omega (arith, g.0); most = omega (arith, g.1) }
+
 pub avl-put_in : (i : ℕ) (x : Item) (k : ℕ) (t : Tree) → IsAvl t → PutsHigh t (put_in i x k t)
 avl-put_in i x k (leaf y) avl = elim (nat_lt 0 k) as (λ b. PutsHigh (leaf y) (cond b (fork i (leaf y) (leaf x)) (fork i (leaf x) (leaf y)))) [
   | true ↦ record { avl = (omega arith, omega arith, tt, tt); least = omega arith; most = omega arith }
   | false ↦ record { avl = (omega arith, omega arith, tt, tt); least = omega arith; most = omega arith }
 ]
 avl-put_in i x k (fork b l r) avl =
-    elim (nat_le k (size l)) as (λ c. PutsHigh (fork b l r) (cond c (balanced b (put_in i x k l) r) (balanced b l (put_in i x (k - size l) r)))) [
-      | true ↦
-          (let p = avl-put_in i x k l avl.2 in let least = p.least in let most = p.most in
-          let a : height l ≤ height r + 1 = avl.0 in let a' : height r ≤ height l + 1 = avl.1 in
-          let B = balances b (put_in i x k l) r p.avl avl.3 (omega arith) (omega arith) in
-          let g = grown (height l) (height r) (height (put_in i x k l)) (height r) (height (balanced b (put_in i x k l) r)) a a' least most (omega arith) (omega arith) B.least B.most B.even in
-          record { avl = B.avl; least = g.0; most = omega (arith, g.1) })
-      | false ↦
-          (let p = avl-put_in i x (k - size l) r avl.3 in let least = p.least in let most = p.most in
-          let a : height l ≤ height r + 1 = avl.0 in let a' : height r ≤ height l + 1 = avl.1 in
-          let B = balances b l (put_in i x (k - size l) r) avl.2 p.avl (omega arith) (omega arith) in
-          let g = grown (height l) (height r) (height l) (height (put_in i x (k - size l) r)) (height (balanced b l (put_in i x (k - size l) r))) a a' (omega arith) (omega arith) least most B.least B.most B.even in
-          record { avl = B.avl; least = g.0; most = omega (arith, g.1) })
+    elim (nat_le k (size l)) as (λ c. PutsHigh (fork b l r) (cond c (balanced Left b (put_in i x k l) r) (balanced Right b (put_in i x (k - size l) r) l))) [
+      | true ↦ side_grown Left b l r (put_in i x k l) avl (avl-put_in i x k l avl.2)
+      | false ↦ side_grown Right b r l (put_in i x (k - size l) r) avl (avl-put_in i x (k - size l) r avl.3)
     ]
-
--- a wider footprint
-pub Becomes-wider : (ns ms : List Node) (a : ℕ) (w W t : Tree) → Becomes ns ms a w t → ((j : ℕ) → Has w j → Has W j) → Becomes ns ms a W t
-Becomes-wider ns ms a w W t B in_w = record { len = B.len; top_is = B.top_is; holds = B.holds; apart = B.apart; inside = λ j h. in_w j (B.inside j h); others = λ j n. B.others j (λ h. n (in_w j h)); taken = B.taken }
 
 module _ (ns : List Node) (top i : ℕ) (x : Item) (t : Tree) (R : Ready ns top i x t) where
   pub beside_after : Sides ns i top x.number t (leaf x)
@@ -113,54 +112,52 @@ module _ (ns : List Node) (top i : ℕ) (x : Item) (t : Tree) (R : Ready ns top 
         right_lower = omega arith;
       }
 
-module _ (ns : List Node) (top i : ℕ) (x : Item) (l r : Tree) (R : Ready ns top i x (fork top l r)) where
-  pub ready_left : Ready ns (at ns top).left i x l
-  ready_left = record { holds = R.holds.1; apart = R.apart.3; top_is = sym R.holds.0.left; new_leaf = R.new_leaf; new_fork = R.new_fork; differ = R.differ; not_fork = λ h. R.not_fork (inr (inl h)); not_leaf = λ h. R.not_leaf (inr (inl h)); few = (let f = R.few in omega (arith, f, positive r)) }
+module _ (s : Side) (ns : List Node) (top i : ℕ) (x : Item) (l r : Tree) (R : Ready ns top i x (fork top l r)) where
+  abbrev here : Tree
+  here = on s l r
 
-  pub ready_right : Ready ns (at ns top).right i x r
-  ready_right = record { holds = R.holds.2; apart = R.apart.4; top_is = sym R.holds.0.right; new_leaf = R.new_leaf; new_fork = R.new_fork; differ = R.differ; not_fork = λ h. R.not_fork (inr (inr h)); not_leaf = λ h. R.not_leaf (inr (inr h)); few = (let f = R.few in omega (arith, f, positive l)) }
+  abbrev there : Tree
+  there = on (other s) l r
+
+  abbrev a : ℕ
+  a = below s (at ns top)
+
+  abbrev b : ℕ
+  b = below (other s) (at ns top)
+
+  both : Sides ns top a b here there
+  both = opened s ns top l r R.holds R.apart (let few = R.few in omega arith)
+
+  pub ready_side : Ready ns a i x here
+  ready_side = record {
+    holds = both.holds_left;
+    apart = both.apart.3;
+    top_is = both.left;
+    new_leaf = R.new_leaf;
+    new_fork = R.new_fork;
+    differ = R.differ;
+    not_fork = λ h. R.not_fork (in_side s top l r i h);
+    not_leaf = λ h. R.not_leaf (in_side s top l r x.number h);
+    few = (let few = R.few in omega (arith, few, size-sides s l r));
+  }
 
   -- the new nodes and a side
-  not_top : (t : Tree) → ¬ Has t top → Has (fork i (leaf x) t) top → ⊥
-  not_top t n h = elim h [ inl e ↦ R.not_fork (inl (sym e)) | inr y ↦ elim y [ inl e ↦ R.not_leaf (inl (sym e)) | inr u ↦ n u ] ]
+  module _ (k new : ℕ) (ms : List Node) (B : Becomes ns ms new (fork i (leaf x) here) (put_in i x k here)) where
+    pub put_sides : Sides ms top new b (put_in i x k here) there
+    put_sides = new_first ns ms top new b (fork i (leaf x) here) (put_in i x k here) there (record {
+      within = both.within;
+      top_is = both.right;
+      holds = both.holds_right;
+      apart = both.apart.4;
+      not_here = both.apart.1;
+      not_there = λ h. elim h [ inl e ↦ R.not_fork (inl (sym e)) | inr y ↦ elim y [ inl e ↦ R.not_leaf (inl (sym e)) | inr z ↦ both.apart.0 z ] ];
+      disjoint = record { apart = λ j h m. elim h [ inl e ↦ R.not_fork (in_side (other s) top l r i (subst (Has there) e m)) | inr y ↦ elim y [ inl e ↦ R.not_leaf (in_side (other s) top l r x.number (subst (Has there) e m)) | inr z ↦ both.apart.2.apart j z m ] ] };
+    }) B (let few = R.few in omega (arith, few, size-put_in i x k here, size-sides s l r))
 
-  fresh : (t u : Tree) → ¬ Has u i → ¬ Has u x.number → Disjoint t u → Disjoint (fork i (leaf x) t) u
-  fresh t u no_i no_x d = record { apart = λ j h k. elim h [ inl e ↦ no_i (subst (Has u) e k) | inr y ↦ elim y [ inl e ↦ no_x (subst (Has u) e k) | inr z ↦ d.apart j z k ] ] }
-
-  wider : (t : Tree) → ((j : ℕ) → Has t j → Has (fork top l r) j) → (j : ℕ) → Has (fork i (leaf x) t) j → Has (fork i (leaf x) (fork top l r)) j
-  wider t more j h = elim h [ inl e ↦ inl e | inr y ↦ elim y [ inl e ↦ inr (inl e) | inr z ↦ inr (inr (more j z)) ] ]
-
-  module _ (k new : ℕ) (ms : List Node) (B : Becomes ns ms new (fork i (leaf x) l) (put_in i x k l)) where
-    pub left_sides : Sides ms top new (at ns top).right (put_in i x k l) r
-    left_sides = new_left ns ms top new (at ns top).right (fork i (leaf x) l) (put_in i x k l) r (record {
-      within = R.holds.0.within;
-      top_is = sym R.holds.0.right;
-      holds = R.holds.2;
-      apart = R.apart.4;
-      not_here = R.apart.1;
-      not_there = not_top l R.apart.0;
-      disjoint = fresh l r (λ h. R.not_fork (inr (inr h))) (λ h. R.not_leaf (inr (inr h))) R.apart.2;
-    }) B (let f = R.few in omega (arith, f, size-put_in i x k l))
-
-    pub left_put : k ≤ size l → (ks : List Node) (res : ℕ) → Becomes ms ks res (fork top (put_in i x k l) r) (balanced top (put_in i x k l) r) → Becomes ns ks res (fork i (leaf x) (fork top l r)) (put_in i x k (fork top l r))
-    left_put le ks res C = rw (le_is k (size l) le) (then_left ns ms ks top new res (fork i (leaf x) l) (put_in i x k l) r (balanced top (put_in i x k l) r) (fork i (leaf x) (fork top l r)) B C
-        (wider l (λ j h. inr (inl h))) (inr (inr (inl refl))) (λ j h. inr (inr (inr (inr h)))))
-
-  module _ (k new : ℕ) (ms : List Node) (B : Becomes ns ms new (fork i (leaf x) r) (put_in i x (k - size l) r)) where
-    pub right_sides : Sides ms top (at ns top).left new l (put_in i x (k - size l) r)
-    right_sides = new_right ns ms top new (at ns top).left (fork i (leaf x) r) (put_in i x (k - size l) r) l (record {
-      within = R.holds.0.within;
-      top_is = sym R.holds.0.left;
-      holds = R.holds.1;
-      apart = R.apart.3;
-      not_here = R.apart.0;
-      not_there = not_top r R.apart.1;
-      disjoint = fresh r l (λ h. R.not_fork (inr (inl h))) (λ h. R.not_leaf (inr (inl h))) (flip l r R.apart.2);
-    }) B (let f = R.few in omega (arith, f, size-put_in i x (k - size l) r))
-
-    pub right_put : size l < k → (ks : List Node) (res : ℕ) → Becomes ms ks res (fork top l (put_in i x (k - size l) r)) (balanced top l (put_in i x (k - size l) r)) → Becomes ns ks res (fork i (leaf x) (fork top l r)) (put_in i x k (fork top l r))
-    right_put gt ks res C = rw (gt_is k (size l) gt) (then_right ns ms ks top new res (fork i (leaf x) r) (put_in i x (k - size l) r) l (balanced top l (put_in i x (k - size l) r)) (fork i (leaf x) (fork top l r)) B C
-        (wider r (λ j h. inr (inr h))) (inr (inr (inl refl))) (λ j h. inr (inr (inr (inl h)))))
+    pub put_whole : (ks : List Node) (res : ℕ) (now : Tree) → Becomes ms ks res (fork top (put_in i x k here) there) now → Becomes ns ks res (fork i (leaf x) (fork top l r)) now
+    put_whole ks res now C = then_first ns ms ks top new res (fork i (leaf x) here) (put_in i x k here) there now (fork i (leaf x) (fork top l r)) B C
+        (λ j h. elim h [ inl e ↦ inl e | inr y ↦ elim y [ inl e ↦ inr (inl e) | inr z ↦ inr (inr (in_side s top l r j z)) ] ])
+        (inr (inr (inl refl))) (λ j h. inr (inr (in_side (other s) top l r j h)))
 
 -- a tree with room for a leaf, once the leaf is written
 pub room_ready : (ns ms : List Node) (list top place i : ℕ) (x : Item) (t : Tree) → HasRoom ns list top place i x.number t → WritesLeaf ns ms x → Ready ms top i x t

@@ -6,16 +6,20 @@ use Rattle.std.proofs.lemmas.Bool.Decides.{nat_tests}
 use Rattle.std.proofs.lemmas.List.Edits.{remove-append_left, remove-append_right}
 use Rattle.leaf_trees.specs.declared.node.Node.{Node}
 use Rattle.leaf_trees.specs.declared.edit.Cut.{Cut}
+use Rattle.leaf_trees.specs.declared.side.Side.{Side}
+use Rattle.leaf_trees.specs.declared.side.Side.TheVariants.{Left, Right}
 use Rattle.leaf_trees.specs.Tree.{Item, Tree, leaf, fork, size, height, leaves, Has, IsAvl}
-use Rattle.leaf_trees.specs.Balance.{take_out, beside_left as rest_left, beside_right as rest_right, balanced, rest_place}
-use Rattle.leaf_trees.specs.Arena.{at, HasTree}
+use Rattle.leaf_trees.specs.Side.{other, on, fork_on, place_on, nearest}
+use Rattle.leaf_trees.specs.Balance.{take_out, beside, balanced, rest_place}
 use Rattle.leaf_trees.specs.Change.{Sides, Becomes}
 use Rattle.leaf_trees.specs.Cut.{CutsTo, Stays}
 use Rattle.leaf_trees.proofs.Held.{positive, has_top}
-use Rattle.leaf_trees.proofs.Turns.{new_left, new_right}
-use Rattle.leaf_trees.proofs.Lean.{lt_is, ge_is, then_left, then_right, beside_left, beside_right}
+use Rattle.leaf_trees.proofs.Turns.{new_first, then_first, beside_first, in_side}
+use Rattle.leaf_trees.proofs.Lean.{lt_is, ge_is}
+use Rattle.leaf_trees.proofs.Leaned.{even_sides, height-fork_on}
+use Rattle.leaf_trees.proofs.Ways.{Goes}
 use Rattle.leaf_trees.proofs.Balanced.{size-balanced, leaves-balanced, length-leaves, balances}
-use Rattle.leaf_trees.proofs.Parts.{Parts}
+use Rattle.leaf_trees.proofs.Parts.{Down}
 
 -- how many leaves are left, and which
 pub rest_size : Option Tree → ℕ
@@ -30,35 +34,30 @@ rest_some : (t : Tree) → rest_size (Some t) ≡ size t
 unfolding rest_size
 rest_some t = refl
 
-size-rest_right : (b : ℕ) (o : Option Tree) (r : Tree) → size (rest_right b o r) ≡ rest_size o + size r
+size-rest : (s : Side) (b : ℕ) (o : Option Tree) (u : Tree) → size (beside s b o u) ≡ rest_size o + size u
 unfolding rest_size
-size-rest_right b None r = omega arith
-size-rest_right b (Some l) r = size-balanced b l r
-
-size-rest_left : (b : ℕ) (l : Tree) (o : Option Tree) → size (rest_left b l o) ≡ size l + rest_size o
-unfolding rest_size
-size-rest_left b l None = omega arith
-size-rest_left b l (Some r) = size-balanced b l r
+size-rest s b None u = omega arith
+size-rest s b (Some t) u = size-balanced s b t u
 
 pub size-take_out : (k : ℕ) (t : Tree) → rest_size (take_out k t) + 1 ≡ size t
 unfolding rest_size
 size-take_out k (leaf x) = refl
 size-take_out k (fork b l r) =
-    elim (nat_lt k (size l)) as (λ c. size (cond c (rest_right b (take_out k l) r) (rest_left b l (take_out (k - size l) r))) + 1 ≡ size l + size r) [
-      | true ↦ (let e = size-take_out k l in let f = size-rest_right b (take_out k l) r in omega arith)
-      | false ↦ (let e = size-take_out (k - size l) r in let f = size-rest_left b l (take_out (k - size l) r) in omega arith)
+    elim (nat_lt k (size l)) as (λ c. size (cond c (beside Left b (take_out k l) r) (beside Right b (take_out (k - size l) r) l)) + 1 ≡ size l + size r) [
+      | true ↦ (let e = size-take_out k l in let f = size-rest Left b (take_out k l) r in omega arith)
+      | false ↦ (let e = size-take_out (k - size l) r in let f = size-rest Right b (take_out (k - size l) r) l in omega arith)
     ]
 
 pub size_left : (k : ℕ) (t u : Tree) → take_out k t ≡ Some u → size u + 1 ≡ size t
 size_left k t u e = ap (λ n. n + 1) (sym (rest_some u)) ∙ ap (λ o. rest_size o + 1) (sym e) ∙ size-take_out k t
 
-leaves-rest_right : (b : ℕ) (o : Option Tree) (r : Tree) → leaves (rest_right b o r) ≡ rest_leaves o ++ leaves r
-leaves-rest_right b None r = refl
-leaves-rest_right b (Some l) r = leaves-balanced b l r
+leaves-rest_left : (b : ℕ) (o : Option Tree) (u : Tree) → leaves (beside Left b o u) ≡ rest_leaves o ++ leaves u
+leaves-rest_left b None u = refl
+leaves-rest_left b (Some t) u = leaves-balanced Left b t u
 
-leaves-rest_left : (b : ℕ) (l : Tree) (o : Option Tree) → leaves (rest_left b l o) ≡ leaves l ++ rest_leaves o
-leaves-rest_left b l None = sym (append-nil (leaves l))
-leaves-rest_left b l (Some r) = leaves-balanced b l r
+leaves-rest_right : (b : ℕ) (o : Option Tree) (u : Tree) → leaves (beside Right b o u) ≡ leaves u ++ rest_leaves o
+leaves-rest_right b None u = sym (append-nil (leaves u))
+leaves-rest_right b (Some t) u = leaves-balanced Right b t u
 
 -- the item at the place is gone
 pub leaves-take_out : (k : ℕ) (t : Tree) → k < size t → rest_leaves (take_out k t) ≡ remove (leaves t) k
@@ -67,9 +66,9 @@ leaves-take_out (suc k) (leaf x) h = absurd (omega arith)
 leaves-take_out k (fork b l r) h =
     elim (cases_lt k (size l)) [
       | inl lt ↦ rw (lt_is k (size l) lt)
-          (leaves-rest_right b (take_out k l) r ∙ ap (λ (xs : List Item). xs ++ leaves r) (leaves-take_out k l lt) ∙ sym (remove-append_left (leaves l) (leaves r) k (rw length-leaves lt)))
+          (leaves-rest_left b (take_out k l) r ∙ ap (λ (xs : List Item). xs ++ leaves r) (leaves-take_out k l lt) ∙ sym (remove-append_left (leaves l) (leaves r) k (rw length-leaves lt)))
       | inr ge ↦ rw (ge_is k (size l) ge)
-          (leaves-rest_left b l (take_out (k - size l) r) ∙ ap (λ (xs : List Item). leaves l ++ xs) (leaves-take_out (k - size l) r (omega arith)) ∙ sym (remove-append_right (leaves l) (leaves r) (size l) k (length-leaves l) ge))
+          (leaves-rest_right b (take_out (k - size l) r) l ∙ ap (λ (xs : List Item). leaves l ++ xs) (leaves-take_out (k - size l) r (omega arith)) ∙ sym (remove-append_right (leaves l) (leaves r) (size l) k (length-leaves l) ge))
     ]
 
 pub none_leaf : (k : ℕ) (t : Tree) → take_out k t ≡ None → height t ≡ 0
@@ -86,94 +85,54 @@ eq_zero n e = grind (arith, nat_tests)
 pub ne_zero : (n : ℕ) → 0 < n → nat_eq n 0 ≡ false
 ne_zero n e = grind (arith, nat_tests)
 
--- a part of a tree, with nothing changed
-part_right : (ns : List Node) (top b : ℕ) (l r : Tree) → HasTree ns b r → Becomes ns ns b (fork top l r) r
-part_right ns top b l r H = record { len = refl; top_is = H.top_is; holds = H.holds; apart = H.apart; inside = λ j h. inr (inr h); others = λ j n. refl; taken = λ j h. h }
+-- a leaf of one side goes
+module _ (s : Side) (ns : List Node) (top a b k j : ℕ) (t : Tree) (P : Down s ns top a b t) (G : Goes s k j P.l P.r) where
+  abbrev here : Tree
+  here = on s P.l P.r
 
-part_left : (ns : List Node) (top b : ℕ) (l r : Tree) → HasTree ns b l → Becomes ns ns b (fork top l r) l
-part_left ns top b l r H = record { len = refl; top_is = H.top_is; holds = H.holds; apart = H.apart; inside = λ j h. inr (inl h); others = λ j n. refl; taken = λ j h. h }
+  abbrev there : Tree
+  there = on (other s) P.l P.r
 
-module _ (ns : List Node) (top k : ℕ) (t : Tree) (P : Parts ns top t) where
-  abbrev a : ℕ
-  a = (at ns top).left
+  abbrev both : Sides ns top a b here there
+  both = P.both
 
-  abbrev b : ℕ
-  b = (at ns top).right
+  here_in : Has here a
+  here_in = has_top here a both.left
 
-  left_in : Has P.l a
-  left_in = has_top P.l a P.sides.left
-
-  right_in : Has P.r b
-  right_in = has_top P.r b P.sides.right
-
-  -- the left side was one leaf, and it goes
-  pub cut_left_leaf : k < size P.l → (ms : List Node) → Stays ns ms P.l k → CutsTo ns ms t k (record { top = b; place = 0; item = a; fork = top })
-  cut_left_leaf lt ms S = subst (λ (w : List Node). CutsTo ns w t k (record { top = b; place = 0; item = a; fork = top })) (sym S.same) (subst (λ (x : Tree). CutsTo ns ns x k (record { top = b; place = 0; item = a; fork = top })) (sym P.is) (record {
-    now = P.r;
-    left = rw (lt_is k (size P.l) lt, S.left) refl;
-    becomes = part_right ns top b P.l P.r P.right;
-    place_is = rw (lt_is k (size P.l) lt, eq_zero (height P.l) (none_leaf k P.l S.left)) refl;
-    item = inr (inl left_in);
+  -- it was all of that side
+  pub cut_leaf : (ms : List Node) → Stays ns ms here j → CutsTo ns ms t k (record { top = b; place = nearest s (size there); item = a; fork = top })
+  cut_leaf ms S = subst (λ (w : List Node). CutsTo ns w t k (record { top = b; place = nearest s (size there); item = a; fork = top })) (sym S.same) (subst (λ (x : Tree). CutsTo ns ns x k (record { top = b; place = nearest s (size there); item = a; fork = top })) (sym P.is) (record {
+    now = there;
+    left = G.take_is top ∙ ap (λ o. Some (beside s top o there)) S.left;
+    becomes = record { len = refl; top_is = both.right; holds = both.holds_right; apart = both.apart.4; inside = in_side (other s) top P.l P.r; others = λ i n. refl; taken = λ i h. h };
+    place_is = sym (G.rest_is top ∙ ap (λ c. cond c (nearest s (size there)) (place_on s (size there) (rest_place j here))) (eq_zero (height here) (none_leaf j here S.left)));
+    item = in_side s top P.l P.r a here_in;
     fork = inl refl;
-    not_item = λ h. P.sides.apart.2.apart a left_in h;
-    not_fork = P.sides.apart.1;
-    differ = λ e. P.sides.apart.0 (subst (Has P.l) e left_in);
+    not_item = λ h. both.apart.2.apart a here_in h;
+    not_fork = both.apart.1;
+    differ = λ e. both.apart.0 (subst (Has here) e here_in);
   }))
 
-  pub cut_right_leaf : size P.l ≤ k → (ms : List Node) → Stays ns ms P.r (k - size P.l) → CutsTo ns ms t k (record { top = a; place = size P.l - 1; item = b; fork = top })
-  cut_right_leaf ge ms S = subst (λ (w : List Node). CutsTo ns w t k (record { top = a; place = size P.l - 1; item = b; fork = top })) (sym S.same) (subst (λ (x : Tree). CutsTo ns ns x k (record { top = a; place = size P.l - 1; item = b; fork = top })) (sym P.is) (record {
-    now = P.l;
-    left = rw (ge_is k (size P.l) ge, S.left) refl;
-    becomes = part_left ns top a P.l P.r P.left;
-    place_is = rw (ge_is k (size P.l) ge, eq_zero (height P.r) (none_leaf (k - size P.l) P.r S.left)) refl;
-    item = inr (inr right_in);
-    fork = inl refl;
-    not_item = λ h. P.sides.apart.2.apart b h right_in;
-    not_fork = P.sides.apart.0;
-    differ = λ e. P.sides.apart.1 (subst (Has P.r) e right_in);
-  }))
+  -- something is left of it
+  module _ (ms : List Node) (cut : Cut) (C : CutsTo ns ms here j cut) where
+    pub cut_sides : Sides ms top cut.top b C.now there
+    cut_sides = new_first ns ms top cut.top b here C.now there (beside_first ns top a b here there both) C.becomes (let few = both.few in let n = size_left j here C.now C.left in omega arith)
 
-  -- a leaf of the left side goes
-  module _ (ms : List Node) (cut : Cut) (C : CutsTo ns ms P.l k cut) where
-    pub cut_left_sides : Sides ms top cut.top b C.now P.r
-    cut_left_sides = new_left ns ms top cut.top b P.l C.now P.r (beside_left ns top a b P.l P.r P.sides) C.becomes (let few = P.sides.few in let s = size_left k P.l C.now C.left in omega arith)
-
-    pub cut_left : k < size P.l → (ks : List Node) (joined : ℕ) → Becomes ms ks joined (fork top C.now P.r) (balanced top C.now P.r) → CutsTo ns ks t k (record cut { top = joined })
-    cut_left lt ks joined B = subst (λ (x : Tree). CutsTo ns ks x k (record cut { top = joined })) (sym P.is) (record {
-      now = balanced top C.now P.r;
-      left = rw (lt_is k (size P.l) lt, C.left) refl;
-      becomes = then_left ns ms ks top cut.top joined P.l C.now P.r (balanced top C.now P.r) (fork top P.l P.r) C.becomes B (λ j h. inr (inl h)) (inl refl) (λ j h. inr (inr h));
-      place_is = rw (lt_is k (size P.l) lt, ne_zero (height P.l) (some_fork k P.l C.now C.left)) C.place_is;
-      item = inr (inl C.item);
-      fork = inr (inl C.fork);
+    pub cut_whole : (ks : List Node) (joined : ℕ) → Becomes ms ks joined (fork top C.now there) (balanced s top C.now there) → CutsTo ns ks t k (record cut { top = joined; place = place_on s (size there) cut.place })
+    cut_whole ks joined B = subst (λ (x : Tree). CutsTo ns ks x k (record cut { top = joined; place = place_on s (size there) cut.place })) (sym P.is) (record {
+      now = balanced s top C.now there;
+      left = G.take_is top ∙ ap (λ o. Some (beside s top o there)) C.left;
+      becomes = then_first ns ms ks top cut.top joined here C.now there (balanced s top C.now there) (fork top P.l P.r) C.becomes B (in_side s top P.l P.r) (inl refl) (in_side (other s) top P.l P.r);
+      place_is = ap (place_on s (size there)) C.place_is ∙ sym (G.rest_is top ∙ ap (λ c. cond c (nearest s (size there)) (place_on s (size there) (rest_place j here))) (ne_zero (height here) (some_fork j here C.now C.left)));
+      item = in_side s top P.l P.r cut.item C.item;
+      fork = in_side s top P.l P.r cut.fork C.fork;
       not_item = λ h. gone cut.item C.item C.not_item (B.inside cut.item h);
       not_fork = λ h. gone cut.fork C.fork C.not_fork (B.inside cut.fork h);
       differ = C.differ;
     })
       where
-        gone : (j : ℕ) → Has P.l j → ¬ Has C.now j → Has (fork top C.now P.r) j → ⊥
-        gone j was never h = elim h [ inl e ↦ P.sides.apart.0 (subst (Has P.l) e was) | inr y ↦ elim y [ inl x ↦ never x | inr x ↦ P.sides.apart.2.apart j was x ] ]
-
-  -- a leaf of the right side goes
-  module _ (ms : List Node) (cut : Cut) (C : CutsTo ns ms P.r (k - size P.l) cut) where
-    pub cut_right_sides : Sides ms top a cut.top P.l C.now
-    cut_right_sides = new_right ns ms top cut.top a P.r C.now P.l (beside_right ns top a b P.l P.r P.sides) C.becomes (let few = P.sides.few in let s = size_left (k - size P.l) P.r C.now C.left in omega arith)
-
-    pub cut_right : size P.l ≤ k → (ks : List Node) (joined : ℕ) → Becomes ms ks joined (fork top P.l C.now) (balanced top P.l C.now) → CutsTo ns ks t k (record cut { top = joined; place = size P.l + cut.place })
-    cut_right ge ks joined B = subst (λ (x : Tree). CutsTo ns ks x k (record cut { top = joined; place = size P.l + cut.place })) (sym P.is) (record {
-      now = balanced top P.l C.now;
-      left = rw (ge_is k (size P.l) ge, C.left) refl;
-      becomes = then_right ns ms ks top cut.top joined P.r C.now P.l (balanced top P.l C.now) (fork top P.l P.r) C.becomes B (λ j h. inr (inr h)) (inl refl) (λ j h. inr (inl h));
-      place_is = rw (ge_is k (size P.l) ge, ne_zero (height P.r) (some_fork (k - size P.l) P.r C.now C.left)) (ap (λ n. size P.l + n) C.place_is);
-      item = inr (inr C.item);
-      fork = inr (inr C.fork);
-      not_item = λ h. gone cut.item C.item C.not_item (B.inside cut.item h);
-      not_fork = λ h. gone cut.fork C.fork C.not_fork (B.inside cut.fork h);
-      differ = C.differ;
-    })
-      where
-        gone : (j : ℕ) → Has P.r j → ¬ Has C.now j → Has (fork top P.l C.now) j → ⊥
-        gone j was never h = elim h [ inl e ↦ P.sides.apart.1 (subst (Has P.r) e was) | inr y ↦ elim y [ inl x ↦ P.sides.apart.2.apart j x was | inr x ↦ never x ] ]
+        gone : (i : ℕ) → Has here i → ¬ Has C.now i → Has (fork top C.now there) i → ⊥
+        gone i was never h = elim h [ inl e ↦ both.apart.0 (subst (Has here) e was) | inr y ↦ elim y [ inl x ↦ never x | inr x ↦ both.apart.2.apart i was x ] ]
 
 -- the place of a leaf beside is one of the tree's
 pub rest_place-below : (k : ℕ) (t : Tree) → rest_place k t < size t
@@ -201,31 +160,25 @@ shrunk l r l' r' n a a' b b' c c' one least most even =
       ]
     ]
 
-high_right : (b : ℕ) (l r : Tree) (o : Option Tree) → IsAvl (fork b l r) → TakesHigh l o → TakesHigh (fork b l r) (Some (rest_right b o r))
+high_rest : (s : Side) (b : ℕ) (t u : Tree) (o : Option Tree) → IsAvl (fork_on s b t u) → TakesHigh t o → TakesHigh (fork_on s b t u) (Some (beside s b o u))
 unfolding TakesHigh
-high_right b l r None avl h = let d : height l ≤ height r + 1 = avl.0 in let e : height r ≤ height l + 1 = avl.1 in (avl.3, omega arith, omega arith)
-high_right b l r (Some u) avl h =
-    let d : height l ≤ height r + 1 = avl.0 in let e : height r ≤ height l + 1 = avl.1 in let most = h.1 in let least = h.2 in
-    let B = balances b u r h.0 avl.3 (omega arith) (omega arith) in
-    let s = shrunk (height l) (height r) (height u) (height r) (height (balanced b u r)) d e most least (omega arith) (omega arith) (inr (omega arith)) B.least B.most B.even in
-    (B.avl, s.0, s.1)
-
-high_left : (b : ℕ) (l r : Tree) (o : Option Tree) → IsAvl (fork b l r) → TakesHigh r o → TakesHigh (fork b l r) (Some (rest_left b l o))
-unfolding TakesHigh
-high_left b l r None avl h = let d : height l ≤ height r + 1 = avl.0 in let e : height r ≤ height l + 1 = avl.1 in (avl.2, omega arith, omega arith)
-high_left b l r (Some u) avl h =
-    let d : height l ≤ height r + 1 = avl.0 in let e : height r ≤ height l + 1 = avl.1 in let most = h.1 in let least = h.2 in
-    let B = balances b l u avl.2 h.0 (omega arith) (omega arith) in
-    let s = shrunk (height l) (height r) (height l) (height u) (height (balanced b l u)) d e (omega arith) (omega arith) most least (inl (omega arith)) B.least B.most B.even in
-    (B.avl, s.0, s.1)
+high_rest s b t u None avl h =
+    let E = even_sides s b t u avl in let d = E.left_most in let d' = E.right_most in let n = height-fork_on s b t u in
+    (E.right_avl, omega arith, omega arith)
+high_rest s b t u (Some v) avl h =
+    let E = even_sides s b t u avl in let d = E.left_most in let d' = E.right_most in let n = height-fork_on s b t u in
+    let most = h.1 in let least = h.2 in
+    let B = balances s b v u h.0 E.right_avl (omega arith) (omega arith) in
+    let g = shrunk (height t) (height u) (height v) (height u) (height (balanced s b v u)) d d' most least (omega arith) (omega arith) (inr (omega arith)) B.least B.most B.even in
+    (B.avl, omega (arith, g.0), omega (arith, g.1))
 
 pub high-take_out : (k : ℕ) (t : Tree) → IsAvl t → TakesHigh t (take_out k t)
 unfolding TakesHigh
 high-take_out k (leaf x) avl = refl
 high-take_out k (fork b l r) avl =
-    elim (nat_lt k (size l)) as (λ c. TakesHigh (fork b l r) (Some (cond c (rest_right b (take_out k l) r) (rest_left b l (take_out (k - size l) r))))) [
-      | true ↦ high_right b l r (take_out k l) avl (high-take_out k l avl.2)
-      | false ↦ high_left b l r (take_out (k - size l) r) avl (high-take_out (k - size l) r avl.3)
+    elim (nat_lt k (size l)) as (λ c. TakesHigh (fork b l r) (Some (cond c (beside Left b (take_out k l) r) (beside Right b (take_out (k - size l) r) l)))) [
+      | true ↦ high_rest Left b l r (take_out k l) avl (high-take_out k l avl.2)
+      | false ↦ high_rest Right b r l (take_out (k - size l) r) avl (high-take_out (k - size l) r avl.3)
     ]
 
 pub avl-take_out : (k : ℕ) (t u : Tree) → IsAvl t → take_out k t ≡ Some u → IsAvl u

@@ -1,4 +1,5 @@
 pub mod Tree
+pub mod Side
 pub mod Balance
 pub mod Arena
 pub mod Change

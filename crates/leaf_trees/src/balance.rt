@@ -2,78 +2,55 @@
 
 ghost use Rattle.std.specs.Prelude.{◌≡◌, ◌+◌, ◌<◌, ◌≤◌};
 ghost use Rattle.leaf_trees.specs.Tree.{Tree, fork, height};
-ghost use Rattle.leaf_trees.specs.Balance.{turn_left as turned_left, turn_right as turned_right, left_heavy, right_heavy, balanced};
+ghost use Rattle.leaf_trees.specs.Balance.{turned, heavy, balanced};
 ghost use Rattle.leaf_trees.specs.Change.{Sides, Becomes};
 
-use crate::link::link;
+use crate::link::link_on;
 use crate::node::Node;
+use crate::side::Side;
 
-/// Two sides below `i`, of which the right one, a fork, comes to the top.
-fn turn_left(nodes: &mut [Node], i: u32, left: u32, right: u32) -> u32
-    requires { (lt : Tree) × (rt : Tree) × Sides nodes.old i left right lt rt × (0 < height rt) }
-    ensures { (lt rt : Tree) → Sides nodes.old i left right lt rt → 0 < height rt
-        → Becomes nodes.old nodes.new result (fork i lt rt) (turned_left i lt rt) }
+/// Two trees below `i`, of which the one on this side, a fork, comes to the top.
+fn turn(nodes: &mut [Node], side: Side, i: u32, high: u32, low: u32) -> u32
+    requires { (t : Tree) × (u : Tree) × Sides nodes.old i high low t u × (0 < height t) }
+    ensures { (t u : Tree) → Sides nodes.old i high low t u → 0 < height t
+        → Becomes nodes.old nodes.new result (fork i t u) (turned side i t u) }
 {
-    let top = nodes[right as usize];
-    link(nodes, i, left, top.left);
-    link(nodes, right, i, top.right);
-    right
+    let top = nodes[high as usize];
+    link_on(nodes, side, i, top.on(side.other()), low);
+    link_on(nodes, side, high, top.on(side), i);
+    high
 }
 
-/// Two sides below `i`, of which the left one, a fork, comes to the top.
-fn turn_right(nodes: &mut [Node], i: u32, left: u32, right: u32) -> u32
-    requires { (lt : Tree) × (rt : Tree) × Sides nodes.old i left right lt rt × (0 < height lt) }
-    ensures { (lt rt : Tree) → Sides nodes.old i left right lt rt → 0 < height lt
-        → Becomes nodes.old nodes.new result (fork i lt rt) (turned_right i lt rt) }
+/// Two trees below `i`, of which the one on this side is too high.
+fn lean(nodes: &mut [Node], side: Side, i: u32, high: u32, low: u32) -> u32
+    requires { (t : Tree) × (u : Tree) × Sides nodes.old i high low t u × (height u + 1 < height t) }
+    ensures { (t u : Tree) → Sides nodes.old i high low t u
+        → Becomes nodes.old nodes.new result (fork i t u) (turned side i (heavy side t) u) }
 {
-    let top = nodes[left as usize];
-    link(nodes, i, top.right, right);
-    link(nodes, left, top.left, i);
-    left
-}
-
-/// Two sides below `i`, of which the left one is too high.
-fn lean_left(nodes: &mut [Node], i: u32, left: u32, right: u32) -> u32
-    requires { (lt : Tree) × (rt : Tree) × Sides nodes.old i left right lt rt × (height rt + 1 < height lt) }
-    ensures { (lt rt : Tree) → Sides nodes.old i left right lt rt
-        → Becomes nodes.old nodes.new result (fork i lt rt) (turned_right i (left_heavy lt) rt) }
-{
-    let side = nodes[left as usize];
-    if nodes[side.right as usize].height <= nodes[side.left as usize].height {
-        return turn_right(nodes, i, left, right);
+    let top = nodes[high as usize];
+    let outer = top.on(side);
+    let inner = top.on(side.other());
+    if nodes[inner as usize].height <= nodes[outer as usize].height {
+        return turn(nodes, side, i, high, low);
     }
-    let high = turn_left(nodes, left, side.left, side.right);
-    turn_right(nodes, i, high, right)
+    let high = turn(nodes, side.other(), high, inner, outer);
+    turn(nodes, side, i, high, low)
 }
 
-/// Two sides below `i`, of which the right one is too high.
-fn lean_right(nodes: &mut [Node], i: u32, left: u32, right: u32) -> u32
-    requires { (lt : Tree) × (rt : Tree) × Sides nodes.old i left right lt rt × (height lt + 1 < height rt) }
-    ensures { (lt rt : Tree) → Sides nodes.old i left right lt rt
-        → Becomes nodes.old nodes.new result (fork i lt rt) (turned_left i lt (right_heavy rt)) }
+/// Makes a tree of two below `i`, the first of them on this side, turned where one of them is more than one higher.
+pub fn balance(nodes: &mut [Node], side: Side, i: u32, here: u32, there: u32) -> u32
+    requires { (t : Tree) × (u : Tree) × Sides nodes.old i here there t u }
+    ensures { (t u : Tree) → Sides nodes.old i here there t u
+        → Becomes nodes.old nodes.new result (fork i t u) (balanced side i t u) }
 {
-    let side = nodes[right as usize];
-    if nodes[side.left as usize].height <= nodes[side.right as usize].height {
-        return turn_left(nodes, i, left, right);
-    }
-    let high = turn_right(nodes, right, side.left, side.right);
-    turn_left(nodes, i, left, high)
-}
-
-/// Makes a tree of two below `i`, turned where one of them is more than one higher.
-pub fn balance(nodes: &mut [Node], i: u32, left: u32, right: u32) -> u32
-    requires { (lt : Tree) × (rt : Tree) × Sides nodes.old i left right lt rt }
-    ensures { (lt rt : Tree) → Sides nodes.old i left right lt rt
-        → Becomes nodes.old nodes.new result (fork i lt rt) (balanced i lt rt) }
-{
-    let left_height = nodes[left as usize].height;
-    let right_height = nodes[right as usize].height;
-    if left_height > right_height + 1 {
-        lean_left(nodes, i, left, right)
-    } else if right_height > left_height + 1 {
-        lean_right(nodes, i, left, right)
+    let height = nodes[here as usize].height;
+    let other = nodes[there as usize].height;
+    if height > other + 1 {
+        lean(nodes, side, i, here, there)
+    } else if other > height + 1 {
+        lean(nodes, side.other(), i, there, here)
     } else {
-        link(nodes, i, left, right);
+        link_on(nodes, side, i, here, there);
         i
     }
 }

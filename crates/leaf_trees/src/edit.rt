@@ -8,8 +8,9 @@ ghost use Rattle.leaf_trees.specs.Change.{Becomes, Ready, Recounts};
 ghost use Rattle.leaf_trees.specs.Cut.{Cuts};
 
 use crate::balance::balance;
-use crate::link::link;
+use crate::link::{link, link_on};
 use crate::node::{Flags, Node};
+use crate::side::{Side, Way};
 
 /// What is left of a tree without one of its leaves.
 #[derive(Clone, Copy)]
@@ -40,10 +41,10 @@ pub fn insert_under(nodes: &mut [Node], top: u32, place: u32, joint: u32, item: 
     let before = nodes[node.left as usize].counts.leaves;
     if place <= before {
         let left = insert_under(nodes, node.left, place, joint, item);
-        balance(nodes, top, left, node.right)
+        balance(nodes, Side::Left, top, left, node.right)
     } else {
         let right = insert_under(nodes, node.right, place - before, joint, item);
-        balance(nodes, top, node.left, right)
+        balance(nodes, Side::Right, top, right, node.left)
     }
 }
 
@@ -56,37 +57,22 @@ pub fn remove_under(nodes: &mut [Node], top: u32, place: u32) -> Option<Cut>
     if node.height == 0 {
         return None;
     }
-    let before = nodes[node.left as usize].counts.leaves;
-    if place < before {
-        match remove_under(nodes, node.left, place) {
-            None => Some(Cut {
-                top: node.right,
-                place: 0,
-                item: node.left,
-                fork: top,
-            }),
-            Some(cut) => {
-                let joined = balance(nodes, top, cut.top, node.right);
-                Some(Cut { top: joined, ..cut })
-            }
-        }
-    } else {
-        match remove_under(nodes, node.right, place - before) {
-            None => Some(Cut {
-                top: node.left,
-                place: before - 1,
-                item: node.right,
-                fork: top,
-            }),
-            Some(cut) => {
-                let joined = balance(nodes, top, node.left, cut.top);
-                Some(Cut {
-                    top: joined,
-                    place: before + cut.place,
-                    ..cut
-                })
-            }
-        }
+    let way = Way::to(place, nodes[node.left as usize].counts.leaves);
+    let here = node.on(way.side);
+    let there = node.on(way.side.other());
+    let beside = nodes[there as usize].counts.leaves;
+    match remove_under(nodes, here, way.place) {
+        None => Some(Cut {
+            top: there,
+            place: way.side.nearest(beside),
+            item: here,
+            fork: top,
+        }),
+        Some(cut) => Some(Cut {
+            top: balance(nodes, way.side, top, cut.top, there),
+            place: way.side.place_on(beside, cut.place),
+            ..cut
+        }),
     }
 }
 
@@ -100,14 +86,11 @@ pub fn flag_under(nodes: &mut [Node], top: u32, place: u32, flags: Flags)
         recount(nodes, top, flags);
         return;
     }
-    let before = nodes[node.left as usize].counts.leaves;
-    if place < before {
-        flag_under(nodes, node.left, place, flags);
-        link(nodes, top, node.left, node.right);
-    } else {
-        flag_under(nodes, node.right, place - before, flags);
-        link(nodes, top, node.left, node.right);
-    }
+    let way = Way::to(place, nodes[node.left as usize].counts.leaves);
+    let here = node.on(way.side);
+    let there = node.on(way.side.other());
+    flag_under(nodes, here, way.place, flags);
+    link_on(nodes, way.side, top, here, there);
 }
 
 /// Counts a leaf anew.

@@ -35,5 +35,6 @@ mod edit;
 mod link;
 mod node;
 mod read;
+mod side;
 mod trees;
 mod whole;

@@ -2,10 +2,12 @@
 
 ghost use Rattle.std.specs.Prelude.{◌≡◌, ◌≢◌, ◌+◌, ◌^◌, ◌<◌, length};
 ghost use Rattle.leaf_trees.specs.Tree.{Tree, fork};
+ghost use Rattle.leaf_trees.specs.Side.{fork_on};
 ghost use Rattle.leaf_trees.specs.Arena.{at, Holds};
 ghost use Rattle.leaf_trees.specs.Change.{CanAdd, Links, Sides, Becomes};
 
 use crate::node::{Above, Node};
+use crate::side::Side;
 
 /// Writes the sides of node `i`, and what stands above them.
 fn write_link(nodes: &mut [Node], i: u32, left: u32, right: u32)
@@ -43,4 +45,15 @@ pub fn link(nodes: &mut [Node], i: u32, left: u32, right: u32)
     ensures becomes { (lt rt : Tree) → Sides nodes.old i left right lt rt → Becomes nodes.old nodes.new i (fork i lt rt) (fork i lt rt) }
 {
     write_link(nodes, i, left, right);
+}
+
+/// The same, the first of the two on this side.
+pub fn link_on(nodes: &mut [Node], side: Side, i: u32, here: u32, there: u32)
+    requires { (t : Tree) × (u : Tree) × Sides nodes.old i here there t u }
+    ensures { (t u : Tree) → Sides nodes.old i here there t u → Becomes nodes.old nodes.new i (fork i t u) (fork_on side i t u) }
+{
+    match side {
+        Side::Left => link(nodes, i, here, there),
+        Side::Right => link(nodes, i, there, here),
+    }
 }

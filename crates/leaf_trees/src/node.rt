@@ -4,6 +4,9 @@ ghost use Rattle.std.specs.Prelude.{◌≡◌};
 ghost use Rattle.leaf_trees.specs.Tree.{plus, counted};
 ghost use Rattle.leaf_trees.specs.Arena.{next_free};
 ghost use Rattle.leaf_trees.specs.Change.{CanAdd};
+ghost use Rattle.leaf_trees.specs.Side.{below};
+
+use crate::side::Side;
 
 /// What stands above a node.
 #[derive(Clone, Copy, Debug, PartialEq, Eq)]
@@ -81,6 +84,16 @@ impl Counts {
 }
 
 impl Node {
+    /// The node on this side of a fork.
+    pub(crate) fn on(self, side: Side) -> u32
+        ensures { result ≡ below side self }
+    {
+        match side {
+            Side::Left => self.left,
+            Side::Right => self.right,
+        }
+    }
+
     /// A free slot.
     pub(crate) fn free(next: Option<u32>) -> Node
         ensures { result.above ≡ Above.Free next }

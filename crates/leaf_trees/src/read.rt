@@ -5,6 +5,7 @@ ghost use Rattle.leaf_trees.specs.Tree.{Tree, size, marked_items, elements_befor
 ghost use Rattle.leaf_trees.specs.Arena.{IsTreeOf, HasTree};
 
 use crate::node::{Above, Node};
+use crate::side::Way;
 use crate::trees::Spot;
 
 /// The list that an item is in, and its place there, found from the item upwards.
@@ -37,12 +38,8 @@ pub fn item_under(nodes: &[Node], top: u32, place: u32) -> u32
     if node.height == 0 {
         return top;
     }
-    let before = nodes[node.left as usize].counts.leaves;
-    if place < before {
-        item_under(nodes, node.left, place)
-    } else {
-        item_under(nodes, node.right, place - before)
-    }
+    let way = Way::to(place, nodes[node.left as usize].counts.leaves);
+    item_under(nodes, node.on(way.side), way.place)
 }
 
 /// The item of the marked leaf of this number in the tree below `top`.
@@ -54,12 +51,8 @@ pub fn marked_under(nodes: &[Node], top: u32, number: u32) -> u32
     if node.height == 0 {
         return top;
     }
-    let before = nodes[node.left as usize].counts.marked;
-    if number < before {
-        marked_under(nodes, node.left, number)
-    } else {
-        marked_under(nodes, node.right, number - before)
-    }
+    let way = Way::to(number, nodes[node.left as usize].counts.marked);
+    marked_under(nodes, node.on(way.side), way.place)
 }
 
 /// How many leaves before a place of the tree below `top` are elements.

@@ -1,53 +1,39 @@
-use Rattle.std.proofs.Common.{◌-◌, ap, arith}
+use Rattle.std.proofs.Common.{◌≡◌, ap, ◌∙◌, arith}
+use Rattle.leaf_trees.specs.Arena.{at}
 use Rattle.leaf_trees.specs.Tree.{size}
+use Rattle.leaf_trees.specs.Side.{other, below, on}
 use Rattle.leaf_trees.specs.Balance.{flag_at}
-use Rattle.leaf_trees.proofs.Parts.{parts}
-use Rattle.leaf_trees.proofs.Flag.{flagged_left_sides, flagged_right_sides, flagged_left, flagged_right}
+use Rattle.leaf_trees.proofs.Parts.{down}
+use Rattle.leaf_trees.proofs.Ways.{goes}
+use Rattle.leaf_trees.proofs.Flag.{flagged_sides, flagged}
 use Rattle.leaf_trees.proofs.edit.+flag_under.Goals as goal
 
 pub flag_under-requires : goal.flag_under-requires
 flag_under-requires t c =
-    let q = c.requires in
-    let P = parts c.args.nodes.now c.args.top q.0 q.1 (omega (arith, c.if-node-eq0.false)) in
-    let e = ap (λ x. x.leaves) P.counts_left in let g = c.if-place-before.true in
-    (omega (arith, c.decreases, P.left_lower), (P.l, P.left, omega arith))
+    let q = c.requires in let ns = c.args.nodes.now in let top = c.args.top in let w = c.to-way.result in
+    let e : c.on-there.result ≡ below (other w.side) (at ns top) = c.on-there.ensures ∙ ap (λ s. below s (at ns top)) c.other.ensures in
+    let D = down w.side ns top c.on-here.result c.on-there.result q.0 q.1 (omega (arith, c.if-node-eq0.false)) c.on-here.ensures e in
+    let G = goes w c.args.place _ D.l D.r c.to-way.ensures (ap (λ x. x.leaves) D.left_counts) in
+    (omega (arith, c.decreases, D.lower), (on w.side D.l D.r, D.tree, G.within (let n = ap size D.is in let h = q.2 in omega arith)))
 
-pub flag_under-requires-else-place-before : goal.flag_under-requires-else-place-before
-flag_under-requires-else-place-before t c =
-    let q = c.requires in
-    let P = parts c.args.nodes.now c.args.top q.0 q.1 (omega (arith, c.if-node-eq0.false)) in
-    let e = ap (λ x. x.leaves) P.counts_left in let s = ap size P.is in let h = q.2 in let g = c.if-place-before.false in
-    (omega (arith, c.decreases, P.right_lower), (P.r, P.right, omega arith))
+pub link_on-requires : goal.link_on-requires
+link_on-requires t c =
+    let q = c.requires in let ns = c.args.nodes.now in let top = c.args.top in let w = c.to-way.result in
+    let a = c.on-here.result in let b = c.on-there.result in
+    let e : b ≡ below (other w.side) (at ns top) = c.on-there.ensures ∙ ap (λ s. below s (at ns top)) c.other.ensures in
+    let D = down w.side ns top a b q.0 q.1 (omega (arith, c.if-node-eq0.false)) c.on-here.ensures e in
+    let G = goes w c.args.place _ D.l D.r c.to-way.ensures (ap (λ x. x.leaves) D.left_counts) in
+    let B = c.flag_under.ensures (on w.side D.l D.r) D.tree (G.within (let n = ap size D.is in let h = q.2 in omega arith)) in
+    (flag_at c.args.flags w.place (on w.side D.l D.r), on (other w.side) D.l D.r, flagged_sides w.side ns top a b c.args.flags c.args.place w.place q.0 D G c.flag_under.new.nodes B)
 
-pub link-requires : goal.link-requires
-link-requires t c =
-    let q = c.requires in let ns = c.args.nodes.now in let top = c.args.top in
-    let P = parts ns top q.0 q.1 (omega (arith, c.if-node-eq0.false)) in
-    let e = ap (λ x. x.leaves) P.counts_left in let g = c.if-place-before.true in
-    (flag_at c.args.flags c.args.place P.l, P.r, flagged_left_sides ns top c.args.flags c.args.place q.0 P c.flag_under.new.nodes (c.flag_under.ensures P.l P.left (omega arith)))
-
-pub link-requires-else-place-before : goal.link-requires-else-place-before
-link-requires-else-place-before t c =
-    let q = c.requires in let ns = c.args.nodes.now in let top = c.args.top in
-    let P = parts ns top q.0 q.1 (omega (arith, c.if-node-eq0.false)) in
-    let e = ap (λ x. x.leaves) P.counts_left in let s = ap size P.is in let h = q.2 in let g = c.if-place-before.false in
-    let B = rw e at (c.flag_under-else-place-before.ensures P.r P.right (omega arith)) in
-    (P.l, flag_at c.args.flags (c.args.place - size P.l) P.r, flagged_right_sides ns top c.args.flags c.args.place q.0 P c.flag_under-else-place-before.new.nodes B)
-
-pub returns-then-place-before : goal.returns-then-place-before
-returns-then-place-before t c = λ w H h.
-    let ns = c.args.nodes.now in let top = c.args.top in let f = c.args.flags in let k = c.args.place in
-    let P = parts ns top w H (omega (arith, c.if-node-eq0.false)) in
-    let e = ap (λ x. x.leaves) P.counts_left in let g = c.if-place-before.true in
-    let B = c.flag_under.ensures P.l P.left (omega arith) in
-    let C = c.link.ensures.becomes (flag_at f k P.l) P.r (flagged_left_sides ns top f k w P c.flag_under.new.nodes B) in
-    flagged_left ns top f k w P (omega arith) c.flag_under.new.nodes c.link.new.nodes B C
-
-pub returns-else-place-before : goal.returns-else-place-before
-returns-else-place-before t c = λ w H h.
-    let ns = c.args.nodes.now in let top = c.args.top in let f = c.args.flags in let k = c.args.place in
-    let P = parts ns top w H (omega (arith, c.if-node-eq0.false)) in
-    let e = ap (λ x. x.leaves) P.counts_left in let s = ap size P.is in let g = c.if-place-before.false in
-    let B = rw e at (c.flag_under-else-place-before.ensures P.r P.right (omega arith)) in
-    let C = c.link-else-place-before.ensures.becomes P.l (flag_at f (k - size P.l) P.r) (flagged_right_sides ns top f k w P c.flag_under-else-place-before.new.nodes B) in
-    flagged_right ns top f k w P (omega arith) c.flag_under-else-place-before.new.nodes c.link-else-place-before.new.nodes B C
+pub returns : goal.returns
+returns t c = λ v H h.
+    let ns = c.args.nodes.now in let top = c.args.top in let w = c.to-way.result in
+    let a = c.on-here.result in let b = c.on-there.result in let f = c.args.flags in
+    let e : b ≡ below (other w.side) (at ns top) = c.on-there.ensures ∙ ap (λ s. below s (at ns top)) c.other.ensures in
+    let D = down w.side ns top a b v H (omega (arith, c.if-node-eq0.false)) c.on-here.ensures e in
+    let G = goes w c.args.place _ D.l D.r c.to-way.ensures (ap (λ x. x.leaves) D.left_counts) in
+    let B = c.flag_under.ensures (on w.side D.l D.r) D.tree (G.within (let n = ap size D.is in omega arith)) in
+    let ms = c.flag_under.new.nodes in
+    let C = c.link_on.ensures (flag_at f w.place (on w.side D.l D.r)) (on (other w.side) D.l D.r) (flagged_sides w.side ns top a b f c.args.place w.place v D G ms B) in
+    flagged w.side ns top a b f c.args.place w.place v D G ms B c.link_on.new.nodes C

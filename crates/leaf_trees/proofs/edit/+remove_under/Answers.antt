@@ -1,85 +1,71 @@
-use Rattle.std.proofs.Common.{◌-◌, ap, arith}
-use Rattle.leaf_trees.specs.Tree.{size}
+use Rattle.std.proofs.Common.{◌≡◌, ap, ◌∙◌, sym, subst, arith}
 use Rattle.leaf_trees.specs.Arena.{at}
+use Rattle.leaf_trees.specs.Tree.{size}
+use Rattle.leaf_trees.specs.Side.{other, below, on, place_on, nearest}
+use Rattle.leaf_trees.specs.Cut.{CutsTo}
 use Rattle.leaf_trees.proofs.Held.{positive}
-use Rattle.leaf_trees.proofs.Parts.{parts}
-use Rattle.leaf_trees.proofs.TakeOut.{cut_left_leaf, cut_right_leaf, cut_left_sides, cut_right_sides, cut_left, cut_right, rest_place-below}
+use Rattle.leaf_trees.proofs.Parts.{down}
+use Rattle.leaf_trees.proofs.Ways.{goes}
+use Rattle.leaf_trees.proofs.TakeOut.{cut_leaf, cut_sides, cut_whole, rest_place-below}
 use Rattle.leaf_trees.proofs.edit.+remove_under.Goals as goal
 
 pub remove_under-requires : goal.remove_under-requires
 remove_under-requires t c =
-    let q = c.requires in
-    let P = parts c.args.nodes.now c.args.top q.0 q.1 (omega (arith, c.if-node-eq0.false)) in
-    let e = ap (λ x. x.leaves) P.counts_left in let g = c.if-place-before.true in
-    (omega (arith, c.decreases, P.left_lower), (P.l, P.left, omega arith))
+    let q = c.requires in let ns = c.args.nodes.now in let top = c.args.top in let w = c.to-way.result in
+    let e : c.on-there.result ≡ below (other w.side) (at ns top) = c.on-there.ensures ∙ ap (λ s. below s (at ns top)) c.other.ensures in
+    let D = down w.side ns top c.on-here.result c.on-there.result q.0 q.1 (omega (arith, c.if-node-eq0.false)) c.on-here.ensures e in
+    let G = goes w c.args.place _ D.l D.r c.to-way.ensures (ap (λ x. x.leaves) D.left_counts) in
+    (omega (arith, c.decreases, D.lower), (on w.side D.l D.r, D.tree, G.within (let n = ap size D.is in let h = q.2 in omega arith)))
 
-pub remove_under-requires-else-place-before : goal.remove_under-requires-else-place-before
-remove_under-requires-else-place-before t c =
-    let q = c.requires in
-    let P = parts c.args.nodes.now c.args.top q.0 q.1 (omega (arith, c.if-node-eq0.false)) in
-    let e = ap (λ x. x.leaves) P.counts_left in let s = ap size P.is in let h = q.2 in let g = c.if-place-before.false in
-    (omega (arith, c.decreases, P.right_lower), (P.r, P.right, omega arith))
+pub nearest-requires : goal.nearest-requires
+nearest-requires t c =
+    let q = c.requires in let ns = c.args.nodes.now in let top = c.args.top in let w = c.to-way.result in
+    let e : c.on-there.result ≡ below (other w.side) (at ns top) = c.on-there.ensures ∙ ap (λ s. below s (at ns top)) c.other.ensures in
+    let D = down w.side ns top c.on-here.result c.on-there.result q.0 q.1 (omega (arith, c.if-node-eq0.false)) c.on-here.ensures e in
+    let n = ap (λ x. x.leaves) D.there_counts in omega (arith, n, positive (on (other w.side) D.l D.r))
 
-pub overflow_sub-result : goal.overflow_sub-result
-overflow_sub-result t c =
-    let q = c.requires in
-    let P = parts c.args.nodes.now c.args.top q.0 q.1 (omega (arith, c.if-node-eq0.false)) in
-    let e = ap (λ x. x.leaves) P.counts_left in omega (arith, positive P.l)
+pub balance-requires : goal.balance-requires
+balance-requires t c =
+    let q = c.requires in let ns = c.args.nodes.now in let top = c.args.top in let w = c.to-way.result in
+    let a = c.on-here.result in let b = c.on-there.result in
+    let e : b ≡ below (other w.side) (at ns top) = c.on-there.ensures ∙ ap (λ s. below s (at ns top)) c.other.ensures in
+    let D = down w.side ns top a b q.0 q.1 (omega (arith, c.if-node-eq0.false)) c.on-here.ensures e in
+    let G = goes w c.args.place _ D.l D.r c.to-way.ensures (ap (λ x. x.leaves) D.left_counts) in
+    let C = c.in-Some.ensures (on w.side D.l D.r) D.tree (G.within (let n = ap size D.is in let h = q.2 in omega arith)) in
+    (C.now, on (other w.side) D.l D.r, cut_sides w.side ns top a b c.args.place w.place q.0 D G c.remove_under.new.nodes c.in-Some.cut C)
 
-pub overflow_add-result : goal.overflow_add-result
-overflow_add-result t c =
-    let q = c.requires in let ns = c.args.nodes.now in let top = c.args.top in let k = c.args.place in
-    let P = parts ns top q.0 q.1 (omega (arith, c.if-node-eq0.false)) in
-    let e = ap (λ x. x.leaves) P.counts_left in let s = ap size P.is in let h = q.2 in let g = c.if-place-before.false in
-    let C = c.in-Some-remove_under.ensures P.r P.right (omega arith) in
-    let place = C.place_is in let few = P.sides.few in
-    record { fits = omega (arith, rest_place-below (k - (at ns (at ns top).left).counts.leaves) P.r) }
-
-pub balance-joined-requires : goal.balance-joined-requires
-balance-joined-requires t c =
-    let q = c.requires in let ns = c.args.nodes.now in let top = c.args.top in let k = c.args.place in
-    let P = parts ns top q.0 q.1 (omega (arith, c.if-node-eq0.false)) in
-    let e = ap (λ x. x.leaves) P.counts_left in let g = c.if-place-before.true in
-    let C = c.in-Some.ensures P.l P.left (omega arith) in
-    (C.now, P.r, cut_left_sides ns top k q.0 P c.remove_under.new.nodes c.in-Some.cut C)
-
-pub balance-joined-requires-in-Some-remove_under : goal.balance-joined-requires-in-Some-remove_under
-balance-joined-requires-in-Some-remove_under t c =
-    let q = c.requires in let ns = c.args.nodes.now in let top = c.args.top in let k = c.args.place in
-    let P = parts ns top q.0 q.1 (omega (arith, c.if-node-eq0.false)) in
-    let e = ap (λ x. x.leaves) P.counts_left in let s = ap size P.is in let h = q.2 in let g = c.if-place-before.false in
-    let C = rw e at (c.in-Some-remove_under.ensures P.r P.right (omega arith)) in
-    (P.l, C.now, cut_right_sides ns top k q.0 P c.remove_under-else-place-before.new.nodes c.in-Some-remove_under.cut C)
+pub place_on-requires : goal.place_on-requires
+place_on-requires t c =
+    let q = c.requires in let ns = c.args.nodes.now in let top = c.args.top in let w = c.to-way.result in
+    let a = c.on-here.result in let b = c.on-there.result in
+    let e : b ≡ below (other w.side) (at ns top) = c.on-there.ensures ∙ ap (λ s. below s (at ns top)) c.other.ensures in
+    let D = down w.side ns top a b q.0 q.1 (omega (arith, c.if-node-eq0.false)) c.on-here.ensures e in
+    let G = goes w c.args.place _ D.l D.r c.to-way.ensures (ap (λ x. x.leaves) D.left_counts) in
+    let C = c.in-Some.ensures (on w.side D.l D.r) D.tree (G.within (let n = ap size D.is in let h = q.2 in omega arith)) in
+    let place = C.place_is in let few = D.both.few in let n = ap (λ x. x.leaves) D.there_counts in
+    omega (arith, place, few, n, rest_place-below w.place (on w.side D.l D.r))
 
 pub returns-in-None : goal.returns-in-None
-returns-in-None t c = λ w H h.
-    let ns = c.args.nodes.now in let top = c.args.top in let k = c.args.place in
-    let P = parts ns top w H (omega (arith, c.if-node-eq0.false)) in
-    let e = ap (λ x. x.leaves) P.counts_left in let g = c.if-place-before.true in
-    cut_left_leaf ns top k w P (omega arith) c.remove_under.new.nodes (c.in-None.ensures P.l P.left (omega arith))
+returns-in-None t c = λ v H h.
+    let ns = c.args.nodes.now in let top = c.args.top in let w = c.to-way.result in
+    let a = c.on-here.result in let b = c.on-there.result in
+    let e : b ≡ below (other w.side) (at ns top) = c.on-there.ensures ∙ ap (λ s. below s (at ns top)) c.other.ensures in
+    let D = down w.side ns top a b v H (omega (arith, c.if-node-eq0.false)) c.on-here.ensures e in
+    let G = goes w c.args.place _ D.l D.r c.to-way.ensures (ap (λ x. x.leaves) D.left_counts) in
+    let S = c.in-None.ensures (on w.side D.l D.r) D.tree (G.within (let n = ap size D.is in omega arith)) in
+    let place : nearest w.side (size (on (other w.side) D.l D.r)) ≡ c.nearest.result = sym (c.nearest.ensures ∙ ap (λ x. nearest w.side x.leaves) D.there_counts) in
+    subst (λ p. CutsTo ns c.remove_under.new.nodes v c.args.place (record { top = b; place = p; item = a; fork = top })) place
+    (cut_leaf w.side ns top a b c.args.place w.place v D G c.remove_under.new.nodes S)
 
 pub returns-in-Some : goal.returns-in-Some
-returns-in-Some t c = λ w H h.
-    let ns = c.args.nodes.now in let top = c.args.top in let k = c.args.place in
-    let P = parts ns top w H (omega (arith, c.if-node-eq0.false)) in
-    let e = ap (λ x. x.leaves) P.counts_left in let g = c.if-place-before.true in
-    let C = c.in-Some.ensures P.l P.left (omega arith) in
-    let B = c.balance-joined.ensures C.now P.r (cut_left_sides ns top k w P c.remove_under.new.nodes c.in-Some.cut C) in
-    cut_left ns top k w P c.remove_under.new.nodes c.in-Some.cut C (omega arith) c.balance-joined.new.nodes c.balance-joined.result B
-
-pub returns-in-None-remove_under : goal.returns-in-None-remove_under
-returns-in-None-remove_under t c = λ w H h.
-    let ns = c.args.nodes.now in let top = c.args.top in let k = c.args.place in
-    let P = parts ns top w H (omega (arith, c.if-node-eq0.false)) in
-    let e = ap (λ x. x.leaves) P.counts_left in let s = ap size P.is in let g = c.if-place-before.false in
-    let S = rw e at (c.in-None-remove_under.ensures P.r P.right (omega arith)) in
-    rw e (cut_right_leaf ns top k w P (omega arith) c.remove_under-else-place-before.new.nodes S)
-
-pub returns-in-Some-remove_under : goal.returns-in-Some-remove_under
-returns-in-Some-remove_under t c = λ w H h.
-    let ns = c.args.nodes.now in let top = c.args.top in let k = c.args.place in
-    let P = parts ns top w H (omega (arith, c.if-node-eq0.false)) in
-    let e = ap (λ x. x.leaves) P.counts_left in let s = ap size P.is in let g = c.if-place-before.false in
-    let C = rw e at (c.in-Some-remove_under.ensures P.r P.right (omega arith)) in
-    let B = c.balance-joined-in-Some-remove_under.ensures P.l C.now (cut_right_sides ns top k w P c.remove_under-else-place-before.new.nodes c.in-Some-remove_under.cut C) in
-    rw e (cut_right ns top k w P c.remove_under-else-place-before.new.nodes c.in-Some-remove_under.cut C (omega arith) c.balance-joined-in-Some-remove_under.new.nodes c.balance-joined-in-Some-remove_under.result B)
+returns-in-Some t c = λ v H h.
+    let ns = c.args.nodes.now in let top = c.args.top in let w = c.to-way.result in
+    let a = c.on-here.result in let b = c.on-there.result in
+    let e : b ≡ below (other w.side) (at ns top) = c.on-there.ensures ∙ ap (λ s. below s (at ns top)) c.other.ensures in
+    let D = down w.side ns top a b v H (omega (arith, c.if-node-eq0.false)) c.on-here.ensures e in
+    let G = goes w c.args.place _ D.l D.r c.to-way.ensures (ap (λ x. x.leaves) D.left_counts) in
+    let C = c.in-Some.ensures (on w.side D.l D.r) D.tree (G.within (let n = ap size D.is in omega arith)) in
+    let B = c.balance.ensures C.now (on (other w.side) D.l D.r) (cut_sides w.side ns top a b c.args.place w.place v D G c.remove_under.new.nodes c.in-Some.cut C) in
+    let place : place_on w.side (size (on (other w.side) D.l D.r)) c.in-Some.cut.place ≡ c.place_on.result = sym (c.place_on.ensures ∙ ap (λ x. place_on w.side x.leaves c.in-Some.cut.place) D.there_counts) in
+    subst (λ p. CutsTo ns c.balance.new.nodes v c.args.place (record { top = c.balance.result; place = p; item = c.in-Some.cut.item; fork = c.in-Some.cut.fork })) place
+    (cut_whole w.side ns top a b c.args.place w.place v D G c.remove_under.new.nodes c.in-Some.cut C c.balance.new.nodes c.balance.result B)

@@ -1,33 +1,21 @@
-use Rattle.std.proofs.Common.{ap, sym, ◌∙◌, arith}
-use Rattle.leaf_trees.specs.Tree.{counts}
-use Rattle.leaf_trees.proofs.Parts.{parts}
-use Rattle.leaf_trees.proofs.Told.{marked_on_left, marked_on_right, marked_counted}
+use Rattle.std.proofs.Common.{◌<◌, length, get_or, ap, sym, ◌∙◌, subst, refl, arith}
+use Rattle.leaf_trees.specs.Arena.{at}
+use Rattle.leaf_trees.specs.Tree.{Tree, marked_items}
+use Rattle.leaf_trees.specs.Side.{other, below, on}
+use Rattle.leaf_trees.proofs.Parts.{down}
+use Rattle.leaf_trees.proofs.Told.{marked_on_way}
 use Rattle.leaf_trees.proofs.read.+marked_under.Goals as goal
 
 pub marked_under-requires : goal.marked_under-requires
 marked_under-requires t c =
-    let q = c.requires in
-    let P = parts c.args.nodes.now c.args.top q.0 q.1 (omega (arith, c.if-node-eq0.false)) in
-    let e = ap (λ x. x.marked) P.counts_left in let g = c.if-number-before.true in let m = marked_counted P.l in
-    (omega (arith, c.decreases, P.left_lower), (P.l, P.left, omega arith))
+    let q = c.requires in let ns = c.args.nodes.now in let top = c.args.top in let w = c.to-way.result in
+    let D = down w.side ns top c.on.result (below (other w.side) (at ns top)) q.0 q.1 (omega (arith, c.if-node-eq0.false)) c.on.ensures refl in
+    let M = marked_on_way w c.args.number _ top D.l D.r c.to-way.ensures (ap (λ x. x.marked) D.left_counts) in
+    (omega (arith, c.decreases, D.lower), (on w.side D.l D.r, D.tree, M.within (subst (λ (x : Tree). c.args.number < length (marked_items x)) D.is q.2)))
 
-pub marked_under-requires-else-number-before : goal.marked_under-requires-else-number-before
-marked_under-requires-else-number-before t c =
-    let q = c.requires in
-    let P = parts c.args.nodes.now c.args.top q.0 q.1 (omega (arith, c.if-node-eq0.false)) in
-    let e = ap (λ x. x.marked) P.counts_left in let g = c.if-number-before.false in let h = q.2 in
-    let all = marked_counted q.0 in let of_right = marked_counted P.r in let s = ap (λ x. (counts x).marked) P.is in
-    (omega (arith, c.decreases, P.right_lower), (P.r, P.right, omega arith))
-
-pub returns-then-number-before : goal.returns-then-number-before
-returns-then-number-before t c = λ w H h.
-    let P = parts c.args.nodes.now c.args.top w H (omega (arith, c.if-node-eq0.false)) in
-    let e = ap (λ x. x.marked) P.counts_left in let g = c.if-number-before.true in let m = marked_counted P.l in
-    c.marked_under.ensures P.l P.left (omega arith) ∙ sym (marked_on_left c.args.nodes.now c.args.top c.args.number w P (omega arith))
-
-pub returns-else-number-before : goal.returns-else-number-before
-returns-else-number-before t c = λ w H h.
-    let P = parts c.args.nodes.now c.args.top w H (omega (arith, c.if-node-eq0.false)) in
-    let e = ap (λ x. x.marked) P.counts_left in let g = c.if-number-before.false in
-    let all = marked_counted w in let of_right = marked_counted P.r in let s = ap (λ x. (counts x).marked) P.is in
-    rw e at (c.marked_under-else-number-before.ensures P.r P.right (omega arith)) ∙ sym (marked_on_right c.args.nodes.now c.args.top c.args.number w P (omega arith))
+pub returns : goal.returns
+returns t c = λ v H h.
+    let ns = c.args.nodes.now in let top = c.args.top in let w = c.to-way.result in
+    let D = down w.side ns top c.on.result (below (other w.side) (at ns top)) v H (omega (arith, c.if-node-eq0.false)) c.on.ensures refl in
+    let M = marked_on_way w c.args.number _ top D.l D.r c.to-way.ensures (ap (λ x. x.marked) D.left_counts) in
+    c.marked_under.ensures (on w.side D.l D.r) D.tree (M.within (subst (λ (x : Tree). c.args.number < length (marked_items x)) D.is h)) ∙ sym M.is ∙ ap (λ (x : Tree). get_or (marked_items x) c.args.number 0) (sym D.is)
