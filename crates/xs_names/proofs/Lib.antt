@@ -5,3 +5,4 @@ mod NumberedLaws
 pub mod NumberingLaws
 mod QNameLaws
 mod ScopeLaws
+pub mod PoolLaws
