@@ -23,13 +23,11 @@ pub struct BlockNames {
 }
 
 impl BlockNames {
-    ghost use Rattle.tag_names.specs.Resolving.{faults_of};
-    ghost use Rattle.tree_edits.specs.Blocks.{Placed};
-    ghost use Rattle.tree_edits.specs.Walks.{joined};
+    ghost use Rattle.tree_edits.specs.Walks.{with_faults};
 
     /// What stands against the names so far, or against those of a tag more.
     fn and_tag(self, faults: TagFaults) -> Self
-        ensures { (placed : Placed) → faults ≡ faults_of placed.scope placed.tag → result ≡ joined self (placed ∷ []) }
+        ensures { result ≡ with_faults self faults }
     {
         BlockNames {
             bad: self.bad || faults.bad,
@@ -138,6 +136,13 @@ impl Walk {
         Ok(())
     }
 
+    /// What stands against the names, where no items are left.
+    fn end(&self) -> BlockNames
+        ensures { result ≡ outcome self.now [] }
+    {
+        self.names
+    }
+
     /// Goes back to the scope around.
     fn close(&mut self, name: &Text)
         ensures { (more : List Item) → outcome self.new more ≡ outcome self.old (items.Close name.now ∷ more) }
@@ -176,5 +181,5 @@ pub fn judge_block(
         walk.item(item, rest)?;
         left = rest;
     }
-    Ok(walk.names)
+    Ok(walk.end())
 }
