@@ -2,7 +2,7 @@ use std::alloc::Global;
 use std::test::Fail;
 use tag_names::{AttributeLine, AttributeLines, NameReason, Prefixes, Tag};
 use tree_rows::{Binding, Expanded};
-use xs_names::{Text, XML_NAMESPACE, XMLNS_NAMESPACE};
+use xs_names::{Text, TextPool, XML_NAMESPACE, XMLNS_NAMESPACE};
 
 /// A tag of this name with these attribute lines.
 fn tag_of(alloc: Global, name: &str, lines: &[(&str, &str)]) -> Result<Tag, Fail> {
@@ -49,7 +49,8 @@ fn shows_hidden_bindings_again(rt: HostRuntime) -> Result<(), Fail> {
     scope.bind(binding(alloc, "p", "u")?)?;
     let copy = scope.try_clone(alloc)?;
     let tag = tag_of(alloc, "a", HIDING)?;
-    scope.bind_all(tag.bindings(alloc)?.as_slice())?;
+    let judged = tag.judge(alloc, &scope, &mut TextPool::new(alloc))?;
+    scope.bind_all(judged.named.bindings.as_slice())?;
     assert!(rt; is_bound_to(&scope, "p", "v") && is_bound_to(&scope, "", "d"));
     scope.truncate(4);
     assert!(rt; is_bound_to(&scope, "p", "w"));
@@ -79,8 +80,11 @@ const NAMES: &[&str] = &["a", "{u}b", "{http://www.w3.org/XML/1998/namespace}lan
 fn names_an_element(rt: HostRuntime) -> Result<(), Fail> {
     let scope = Prefixes::new(rt.alloc())?;
     let tag = tag_of(rt.alloc(), "r", NAMED)?;
-    assert!(rt; tag.name_fault(rt.alloc(), &scope)?.is_none());
-    let named = tag.named(rt.alloc(), &scope)?;
+    let mut pool = TextPool::new(rt.alloc());
+    let named = tag
+        .resolve(rt.alloc(), &scope, &mut pool)?
+        .ok()
+        .ok_or("refused")?;
     assert!(rt; is_named(rt.alloc(), &named.name, "{d}r")?);
     assert!(rt; named.bindings.as_slice().len() == 2 && named.attributes.as_slice().len() == 3);
     for (attribute, text) in named.attributes.as_slice().iter().zip(NAMES) {
@@ -92,7 +96,9 @@ fn names_an_element(rt: HostRuntime) -> Result<(), Fail> {
 /// The first reason against such a tag, with no prefix bound around it.
 fn fault_of(alloc: Global, name: &str, lines: &[(&str, &str)]) -> Result<Option<NameReason>, Fail> {
     let scope = Prefixes::new(alloc)?;
-    Ok(tag_of(alloc, name, lines)?.name_fault(alloc, &scope)?)
+    let tag = tag_of(alloc, name, lines)?;
+    let end = tag.resolve(alloc, &scope, &mut TextPool::new(alloc))?;
+    Ok(end.err())
 }
 
 /// Tags, by their name and attribute lines, and why they are refused.
@@ -186,22 +192,74 @@ fn long_tag(alloc: Global) -> Result<Tag, Fail> {
     })
 }
 
+/// The first reason against a tag, with no prefix bound around it.
+fn reason_of(alloc: Global, tag: &Tag) -> Result<Option<NameReason>, Fail> {
+    let scope = Prefixes::new(alloc)?;
+    let end = tag.resolve(alloc, &scope, &mut TextPool::new(alloc))?;
+    Ok(end.err())
+}
+
 #[test]
 fn judges_a_long_tag_at_once(rt: HostRuntime) -> Result<(), Fail> {
     let alloc = rt.alloc();
-    let scope = Prefixes::new(alloc)?;
     let mut tag = long_tag(alloc)?;
-    assert_eq!(rt;
-        tag.named(alloc, &scope)?.attributes.as_slice().len(),
-        10_000
-    );
     let too_many = Some(NameReason::TooManyAttributes);
-    assert_eq!(rt; tag.name_fault(alloc, &scope)?, too_many);
+    assert_eq!(rt; reason_of(alloc, &tag)?, too_many);
     push_line(alloc, &mut tag, "p0:a")?;
     let double = Some(NameReason::DoubleAttribute);
-    assert_eq!(rt; tag.name_fault(alloc, &scope)?, double);
+    assert_eq!(rt; reason_of(alloc, &tag)?, double);
     push_line(alloc, &mut tag, "q:a")?;
     let unbound = Some(NameReason::UnboundPrefix);
-    assert_eq!(rt; tag.name_fault(alloc, &scope)?, unbound);
+    assert_eq!(rt; reason_of(alloc, &tag)?, unbound);
+    Ok(())
+}
+
+#[test]
+fn keeps_all_attributes_of_a_long_tag(rt: HostRuntime) -> Result<(), Fail> {
+    let alloc = rt.alloc();
+    let scope = Prefixes::new(alloc)?;
+    let judged = long_tag(alloc)?.judge(alloc, &scope, &mut TextPool::new(alloc))?;
+    assert_eq!(rt; judged.named.attributes.as_slice().len(), 10_000);
+    Ok(())
+}
+
+/// A QName, what it is as an element's name where `p` is bound to `u` and the default namespace is `d`, and what it is
+/// as an attribute's. `{` begins a name in a namespace, and `!` a refusal by number.
+const QNAMES: &[(&str, &str, &str)] = &[
+    ("a", "{d}a", "a"),
+    ("p:a", "{u}a", "{u}a"),
+    ("q:a", "!7", "!7"),
+    ("p:q:a", "!6", "!6"),
+    ("", "!6", "!6"),
+    ("xmlns", "{d}xmlns", "!8"),
+    ("xmlns:p", "!8", "!8"),
+    ("xml:lang", "{http://www.w3.org/XML/1998/namespace}lang", "{http://www.w3.org/XML/1998/namespace}lang"),
+];
+
+/// A name, or the number of the refusal.
+fn shown(alloc: Global, end: Result<Expanded, NameReason>) -> Result<Text, Fail> {
+    let refusal = match end {
+        Ok(name) => return Ok(name.clark_name(alloc)?),
+        Err(NameReason::BadName) => "!6",
+        Err(NameReason::UnboundPrefix) => "!7",
+        Err(NameReason::ReservedName) => "!8",
+        Err(_) => "!",
+    };
+    Ok(Text::new(alloc, refusal)?)
+}
+
+#[test]
+fn resolves_a_name_by_itself(rt: HostRuntime) -> Result<(), Fail> {
+    let alloc = rt.alloc();
+    let mut scope = Prefixes::new(alloc)?;
+    scope.bind(binding(alloc, "p", "u")?)?;
+    scope.bind(binding(alloc, "", "d")?)?;
+    let mut pool = TextPool::new(alloc);
+    for (name, element, attribute) in QNAMES {
+        let end = scope.element_name(alloc, &mut pool, name)?;
+        assert!(rt; shown(alloc, end)?.as_str() == *element, "{name}");
+        let end = scope.attribute_name(alloc, &mut pool, name)?;
+        assert!(rt; shown(alloc, end)?.as_str() == *attribute, "{name}");
+    }
     Ok(())
 }

@@ -39,6 +39,12 @@ not_true : (b : Bool) → not b ≡ true → b ≡ false
 not_true false e = refl
 not_true true e = cc
 
+pub and_twice : (a b : Bool) → b && (a && b) ≡ a && b
+and_twice true true = refl
+and_twice true false = refl
+and_twice false true = refl
+and_twice false false = refl
+
 module _ {X : Type 0} (same : X → X → Bool) where
   -- an item comes twice
   abbrev pub repeats : List X → Bool

@@ -3,13 +3,15 @@
 
 mod doubles;
 mod fault;
-mod judge;
+mod judged;
 mod lines;
 mod named;
 mod parts;
 mod prefixes;
+mod resolve;
 
-pub use fault::NameReason;
+pub use fault::{NameReason, TagFaults};
 pub use lines::{AttributeLine, AttributeLines, Tag};
 pub use named::Named;
 pub use prefixes::Prefixes;
+pub use resolve::JudgedTag;

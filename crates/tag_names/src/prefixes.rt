@@ -12,8 +12,8 @@ use std::marker::Model;
 use tree_rows::Binding;
 use xs_names::{Text, XML_NAMESPACE};
 
-/// A copy of a binding.
-fn copy_of(alloc: Global, binding: &Binding) -> Result<Binding, AllocError>
+/// A binding once more. Its texts are shared, and not copied.
+fn copy_of(binding: &Binding) -> Result<Binding, AllocError>
     ensures { IfOk result (λ copy. copy ≡ binding.now) }
 {
     Ok(Binding {
@@ -80,7 +80,7 @@ fn bound_copies(alloc: Global, entries: &[Entry]) -> Result<Prefixes, AllocError
 {
     let mut copy = Prefixes::empty(alloc);
     for entry in entries {
-        copy.bind(copy_of(alloc, &entry.binding)?)?;
+        copy.bind(copy_of(&entry.binding)?)?;
     }
     Ok(copy)
 }
@@ -143,7 +143,7 @@ impl Prefixes {
     {
         let mut left = bindings;
         'left: while let Some((last, before)) = left.split_last() {
-            let copy = copy_of(self.alloc, last)?;
+            let copy = copy_of(last)?;
             self.bind(copy)?;
             left = before;
         }

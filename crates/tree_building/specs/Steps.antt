@@ -1,12 +1,17 @@
 -- What a step answers.
-use Rattle.std.specs.Prelude.{◌≡◌, ℕ, List, Bool, true, false, Result, Ok, Err, Option, Some, None}
+use Rattle.std.specs.Prelude.{◌≡◌, ℕ, ◌+◌, List, Bool, true, false, length, Result, Ok, Err, Option, Some, None, if◌then◌else◌}
+use Rattle.tag_names.specs.Resolving.{first_reason}
 use Rattle.tag_names.specs.declared.fault.NameReason.{NameReason}
+use Rattle.tag_names.specs.declared.fault.TagFaults.{TagFaults}
+use Rattle.tag_names.specs.declared.named.Named.{Named}
 use Rattle.tree_rows.specs.declared.row.Row.{Row}
+use Rattle.tree_rows.specs.declared.row.Content.TheVariants as contents
 use Rattle.tree_building.specs.Building.{text_row, with_element}
 use Rattle.tree_building.specs.declared.building.Building.{Building}
 use Rattle.tree_building.specs.declared.build.Built.{Built}
 use Rattle.tree_building.specs.declared.pending.Pending.{Pending}
 use Rattle.tree_building.specs.declared.pending.Pending.TheVariants as pending
+use Rattle.tree_building.specs.declared.rules.Rules.{Rules}
 use Rattle.tree_building.specs.declared.fault.Stop.{Stop}
 use Rattle.tree_building.specs.declared.fault.Stop.TheVariants.{Memory, Refused}
 use Rattle.tree_building.specs.declared.fault.TreeFault.{TreeFault}
@@ -25,6 +30,20 @@ Steps old new (Err stop) end = Stops old new stop end
 abbrev pub Ends : {X : Type 0} → Building → Building → Result X TreeFault → Result Building TreeFault → Type 0
 Ends old new (Ok x) end = end ≡ Ok new
 Ends old new (Err fault) end = end ≡ Err fault
+
+-- the first reason against the names of a tag, where they are judged
+abbrev pub reason_by : Rules → TagFaults → Option NameReason
+reason_by rules faults = if rules.names then first_reason faults else None
+
+-- the node of an element of which its tag says this
+abbrev pub row_of : Building → Named → Row
+row_of b says = record {
+  number = b.next;
+  depth = length b.nest.elements + 1;
+  content = contents.Element says.name;
+  bindings = says.bindings;
+  attributes = says.attributes;
+}
 
 -- the names of the start tag of this item
 abbrev pub JudgedStop : ℕ → Stop → Option NameReason → Type 0

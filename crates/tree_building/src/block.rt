@@ -37,7 +37,7 @@ impl Tags {
         if self.open.is_empty() && self.rooted {
             return Ok(false);
         }
-        self.open.push(Text::new(self.alloc, name.as_str())?)?;
+        self.open.push(name.try_clone()?)?;
         self.rooted = true;
         self.tag_open = true;
         Ok(true)

@@ -1,6 +1,6 @@
 ghost use Rattle.std.specs.Prelude.{◌≡◌, ◌+◌, [], ◌<◌, ◌^◌, true, false, Ok, IfOk, OnOk};
 ghost use Rattle.tree_building.specs.Building as steps;
-ghost use Rattle.tree_building.specs.Steps.{Steps, Judged, Ends, Finished, GivesTag, holds_chars, text_come};
+ghost use Rattle.tree_building.specs.Steps.{Steps, Judged, Ends, Finished, GivesTag, holds_chars, reason_by, row_of, text_come};
 ghost use Rattle.item_listing.specs.declared.item.Item.TheVariants as items;
 
 use crate::build::Built;
@@ -9,7 +9,7 @@ use crate::rules::{is_past, is_past_below};
 use crate::{Joined, Nest, Pending, Rows, Rules, TreeFault, TreeReason};
 use item_listing::Item;
 use std::alloc::{AllocError, Global};
-use tag_names::{AttributeLine, AttributeLines, Prefixes, Tag};
+use tag_names::{AttributeLine, AttributeLines, JudgedTag, Named, Prefixes, Tag, TagFaults};
 use tree_rows::{Attributes, Bindings, Content, Row};
 use xs_names::{Text, is_white_space};
 
@@ -48,12 +48,12 @@ fn depth_below(elements: usize) -> Result<u32, AllocError>
     Ok(elements as u32 + 1)
 }
 
-/// Judges the names of a start tag, if they are to be judged.
-fn judge(alloc: Global, rules: Rules, scope: &Prefixes, tag: &Tag, item: u32) -> Result<(), Stop>
-    ensures { Judged result item (steps.fault_of rules scope.now tag.now) }
+/// Refuses the names of the start tag of this item, if they are to be judged.
+fn refuse_names(rules: Rules, faults: TagFaults, item: u32) -> Result<(), Stop>
+    ensures { Judged result item (reason_by rules faults) }
 {
     if rules.names
-        && let Some(reason) = tag.name_fault(alloc, scope)?
+        && let Some(reason) = faults.first()
     {
         return Err(Stop::Refused(TreeFault {
             item,
@@ -102,15 +102,13 @@ impl Building {
         })
     }
 
-    /// The node of an element.
-    fn element_row(&self, alloc: Global, tag: &Tag) -> Result<Row, AllocError>
-        ensures { IfOk result (λ row. row ≡ steps.element_row self.now tag.now) }
+    /// The node of an element of which its tag says this.
+    fn element_row(&self, named: Named) -> Result<Row, AllocError>
+        ensures { IfOk result (λ row. row ≡ row_of self.now named) }
     {
-        let depth = depth_below(self.nest.depth())?;
-        let named = tag.named(alloc, self.nest.scope())?;
         Ok(Row {
             number: self.next,
-            depth,
+            depth: depth_below(self.nest.depth())?,
             content: Content::Element(named.name),
             bindings: named.bindings,
             attributes: named.attributes,
@@ -146,16 +144,18 @@ impl Building {
     }
 
     /// The name and the node of the start tag whose attribute lines have all come, if there is one and its names are well.
-    fn judged(&self, alloc: Global) -> Result<Option<(Text, Row)>, Stop>
-        ensures { GivesTag result self.now (steps.tag_closed self.now) }
+    fn judged(&mut self, alloc: Global) -> Result<Option<(Text, Row)>, Stop>
+        ensures gives { GivesTag result self.old (steps.tag_closed self.old) }
+        ensures same { self.new ≡ self.old }
     {
         match &self.pending {
             Pending::Nothing => Ok(None),
             Pending::Chars(_) => Ok(None),
             Pending::Start(tag, item) => {
-                judge(alloc, self.rules, self.nest.scope(), tag, *item)?;
+                let JudgedTag { named, faults } = self.nest.judge(alloc, tag)?;
+                refuse_names(self.rules, faults, *item)?;
                 let name = tag.name.try_clone()?;
-                let row = self.element_row(alloc, tag)?;
+                let row = self.element_row(named)?;
                 Ok(Some((name, row)))
             }
         }

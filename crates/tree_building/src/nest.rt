@@ -1,12 +1,13 @@
-ghost use Rattle.std.specs.Prelude.{◌≡◌, [], ◌++◌, length, OnOk, OnErr};
+ghost use Rattle.std.specs.Prelude.{◌≡◌, [], ◌++◌, length, IfOk, OnOk, OnErr};
 ghost use Rattle.std.specs.Option.{option_copied};
+ghost use Rattle.tag_names.specs.Resolving.{judged};
 ghost use Rattle.tree_building.specs.Nest as nests;
 
 use std::alloc::{AllocError, Global};
 use std::marker::Model;
-use tag_names::Prefixes;
+use tag_names::{JudgedTag, Prefixes, Tag};
 use tree_rows::Binding;
-use xs_names::Text;
+use xs_names::{Text, TextPool};
 
 /// An open element: its name as it is written, and how many bindings there were before its own.
 #[derive(Debug, Drop)]
@@ -21,6 +22,8 @@ struct Mark {
 pub struct Nest {
     prefixes: Prefixes,
     marks: Vec<Mark>,
+    /// The parts of names that came, so that each is kept once.
+    pool: TextPool,
 }
 
 impl Model for Nest {
@@ -41,6 +44,7 @@ impl Nest {
         Nest {
             prefixes,
             marks: Vec::new(alloc),
+            pool: TextPool::new(alloc),
         }
     }
 
@@ -56,6 +60,14 @@ impl Nest {
         ensures { result.now ≡ nests.scope_in self.now }
     {
         &self.prefixes
+    }
+
+    /// What a start tag that comes next says of its element, and what stands against its names.
+    pub fn judge(&mut self, alloc: Global, tag: &Tag) -> Result<JudgedTag, AllocError>
+        ensures judged { IfOk result (λ tag_judged. tag_judged ≡ judged (nests.scope_in self.old) tag.now) }
+        ensures same { self.new ≡ self.old }
+    {
+        tag.judge(alloc, &self.prefixes, &mut self.pool)
     }
 
     /// Whether the innermost element has this name.

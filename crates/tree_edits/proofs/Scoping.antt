@@ -1,5 +1,5 @@
 -- The scopes of a walk, and those of rows from the last one on.
-use Rattle.std.proofs.Common.{◌≡◌, ℕ, ◌-◌, ◌≤◌, ◌<◌, List, [], ◌∷◌, ◌++◌, Bool, true, false, ◌||◌, length, drop, reverse, refl, ap, ◌∙◌, arith, nat_lt}
+use Rattle.std.proofs.Common.{◌≡◌, ℕ, ◌-◌, ◌≤◌, ◌<◌, List, [], ◌∷◌, ◌++◌, Bool, true, false, ◌||◌, length, drop, reverse, refl, sym, ap, ◌∙◌, arith, nat_lt}
 use Rattle.std.specs.List.{list_any}
 use Rattle.std.proofs.lemmas.Bool.Decides.{nat_tests}
 use Rattle.std.proofs.lemmas.Grind.{common_steps}
@@ -14,7 +14,9 @@ use Rattle.tag_names.specs.Tags.{bindings_in}
 use Rattle.tag_names.specs.declared.lines.AttributeLine.{AttributeLine}
 use Rattle.tag_names.specs.declared.lines.Tag.{Tag}
 use Rattle.tree_edits.specs.Blocks.{Placed, lines_of, tags_in, has_bad_name, has_unbound, uses_reserved, has_too_many, has_double}
-use Rattle.tree_edits.specs.Walks.{scopes_around, joined}
+use Rattle.tag_names.specs.Resolving.{judged as tag_judged}
+use Rattle.tag_names.specs.declared.resolve.JudgedTag.{JudgedTag}
+use Rattle.tree_edits.specs.Walks.{scopes_around, joined, with_faults}
 use Rattle.tree_edits.specs.declared.names.BlockNames.{BlockNames}
 
 -- the last of some rows
@@ -50,6 +52,30 @@ any_one false false c = refl
 any_one false true c = refl
 any_one true b c = refl
 
+same_names : (a b c d e a2 b2 c2 d2 e2 : Bool) → a ≡ a2 → b ≡ b2 → c ≡ c2 → d ≡ d2 → e ≡ e2
+    → (let x : BlockNames = record { bad = a; unbound = b; reserved = c; many = d; double = e } in
+    let y : BlockNames = record { bad = a2; unbound = b2; reserved = c2; many = d2; double = e2 } in x ≡ y)
+same_names a b c d e a2 b2 c2 d2 e2 p q r s t = cc
+
+or_false : (b : Bool) → b || false ≡ b
+or_false true = refl
+or_false false = refl
+
+one_or : (a b : Bool) → (a || b) ≡ (a || (b || false))
+one_or a true = refl
+one_or a false = refl
+
+-- no tag more
+pub joined_none : (names : BlockNames) → names ≡ joined names []
+joined_none names = sym (same_names _ _ _ _ _ _ _ _ _ _ (or_false names.bad) (or_false names.unbound) (or_false names.reserved) (or_false names.many) (or_false names.double))
+
+-- one tag more, which was judged in its scope
+pub joined_one : (names : BlockNames) (placed : Placed) (says : JudgedTag) → says ≡ tag_judged placed.scope placed.tag → with_faults names says.faults ≡ joined names (placed ∷ [])
+joined_one names placed says is =
+    ap (λ (s : JudgedTag). with_faults names s.faults) is
+    ∙ same_names _ _ _ _ _ _ _ _ _ _ (one_or names.bad (has_bad_name placed)) (one_or names.unbound (has_unbound placed)) (one_or names.reserved (uses_reserved placed)) (one_or names.many (has_too_many placed))
+    (one_or names.double (has_double placed))
+
 -- a tag, and then the others
 joined_more : (names : BlockNames) (tag : Placed) (tags : List Placed) → joined (joined names (tag ∷ [])) tags ≡ joined names (tag ∷ tags)
 joined_more names tag tags =
@@ -59,11 +85,6 @@ joined_more names tag tags =
     let many = any_one names.many (has_too_many tag) (list_any has_too_many tags) in
     let double = any_one names.double (has_double tag) (list_any has_double tags) in
     same_names _ _ _ _ _ _ _ _ _ _ bad unbound reserved many double
-  where
-    same_names : (a b c d e a2 b2 c2 d2 e2 : Bool) → a ≡ a2 → b ≡ b2 → c ≡ c2 → d ≡ d2 → e ≡ e2
-        → (let x : BlockNames = record { bad = a; unbound = b; reserved = c; many = d; double = e } in
-        let y : BlockNames = record { bad = a2; unbound = b2; reserved = c2; many = d2; double = e2 } in x ≡ y)
-    same_names a b c d e a2 b2 c2 d2 e2 p q r s t = cc
 
 abbrev tag_with : List ℕ → List AttributeLine → Tag
 tag_with name lines = record { name = name; attributes = lines }

@@ -6,6 +6,7 @@ use Rattle.tree_rows.specs.declared.row.Binding.{Binding}
 use Rattle.tree_rows.specs.declared.row.Row.{Row}
 use Rattle.tree_edits.specs.Places.{scope_above}
 use Rattle.tree_edits.specs.Blocks.{Placed, tags_in, has_bad_name, has_unbound, uses_reserved, has_too_many, has_double}
+use Rattle.tag_names.specs.declared.fault.TagFaults.{TagFaults}
 use Rattle.tree_edits.specs.declared.names.BlockNames.{BlockNames}
 use Rattle.tree_edits.specs.declared.names.Walk.{Walk}
 
@@ -17,6 +18,16 @@ joined names tags = record {
   reserved = names.reserved || list_any uses_reserved tags;
   many = names.many || list_any has_too_many tags;
   double = names.double || list_any has_double tags;
+}
+
+-- what stands against the names of a tag more
+abbrev pub with_faults : BlockNames → TagFaults → BlockNames
+with_faults names faults = record {
+  bad = names.bad || faults.bad;
+  unbound = names.unbound || faults.unbound;
+  reserved = names.reserved || faults.reserved;
+  many = names.many || faults.many;
+  double = names.double || faults.double;
 }
 
 -- the scopes around this one, by the numbers of their bindings, the innermost first

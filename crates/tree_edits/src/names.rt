@@ -4,8 +4,8 @@ ghost use Rattle.tree_edits.specs.Blocks as blocks;
 use crate::EditError;
 use item_listing::Item;
 use std::alloc::{AllocError, Global};
-use tag_names::{AttributeLine, AttributeLines, Prefixes, Tag};
-use xs_names::Text;
+use tag_names::{AttributeLine, AttributeLines, JudgedTag, Prefixes, Tag, TagFaults};
+use xs_names::{Text, TextPool};
 
 /// What stands against the names of a block.
 #[derive(Clone, Copy, Debug)]
@@ -23,6 +23,21 @@ pub struct BlockNames {
 }
 
 impl BlockNames {
+    ghost use Rattle.tree_edits.specs.Walks.{with_faults};
+
+    /// What stands against the names so far, or against those of a tag more.
+    fn and_tag(self, faults: TagFaults) -> Self
+        ensures { result ≡ with_faults self faults }
+    {
+        BlockNames {
+            bad: self.bad || faults.bad,
+            unbound: self.unbound || faults.unbound,
+            reserved: self.reserved || faults.reserved,
+            many: self.many || faults.many,
+            double: self.double || faults.double,
+        }
+    }
+
     /// The refusal that comes before those by the number and the depth of nodes.
     pub fn early(self) -> Result<(), EditError>
         ensures ok { OnOk result (blocks.early self ≡ None) }
@@ -79,12 +94,13 @@ pub struct Walk {
     scope: Prefixes,
     sizes: Vec<usize>,
     names: BlockNames,
+    pool: TextPool,
 }
 
 impl Walk {
     ghost use Rattle.item_listing.specs.declared.item.Item.{Item};
     ghost use Rattle.item_listing.specs.declared.item.Item.TheVariants as items;
-    ghost use Rattle.tree_edits.specs.Walks.{outcome, joined};
+    ghost use Rattle.tree_edits.specs.Walks.{outcome};
 
     /// Before the first item of a block in this scope.
     fn new(alloc: Global, scope: &Prefixes) -> Result<Self, AllocError>
@@ -101,21 +117,7 @@ impl Walk {
                 many: false,
                 double: false,
             },
-        })
-    }
-
-    /// Judges a tag in the scope.
-    fn judge(&self, tag: &Tag) -> Result<BlockNames, AllocError>
-        ensures { IfOk result (λ names. names ≡ joined self.now.names (record { scope = self.now.scope; tag = tag.now } ∷ [])) }
-    {
-        let unbound = tag.has_unbound(self.alloc, &self.scope)?;
-        let double = tag.has_double(self.alloc, &self.scope)?;
-        Ok(BlockNames {
-            bad: self.names.bad || tag.has_bad_name(),
-            unbound: self.names.unbound || unbound,
-            reserved: self.names.reserved || tag.uses_reserved(),
-            many: self.names.many || tag.has_too_many(),
-            double: self.names.double || double,
+            pool: TextPool::new(alloc),
         })
     }
 
@@ -127,11 +129,18 @@ impl Walk {
             name: name.try_clone()?,
             attributes: lines_of(self.alloc, rest)?,
         };
-        self.names = self.judge(&tag)?;
-        let bindings = tag.bindings(self.alloc)?;
+        let JudgedTag { named, faults } = tag.judge(self.alloc, &self.scope, &mut self.pool)?;
+        self.names = self.names.and_tag(faults);
         self.sizes.push(self.scope.len())?;
-        self.scope.bind_all(bindings.as_slice())?;
+        self.scope.bind_all(named.bindings.as_slice())?;
         Ok(())
+    }
+
+    /// What stands against the names, where no items are left.
+    fn end(&self) -> BlockNames
+        ensures { result ≡ outcome self.now [] }
+    {
+        self.names
     }
 
     /// Goes back to the scope around.
@@ -172,5 +181,5 @@ pub fn judge_block(
         walk.item(item, rest)?;
         left = rest;
     }
-    Ok(walk.names)
+    Ok(walk.end())
 }

@@ -6,3 +6,4 @@ pub mod NumberingLaws
 mod PoolLaws
 mod QNameLaws
 mod ScopeLaws
+pub mod PoolLaws

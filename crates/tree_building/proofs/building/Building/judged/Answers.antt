@@ -1,7 +1,10 @@
-use Rattle.tree_building.proofs.StepLaws.{tag_stops}
+use Rattle.tree_building.specs.Nest.{scope_in}
+use Rattle.tree_building.proofs.StepLaws.{judged_stop, tag_stops}
 use Rattle.tree_building.proofs.building.Building.judged.Goals as goal
 
-pub returns-in_err-judge-in-Start : goal.returns-in_err-judge-in-Start
-returns-in_err-judge-in-Start c =
-    tag_stops c.from_residual.result c.in_err-judge-in-Start.field-0.0 c.args.self.now c.in-Start.tag c.in-Start.item c.in-Start.is c.from_residual.ensures.1
-    (rw c.scope.ensures at c.in_err-judge-in-Start.ensures)
+pub returns-in_err-refuse_names-in-Start-clause-gives : goal.returns-in_err-refuse_names-in-Start-clause-gives
+returns-in_err-refuse_names-in-Start-clause-gives c =
+    tag_stops c.from_residual-in_err-refuse_names-in-Start.result c.in_err-refuse_names-in-Start.field-0.0 c.args.self.now c.in-Start.tag c.in-Start.item c.in-Start.is
+    c.from_residual-in_err-refuse_names-in-Start.ensures.1
+    (judged_stop c.in-Start.item c.in_err-refuse_names-in-Start.field-0.0 c.args.self.now.rules (scope_in c.args.self.now.nest) c.in-Start.tag
+    c.in_ok-named-in-Start.field-0 c.in_ok-named-in-Start.ensures.judged c.in_err-refuse_names-in-Start.ensures)

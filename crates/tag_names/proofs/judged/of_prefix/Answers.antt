@@ -1,6 +1,6 @@
 use Rattle.std.proofs.Common.{◌∙◌, sym}
 use Rattle.tag_names.proofs.ScopeLaws.{of_prefix-found, of_prefix-absent}
-use Rattle.tag_names.proofs.named.of_prefix.Goals as goal
+use Rattle.tag_names.proofs.judged.of_prefix.Goals as goal
 
 pub returns-in-Some : goal.returns-in-Some
 returns-in-Some c = sym (of_prefix-found c.args.own.now c.args.scope.now c.args.prefix.now _ c.in-Some.ensures)

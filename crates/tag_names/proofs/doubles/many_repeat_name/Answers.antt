@@ -4,7 +4,7 @@ use Rattle.std.specs.String.{string_eq}
 use Rattle.tree_rows.specs.Naming.{same_name}
 use Rattle.tag_names.specs.Keys.{name_of}
 use Rattle.tag_names.proofs.DoubleLaws.{start-names, names_agree, turn-seen, turn-added}
-use Rattle.tag_names.proofs.doubles.repeats_name.Goals as goal
+use Rattle.tag_names.proofs.doubles.many_repeat_name.Goals as goal
 
 pub loop-attribute-init : goal.loop-attribute-init
 loop-attribute-init c = start-names c.new-seen.result.keys c.args.attributes.now c.new-seen.ensures.empty

@@ -1,7 +1,7 @@
 use Rattle.std.proofs.Common.{◌∙◌, bytes_eq, string_bytes, refl}
 use Rattle.std.specs.String.{string_eq}
 use Rattle.tag_names.proofs.DoubleLaws.{start-prefixes, turn-seen, turn-added}
-use Rattle.tag_names.proofs.doubles.repeats_prefix.Goals as goal
+use Rattle.tag_names.proofs.doubles.many_repeat_prefix.Goals as goal
 
 pub loop-binding-init : goal.loop-binding-init
 loop-binding-init c = start-prefixes c.new-seen.result.keys c.args.bindings.now c.new-seen.ensures.empty

@@ -1,0 +1,173 @@
+ghost use Rattle.std.specs.Prelude.{◌≡◌, ◌++◌, IfOk};
+ghost use Rattle.std.specs.Option.{option_copied};
+ghost use Rattle.tag_names.specs.Faults as faults;
+ghost use Rattle.tag_names.specs.Resolving as resolving;
+ghost use Rattle.tag_names.specs.Scopes as scopes;
+
+use crate::parts::{binds, parts_of};
+use crate::{NameReason, Prefixes};
+use std::alloc::AllocError;
+use tree_rows::Expanded;
+use xs_names::{Text, TextPool};
+
+/// What a name's prefix stands for in a scope.
+#[derive(Drop)]
+pub(crate) struct Space {
+    /// The name of the namespace, `None` for the absent one.
+    namespace: Option<Text>,
+    /// Whether the prefix is not bound.
+    unbound: bool,
+}
+
+/// A name in a scope, and what stands against it.
+#[derive(Drop)]
+pub(crate) struct JudgedName {
+    pub(crate) name: Expanded,
+    /// It is no QName.
+    pub(crate) bad: bool,
+    /// Its prefix is not bound.
+    pub(crate) unbound: bool,
+    /// Its prefix is `xmlns`, or an attribute of this name is a binding.
+    pub(crate) reserved: bool,
+}
+
+impl JudgedName {
+    /// The name, or the first reason against it: `BadName`, `UnboundPrefix` or `ReservedName`.
+    pub(crate) fn end(self) -> Result<Expanded, NameReason>
+        ensures { result ≡ resolving.end_of self }
+    {
+        if self.bad {
+            return Err(NameReason::BadName);
+        }
+        if self.unbound {
+            return Err(NameReason::UnboundPrefix);
+        }
+        if self.reserved {
+            return Err(NameReason::ReservedName);
+        }
+        Ok(self.name)
+    }
+}
+
+/// The name of the namespace that a prefix is bound to, where these bindings come before a scope.
+fn of_prefix<'a>(own: &'a Prefixes, scope: &'a Prefixes, prefix: &str) -> Option<&'a Text>
+    ensures { option_copied result ≡ scopes.of_prefix (own.now ++ scope.now) prefix.now }
+{
+    match own.of_prefix(prefix) {
+        Some(namespace) => Some(namespace),
+        None => scope.of_prefix(prefix),
+    }
+}
+
+/// The namespace of this name, `None` for the absent one. Its characters are shared with the binding.
+fn namespace_by(name: Option<&Text>) -> Result<Option<Text>, AllocError>
+    ensures { IfOk result (λ space. space ≡ scopes.namespace_by (option_copied name.entry)) }
+{
+    match name {
+        None => Ok(None),
+        Some(name) if name.as_str().is_empty() => Ok(None),
+        Some(name) => Ok(Some(name.try_clone()?)),
+    }
+}
+
+/// What a prefix stands for.
+fn prefixed(own: &Prefixes, scope: &Prefixes, prefix: &str) -> Result<Space, AllocError>
+    ensures { IfOk result (λ space. space ≡ resolving.prefixed (own.now ++ scope.now) prefix.now) }
+{
+    let bound = of_prefix(own, scope, prefix);
+    let unbound = prefix != "xmlns" && bound.is_none();
+    Ok(Space {
+        namespace: namespace_by(bound)?,
+        unbound,
+    })
+}
+
+/// What the prefix of an element's name stands for: without one it is the default namespace.
+fn element_space(
+    own: &Prefixes,
+    scope: &Prefixes,
+    prefix: Option<&str>,
+) -> Result<Space, AllocError>
+    ensures { IfOk result (λ space. space ≡ resolving.element_place (own.now ++ scope.now) (option_copied prefix.entry)) }
+{
+    match prefix {
+        None => Ok(Space {
+            namespace: namespace_by(of_prefix(own, scope, ""))?,
+            unbound: false,
+        }),
+        Some(prefix) => prefixed(own, scope, prefix),
+    }
+}
+
+/// What the prefix of an attribute's name stands for: without one the name is in no namespace.
+fn attribute_space(
+    own: &Prefixes,
+    scope: &Prefixes,
+    prefix: Option<&str>,
+) -> Result<Space, AllocError>
+    ensures { IfOk result (λ space. space ≡ resolving.attribute_place (own.now ++ scope.now) (option_copied prefix.entry)) }
+{
+    match prefix {
+        None => Ok(Space {
+            namespace: None,
+            unbound: false,
+        }),
+        Some(prefix) => prefixed(own, scope, prefix),
+    }
+}
+
+/// Whether a prefix is `xmlns`.
+fn is_xmlns(prefix: Option<&str>) -> bool
+    ensures { result ≡ faults.is_xmlns (option_copied prefix.entry) }
+{
+    match prefix {
+        None => false,
+        Some(prefix) => prefix == "xmlns",
+    }
+}
+
+/// The name of an element in a scope, where these bindings come before it.
+pub(crate) fn judged_element(
+    own: &Prefixes,
+    scope: &Prefixes,
+    pool: &mut TextPool,
+    name: &str,
+) -> Result<JudgedName, AllocError>
+    ensures { IfOk result (λ judged. judged ≡ resolving.judged_element (own.now ++ scope.now) name.now) }
+{
+    let parts = parts_of(name);
+    let space = element_space(own, scope, parts.prefix)?;
+    let local = pool.text(parts.local)?;
+    Ok(JudgedName {
+        name: Expanded {
+            namespace: space.namespace,
+            local,
+        },
+        bad: parts.bad,
+        unbound: space.unbound,
+        reserved: is_xmlns(parts.prefix),
+    })
+}
+
+/// The name of an attribute in a scope, where these bindings come before it.
+pub(crate) fn judged_attribute(
+    own: &Prefixes,
+    scope: &Prefixes,
+    pool: &mut TextPool,
+    name: &str,
+) -> Result<JudgedName, AllocError>
+    ensures { IfOk result (λ judged. judged ≡ resolving.judged_attribute (own.now ++ scope.now) name.now) }
+{
+    let parts = parts_of(name);
+    let space = attribute_space(own, scope, parts.prefix)?;
+    let local = pool.text(parts.local)?;
+    Ok(JudgedName {
+        name: Expanded {
+            namespace: space.namespace,
+            local,
+        },
+        bad: parts.bad,
+        unbound: space.unbound,
+        reserved: binds(name),
+    })
+}
