@@ -42,8 +42,8 @@ pub fn normalized(alloc: Global, handling: WhiteSpace, text: &str) -> Result<Tex
 {
     match handling {
         WhiteSpace::Preserve => Text::new(alloc, text),
-        WhiteSpace::Replace => Text::from_string(replaced(alloc, text)?),
-        WhiteSpace::Collapse => Text::from_string(collapsed(alloc, text)?),
+        WhiteSpace::Replace => Ok(Text::from_string(replaced(alloc, text)?)?),
+        WhiteSpace::Collapse => Ok(Text::from_string(collapsed(alloc, text)?)?),
     }
 }
 

@@ -3,5 +3,6 @@ pub mod GrownLaws
 mod KeptLaws
 mod NumberedLaws
 pub mod NumberingLaws
+mod PoolLaws
 mod QNameLaws
 mod ScopeLaws

@@ -35,4 +35,4 @@ loop-front-preserved c =
 pub returns : goal.returns
 returns c =
     let plain = c.in_default.ensures.byte (lit< tt) (λ w o h. h) in
-    ap Some c.from_string.ensures ∙ after_last c.args.text.now _ _ _ c.loop-front.invariant.so_far plain c.in_ok-push_str-2.ensures.bytes
+    ap Some c.in_ok-from_string.ensures ∙ after_last c.args.text.now _ _ _ c.loop-front.invariant.so_far plain c.in_ok-push_str-2.ensures.bytes

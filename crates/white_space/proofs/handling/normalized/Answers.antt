@@ -3,8 +3,8 @@ use Rattle.white_space.specs.declared.handling.WhiteSpace.TheVariants.{Replace, 
 use Rattle.white_space.proofs.Again.{same_items}
 use Rattle.white_space.proofs.handling.normalized.Goals as goal
 
-pub returns-in_ok-replaced-in-Replace-clause-items : goal.returns-in_ok-replaced-in-Replace-clause-items
-returns-in_ok-replaced-in-Replace-clause-items c = same_items Replace c.args.text.now _ (c.from_string.ensures ∙ c.in_ok-replaced-in-Replace.ensures)
+pub returns-in_ok-from_string-in-Replace-clause-items : goal.returns-in_ok-from_string-in-Replace-clause-items
+returns-in_ok-from_string-in-Replace-clause-items c = same_items Replace c.args.text.now _ (c.in_ok-from_string-in-Replace.ensures ∙ c.in_ok-replaced-in-Replace.ensures)
 
-pub returns-in_ok-collapsed-in-Collapse-clause-items : goal.returns-in_ok-collapsed-in-Collapse-clause-items
-returns-in_ok-collapsed-in-Collapse-clause-items c = same_items Collapse c.args.text.now _ (c.from_string-in-Collapse.ensures ∙ c.in_ok-collapsed-in-Collapse.ensures)
+pub returns-in_ok-from_string-in-Collapse-clause-items : goal.returns-in_ok-from_string-in-Collapse-clause-items
+returns-in_ok-from_string-in-Collapse-clause-items c = same_items Collapse c.args.text.now _ (c.in_ok-from_string-in-Collapse.ensures ∙ c.in_ok-collapsed-in-Collapse.ensures)
