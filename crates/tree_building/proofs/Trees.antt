@@ -139,14 +139,14 @@ text_good b chars g r room =
 
 tag_good : (b : Building) (tag : Tag) (item : ℕ) → IsGood b → Roots b.rooted b.nest.elements (pending.Start tag item) b.rows → b.next ≤ 131072
     → fault_of b.rules (scope_in b.nest) tag ≡ None → IsGood (with_element b tag.name (element_row b tag))
-tag_good b tag item g r room none =
+tag_good b tag item g r room idle =
     let size = length-append b.rows (element_row b tag ∷ []) in
     record {
       rules = g.rules;
       next = omega (arith, size, g.next);
       few = omega (arith, size, g.next, room);
       numbers = one_more 1 b.rows (element_row b tag) g.numbers g.next
-          (well_named (scope_in b.nest) tag (ap (λ rules. fault_of rules (scope_in b.nest) tag) (sym g.rules) ∙ none));
+          (well_named (scope_in b.nest) tag (ap (λ rules. fault_of rules (scope_in b.nest) tag) (sym g.rules) ∙ idle));
       roots = tag_root b.rooted b.nest.elements _ tag item b.rows (element_row b tag) r tt refl;
       room = tt;
     }
@@ -172,10 +172,10 @@ same b g = waits b b.pending b.rooted (b.taken + 1) g g.roots g.room
 
 again : (rooted : Bool) (elements : List OpenElement) (p q : Pending) (rows : List Row) → (p ≡ pending.Nothing → ⊥) → (IsStart p → IsStart q)
     → Roots rooted elements p rows → Roots rooted elements q rows
-again false elements p q rows no start r = absurd (no r.2)
-again true elements p q [] no start r = (r.0, start r.1)
-again true [] p q (first ∷ rows) no start r = absurd (no r.3)
-again true (e ∷ es) p q (first ∷ rows) no start r = (r.0, r.1, r.2, tt)
+again false elements p q rows never start r = absurd (never r.2)
+again true elements p q [] never start r = (r.0, start r.1)
+again true [] p q (first ∷ rows) never start r = absurd (never r.3)
+again true (e ∷ es) p q (first ∷ rows) never start r = (r.0, r.1, r.2, tt)
 
 start_root : (rooted : Bool) (elements : List OpenElement) (tag : Tag) (item : ℕ) (rows : List Row) → (length elements == 0 && rooted) ≡ false
     → Roots rooted elements pending.Nothing rows → Roots true elements (pending.Start tag item) rows
@@ -190,12 +190,12 @@ within b g few =
     grind (arith, nat_tests, least)
 
 started_good : (name : List ℕ) (b : Building) → IsGood b → b.pending ≡ pending.Nothing → Holds (started name b)
-started_good name b g none =
+started_good name b g idle =
     holds_unless (length b.nest.elements == 0 && b.rooted) (refused b reasons.TwoRoots) _ (λ _. tt)
     (λ more. holds_unless (past b.rules.levels (length b.nest.elements + 1)) (refused b reasons.TooDeep) _ (λ _. tt)
     (λ _. holds_unless (past b.rules.nodes b.next) (refused b reasons.TooManyNodes) _ (λ _. tt)
     (λ few. waits b (pending.Start (record { name = name; attributes = [] }) b.taken) true (b.taken + 1) g
-    (start_root b.rooted b.nest.elements (record { name = name; attributes = [] }) b.taken b.rows more (subst (λ p. Roots b.rooted b.nest.elements p b.rows) none g.roots))
+    (start_root b.rooted b.nest.elements (record { name = name; attributes = [] }) b.taken b.rows more (subst (λ p. Roots b.rooted b.nest.elements p b.rows) idle g.roots))
     (within b g few))))
 
 is_start : (tag : Tag) (item : ℕ) → pending.Start tag item ≡ pending.Nothing → ⊥
@@ -218,23 +218,23 @@ chars_root true elements chars [] e r = absurd r.1
 chars_root true [] chars (first ∷ rows) e r = absurd (cc e)
 chars_root true (o ∷ os) chars (first ∷ rows) e r = (r.0, r.1, r.2, tt)
 
-text_begins : (text : List ℕ) (b : Building) → IsGood b → b.pending ≡ pending.Nothing → Holds (text_begun text b)
-text_begins text b g none =
+text_begins : (own : List ℕ) (b : Building) → IsGood b → b.pending ≡ pending.Nothing → Holds (text_begun own b)
+text_begins own b g idle =
     holds_unless (length b.nest.elements == 0) _ _
-    (λ _. holds_unless (is_white text) (Ok (counted b)) (refused b reasons.TextOutside) (λ _. same b g) (λ _. tt))
-    (λ inside. holds_unless (is_empty text) (Ok (counted b)) _ (λ _. same b g)
+    (λ _. holds_unless (is_white own) (Ok (counted b)) (refused b reasons.TextOutside) (λ _. same b g) (λ _. tt))
+    (λ inside. holds_unless (is_empty own) (Ok (counted b)) _ (λ _. same b g)
     (λ _. holds_unless (past b.rules.nodes b.next) (refused b reasons.TooManyNodes) _ (λ _. tt)
-    (λ few. waits b (pending.Chars text) b.rooted (b.taken + 1) g
-    (chars_root b.rooted b.nest.elements text b.rows inside (subst (λ p. Roots b.rooted b.nest.elements p b.rows) none g.roots)) (within b g few))))
+    (λ few. waits b (pending.Chars own) b.rooted (b.taken + 1) g
+    (chars_root b.rooted b.nest.elements own b.rows inside (subst (λ p. Roots b.rooted b.nest.elements p b.rows) idle g.roots)) (within b g few))))
 
-text_holds : (text : List ℕ) (b : Building) (p : Pending) → b.pending ≡ p → IsGood b → Roots b.rooted b.nest.elements p b.rows → HasRoom p b.next → Holds (text_by text b p)
-text_holds text b pending.Nothing e g r room = text_begins text b g e
-text_holds text b (pending.Start tag item) e g r room =
-    holds_then (settled_by b (pending.Start tag item)) (text_begun text) (settled_good b (pending.Start tag item) g r room) (settles b (pending.Start tag item) e)
-    (λ b g none. text_begins text b g none)
-text_holds text b (pending.Chars chars) e g r room =
-    waits b (pending.Chars (chars ++ text)) b.rooted (b.taken + 1) g
-    (again b.rooted b.nest.elements (pending.Chars chars) (pending.Chars (chars ++ text)) b.rows (is_chars chars) (λ s. s) r) room
+text_holds : (own : List ℕ) (b : Building) (p : Pending) → b.pending ≡ p → IsGood b → Roots b.rooted b.nest.elements p b.rows → HasRoom p b.next → Holds (text_by own b p)
+text_holds own b pending.Nothing e g r room = text_begins own b g e
+text_holds own b (pending.Start tag item) e g r room =
+    holds_then (settled_by b (pending.Start tag item)) (text_begun own) (settled_good b (pending.Start tag item) g r room) (settles b (pending.Start tag item) e)
+    (λ b g idle. text_begins own b g idle)
+text_holds own b (pending.Chars chars) e g r room =
+    waits b (pending.Chars (chars ++ own)) b.rooted (b.taken + 1) g
+    (again b.rooted b.nest.elements (pending.Chars chars) (pending.Chars (chars ++ own)) b.rows (is_chars chars) (λ s. s) r) room
 
 nothing_waits : (elements : List OpenElement) → Waits elements pending.Nothing
 nothing_waits [] = refl
@@ -246,31 +246,31 @@ close_root true elements [] r = absurd r.1
 close_root true elements (first ∷ rows) r = (r.0, r.1, r.2, nothing_waits (without_first elements))
 
 ended_good : (name : List ℕ) (b : Building) → IsGood b → b.pending ≡ pending.Nothing → Holds (ended name b)
-ended_good name b g none =
+ended_good name b g idle =
     holds_unless (closes name b.nest.elements) (Ok (record (counted b) { nest = closed b.nest })) (refused b reasons.EndMismatch)
     (λ _. record {
       rules = g.rules;
       next = g.next;
       few = g.few;
       numbers = g.numbers;
-      roots = subst (λ p. Roots b.rooted (without_first b.nest.elements) p b.rows) (sym none)
-          (close_root b.rooted b.nest.elements b.rows (subst (λ p. Roots b.rooted b.nest.elements p b.rows) none g.roots));
+      roots = subst (λ p. Roots b.rooted (without_first b.nest.elements) p b.rows) (sym idle)
+          (close_root b.rooted b.nest.elements b.rows (subst (λ p. Roots b.rooted b.nest.elements p b.rows) idle g.roots));
       room = g.room;
     }) (λ _. tt)
 
 passed_holds : (b : Building) (p : Pending) → b.pending ≡ p → IsGood b → Roots b.rooted b.nest.elements p b.rows → HasRoom p b.next → Holds (tag_closed_by b p >>= passed)
 passed_holds b pending.Nothing e g r room = same b g
 passed_holds b (pending.Start tag item) e g r room =
-    holds_then (settled_by b (pending.Start tag item)) passed (settled_good b (pending.Start tag item) g r room) (settles b (pending.Start tag item) e) (λ b g none. same b g)
+    holds_then (settled_by b (pending.Start tag item)) passed (settled_good b (pending.Start tag item) g r room) (settles b (pending.Start tag item) e) (λ b g idle. same b g)
 passed_holds b (pending.Chars chars) e g r room = same b g
 
 took_good : (b : Building) (item : Item) → IsGood b → Holds (took b item)
 took_good b (items.Start name) g =
-    holds_then (settled_by b b.pending) (started name) (settled_good b b.pending g g.roots g.room) (settles b b.pending refl) (λ b g none. started_good name b g none)
+    holds_then (settled_by b b.pending) (started name) (settled_good b b.pending g g.roots g.room) (settles b b.pending refl) (λ b g idle. started_good name b g idle)
 took_good b (items.Attr name value) g = lined_good b b.pending (record { name = name; value = value }) g g.roots g.room
-took_good b (items.Chars text) g = text_holds text b b.pending refl g g.roots g.room
+took_good b (items.Chars own) g = text_holds own b b.pending refl g g.roots g.room
 took_good b (items.Close name) g =
-    holds_then (settled_by b b.pending) (ended name) (settled_good b b.pending g g.roots g.room) (settles b b.pending refl) (λ b g none. ended_good name b g none)
+    holds_then (settled_by b b.pending) (ended name) (settled_good b b.pending g g.roots g.room) (settles b b.pending refl) (λ b g idle. ended_good name b g idle)
 took_good b items.Instruction g = passed_holds b b.pending refl g g.roots g.room
 took_good b (items.Schema locations) g = tt
 took_good b items.Document g = tt
@@ -312,16 +312,16 @@ root_rows true elements [] e r = absurd r.1
 root_rows true elements (first ∷ rows) e r = (r.0, r.1, r.2)
 
 finished_good : (r : Result Building TreeFault) → Holds r → Settles r → HoldsBuilt (r >>= finished)
-finished_good (Ok b) g none =
+finished_good (Ok b) g idle =
     built_unless (length b.nest.elements == 0) _ (refused b reasons.Unclosed)
     (λ _. built_unless b.rooted (Ok (record { rows = b.rows; next = b.next })) (refused b reasons.NoRoot)
     (λ rooted. record {
       next = g.next;
       few = g.few;
       numbers = g.numbers;
-      root = root_rows b.rooted b.nest.elements b.rows rooted (subst (λ p. Roots b.rooted b.nest.elements p b.rows) none g.roots);
+      root = root_rows b.rooted b.nest.elements b.rows rooted (subst (λ p. Roots b.rooted b.nest.elements p b.rows) idle g.roots);
     }) tt) tt
-finished_good (Err fault) g none = tt
+finished_good (Err fault) g idle = tt
 
 all_done : (r : Result Building TreeFault) → Holds r → HoldsBuilt (r >>= ended_all)
 all_done (Ok b) g = finished_good (settled_by b b.pending) (settled_good b b.pending g g.roots g.room) (settles b b.pending refl)
