@@ -48,12 +48,12 @@ append-none (text n chars next) = ap (text n chars) (append-none next)
 append-none (element n name bindings attributes children next) = ap (element n name bindings attributes children) (append-none next)
 
 pub count-append : (f g : Forest) → count (append f g) ≡ count f + count g
-count-append none g = refl
+count-append none g = omega arith
 count-append (text n chars next) g = omega (arith, count-append next g)
 count-append (element n name bindings attributes children next) g = omega (arith, count-append next g)
 
 pub times-append : (j : ℕ) (f g : Forest) → times j (append f g) ≡ times j f + times j g
-times-append j none g = refl
+times-append j none g = omega arith
 times-append j (text n chars next) g = omega (arith, times-append j next g)
 times-append j (element n name bindings attributes children next) g = omega (arith, times-append j next g)
 
