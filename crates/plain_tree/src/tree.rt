@@ -7,6 +7,7 @@ use std::alloc::{AllocError, Global};
 use std::marker::Model;
 use tree_edits::{Edit, EditError, edit_rows};
 use tree_rows::{Attribute, Binding, Content, Expanded, NodeKind, Row};
+use tree_siblings::TreeIndex;
 use xs_names::Text;
 
 /// A tree of elements and texts. Contracts see a document whose forest is one root, within the limits, with the next
@@ -59,8 +60,7 @@ impl Tree {
 
     /// The nodes in document order, each with its depth.
     pub fn rows(&self) -> &[Row]
-        ensures rows { result.now ≡ rows_of 1 self.now.forest }
-        ensures tree { IsTree self.now }
+        ensures { result.now ≡ rows_of 1 self.now.forest }
     {
         self.rows.as_slice()
     }
@@ -186,9 +186,23 @@ impl Tree {
         put_binding(&mut self.rows, node, binding)
     }
 
+    /// An index of the nodes, by which each step to a node's children or to its next siblings takes constant time. It is
+    /// made in linear time.
+    ///
+    /// # Errors
+    ///
+    /// `AllocError` is want of memory.
+    pub fn index(&self, alloc: Global) -> Result<TreeIndex<'_>, AllocError>
+        ensures index { IfOk result (λ index. index ≡ self.now.forest) }
+        ensures tree { IsTree self.now }
+    {
+        TreeIndex::new(alloc, self.rows.as_slice())
+    }
+
     /// The number that the next new node gets.
     pub fn next_free(&self) -> u32
-        ensures { result ≡ self.now.next_free }
+        ensures next { result ≡ self.now.next_free }
+        ensures tree { IsTree self.now }
     {
         self.next_free
     }
