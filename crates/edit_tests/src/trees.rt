@@ -1,3 +1,6 @@
+ghost use Rattle.std.specs.Prelude.{IfOk};
+ghost use Rattle.tree_rows.specs.Whole.{IsNamespace};
+
 use crate::lines::items_of;
 use plain_tree::{
     Attribute, Binding, Builder, Edit, EditError, Expanded, NodeKind, Prefixes, Row, Tree,
@@ -73,7 +76,9 @@ fn reads_the_parts_of_nodes(rt: HostRuntime) -> Result<(), Fail> {
 }
 
 /// A name in no namespace.
-fn plain(alloc: Global, local: &str) -> Result<Expanded, Fail> {
+fn plain(alloc: Global, local: &str) -> Result<Expanded, Fail>
+    ensures { IfOk result (λ name. IsNamespace name.namespace) }
+{
     Ok(Expanded {
         namespace: None,
         local: Text::new(alloc, local)?,
@@ -89,7 +94,9 @@ fn bound(alloc: Global, prefix: &str, namespace: &str) -> Result<Binding, Fail> 
 }
 
 /// An attribute in no namespace.
-fn attribute(alloc: Global, local: &str, value: &str) -> Result<Attribute, Fail> {
+fn attribute(alloc: Global, local: &str, value: &str) -> Result<Attribute, Fail>
+    ensures { IfOk result (λ attribute. IsNamespace attribute.name.namespace) }
+{
     Ok(Attribute {
         name: plain(alloc, local)?,
         value: Text::new(alloc, value)?,

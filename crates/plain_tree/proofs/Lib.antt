@@ -2,3 +2,4 @@ pub mod Finding
 pub mod Sound
 pub mod KindLaws
 pub mod Adding
+pub mod Keeping

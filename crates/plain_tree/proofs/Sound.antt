@@ -3,8 +3,7 @@ use Rattle.std.proofs.Common.{◌≡◌, [], ◌∷◌, Result, Ok, Err, OnOk, O
 use Rattle.item_listing.specs.declared.item.Item.{Item}
 use Rattle.tree_building.specs.Building.{◌>>=◌, after, ended_all}
 use Rattle.tree_building.specs.Builder.{end_of}
-use Rattle.tree_building.specs.Shape.{AreSound}
-use Rattle.tree_building.specs.Sound.{WillBeSound}
+use Rattle.tree_building.specs.Sound.{IsWell, WillBeSound}
 use Rattle.tree_building.specs.declared.building.Building.{Building}
 use Rattle.tree_building.specs.declared.build.Built.{Built}
 use Rattle.tree_building.specs.declared.fault.TreeFault.{TreeFault}
@@ -18,5 +17,5 @@ end_is : (state : Result Building TreeFault) → end_of state ≡ (state >>= end
 end_is (Ok b) = refl
 end_is (Err fault) = refl
 
-pub end_sound : (state : Result Building TreeFault) (end : Built) → WillBeSound state → end_of state ≡ Ok end → AreSound end.rows
+pub end_sound : (state : Result Building TreeFault) (end : Built) → WillBeSound state → end_of state ≡ Ok end → IsWell end
 end_sound state end sound e = sound [] end (sym (end_is state) ∙ e)

@@ -2,8 +2,8 @@ ghost use Rattle.std.specs.Prelude.{◌≡◌, Ok, IfOk, OnOk, OnErr};
 ghost use Rattle.tag_names.specs.Scopes.{first_scope};
 ghost use Rattle.tree_building.specs.Building as steps;
 ghost use Rattle.tree_building.specs.Rules.{document_rules};
-ghost use Rattle.tree_building.specs.Shape.{AreSound};
-ghost use Rattle.tree_rows.specs.Rows.{siblings};
+ghost use Rattle.tree_building.specs.Sound.{tree_of as document_of, IsWell};
+ghost use Rattle.tree_rows.specs.Whole.{IsTree};
 
 use crate::Tree;
 use item_listing::Item;
@@ -64,7 +64,8 @@ impl Builder {
     ///
     /// `AllocError` is want of memory; a `TreeFault` is the items'.
     pub fn finish(self) -> Result<Result<Tree, TreeFault>, AllocError>
-        ensures { IfOk result (λ read. read ≡ steps.document (end_of self)) }
+        ensures read { IfOk result (λ read. read ≡ steps.document (end_of self)) }
+        ensures tree { IfOk result (λ read. IfOk read IsTree) }
     {
         let Builder { inner } = self;
         match inner.finish()? {
@@ -76,8 +77,9 @@ impl Builder {
 
 /// The tree of the nodes that were built.
 fn tree_of(built: Built) -> Tree
-    requires { AreSound built.rows }
-    ensures { result ≡ record { forest = siblings built.rows 1; next_free = built.next } }
+    requires { IsWell built }
+    ensures built { result ≡ document_of built }
+    ensures tree { IsTree result }
 {
     Tree::from_rows(built.rows.into_vec(), built.next)
 }
@@ -88,7 +90,8 @@ fn tree_of(built: Built) -> Tree
 ///
 /// `AllocError` is want of memory; a `TreeFault` is the items'.
 pub fn read_tree(alloc: Global, items: &[Item]) -> Result<Result<Tree, TreeFault>, AllocError>
-    ensures { IfOk result (λ read. read ≡ steps.tree items.now) }
+    ensures read { IfOk result (λ read. read ≡ steps.tree items.now) }
+    ensures tree { IfOk result (λ read. IfOk read IsTree) }
 {
     match build_document(alloc, items)? {
         Ok(built) => Ok(Ok(tree_of(built))),
@@ -107,7 +110,8 @@ pub fn fragment(
     scope: &Prefixes,
     items: &[Item],
 ) -> Result<Result<Tree, TreeFault>, AllocError>
-    ensures { IfOk result (λ read. read ≡ steps.document (steps.built document_rules scope.now items.now)) }
+    ensures read { IfOk result (λ read. read ≡ steps.document (steps.built document_rules scope.now items.now)) }
+    ensures tree { IfOk result (λ read. IfOk read IsTree) }
 {
     match build_fragment(alloc, scope, items)? {
         Ok(built) => Ok(Ok(tree_of(built))),

@@ -7,9 +7,11 @@ use std::alloc::{AllocError, Global};
 use std::marker::Model;
 use tree_edits::{Edit, EditError, edit_rows};
 use tree_rows::{Attribute, Binding, Content, Expanded, NodeKind, Row};
+use tree_siblings::TreeIndex;
 use xs_names::Text;
 
-/// A tree of elements and texts. Contracts see it as a forest of one root, with the next free number.
+/// A tree of elements and texts. Contracts see a document whose forest is one root, within the limits, with the next
+/// free number.
 #[derive(Debug, Drop)]
 pub struct Tree {
     rows: Vec<Row>,
@@ -42,12 +44,15 @@ impl Tree {
     ghost use Rattle.tree_edits.specs.Edits.{has};
     ghost use Rattle.tree_rows.specs.Forest.{none, text as text_node, element, count};
     ghost use Rattle.tree_rows.specs.Kinds.{kind_of};
+    ghost use Rattle.tree_rows.specs.Whole.{IsNamespace, IsTree};
+    ghost use Rattle.tree_edits.specs.Keeping.{GivesNew};
     ghost use Rattle.tree_rows.specs.declared.limits.TheConstants.{MAX_ATTRIBUTES, MAX_DEPTH, MAX_NODES};
     ghost use Rattle.tree_rows.specs.declared.row.NodeKind.TheVariants.{Element};
 
     /// The tree of rows in document order.
     pub(crate) fn from_rows(rows: Vec<Row>, next_free: u32) -> Self
-        requires { AreSound rows.items }
+        requires sound { AreSound rows.items }
+        requires tree { IsTree (record { forest = siblings rows.items 1; next_free = next_free }) }
         ensures { result ≡ record { forest = siblings rows.items 1; next_free = next_free } }
     {
         Tree { rows, next_free }
@@ -71,6 +76,8 @@ impl Tree {
         ensures ok { OnOk result (after self.old edit.now ≡ Ok self.new) }
         ensures err { IfErr result (IsWhy (after self.old edit.now)) }
         ensures kept { OnErr result (self.new ≡ self.old) }
+        ensures tree { IsTree self.new }
+        ensures numbers { OnOk result (GivesNew self.old self.new) }
     {
         self.next_free = edit_rows(alloc, &mut self.rows, self.next_free, edit)?;
         Ok(())
@@ -82,8 +89,10 @@ impl Tree {
     ///
     /// `AllocError` is want of memory.
     pub fn root_alone(alloc: Global, name: Expanded, next_free: u32) -> Result<Self, AllocError>
-        requires { 1 < next_free }
-        ensures { IfOk result (λ tree. tree ≡ record { forest = element 1 name [] [] none none; next_free = next_free }) }
+        requires above_1 { 1 < next_free }
+        requires namespace { IsNamespace name.namespace }
+        ensures root { IfOk result (λ tree. tree ≡ record { forest = element 1 name [] [] none none; next_free = next_free }) }
+        ensures tree { IfOk result IsTree }
     {
         let mut rows = Vec::new(alloc);
         rows.push(root_row(alloc, name))?;
@@ -109,8 +118,10 @@ impl Tree {
         requires below_next { node < self.old.next_free }
         requires few { count self.old.forest < MAX_NODES }
         requires shallow { depth_of parent self.old.forest < MAX_DEPTH }
+        requires namespace { IsNamespace name.namespace }
         ensures ok { OnOk result (self.new ≡ changed parent (with_last (element node name [] [] none none)) self.old) }
         ensures err { OnErr result (self.new ≡ self.old) }
+        ensures tree { IsTree self.new }
     {
         put_last(alloc, &mut self.rows, parent, node, Content::Element(name))
     }
@@ -135,12 +146,13 @@ impl Tree {
         requires few { count self.old.forest < MAX_NODES }
         ensures ok { OnOk result (self.new ≡ changed parent (with_last (text_node node text none)) self.old) }
         ensures err { OnErr result (self.new ≡ self.old) }
+        ensures tree { IsTree self.new }
     {
         put_last(alloc, &mut self.rows, parent, node, Content::Chars(text))
     }
 
     /// Puts an attribute behind those of an element, which has none of its name and fewer than 256 attributes and
-    /// bindings.
+    /// bindings. A namespace of the name is not empty.
     ///
     /// # Errors
     ///
@@ -148,9 +160,11 @@ impl Tree {
     pub fn put_attr(&mut self, node: u32, attr: Attribute) -> Result<(), AllocError>
         requires element { kind_of node self.old.forest ≡ Some Element }
         requires lacks { has_name attr.name (attributes_of node self.old.forest) ≡ false }
+        requires namespace { IsNamespace attr.name.namespace }
         requires few { length (attributes_of node self.old.forest) + length (bindings_of node self.old.forest) < MAX_ATTRIBUTES }
         ensures ok { OnOk result (self.new ≡ changed node (with_attribute attr) self.old) }
         ensures err { OnErr result (self.new ≡ self.old) }
+        ensures tree { IsTree self.new }
     {
         put_attribute(&mut self.rows, node, attr)
     }
@@ -167,13 +181,28 @@ impl Tree {
         requires few { length (attributes_of node self.old.forest) + length (bindings_of node self.old.forest) < MAX_ATTRIBUTES }
         ensures ok { OnOk result (self.new ≡ changed node (with_binding binding) self.old) }
         ensures err { OnErr result (self.new ≡ self.old) }
+        ensures tree { IsTree self.new }
     {
         put_binding(&mut self.rows, node, binding)
     }
 
+    /// An index of the nodes, by which each step to a node's children or to its next siblings takes constant time. It is
+    /// made in linear time.
+    ///
+    /// # Errors
+    ///
+    /// `AllocError` is want of memory.
+    pub fn index(&self, alloc: Global) -> Result<TreeIndex<'_>, AllocError>
+        ensures index { IfOk result (λ index. index ≡ self.now.forest) }
+        ensures tree { IsTree self.now }
+    {
+        TreeIndex::new(alloc, self.rows.as_slice())
+    }
+
     /// The number that the next new node gets.
     pub fn next_free(&self) -> u32
-        ensures { result ≡ self.now.next_free }
+        ensures next { result ≡ self.now.next_free }
+        ensures tree { IsTree self.now }
     {
         self.next_free
     }

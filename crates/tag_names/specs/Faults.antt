@@ -4,9 +4,8 @@ use Rattle.std.specs.List.{list_any}
 use Rattle.std.specs.Str.{bytes_eq}
 use Rattle.xs_names.specs.Names.{xml_name, xmlns_name}
 use Rattle.xs_names.specs.QName.{qname}
-use Rattle.tree_rows.specs.Naming.{same_name}
+pub use Rattle.tree_rows.specs.Whole.{repeats_prefix, repeats_name}
 use Rattle.tree_rows.specs.declared.limits.TheConstants.{MAX_ATTRIBUTES}
-use Rattle.tree_rows.specs.declared.row.Attribute.{Attribute}
 use Rattle.tree_rows.specs.declared.row.Binding.{Binding}
 use Rattle.tag_names.specs.Scopes.{of_prefix}
 use Rattle.tag_names.specs.Tags.{is_binding, binding_of, bindings_in, scope_within, prefix_of, attributes_in}
@@ -56,16 +55,6 @@ abbrev pub has_unbound : List Binding → Tag → Bool
 has_unbound scope tag =
     is_unbound (scope_within scope tag) (prefix_of tag.name)
     || list_any (line_is_unbound (scope_within scope tag)) tag.attributes
-
--- two bindings have one prefix
-abbrev pub repeats_prefix : List Binding → Bool
-repeats_prefix [] = false
-repeats_prefix (b ∷ more) = list_any (λ other. bytes_eq b.prefix other.prefix) more || repeats_prefix more
-
--- two attributes have one expanded name (Namespaces in XML 1.0, 6.3)
-abbrev pub repeats_name : List Attribute → Bool
-repeats_name [] = false
-repeats_name (a ∷ more) = list_any (λ other. same_name a.name other.name) more || repeats_name more
 
 abbrev pub has_double : List Binding → Tag → Bool
 has_double scope tag =

@@ -1,5 +1,5 @@
 -- Whatever items come, the rows that are built are nested.
-use Rattle.std.proofs.Common.{◌≡◌, ℕ, ◌+◌, ◌≤◌, List, [], ◌∷◌, ◌++◌, Bool, true, false, ◌==◌, ◌&&◌, Option, Some, None, Result, Ok, Err, IfOk, length, refl, sym, ap, ◌∙◌, arith, append_assoc, append-nil, subst}
+use Rattle.std.proofs.Common.{◌≡◌, ℕ, ◌+◌, ◌≤◌, List, [], ◌∷◌, ◌++◌, Bool, true, false, ◌==◌, ◌&&◌, Option, Some, None, Result, Ok, Err, length, refl, sym, ap, ◌∙◌, arith, append_assoc, append-nil, subst}
 use Rattle.std.specs.Prelude.{if◌then◌else◌}
 use Rattle.item_listing.specs.declared.item.Item.{Item}
 use Rattle.item_listing.specs.declared.item.Item.TheVariants as items
@@ -131,7 +131,7 @@ room_fewer : (levels : Option ℕ) (b : Building) → b.pending ≡ pending.Noth
 room_fewer levels b e = subst (Room levels (without_first b.nest.elements)) (sym e) tt
 
 -- after an end nothing waits, since it was settled
-abbrev Settles : Result Building TreeFault → Type 0
+abbrev pub Settles : Result Building TreeFault → Type 0
 Settles (Ok b) = b.pending ≡ pending.Nothing
 Settles (Err fault) = Unit {0}
 
@@ -139,7 +139,7 @@ tag_settles : (b : Building) (tag : Tag) (item : ℕ) (found : Option NameReason
 tag_settles b tag item (Some reason) = tt
 tag_settles b tag item None = refl
 
-settles : (b : Building) (p : Pending) → b.pending ≡ p → Settles (settled_by b p)
+pub settles : (b : Building) (p : Pending) → b.pending ≡ p → Settles (settled_by b p)
 settles b pending.Nothing e = e
 settles b (pending.Start tag item) e = tag_settles b tag item (fault_of b.rules (scope_in b.nest) tag)
 settles b (pending.Chars chars) e = refl
@@ -220,7 +220,3 @@ built_sound scope its end e = record {
 
 pub built_under : (rules : Rules) (scope : List Binding) (its : List Item) (end : Built) → built rules scope its ≡ Ok end → AreUnder (deepest_row 0 end.rows + 1) end.rows
 built_under rules scope its end e = under_from rules.levels 1 (deepest_row 0 end.rows + 1) end.rows (built_nested rules scope its end e) (omega arith) (omega arith)
-
-pub sound_if : (scope : List Binding) (its : List Item) (r : Result Built TreeFault) → r ≡ built document_rules scope its → IfOk r (λ end. AreSound end.rows)
-sound_if scope its (Ok end) e = built_sound scope its end (sym e)
-sound_if scope its (Err fault) e = tt

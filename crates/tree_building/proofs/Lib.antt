@@ -5,3 +5,7 @@ pub mod Kept
 pub mod OneElement
 pub mod Blocks
 pub mod Spelled
+pub mod RowCounts
+pub mod Numbers
+pub mod NamedLaws
+pub mod Trees

@@ -3,7 +3,7 @@ ghost use Rattle.tag_names.specs.Scopes.{first_scope};
 ghost use Rattle.tree_building.specs.Blocks.{one_element, IsBlock};
 ghost use Rattle.tree_building.specs.Building as steps;
 ghost use Rattle.tree_building.specs.Rules.{document_rules};
-ghost use Rattle.tree_building.specs.Shape.{AreSound};
+ghost use Rattle.tree_building.specs.Sound.{IsWell};
 
 use crate::{Builder, Rules, TreeFault};
 use item_listing::Item;
@@ -47,7 +47,7 @@ fn build(
 /// `AllocError` is want of memory; a `TreeFault` is the items'.
 pub fn build_document(alloc: Global, items: &[Item]) -> Result<Result<Built, TreeFault>, AllocError>
     ensures built { IfOk result (λ built. built ≡ steps.built document_rules first_scope items.now) }
-    ensures sound { IfOk result (λ built. IfOk built (λ end. AreSound end.rows)) }
+    ensures sound { IfOk result (λ built. IfOk built IsWell) }
 {
     let built = build(alloc, Rules::document(), Prefixes::new(alloc)?, items)?;
     Ok(built)
@@ -64,7 +64,7 @@ pub fn build_fragment(
     items: &[Item],
 ) -> Result<Result<Built, TreeFault>, AllocError>
     ensures built { IfOk result (λ built. built ≡ steps.built document_rules scope.now items.now) }
-    ensures sound { IfOk result (λ built. IfOk built (λ end. AreSound end.rows)) }
+    ensures sound { IfOk result (λ built. IfOk built IsWell) }
 {
     let built = build(alloc, Rules::document(), scope.try_clone(alloc)?, items)?;
     Ok(built)

@@ -6,3 +6,6 @@ pub mod Putting
 pub mod Inserting
 pub mod Scoping
 pub mod Changing
+pub mod Lying
+pub mod BlockNaming
+pub mod Keeping

@@ -8,6 +8,7 @@ use Rattle.tree_rows.specs.Rows.{rows_of}
 use Rattle.tree_rows.specs.RowLaws.{Ends}
 use Rattle.tree_edits.specs.Edits.{width, deepest_of, insert_at, renumbered}
 use Rattle.tree_building.specs.Shape.{deepest_with, deepest_row}
+pub use Rattle.tree_building.proofs.RowCounts.{deepest-append, deepest-rows, count-rows}
 use Rattle.tree_edits.specs.EditRows.{rows_width, put_rows, ends_at, raised}
 use Rattle.tree_rows.specs.declared.name.Expanded.{Expanded}
 use Rattle.tree_rows.specs.declared.row.Attribute.{Attribute}
@@ -122,26 +123,6 @@ pub below-rows : (low : ℕ) (f : Forest) (rows : List Row) → Ends (low + 1) r
     → position_or_len (ends_at low) (rows_of (low + 1) f ++ rows) ≡ length (rows_of (low + 1) f)
 below-rows low f rows e = omega (arith, below-skip low (low + 1) f rows (omega arith), below-ends low rows e)
 
--- how deep rows are
-deepest-with : (content : Content) (depth a b : ℕ) → deepest_with content depth (max a b) ≡ max (deepest_with content depth a) b
-deepest-with (contents.Element name) depth a b = omega arith
-deepest-with (contents.Chars chars) depth a b = refl
-
-pub deepest-append : (levels : ℕ) (xs ys : List Row) → deepest_row levels (xs ++ ys) ≡ max (deepest_row levels xs) (deepest_row levels ys)
-deepest-append levels [] ys = omega arith
-deepest-append levels (row ∷ rows) ys =
-    ap (deepest_with row.content (row.depth + levels)) (deepest-append levels rows ys)
-    ∙ deepest-with row.content (row.depth + levels) (deepest_row levels rows) (deepest_row levels ys)
-
-pub deepest-rows : (levels depth : ℕ) (f : Forest) → deepest_row levels (rows_of depth f) ≡ deepest_of (depth + levels) f
-deepest-rows levels depth none = refl
-deepest-rows levels depth (text n chars next) = deepest-rows levels depth next
-deepest-rows levels depth (element n name bindings attributes children next) =
-    let up : depth + 1 + levels ≡ depth + levels + 1 = omega arith in
-    ap (max (depth + levels)) (deepest-append levels (rows_of (depth + 1) children) (rows_of depth next)
-    ∙ ap (λ k. max k (deepest_row levels (rows_of depth next))) (deepest-rows levels (depth + 1) children ∙ ap (λ d. deepest_of d children) up)
-    ∙ ap (max (deepest_of (depth + levels + 1) children)) (deepest-rows levels depth next))
-
 pub deepest-part : (levels n : ℕ) (rows : List Row) → (deepest_row levels (take n rows) ≤ deepest_row levels rows) × (deepest_row levels (drop n rows) ≤ deepest_row levels rows)
 deepest-part levels n rows =
     let whole = deepest-append levels (take n rows) (drop n rows) in
@@ -155,12 +136,6 @@ raised-append free levels (row ∷ rows) ys =
     let on : free + 1 + length rows ≡ free + length (row ∷ rows) = omega arith in
     ap (λ l. record row { number = free; depth = row.depth + levels } ∷ l) (raised-append (free + 1) levels rows ys
     ∙ ap (λ k. raised (free + 1) levels rows ++ raised k levels ys) on)
-
-pub count-rows : (depth : ℕ) (f : Forest) → length (rows_of depth f) ≡ count f
-count-rows depth none = refl
-count-rows depth (text n chars next) = omega (arith, count-rows depth next)
-count-rows depth (element n name bindings attributes children next) =
-    grind (arith, common_steps, count-rows (depth + 1) children, count-rows depth next)
 
 pub raised-rows : (free levels depth : ℕ) (f : Forest) → raised free levels (rows_of depth f) ≡ rows_of (depth + levels) (renumbered free f)
 raised-rows free levels depth none = refl

@@ -1,7 +1,8 @@
 -- Edits of a tree: what a tree is after an edit, or the least reason why the edit is refused.
-use Rattle.std.specs.Prelude.{ℕ, ◌+◌, ◌-◌, List, [], ◌++◌, Bool, true, false, ◌==◌, ◌||◌, nat_lt, max, Option, Some, None, Result, Ok, Err, if◌then◌else◌}
+use Rattle.std.specs.Prelude.{ℕ, ◌+◌, ◌-◌, List, [], ◌++◌, Bool, true, false, ◌==◌, ◌||◌, nat_lt, Option, Some, None, Result, Ok, Err, if◌then◌else◌}
 use Rattle.tree_rows.specs.declared.limits.TheConstants.{MAX_DEPTH, MAX_NODES}
 use Rattle.tree_rows.specs.Forest.{Forest, none, text, element, Document, count}
+pub use Rattle.tree_rows.specs.Forest.{deepest_of}
 use Rattle.tree_rows.specs.declared.row.Binding.{Binding}
 use Rattle.item_listing.specs.declared.item.Item.{Item}
 use Rattle.tag_names.specs.Scopes.{first_scope}
@@ -18,12 +19,6 @@ abbrev pub width : Forest → ℕ
 width none = 0
 width (text number chars next) = 1 + width next
 width (element number name bindings attributes children next) = 1 + width next
-
--- the depth of the deepest element, where the siblings have this depth; 0 where there is none
-abbrev pub deepest_of : ℕ → Forest → ℕ
-deepest_of depth none = 0
-deepest_of depth (text number chars next) = deepest_of depth next
-deepest_of depth (element number name bindings attributes children next) = max depth (max (deepest_of (depth + 1) children) (deepest_of depth next))
 
 -- the nodes get the numbers from this one on, in document order
 abbrev pub renumbered : ℕ → Forest → Forest

@@ -6,3 +6,4 @@ pub mod Blocks
 pub mod Walks
 pub mod Spots
 pub mod Examples
+pub mod Keeping

@@ -3,6 +3,7 @@
 
 mod apply;
 mod edit;
+mod laws;
 mod names;
 mod places;
 mod scope;
@@ -10,4 +11,5 @@ mod shifts;
 
 pub use apply::edit_rows;
 pub use edit::{Edit, EditError};
+pub use laws::edits_keep_trees;
 pub use places::{below_count, place_of};

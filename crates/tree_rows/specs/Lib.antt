@@ -4,3 +4,4 @@ pub mod Rows
 pub mod RowLaws
 pub mod Kinds
 pub mod Code
+pub mod Whole

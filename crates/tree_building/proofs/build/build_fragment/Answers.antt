@@ -1,11 +1,11 @@
 use Rattle.std.proofs.Common.{ap, ◌∙◌}
 use Rattle.tree_building.specs.Building.{built}
 use Rattle.tree_building.specs.Rules.{document_rules}
-use Rattle.tree_building.proofs.Kept.{sound_if}
+use Rattle.tree_building.proofs.Trees.{well_if}
 use Rattle.tree_building.proofs.build.build_fragment.Goals as goal
 
 pub returns-clause-sound : goal.returns-clause-sound
 returns-clause-sound c =
-    sound_if c.args.scope.now c.args.items.now c.in_ok-built.built
+    well_if c.args.scope.now c.args.items.now c.in_ok-built.built
     (c.in_ok-built.ensures ∙ ap (λ r. built r c.in_ok-try_clone.field-0 c.args.items.now) c.document.ensures
     ∙ ap (λ s. built document_rules s c.args.items.now) c.in_ok-try_clone.ensures)
