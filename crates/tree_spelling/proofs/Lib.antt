@@ -1,0 +1,5 @@
+pub mod States
+pub mod Runs
+pub mod Reading
+pub mod Rests
+pub mod Unreading
