@@ -3,3 +3,8 @@ pub mod Runs
 pub mod Reading
 pub mod Rests
 pub mod Unreading
+pub mod FrontLaws
+pub mod Begun
+pub mod Refusing
+pub mod Stepping
+pub mod Refused

@@ -26,7 +26,7 @@ use Rattle.tree_spelling.specs.Spelling.{line_item, IsRunOf, AreSpace, SpellsEle
 use Rattle.tree_spelling.proofs.States.{At, Outside, tag_row, chars_row, opened_in, some_open}
 use Rattle.tree_spelling.proofs.Runs.{silent_read, run_read, space_read}
 
-same_bytes : (xs : List ℕ) → bytes_eq xs xs ≡ true
+pub same_bytes : (xs : List ℕ) → bytes_eq xs xs ≡ true
 same_bytes [] = refl
 same_bytes (b ∷ bytes) = let one : (b == b) ≡ true = grind (arith, nat_tests) in rw one (same_bytes bytes)
 
@@ -48,7 +48,7 @@ lines_read rows outer elements name item next taken had (line ∷ lines) rest =
     let later = lines_read rows outer elements name item next (taken + 1) (had ++ line ∷ []) lines rest in
     (later.0, later.1 ∙ ap (λ l. after_all (Ok (At rows outer elements (pending.Start (record { name = name; attributes = l }) item) next later.0)) rest) (append_assoc had (line ∷ []) lines))
 
-by_found : (b : Building) (tag : Tag) (item : ℕ) (found : Option NameReason) → found ≡ None → tag_by b tag item found ≡ Ok (with_element b tag.name (element_row b tag))
+pub by_found : (b : Building) (tag : Tag) (item : ℕ) (found : Option NameReason) → found ≡ None → tag_by b tag item found ≡ Ok (with_element b tag.name (element_row b tag))
 by_found b tag item (Some reason) e = cc
 by_found b tag item None e = refl
 

@@ -32,17 +32,17 @@ use Rattle.tree_spelling.proofs.Rests.{Rest, RestIn, RestApart, RestTag, RestCha
 abbrev Gives : Result Building TreeFault → List Item → Built → Type 0
 Gives state its end = (after_all state its >>= ended_all) ≡ Ok end
 
-err_ok : {X : Type 0} (fault : TreeFault) (x : X) → Err fault ≡ Ok x → ⊥
+pub err_ok : {X : Type 0} (fault : TreeFault) (x : X) → Err fault ≡ Ok x → ⊥
 err_ok fault x e = cc
 
 abbrev ok_or : {X : Type 0} → X → Result X TreeFault → X
 ok_or x (Ok y) = y
 ok_or x (Err fault) = x
 
-same_ok : {X : Type 0} (x y : X) → ◌≡◌ {A = Result X TreeFault} (Ok x) (Ok y) → x ≡ y
+pub same_ok : {X : Type 0} (x y : X) → ◌≡◌ {A = Result X TreeFault} (Ok x) (Ok y) → x ≡ y
 same_ok x y e = ap (ok_or x) e
 
-fault_gives : (fault : TreeFault) (its : List Item) (end : Built) → Gives (Err fault) its end → ⊥
+pub fault_gives : (fault : TreeFault) (its : List Item) (end : Built) → Gives (Err fault) its end → ⊥
 fault_gives fault its end g = err_ok fault end (ap (λ r. r >>= ended_all) (sym (after_fault fault its)) ∙ g)
 
 -- a test that refuses has not held
