@@ -1,0 +1,10 @@
+pub mod States
+pub mod Runs
+pub mod Reading
+pub mod Rests
+pub mod Unreading
+pub mod FrontLaws
+pub mod Begun
+pub mod Refusing
+pub mod Stepping
+pub mod Refused
