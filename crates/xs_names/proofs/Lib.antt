@@ -6,4 +6,3 @@ pub mod NumberingLaws
 mod PoolLaws
 mod QNameLaws
 mod ScopeLaws
-pub mod PoolLaws

@@ -6,7 +6,7 @@ use std::alloc::{AllocError, Global};
 use std::rc::RcStr;
 
 /// Texts that came, each kept once, so that a text that comes again shares the characters of the one before.
-#[derive(Debug, Drop)]
+#[derive(Drop)]
 pub struct TextPool {
     texts: IndexSet<RcStr>,
 }
