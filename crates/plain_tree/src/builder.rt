@@ -14,7 +14,7 @@ use tree_building::{Built, Rules, TreeFault, build_document, build_fragment, doc
 
 /// Makes the tree of a document section, item by item. Contracts see what was built, or the fault of the item that was
 /// refused first.
-#[derive(Debug, Drop)]
+#[derive(Drop)]
 pub struct Builder {
     inner: tree_building::Builder,
 }

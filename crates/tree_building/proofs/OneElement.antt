@@ -1,5 +1,6 @@
 -- A block is built exactly where its tags are those of one element.
 use Rattle.std.proofs.Common.{◌≡◌, ℕ, ◌+◌, ◌≤◌, List, [], ◌∷◌, ◌++◌, Bool, true, false, ◌==◌, ◌&&◌, Result, Ok, Err, length, refl, sym, ap, ◌∙◌, arith}
+use Rattle.tag_names.specs.Scopes.{first_scope}
 use Rattle.std.specs.Prelude.{if◌then◌else◌}
 use Rattle.std.specs.Result.{is_ok}
 use Rattle.std.proofs.lemmas.Bool.Decides.{nat_tests}
@@ -8,7 +9,7 @@ use Rattle.item_listing.specs.declared.item.Item.TheVariants as items
 use Rattle.xs_names.specs.White as white
 use Rattle.tree_rows.specs.declared.row.Binding.{Binding}
 use Rattle.tree_rows.specs.declared.row.Row.{Row}
-use Rattle.tree_building.specs.Blocks.{ends, outer, one_from, one_element}
+use Rattle.tree_building.specs.Blocks.{ends, outer, one_from, one_by_tags, one_element}
 use Rattle.tree_building.specs.Building.{◌>>=◌, refused, with_row, with_element, text_row, element_row, settled_by, counted, started, text_begun, ended, finished, ended_all, after_all, built, is_empty}
 use Rattle.tree_building.specs.Nest.{OpenElement, closes, without_first}
 use Rattle.tree_building.specs.Rules.{block_rules}
@@ -245,5 +246,12 @@ all_ones : (its : List Item) → Ones its
 all_ones [] = λ rows scope elements p rooted next taken stands. end_by rows scope elements p rooted next taken
 all_ones (item ∷ its) = item_ones item its (all_ones its)
 
+by_tags : (scope : List Binding) (its : List Item) → is_ok (built block_rules scope its) ≡ one_by_tags its
+by_tags scope its = all_ones its [] scope [] pending.Nothing false 1 0 tt
+
+pub block_built : (its : List Item) → one_by_tags its ≡ one_element its
+block_built its = sym (by_tags first_scope its)
+
+-- in one scope and in another
 pub block-built : (scope : List Binding) (its : List Item) → is_ok (built block_rules scope its) ≡ one_element its
-block-built scope its = all_ones its [] scope [] pending.Nothing false 1 0 tt
+block-built scope its = by_tags scope its ∙ block_built its

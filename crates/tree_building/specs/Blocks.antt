@@ -7,7 +7,10 @@ use Rattle.tree_rows.specs.Rows.{siblings}
 use Rattle.xs_names.specs.White.{is_white}
 use Rattle.tree_rows.specs.declared.row.Binding.{Binding}
 use Rattle.tree_rows.specs.declared.row.Row.{Row}
-use Rattle.tree_building.specs.Building.{block}
+use Rattle.std.specs.Result.{is_ok}
+use Rattle.tag_names.specs.Scopes.{first_scope}
+use Rattle.tree_building.specs.Building.{built, block}
+use Rattle.tree_building.specs.Rules.{block_rules}
 use Rattle.tree_building.specs.Shape.{AreWhole, AreUnder, deepest_row}
 
 -- the end closes the innermost of these elements
@@ -37,8 +40,12 @@ one_from tags rooted tag_open (items.Dot ∷ more) = false
 one_from tags rooted tag_open (items.Command line ∷ more) = false
 
 -- the items are one whole element by their tags as they are written
+abbrev pub one_by_tags : List Item → Bool
+one_by_tags its = one_from [] false false its
+
+-- a block is one whole element exactly where building it by the rules of a block ends well
 abbrev pub one_element : List Item → Bool
-one_element its = one_from [] false false its
+one_element its = is_ok (built block_rules first_scope its)
 
 -- the rows of a block's element in this scope
 pub record IsBlock (scope : List Binding) (its : List Item) (rows : List Row) : Type 0 where

@@ -1,5 +1,5 @@
 ghost use Rattle.std.specs.Prelude.{◌≡◌, List, [], false, IfOk};
-ghost use Rattle.tree_building.specs.Blocks.{one_from, one_element};
+ghost use Rattle.tree_building.specs.Blocks.{one_from, one_by_tags, one_element};
 
 use item_listing::Item;
 use std::alloc::{AllocError, Global};
@@ -92,10 +92,9 @@ impl Tags {
     }
 }
 
-/// Whether the items are one whole element by their tags as they are written, whatever its names, its depth and the
-/// number of its nodes. White space may stand around it.
-pub fn is_one_element(alloc: Global, items: &[Item]) -> Result<bool, AllocError>
-    ensures { IfOk result (λ one. one ≡ one_element items.now) }
+/// Whether the items are one whole element, by their tags as they are written.
+fn have_one_element(alloc: Global, items: &[Item]) -> Result<bool, AllocError>
+    ensures { IfOk result (λ one. one ≡ one_by_tags items.now) }
 {
     let mut tags = Tags::new(alloc);
     for item in items {
@@ -104,4 +103,13 @@ pub fn is_one_element(alloc: Global, items: &[Item]) -> Result<bool, AllocError>
         }
     }
     Ok(tags.are_done())
+}
+
+#[tactic(auto, using(crate::proofs::OneElement::block_built))]
+/// Whether the items are one whole element, whatever its names, its depth and the number of its nodes: whether building
+/// it by the rules of a block ends well. White space may stand around it.
+pub fn is_one_element(alloc: Global, items: &[Item]) -> Result<bool, AllocError>
+    ensures { IfOk result (λ one. one ≡ one_element items.now) }
+{
+    have_one_element(alloc, items)
 }

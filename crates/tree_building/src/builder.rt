@@ -9,7 +9,7 @@ use std::marker::Model;
 use tag_names::Prefixes;
 
 /// Makes a tree of items, one by one. Contracts see what was built, or the fault of the item that was refused first.
-#[derive(Debug, Drop)]
+#[derive(Drop)]
 pub struct Builder {
     alloc: Global,
     building: Building,

@@ -14,7 +14,7 @@ use tree_rows::{Attributes, Bindings, Content, Row};
 use xs_names::{Text, is_white_space};
 
 /// What was built of the items that came so far.
-#[derive(Debug, Drop)]
+#[derive(Drop)]
 pub struct Building {
     pub(crate) rules: Rules,
     pub(crate) rows: Rows,

@@ -18,7 +18,7 @@ struct Mark {
 
 /// The elements that are open, and the scope that they stand in. Contracts see each element with the scope of what it holds,
 /// the innermost first.
-#[derive(Debug, Drop)]
+#[derive(Drop)]
 pub struct Nest {
     prefixes: Prefixes,
     marks: Vec<Mark>,
