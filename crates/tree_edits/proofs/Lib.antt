@@ -9,3 +9,4 @@ pub mod Changing
 pub mod Lying
 pub mod BlockNaming
 pub mod Keeping
+pub mod Testing

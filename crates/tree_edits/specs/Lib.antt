@@ -7,3 +7,4 @@ pub mod Walks
 pub mod Spots
 pub mod Examples
 pub mod Keeping
+pub mod Tests

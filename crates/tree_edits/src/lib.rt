@@ -11,5 +11,5 @@ mod shifts;
 
 pub use apply::edit_rows;
 pub use edit::{Edit, EditError};
-pub use laws::edits_keep_trees;
+pub use laws::{edits_are_tested, edits_keep_trees};
 pub use places::{below_count, place_of};
