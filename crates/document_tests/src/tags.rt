@@ -233,7 +233,11 @@ const QNAMES: &[(&str, &str, &str)] = &[
     ("", "!6", "!6"),
     ("xmlns", "{d}xmlns", "!8"),
     ("xmlns:p", "!8", "!8"),
-    ("xml:lang", "{http://www.w3.org/XML/1998/namespace}lang", "{http://www.w3.org/XML/1998/namespace}lang"),
+    (
+        "xml:lang",
+        "{http://www.w3.org/XML/1998/namespace}lang",
+        "{http://www.w3.org/XML/1998/namespace}lang",
+    ),
 ];
 
 /// A name, or the number of the refusal.
