@@ -218,3 +218,23 @@ fn puts_attributes_and_bindings_last(rt: HostRuntime) -> Result<(), Fail> {
     assert!(rt; tree.binding_at(1, 1).is_none() && tree.attr_at(1, 0).is_none());
     Ok(())
 }
+
+#[test]
+fn walks_from_sibling_to_sibling(rt: HostRuntime) -> Result<(), Fail> {
+    let alloc = rt.alloc();
+    let tree = tree_of(alloc, &LINES)?;
+    let index = tree.index(alloc)?;
+    let root = index.top().first().ok_or("no root")?;
+    assert_eq!(rt; root.row.number, 1);
+    assert!(rt; root.next.first().is_none());
+    let text = root.children.first().ok_or("no text")?;
+    assert_eq!(rt; text.row.number, 2);
+    assert!(rt; text.children.first().is_none());
+    let element = text.next.again().first().ok_or("no element")?;
+    assert_eq!(rt; element.row.number, 3);
+    assert!(rt; element.children.first().is_none());
+    let last = element.next.first().ok_or("no last text")?;
+    assert_eq!(rt; last.row.number, 4);
+    assert!(rt; last.next.first().is_none());
+    Ok(())
+}

@@ -124,12 +124,14 @@ settled_rests b (pending.Chars chars) its e l g =
 settled_rests b (pending.Start tag item) its e l g =
     let same = no_lines tag its l in
     let own : IsFine (record { scope = scope_in b.nest; tag = tag }) = subst (λ t. IsFine (record { scope = scope_in b.nest; tag = t })) same g.fine.0 in
-    subst (λ (names : Bool). Rests its (tag_by b tag item (if names then name_fault (scope_in b.nest) tag else None))) (sym (ap (λ (r : Rules). r.names) g.rules))
-    (refl, record {
-      rules = g.rules;
-      rows = rows_more b.rows (element_row b tag) g.rows (tag_named (scope_in b.nest) tag own.1 own.0);
-      fine = subst (λ t. AreFine (tags_in (scope_within (scope_in b.nest) t) (scope_in b.nest ∷ arounds b.nest.outer b.nest.elements) its)) same g.fine.1;
-    })
+    subst (λ (names : Bool). Rests its (tag_by b tag item (if names then name_fault (scope_in b.nest) tag else None))) (sym (ap (λ (r : Rules). r.names) g.rules)) (
+      refl,
+      record {
+        rules = g.rules;
+        rows = rows_more b.rows (element_row b tag) g.rows (tag_named (scope_in b.nest) tag own.1 own.0);
+        fine = subst (λ t. AreFine (tags_in (scope_within (scope_in b.nest) t) (scope_in b.nest ∷ arounds b.nest.outer b.nest.elements) its)) same g.fine.1;
+      },
+    )
 
 -- with another thing that came last
 waits : (b : Building) (p : Pending) (rooted : Bool) (taken : ℕ) (its : List Item) → b.rules ≡ block_rules → RowsHaveNames b.rows → WillBeFine b p its

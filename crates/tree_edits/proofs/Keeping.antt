@@ -168,16 +168,21 @@ deepest-renumbered free depth (element n name bindings attributes children next)
 pub numbered_renumbered : (free : ℕ) (f : Forest) → numbered free (renumbered free f)
 numbered_renumbered free none = tt
 numbered_renumbered free (text n chars next) = (refl, numbered_renumbered (free + 1) next)
-numbered_renumbered free (element n name bindings attributes children next) =
-    (refl, numbered_renumbered (free + 1) children,
-    subst (λ k. numbered (free + 1 + k) (renumbered (free + 1 + count children) next)) (sym (count-renumbered (free + 1) children)) (numbered_renumbered (free + 1 + count children) next))
+numbered_renumbered free (element n name bindings attributes children next) = (
+  refl,
+  numbered_renumbered (free + 1) children,
+  subst (λ k. numbered (free + 1 + k) (renumbered (free + 1 + count children) next)) (sym (count-renumbered (free + 1) children)) (numbered_renumbered (free + 1 + count children) next),
+)
 
 nodes_renumbered : (free high : ℕ) (f : Forest) → HaveNames f → 0 < free → free + count f ≤ high → AreNodes high (renumbered free f)
 nodes_renumbered free high none names low h = tt
 nodes_renumbered free high (text n chars next) names low h = ((low, omega (arith, h)), nodes_renumbered (free + 1) high next names (omega arith) (omega (arith, h)))
-nodes_renumbered free high (element n name bindings attributes children next) names low h =
-    ((low, omega (arith, h)), names.0, nodes_renumbered (free + 1) high children names.1 (omega arith) (omega (arith, h)),
-    nodes_renumbered (free + 1 + count children) high next names.2 (omega arith) (omega (arith, h)))
+nodes_renumbered free high (element n name bindings attributes children next) names low h = (
+  (low, omega (arith, h)),
+  names.0,
+  nodes_renumbered (free + 1) high children names.1 (omega arith) (omega (arith, h)),
+  nodes_renumbered (free + 1 + count children) high next names.2 (omega arith) (omega (arith, h)),
+)
 
 -- the root has the number 1, so the next free one is above 0
 root_free : (f : Forest) (free : ℕ) → HasRoot f → AreNodes free f → 0 < free

@@ -16,7 +16,6 @@ pub struct TreeIndex<'a> {
 
 impl<'a> Model for TreeIndex<'a> {
     ghost use Rattle.tree_rows.specs.Forest.{Forest};
-
     ghost use Rattle.tree_siblings.specs.Code.{forest_code};
 
     ghost Value = { Forest };

@@ -17,7 +17,6 @@ pub struct Siblings<'a> {
 
 impl<'a> Model for Siblings<'a> {
     ghost use Rattle.tree_rows.specs.Forest.{Forest};
-
     ghost use Rattle.tree_siblings.specs.Code.{forest_code};
 
     ghost Value = { Forest };
@@ -42,12 +41,7 @@ pub struct Sibling<'a> {
 }
 
 /// A node by its row, by the rows behind it, of which so many are below it, and by their counts.
-fn node_of<'a>(
-    row: &'a Row,
-    rows: &'a [Row],
-    count: usize,
-    counts: &'a [usize],
-) -> Sibling<'a>
+fn node_of<'a>(row: &'a Row, rows: &'a [Row], count: usize, counts: &'a [usize]) -> Sibling<'a>
     requires { AreCut (row.now ∷ rows.now) (count ∷ counts.now) }
     ensures { IsTaken (forest_in (row.now ∷ rows.now)) (Some result) }
 {
