@@ -7,6 +7,22 @@ use Rattle.xpath_subset.specs.declared.reading.Refusal.TheVariants.{Memory, Synt
 use Rattle.xpath_subset.specs.inside.Gives.{Gives, AreWritten, with_one}
 use Rattle.xpath_subset.specs.Grammar.{all_there}
 
+module _ {W : Type 0} (I : W → List ℕ → Type 0) where
+  pub written_more : (ws : List W) (w : W) (texts : List (List ℕ)) (text : List ℕ) → AreWritten I ws texts → I w text → AreWritten I (ws ++ w ∷ []) (texts ++ text ∷ [])
+  written_more [] w [] text are is = (is, tt)
+  written_more [] w (t ∷ texts) text are is = absurd are
+  written_more (first ∷ ws) w [] text are is = absurd are
+  written_more (first ∷ ws) w (t ∷ texts) text are is = (are.0, written_more ws w texts text are.1 is)
+
+  pub written_cut : (ws : List W) (texts : List (List ℕ)) (text : List ℕ) → AreWritten I ws (texts ++ text ∷ []) → (front : List W) × (last : W) × (ws ≡ front ++ last ∷ []) × AreWritten I front texts × I last text
+  written_cut [] [] text are = absurd are
+  written_cut [] (t ∷ texts) text are = absurd are
+  written_cut (w ∷ []) [] text are = ([], w, refl, tt, are.0)
+  written_cut (w ∷ v ∷ ws) [] text are = absurd are.1
+  written_cut (w ∷ ws) (t ∷ texts) text are =
+      let rest = written_cut ws texts text are.1 in
+      (w ∷ rest.0, rest.1, ap (λ more. w ∷ more) rest.2, (are.0, rest.3), rest.4)
+
 module _ {W V : Type 0} (I : W → List ℕ → Type 0) (m : W → Option V) where
   put : V → Option (List V) → Option (List V)
   put value values = option_map (λ rest. value ∷ rest) values
@@ -28,27 +44,12 @@ module _ {W V : Type 0} (I : W → List ℕ → Type 0) (m : W → Option V) whe
           at (Some values) None = refl
           at (Some values) (Some last) = refl
 
-  written_more : (ws : List W) (w : W) (texts : List (List ℕ)) (text : List ℕ) → AreWritten I ws texts → I w text → AreWritten I (ws ++ w ∷ []) (texts ++ text ∷ [])
-  written_more [] w [] text are is = (is, tt)
-  written_more [] w (t ∷ texts) text are is = absurd are
-  written_more (first ∷ ws) w [] text are is = absurd are
-  written_more (first ∷ ws) w (t ∷ texts) text are is = (are.0, written_more ws w texts text are.1 is)
-
-  written_cut : (ws : List W) (texts : List (List ℕ)) (text : List ℕ) → AreWritten I ws (texts ++ text ∷ []) → (front : List W) × (last : W) × (ws ≡ front ++ last ∷ []) × AreWritten I front texts × I last text
-  written_cut [] [] text are = absurd are
-  written_cut [] (t ∷ texts) text are = absurd are
-  written_cut (w ∷ []) [] text are = ([], w, refl, tt, are.0)
-  written_cut (w ∷ v ∷ ws) [] text are = absurd are.1
-  written_cut (w ∷ ws) (t ∷ texts) text are =
-      let rest = written_cut ws texts text are.1 in
-      (w ∷ rest.0, rest.1, ap (λ more. w ∷ more) rest.2, (are.0, rest.3), rest.4)
-
   -- one text more
   pub gives_more : (texts : List (List ℕ)) (text : List ℕ) (values : Option (List V)) (read : Option V) → Gives (λ ws. AreWritten I ws texts) (λ ws. all_there (map m ws)) (Ok values) → Gives (λ w. I w text) m (Ok read) → Gives (λ ws. AreWritten I ws (texts ++ text ∷ [])) (λ ws. all_there (map m ws)) (Ok (with_one values read))
   gives_more texts text values read all one = (
-    (all.0.0 ++ one.0.0 ∷ [], written_more all.0.0 one.0.0 texts text all.0.1 one.0.1),
+    (all.0.0 ++ one.0.0 ∷ [], written_more I all.0.0 one.0.0 texts text all.0.1 one.0.1),
     λ ws are.
-        let cut = written_cut ws texts text are in
+        let cut = written_cut I ws texts text are in
         ap (λ list. all_there (map m list)) cut.2 ∙ there_more cut.0 cut.1 ∙ ap (λ values. with_one values (m cut.1)) (all.1 cut.0 cut.3) ∙ ap (with_one values) (one.1 cut.1 cut.4),
   )
 

@@ -5,6 +5,7 @@ use Rattle.std.proofs.lemmas.List.{append-nil}
 use Rattle.std.proofs.lemmas.List.Splits.{slice_split-cons_yes, slice_split-cons_no, length-slice_split}
 use Rattle.xs_names.specs.White.{is_white}
 use Rattle.xpath_subset.specs.Grammar.{EndsIn}
+use Rattle.xpath_subset.specs.inside.Gives.{AreWrittenAndLast}
 use Rattle.xpath_subset.specs.inside.Trims.{is_white_byte, trim_front, put_before, trim_end, trim_white, IsTight}
 use Rattle.xpath_subset.proofs.Trims.{white_cons, front_white, trim_white-tight, front_cut, end_cut, trim_front-gap}
 
@@ -75,13 +76,6 @@ end_of (b ∷ front) text e = end_of front text (by (front ++ text) (trim_end (f
         tails : b ∷ d ∷ cut ≡ b ∷ c ∷ whole → d ∷ cut ≡ c ∷ whole
         tails f = cc
 
--- what is read of the pieces
-abbrev pub ZipLast : {A B : Type 0} → (A → List ℕ → Type 0) → (B → List ℕ → Type 0) → List A → B → List (List ℕ) → Type 0
-ZipLast IsItem IsLast items last [] = ⊥
-ZipLast IsItem IsLast [] last (piece ∷ []) = IsLast last piece
-ZipLast IsItem IsLast [] last (piece ∷ next ∷ pieces) = ⊥
-ZipLast IsItem IsLast (item ∷ items) last (piece ∷ pieces) = IsItem item piece × ZipLast IsItem IsLast items last pieces
-
 -- a text of an item: it is tight, and has no separator
 pub record IsPlain (p : ℕ → Bool) (text : List ℕ) : Type 0 where
   pub tight : IsTight text
@@ -93,12 +87,12 @@ eqb_true a b e = grind arith
 -- the trimmed pieces of a text of items, and the text of such pieces
 module _ {A B : Type 0} (sep : ℕ) (IsItem : A → List ℕ → Type 0) (IsLast : B → List ℕ → Type 0) (apart : (b : ℕ) → is_white_byte b ≡ true → b == sep ≡ false) (same : sep == sep ≡ true)
     (item_plain : (item : A) (text : List ℕ) → IsItem item text → IsPlain (λ b. b == sep) text) (last_plain : (last : B) (text : List ℕ) → IsLast last text → IsPlain (λ b. b == sep) text) where
-  pub pieces-from_EndsIn : (items : List A) (last : B) (text : List ℕ) → EndsIn sep IsItem IsLast items last text → ZipLast IsItem IsLast items last (map trim_white (slice_split (λ b. b == sep) text))
+  pub pieces-from_EndsIn : (items : List A) (last : B) (text : List ℕ) → EndsIn sep IsItem IsLast items last text → AreWrittenAndLast IsItem IsLast items last (map trim_white (slice_split (λ b. b == sep) text))
   pieces-from_EndsIn [] last text reads =
       let plain = last_plain last text reads in
       let whole = split_none (λ b. b == sep) text plain.whole in
       let trims : trim_white text ≡ text = ap (λ t. trim_end (trim_front t)) (sym (append-nil text)) ∙ trim_white-tight [] text [] refl refl plain.tight in
-      subst (λ pieces. ZipLast IsItem IsLast [] last (map trim_white pieces)) (sym whole) (subst (IsLast last) (sym trims) reads)
+      subst (λ pieces. AreWrittenAndLast IsItem IsLast [] last (map trim_white pieces)) (sym whole) (subst (IsLast last) (sym trims) reads)
   pieces-from_EndsIn (item ∷ items) last text reads =
       let front = reads.0 in let gap = reads.1 in let follows = reads.6 in
       let plain = item_plain item front reads.5 in
@@ -108,27 +102,27 @@ module _ {A B : Type 0} (sep : ℕ) (IsItem : A → List ℕ → Type 0) (IsLast
       let cut : slice_split (λ b. b == sep) text ≡ (front ++ gap) ∷ slice_split (λ b. b == sep) (follows.0 ++ follows.1) = ap (slice_split (λ b. b == sep)) text_is ∙ split_at (λ b. b == sep) (front ++ gap) sep (follows.0 ++ follows.1) none same in
       let first : trim_white (front ++ gap) ≡ front = trim_white-tight [] front gap refl reads.4 plain.tight in
       let all : map trim_white (slice_split (λ b. b == sep) text) ≡ front ∷ map trim_white (slice_split (λ b. b == sep) follows.1) = ap (map trim_white) cut ∙ ap (λ t. t ∷ map trim_white (slice_split (λ b. b == sep) (follows.0 ++ follows.1))) first ∙ ap (λ ts. front ∷ ts) (gap_pieces (λ b. b == sep) apart follows.0 follows.1 follows.3) in
-      subst (ZipLast IsItem IsLast (item ∷ items) last) (sym all) (reads.5, rest)
+      subst (AreWrittenAndLast IsItem IsLast (item ∷ items) last) (sym all) (reads.5, rest)
 
-  from_last : (last : B) (text : List ℕ) → trim_end text ≡ text → (list_any (λ b. b == sep) text ≡ false) ⊎ ((front : List ℕ) × (y : ℕ) × (rest : List ℕ) × (text ≡ front ++ y ∷ rest) × (list_any (λ b. b == sep) front ≡ false) × (y == sep ≡ true)) → ZipLast IsItem IsLast [] last (map trim_white (slice_split (λ b. b == sep) text)) → IsLast last (trim_front text)
+  from_last : (last : B) (text : List ℕ) → trim_end text ≡ text → (list_any (λ b. b == sep) text ≡ false) ⊎ ((front : List ℕ) × (y : ℕ) × (rest : List ℕ) × (text ≡ front ++ y ∷ rest) × (list_any (λ b. b == sep) front ≡ false) × (y == sep ≡ true)) → AreWrittenAndLast IsItem IsLast [] last (map trim_white (slice_split (λ b. b == sep) text)) → IsLast last (trim_front text)
   from_last last text ends (inl none) zip =
       let cut = front_cut text in
       let same : trim_white text ≡ trim_front text = end_of cut.0 (trim_front text) (subst (λ t. trim_end t ≡ t) cut.2 ends) in
-      subst (IsLast last) same (subst (λ pieces. ZipLast IsItem IsLast [] last (map trim_white pieces)) (split_none (λ b. b == sep) text none) zip)
+      subst (IsLast last) same (subst (λ pieces. AreWrittenAndLast IsItem IsLast [] last (map trim_white pieces)) (split_none (λ b. b == sep) text none) zip)
   from_last last text ends (inr cut) zip = absurd (two (slice_split (λ b. b == sep) cut.2) _ (length-slice_split (λ b. b == sep) cut.2)
-      (subst (λ pieces. ZipLast IsItem IsLast [] last (map trim_white pieces)) (ap (slice_split (λ b. b == sep)) cut.3 ∙ split_at (λ b. b == sep) cut.0 cut.1 cut.2 cut.4 cut.5) zip))
+      (subst (λ pieces. AreWrittenAndLast IsItem IsLast [] last (map trim_white pieces)) (ap (slice_split (λ b. b == sep)) cut.3 ∙ split_at (λ b. b == sep) cut.0 cut.1 cut.2 cut.4 cut.5) zip))
     where
-      two : (pieces : List (List ℕ)) (n : ℕ) → length pieces ≡ n + 1 → ZipLast IsItem IsLast [] last (trim_white cut.0 ∷ map trim_white pieces) → ⊥
+      two : (pieces : List (List ℕ)) (n : ℕ) → length pieces ≡ n + 1 → AreWrittenAndLast IsItem IsLast [] last (trim_white cut.0 ∷ map trim_white pieces) → ⊥
       two [] n e zip = let none : 0 ≡ n + 1 = e in omega (arith, none)
       two (piece ∷ pieces) n e zip = zip
 
-  from_item : (item : A) (items : List A) (last : B) (text : List ℕ) → ((rest : List ℕ) → trim_end rest ≡ rest → ZipLast IsItem IsLast items last (map trim_white (slice_split (λ b. b == sep) rest)) → EndsIn sep IsItem IsLast items last (trim_front rest))
-      → trim_end text ≡ text → (list_any (λ b. b == sep) text ≡ false) ⊎ ((front : List ℕ) × (y : ℕ) × (rest : List ℕ) × (text ≡ front ++ y ∷ rest) × (list_any (λ b. b == sep) front ≡ false) × (y == sep ≡ true)) → ZipLast IsItem IsLast (item ∷ items) last (map trim_white (slice_split (λ b. b == sep) text)) → EndsIn sep IsItem IsLast (item ∷ items) last (trim_front text)
-  from_item item items last text later ends (inl none) zip = absurd (subst (λ pieces. ZipLast IsItem IsLast (item ∷ items) last (map trim_white pieces)) (split_none (λ b. b == sep) text none) zip).1
+  from_item : (item : A) (items : List A) (last : B) (text : List ℕ) → ((rest : List ℕ) → trim_end rest ≡ rest → AreWrittenAndLast IsItem IsLast items last (map trim_white (slice_split (λ b. b == sep) rest)) → EndsIn sep IsItem IsLast items last (trim_front rest))
+      → trim_end text ≡ text → (list_any (λ b. b == sep) text ≡ false) ⊎ ((front : List ℕ) × (y : ℕ) × (rest : List ℕ) × (text ≡ front ++ y ∷ rest) × (list_any (λ b. b == sep) front ≡ false) × (y == sep ≡ true)) → AreWrittenAndLast IsItem IsLast (item ∷ items) last (map trim_white (slice_split (λ b. b == sep) text)) → EndsIn sep IsItem IsLast (item ∷ items) last (trim_front text)
+  from_item item items last text later ends (inl none) zip = absurd (subst (λ pieces. AreWrittenAndLast IsItem IsLast (item ∷ items) last (map trim_white pieces)) (split_none (λ b. b == sep) text none) zip).1
   from_item item items last text later ends (inr cut) zip =
       let y_is : cut.1 ≡ sep = eqb_true cut.1 sep cut.5 in
-      let parts : ZipLast IsItem IsLast (item ∷ items) last (trim_white cut.0 ∷ map trim_white (slice_split (λ b. b == sep) cut.2)) =
-      subst (λ pieces. ZipLast IsItem IsLast (item ∷ items) last (map trim_white pieces)) (ap (slice_split (λ b. b == sep)) cut.3 ∙ split_at (λ b. b == sep) cut.0 cut.1 cut.2 cut.4 cut.5) zip in
+      let parts : AreWrittenAndLast IsItem IsLast (item ∷ items) last (trim_white cut.0 ∷ map trim_white (slice_split (λ b. b == sep) cut.2)) =
+      subst (λ pieces. AreWrittenAndLast IsItem IsLast (item ∷ items) last (map trim_white pieces)) (ap (slice_split (λ b. b == sep)) cut.3 ∙ split_at (λ b. b == sep) cut.0 cut.1 cut.2 cut.4 cut.5) zip in
       let tight = (item_plain item (trim_white cut.0) parts.0).tight in
       let seam : (cut.0 ++ cut.1 ∷ []) ++ cut.2 ≡ cut.0 ++ cut.1 ∷ cut.2 = append_assoc cut.0 (cut.1 ∷ []) cut.2 in
       let rest_ends = end_of (cut.0 ++ cut.1 ∷ []) cut.2 (subst (λ t. trim_end t ≡ t) (cut.3 ∙ sym seam) ends) in
@@ -142,6 +136,6 @@ module _ {A B : Type 0} (sep : ℕ) (IsItem : A → List ℕ → Type 0) (IsLast
       ap trim_front whole ∙ trim_front-gap before.0 (trim_white cut.0 ++ (after.0 ++ cut.1 ∷ cut.2)) before.1 ∙ tight.begins (after.0 ++ cut.1 ∷ cut.2) in
       (trim_white cut.0, after.0, cut.1 ∷ cut.2, cut_off, after.1, parts.0, (next.0, trim_front cut.2, ap (λ y. y ∷ cut.2) y_is ∙ ap (λ t. sep ∷ t) next.2, next.1, later cut.2 rest_ends parts.1))
 
-  pub EndsIn-from_pieces : (items : List A) (last : B) (text : List ℕ) → trim_end text ≡ text → ZipLast IsItem IsLast items last (map trim_white (slice_split (λ b. b == sep) text)) → EndsIn sep IsItem IsLast items last (trim_front text)
+  pub EndsIn-from_pieces : (items : List A) (last : B) (text : List ℕ) → trim_end text ≡ text → AreWrittenAndLast IsItem IsLast items last (map trim_white (slice_split (λ b. b == sep) text)) → EndsIn sep IsItem IsLast items last (trim_front text)
   EndsIn-from_pieces [] last text ends zip = from_last last text ends (cut_first (λ b. b == sep) text) zip
   EndsIn-from_pieces (item ∷ items) last text ends zip = from_item item items last text (λ rest e z. EndsIn-from_pieces items last rest e z) ends (cut_first (λ b. b == sep) text) zip

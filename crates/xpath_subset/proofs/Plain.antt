@@ -170,7 +170,7 @@ pub bar_apart : IsApart (λ b. b == 124)
 bar_apart = record { white = white_is (λ b. b == 124 ≡ false) refl refl refl refl; inner = equal_outside 124 (lit< tt) refl; star = refl; colon = refl; dot = refl; at = refl; child = refl; attribute = refl }
 
 -- a path has no `|`
-ends_plain : (IsLast : WrittenStep → List ℕ → Type 0) → ((step : WrittenStep) (text : List ℕ) → IsLast step text → IsPlain (λ b. b == 124) text) → (steps : List WrittenStep) (last : WrittenStep) (text : List ℕ) → EndsIn 47 IsElementStep IsLast steps last text → IsPlain (λ b. b == 124) text
+pub ends_plain : (IsLast : WrittenStep → List ℕ → Type 0) → ((step : WrittenStep) (text : List ℕ) → IsLast step text → IsPlain (λ b. b == 124) text) → (steps : List WrittenStep) (last : WrittenStep) (text : List ℕ) → EndsIn 47 IsElementStep IsLast steps last text → IsPlain (λ b. b == 124) text
 ends_plain IsLast plain [] last text reads = plain last text reads
 ends_plain IsLast plain (step ∷ steps) last text reads =
     let front = element_plain (λ b. b == 124) bar_apart step reads.0 reads.5 in

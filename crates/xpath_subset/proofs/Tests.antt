@@ -1,5 +1,5 @@
 -- How a name test can be written as a text.
-use Rattle.std.proofs.Common.{lit<, ◌≡◌, ℕ, ◌==◌, ◌||◌, ◌+◌, Bool, true, false, List, [], ◌∷◌, ◌++◌, Option, None, Some, length, refl, sym, ◌∙◌, ap, subst, true≢false, arith, length-append, append_assoc, rules, ◌≢◌}
+use Rattle.std.proofs.Common.{lit<, ◌≡◌, ℕ, ◌==◌, ◌||◌, ◌+◌, Bool, true, false, not, List, [], ◌∷◌, ◌++◌, Option, None, Some, length, refl, sym, ◌∙◌, ap, subst, true≢false, arith, length-append, append_assoc, rules, ◌≢◌}
 use Rattle.std.specs.Prelude.{codes}
 use Rattle.std.specs.Prelude.{bytes_eq}
 use Rattle.std.specs.Option.{option_map}
@@ -99,6 +99,20 @@ bytes_self (x ∷ xs) = rw (eqb_same x) (bytes_self xs)
 
 pub bytes_other : (xs ys : List ℕ) → false ≡ bytes_eq xs ys → xs ≢ ys
 bytes_other xs ys e same = true≢false (sym (bytes_self ys) ∙ ap (λ zs. bytes_eq zs ys) (sym same) ∙ sym e)
+
+pub bytes_not_other : (xs ys : List ℕ) → false ≡ not (bytes_eq xs ys) → xs ≡ ys
+bytes_not_other xs ys e = bytes_same xs ys (by (bytes_eq xs ys) e)
+  where
+    by : (b : Bool) → false ≡ not b → b ≡ true
+    by true e = refl
+    by false e = absurd (true≢false (sym e))
+
+pub bytes_not_same : (xs ys : List ℕ) → true ≡ not (bytes_eq xs ys) → xs ≢ ys
+bytes_not_same xs ys e = bytes_other xs ys (by (bytes_eq xs ys) e)
+  where
+    by : (b : Bool) → true ≡ not b → false ≡ b
+    by true e = absurd (true≢false e)
+    by false e = refl
 
 length-cons : (b : ℕ) (bs : List ℕ) → length (b ∷ bs) ≡ length bs + 1
 length-cons b bs = omega arith

@@ -86,11 +86,14 @@ IsPath IsLast path text = StartsAnywhere path.anywhere (EndsIn 0x2F IsElementSte
 abbrev pub WrittenPaths : Type 0
 WrittenPaths = List WrittenPath × WrittenPath
 
+abbrev pub ArePaths : (WrittenStep → List ℕ → Type 0) → List ℕ → WrittenPaths → Type 0
+ArePaths IsLast text paths = EndsIn 0x7C (IsPath IsLast) (IsPath IsLast) paths.0 paths.1 text
+
 abbrev pub IsSelector : List ℕ → WrittenPaths → Type 0
-IsSelector text paths = EndsIn 0x7C (IsPath IsElementStep) (IsPath IsElementStep) paths.0 paths.1 text
+IsSelector text paths = ArePaths IsElementStep text paths
 
 abbrev pub IsField : List ℕ → WrittenPaths → Type 0
-IsField text paths = EndsIn 0x7C (IsPath IsLastOfField) (IsPath IsLastOfField) paths.0 paths.1 text
+IsField text paths = ArePaths IsLastOfField text paths
 
 -- what a name test means where the prefixes are bound so; nothing where its prefix is not bound. A name without a prefix has
 -- no namespace

@@ -1,9 +1,11 @@
-ghost use Rattle.std.specs.Prelude.{◌≡◌, ◌==◌, ◌<◌, ◌++◌, Bool, Some, codes, map, IfOk, MatchOption};
+ghost use Rattle.std.specs.Prelude.{◌≡◌, ◌==◌, ◌<◌, ◌++◌, Bool, false, List, Some, codes, map, IfOk, MatchOption};
 ghost use Rattle.std.specs.List.{slice_split};
+ghost use Rattle.std.specs.Option.{option_map, option_and_then};
 ghost use Rattle.xs_names.specs.QName.{joined};
-ghost use Rattle.xpath_subset.specs.Grammar.{WrittenTest, child, IsName, IsTest, IsElementStep, IsSelector, IsField, IsReading, test_meaning, step_meaning, steps_meaning, paths_meaning};
-ghost use Rattle.xpath_subset.specs.inside.Gives.{AreWritten, Gives, LacksToken, IsAfter, with_one};
-ghost use Rattle.xpath_subset.specs.inside.Trims.{trim_front, trim_end, trim_white};
+ghost use Rattle.xpath_subset.specs.Grammar.{WrittenTest, WrittenStep, child, attribute, IsName, IsTest, IsElementStep, EndsIn, IsPath, ArePaths, IsSelector, IsField, IsReading, test_meaning, step_meaning, steps_meaning, all_there, to_elements, to_attributes, way_meaning, path_meaning, paths_meaning};
+ghost use Rattle.xpath_subset.specs.inside.Gives.{AreWritten, AreWrittenAndLast, Gives, LacksToken, IsAfter, with_one, answer_of};
+ghost use Rattle.xpath_subset.specs.inside.Lasts.{IsLastOf, EndsAtElement, EndsAtAttribute};
+ghost use Rattle.xpath_subset.specs.inside.Trims.{trim_front, trim_end, trim_white, IsTrimmed};
 
 use crate::{NameTest, Path, Paths, Step};
 use std::alloc::{AllocError, Global};
@@ -50,7 +52,9 @@ pub fn read_selector(
     alloc: Global,
     text: &str,
     scope: &Scope,
-) -> Result<Result<Paths, XPathFault>, AllocError> {
+) -> Result<Result<Paths, XPathFault>, AllocError>
+    ensures { IfOk result (IsReading (IsSelector text.now) (paths_meaning scope.now)) }
+{
     answer(read_paths(alloc, text, Kind::Selector, scope))
 }
 
@@ -59,12 +63,16 @@ pub fn read_field(
     alloc: Global,
     text: &str,
     scope: &Scope,
-) -> Result<Result<Paths, XPathFault>, AllocError> {
+) -> Result<Result<Paths, XPathFault>, AllocError>
+    ensures { IfOk result (IsReading (IsField text.now) (paths_meaning scope.now)) }
+{
     answer(read_paths(alloc, text, Kind::Field, scope))
 }
 
 // The answer of a public call: what was read, or nothing where a prefix is not bound.
-fn answer(read: Result<Option<Paths>, Refusal>) -> Result<Result<Paths, XPathFault>, AllocError> {
+fn answer(read: Result<Option<Paths>, Refusal>) -> Result<Result<Paths, XPathFault>, AllocError>
+    ensures { IfOk result (λ answer. answer_of read ≡ Some answer) }
+{
     match read {
         Ok(Some(paths)) => Ok(Ok(paths)),
         Ok(None) => Ok(Err(XPathFault::Unbound)),
@@ -89,7 +97,8 @@ fn trimmed_end(text: &str) -> &str
 
 // The text without white space at its ends.
 fn trimmed(text: &str) -> &str
-    ensures { result.now ≡ trim_white text.now }
+    ensures value { result.now ≡ trim_white text.now }
+    ensures ends { IsTrimmed result.now }
 {
     trimmed_end(trimmed_front(text))
 }
@@ -181,9 +190,17 @@ fn read_child(alloc: Global, text: &str, scope: &Scope) -> Result<Option<NameTes
     }
 }
 
-// What follows `@` or `attribute::`.
-fn attribute_test(text: &str) -> Option<&str> {
-    after(text, "@").or_else(|| after(text, "attribute::"))
+// What follows `@` or `attribute::`, which may begin the last step of a field.
+fn attribute_test(text: &str, kind: Kind) -> Option<&str>
+    ensures { MatchOption result (EndsAtElement (IsLastOf kind) text.now) (λ test. EndsAtAttribute (IsLastOf kind) text.now test.now) }
+{
+    match kind {
+        Kind::Selector => None,
+        Kind::Field => match after(text, "@") {
+            Some(test) => Some(test),
+            None => after(text, "attribute::"),
+        },
+    }
 }
 
 // Steps to elements; `None` where a prefix is not bound.
@@ -221,58 +238,136 @@ fn and_one<T: Drop>(
     Ok(Some(values))
 }
 
-// A path, with no white space at its ends.
-fn read_path(
+// A path whose last step goes to elements, by its pieces.
+fn read_to_element(
     alloc: Global,
-    text: &str,
-    kind: Kind,
+    pieces: &[&str],
+    anywhere: bool,
     scope: &Scope,
-) -> Result<Option<Path>, Refusal> {
-    let (anywhere, way) = match after(text, ".//") {
-        Some(rest) => (true, rest),
-        None => (false, text),
-    };
-    let pieces = pieces(alloc, way, '/')?;
-    if kind == Kind::Field {
-        if let Some((last, front)) = pieces.as_slice().split_last() {
-            if let Some(test) = attribute_test(trimmed(last)) {
-                let steps = read_steps(alloc, front, scope)?;
-                let test = read_test(alloc, test, scope)?;
-                return Ok(match (steps, test) {
-                    (Some(steps), Some(test)) => Some(Path {
-                        anywhere,
-                        steps,
-                        attribute: Some(test),
-                    }),
-                    _ => None,
-                });
-            }
-        }
+) -> Result<Option<Path>, Refusal>
+    ensures { Gives (λ steps. AreWritten IsElementStep steps (map (λ p. trim_white p.now) pieces.now)) (λ steps. option_map (to_elements anywhere) (steps_meaning scope.now steps)) result }
+{
+    match read_steps(alloc, pieces, scope) {
+        Ok(Some(steps)) => Ok(Some(Path {
+            anywhere,
+            steps,
+            attribute: None,
+        })),
+        Ok(None) => Ok(None),
+        Err(refusal) => Err(refusal),
     }
-    let steps = read_steps(alloc, pieces.as_slice(), scope)?;
-    Ok(steps.map(|steps| Path {
-        anywhere,
-        steps,
-        attribute: None,
-    }))
 }
 
-// Paths joined by `|`; `None` where a prefix is not bound.
-fn read_paths(
+// A path whose last step goes to attributes, by the pieces before it and its test.
+fn read_to_attribute(
     alloc: Global,
-    text: &str,
+    pieces: &[&str],
+    test: &str,
+    anywhere: bool,
+    scope: &Scope,
+) -> Result<Option<Path>, Refusal>
+    ensures { Gives {W = List WrittenStep × WrittenTest} (λ way. AreWritten IsElementStep way.0 (map (λ p. trim_white p.now) pieces.now) × IsTest way.1 test.now) (λ way. way_meaning scope.now anywhere way.0 (attribute false way.1)) result }
+{
+    let steps = match read_steps(alloc, pieces, scope) {
+        Ok(steps) => steps,
+        Err(refusal) => return Err(refusal),
+    };
+    let test = match read_test(alloc, test, scope) {
+        Ok(test) => test,
+        Err(refusal) => return Err(refusal),
+    };
+    Ok(to_attribute(anywhere, steps, test))
+}
+
+// The path of these steps and this test; `None` where a prefix is not bound.
+fn to_attribute(anywhere: bool, steps: Option<Listed<Step>>, test: Option<NameTest>) -> Option<Path>
+    ensures { result ≡ option_and_then (λ way. option_map (to_attributes anywhere way) test) steps }
+{
+    let steps = steps?;
+    let attribute = Some(test?);
+    Some(Path {
+        anywhere,
+        steps,
+        attribute,
+    })
+}
+
+// The steps of a path, by its pieces.
+fn read_pieces(
+    alloc: Global,
+    pieces: &[&str],
+    anywhere: bool,
     kind: Kind,
     scope: &Scope,
-) -> Result<Option<Paths>, Refusal> {
-    if trimmed(text).len() != text.len() {
+) -> Result<Option<Path>, Refusal>
+    ensures { Gives {W = List WrittenStep × WrittenStep} (λ way. AreWrittenAndLast IsElementStep (IsLastOf kind) way.0 way.1 (map (λ p. trim_white p.now) pieces.now)) (λ way. way_meaning scope.now anywhere way.0 way.1) result }
+{
+    let Some((last, front)) = pieces.split_last() else {
         return Err(Refusal::Syntax);
+    };
+    match attribute_test(trimmed(last), kind) {
+        Some(test) => read_to_attribute(alloc, front, test, anywhere, scope),
+        None => read_to_element(alloc, pieces, anywhere, scope),
     }
+}
+
+// The steps of a path.
+fn read_way(
+    alloc: Global,
+    text: &str,
+    anywhere: bool,
+    kind: Kind,
+    scope: &Scope,
+) -> Result<Option<Path>, Refusal>
+    requires { IsTrimmed text.now }
+    ensures { Gives {W = List WrittenStep × WrittenStep} (λ way. EndsIn 0x2F IsElementStep (IsLastOf kind) way.0 way.1 text.now) (λ way. way_meaning scope.now anywhere way.0 way.1) result }
+{
+    let pieces = pieces(alloc, text, '/')?;
+    read_pieces(alloc, pieces.as_slice(), anywhere, kind, scope)
+}
+
+// A path.
+fn read_path(alloc: Global, text: &str, kind: Kind, scope: &Scope) -> Result<Option<Path>, Refusal>
+    requires { IsTrimmed text.now }
+    ensures { Gives (λ path. IsPath (IsLastOf kind) path text.now) (path_meaning scope.now) result }
+{
+    match after(text, ".//") {
+        Some(way) => read_way(alloc, way, true, kind, scope),
+        None => read_way(alloc, text, false, kind, scope),
+    }
+}
+
+// Paths, each by its piece.
+fn read_each(
+    alloc: Global,
+    pieces: &[&str],
+    kind: Kind,
+    scope: &Scope,
+) -> Result<Option<Paths>, Refusal>
+    ensures { Gives (λ paths. AreWritten (IsPath (IsLastOf kind)) paths (map (λ p. trim_white p.now) pieces.now)) (λ paths. all_there (map (path_meaning scope.now) paths)) result }
+{
     let mut paths = Some(Paths::new(alloc));
-    for piece in pieces(alloc, text, '|')?.as_slice() {
+    for piece in pieces {
         match read_path(alloc, trimmed(piece), kind, scope) {
             Ok(read) => paths = and_one(paths, read)?,
             Err(refusal) => return Err(refusal),
         }
     }
     Ok(paths)
+}
+
+// Paths joined by `|`.
+fn read_paths(
+    alloc: Global,
+    text: &str,
+    kind: Kind,
+    scope: &Scope,
+) -> Result<Option<Paths>, Refusal>
+    ensures { Gives (ArePaths (IsLastOf kind) text.now) (paths_meaning scope.now) result }
+{
+    if trimmed(text) != text {
+        return Err(Refusal::Syntax);
+    }
+    let pieces = pieces(alloc, text, '|')?;
+    read_each(alloc, pieces.as_slice(), kind, scope)
 }

@@ -2,6 +2,8 @@
 use Rattle.std.specs.Prelude.{◌≡◌, ℕ, List, [], ◌∷◌, ◌++◌, Option, None, Some, Result, Ok, Err}
 use Rattle.xpath_subset.specs.declared.reading.Refusal.{Refusal}
 use Rattle.xpath_subset.specs.declared.reading.Refusal.TheVariants.{Memory, Syntax}
+use Rattle.xpath_subset.specs.declared.reading.XPathFault.{XPathFault}
+use Rattle.xpath_subset.specs.declared.reading.XPathFault.TheVariants as faults
 use Rattle.xpath_subset.specs.inside.Trims.{trim_front}
 
 -- the meaning of each way in which a text is written, and there is one; or there is none
@@ -24,8 +26,22 @@ AreWritten IsWritten [] (text ∷ texts) = ⊥
 AreWritten IsWritten (written ∷ more) [] = ⊥
 AreWritten IsWritten (written ∷ more) (text ∷ texts) = IsWritten written text × AreWritten IsWritten more texts
 
+-- texts that are written so, one by one, and a last one that is written otherwise
+abbrev pub AreWrittenAndLast : {A B : Type 0} → (A → List ℕ → Type 0) → (B → List ℕ → Type 0) → List A → B → List (List ℕ) → Type 0
+AreWrittenAndLast IsItem IsLast items last [] = ⊥
+AreWrittenAndLast IsItem IsLast [] last (text ∷ []) = IsLast last text
+AreWrittenAndLast IsItem IsLast [] last (text ∷ next ∷ texts) = ⊥
+AreWrittenAndLast IsItem IsLast (item ∷ items) last (text ∷ texts) = IsItem item text × AreWrittenAndLast IsItem IsLast items last texts
+
 -- the values so far and one more
 abbrev pub with_one : {V : Type 0} → Option (List V) → Option V → Option (List V)
 with_one None read = None
 with_one (Some values) None = None
 with_one (Some values) (Some value) = Some (values ++ value ∷ [])
+
+-- the answer of a public call; none where memory was refused
+abbrev pub answer_of : {V : Type 0} → Result (Option V) Refusal → Option (Result V XPathFault)
+answer_of (Ok (Some value)) = Some (Ok value)
+answer_of (Ok None) = Some (Err faults.Unbound)
+answer_of (Err Syntax) = Some (Err faults.Syntax)
+answer_of (Err Memory) = None

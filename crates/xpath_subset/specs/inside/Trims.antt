@@ -20,6 +20,11 @@ trim_end (b ∷ bs) = put_before b (trim_end bs)
 abbrev pub trim_white : List ℕ → List ℕ
 trim_white text = trim_end (trim_front text)
 
+-- the text has no white space at its ends
+pub record IsTrimmed (text : List ℕ) : Type 0 where
+  pub front : trim_front text ≡ text
+  pub end : trim_end text ≡ text
+
 -- the text is no white space at either end, whatever stands before or after it
 pub record IsTight (text : List ℕ) : Type 0 where
   pub begins : (more : List ℕ) → trim_front (text ++ more) ≡ text ++ more

@@ -10,7 +10,7 @@ loop-piece-init c = subst (λ steps. Gives (λ ws. AreWritten IsElementStep ws [
 
 pub loop-piece-preserved : goal.loop-piece-preserved
 loop-piece-preserved c = subst (λ steps. Gives (λ ws. AreWritten IsElementStep ws (map (λ p. trim_white p.now) (take (c.loop-piece.piece-index + 1) c.args.pieces.now))) (steps_meaning c.args.scope.now) (Ok steps)) (sym c.in_ok-steps-in-Ok.ensures)
-    (gives_next IsElementStep (step_meaning c.args.scope.now) (λ p. trim_white p.now) c.args.pieces.now c.loop-piece.piece-index _ c.trimmed.result.now c.loop-piece.steps c.in-Ok.read c.loop-piece-test.true c.trimmed.ensures c.loop-piece.invariant c.in-Ok.ensures)
+    (gives_next IsElementStep (step_meaning c.args.scope.now) (λ p. trim_white p.now) c.args.pieces.now c.loop-piece.piece-index _ c.trimmed.result.now c.loop-piece.steps c.in-Ok.read c.loop-piece-test.true c.trimmed.ensures.value c.loop-piece.invariant c.in-Ok.ensures)
 
 pub returns-in-Err : goal.returns-in-Err
-returns-in-Err c = gives_not IsElementStep (step_meaning c.args.scope.now) (λ p. trim_white p.now) c.args.pieces.now c.loop-piece.piece-index _ c.trimmed.result.now c.loop-piece-test.true c.trimmed.ensures c.in-Err.refusal c.in-Err.ensures
+returns-in-Err c = gives_not IsElementStep (step_meaning c.args.scope.now) (λ p. trim_white p.now) c.args.pieces.now c.loop-piece.piece-index _ c.trimmed.result.now c.loop-piece-test.true c.trimmed.ensures.value c.in-Err.refusal c.in-Err.ensures
