@@ -6,7 +6,8 @@ use Rattle.std.proofs.Math.Seq.{drop-append_seam}
 use Rattle.xpath_subset.specs.declared.path.Step.{Step}
 use Rattle.xpath_subset.specs.declared.path.Step.TheVariants.{Itself, Child}
 use Rattle.xpath_subset.specs.declared.path.Path.{Path}
-use Rattle.xpath_subset.specs.Reaches.{ExpandedName, LeadsDown, AdmitsAttribute, Reaches, child_count, is_child}
+use Rattle.xpath_subset.specs.Reaches.{ExpandedName, LeadsDown, AdmitsAttribute, Reaches}
+use Rattle.xpath_subset.specs.inside.Steps.{child_count, is_child}
 
 -- steps lead down along as many elements as they have name tests
 pub length-from_leads : (steps : List Step) (names : List ExpandedName) → LeadsDown steps names → length names ≡ child_count steps

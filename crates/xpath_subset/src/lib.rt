@@ -4,5 +4,5 @@
 mod path;
 mod reading;
 
-pub use path::{NameTest, Path, Paths, Step};
+pub use path::{NameTest, Path, Paths, Step, is_reached};
 pub use reading::{XPathFault, read_field, read_selector};

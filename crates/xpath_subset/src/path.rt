@@ -1,6 +1,7 @@
 ghost use Rattle.std.specs.Prelude.{◌≡◌, ℕ, ◌<◌, ◌↔◌, All, Option, length, map, IsTrue};
 ghost use Rattle.std.specs.Option.{IfSome, MatchOption, option_map};
-ghost use Rattle.xpath_subset.specs.Reaches.{expanded_name, child_count, Admits, LeadsDown, LeadsNowhere, GoesOn, AdmitsAttribute, Reaches};
+ghost use Rattle.xpath_subset.specs.Reaches.{expanded_name, Admits, LeadsDown, AdmitsAttribute, Reaches, IsReached};
+ghost use Rattle.xpath_subset.specs.inside.Steps.{LeadsNowhere, GoesOn, child_count};
 
 use xs_lists::Listed;
 use xs_names::{NameId, Names, NsId, Text};
@@ -131,4 +132,22 @@ impl Path {
             Some(skipped) => admitted && leads_down(steps, names, &elements[skipped..]),
         }
     }
+}
+
+/// Whether one of the paths leads from an element down to a node, as in `Path::reaches`.
+pub fn is_reached(
+    paths: &Paths,
+    names: &Names,
+    elements: &[NameId],
+    attribute: Option<NameId>,
+) -> bool
+    requires elements { All (λ name. name < length names.now.names) elements.now }
+    requires attribute { IfSome attribute (λ name. name < length names.now.names) }
+    ensures { IsTrue result ↔ IsReached paths.now (map (expanded_name names.now) elements.now)
+        (option_map (expanded_name names.now) attribute) }
+{
+    paths
+        .as_slice()
+        .iter()
+        .any(|path| path.reaches(names, elements, attribute))
 }

@@ -1,7 +1,8 @@
 use Rattle.std.proofs.Common.{◌≡◌, ◌+◌, ◌<◌, ◌≤◌, true≢false, length, map, take, drop, ◌-◌, sym, ◌∙◌, ap, refl, subst, arith}
 use Rattle.std.specs.Option.{option_map}
 use Rattle.std.proofs.lemmas.List.{length-map, drop-map}
-use Rattle.xpath_subset.specs.Reaches.{expanded_name, child_count, LeadsDown}
+use Rattle.xpath_subset.specs.Reaches.{expanded_name, LeadsDown}
+use Rattle.xpath_subset.specs.inside.Steps.{child_count}
 use Rattle.xpath_subset.proofs.Leading.{slice_to_end, Reaches-here, Reaches-too_few, Reaches-anywhere}
 use Rattle.xpath_subset.proofs.path.Path.reaches.Goals as goal
 
