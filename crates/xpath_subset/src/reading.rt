@@ -41,7 +41,7 @@ impl From<AllocError> for Refusal {
 }
 
 // Whether the last step may go to an attribute.
-#[derive(Clone, Copy, PartialEq, Eq)]
+#[derive(Clone, Copy)]
 enum Kind {
     Selector,
     Field,
