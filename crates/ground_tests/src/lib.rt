@@ -1,4 +1,4 @@
-//! Tests of the public calls of the ground crates: bytes in and out, rows, lists, codes.
+//! Tests of the public calls of the ground crates: bytes in and out, texts, rows, lists, codes.
 #![tactic(auto)]
 
 #[cfg(test)]
@@ -11,3 +11,5 @@ mod held;
 mod lists;
 #[cfg(test)]
 mod rows;
+#[cfg(test)]
+mod texts;

@@ -202,84 +202,56 @@ unused_parts u unused =
 abbrev pub ChangesUses : List (String Global × Uses) → List (String Global × Uses) → List ℕ → Option Uses → Type 0
 ChangesUses old new id after = (other : List ℕ) → uses_of new other ≡ cond (bytes_eq id other) after (uses_of old other)
 
+-- an id is this one, whose uses were these and are now those, or another one
+abbrev Parted : List (String Global × Uses) → List (String Global × Uses) → List ℕ → Option Uses → Option Uses → Type 1
+Parted old new id before after = (P : Bool → Option Uses → Option Uses → Type 0) → P true before after → ((uses : Option Uses) → P false uses uses) → (other : List ℕ) → P (bytes_eq id other) (uses_of old other) (uses_of new other)
+
+parted : (old new : List (String Global × Uses)) (id : List ℕ) (before after : Option Uses) → uses_of old id ≡ before → ChangesUses old new id after → Parted old new id before after
+parted old new id before after was changes P here there other =
+    let now = changes other in
+    ⊎_elim
+    (λ (yes : bytes_eq id other ≡ true).
+    let same = same_text id other (sym yes) in
+    let old_is : uses_of old other ≡ before = subst (λ (o : List ℕ). uses_of old o ≡ before) same was in
+    rw (now, old_is, yes) here)
+    (λ (no : bytes_eq id other ≡ false). rw (now, no) (there (uses_of old other)))
+    (cases_Bool (bytes_eq id other))
+
+one_more_id : (old new : List (String Global × Uses)) (id : List ℕ) (before after : Option Uses) (bearer : ℕ) → Parted old new id before after → IsOneMore nat_eq (bearers_of before) (bearers_of after) bearer → references_of after ≡ references_of before → IsOneMoreId old new id bearer
+one_more_id old new id before after bearer split more same = record {
+  ids = λ other element. split (λ is was now. count_of nat_eq (bearers_of now) element ≡ count_of nat_eq (bearers_of was) element + (if is && (bearer == element) then 1 else 0)) (more element) (λ uses. omega arith) other;
+  references = split (λ is was now. references_of now ≡ references_of was) same (λ uses. refl);
+}
+
+one_more_reference : (old new : List (String Global × Uses)) (id : List ℕ) (before after : Option Uses) → Parted old new id before after → bearers_of after ≡ bearers_of before → references_of after ≡ references_of before + 1 → IsOneMoreReference old new id
+one_more_reference old new id before after split same more = record {
+  ids = λ other element. split (λ is was now. count_of nat_eq (bearers_of now) element ≡ count_of nat_eq (bearers_of was) element) (ap (λ bearers. count_of nat_eq bearers element) same) (λ uses. refl) other;
+  references = split (λ is was now. references_of now ≡ references_of was + (if is then 1 else 0)) more (λ uses. omega arith);
+}
+
 module _ (old new : List (String Global × Uses)) (id : List ℕ) (before after : Option Uses) (was : uses_of old id ≡ before) (changes : ChangesUses old new id after) where
-  same_old : (other : List ℕ) → bytes_eq id other ≡ true → uses_of old other ≡ before
-  same_old other same = let e = same_text id other (sym same) in subst (λ (o : List ℕ). uses_of old o ≡ before) e was
+  forth : Parted old new id before after
+  forth = parted old new id before after was changes
 
-  is_new : (other : List ℕ) → bytes_eq id other ≡ true → uses_of new other ≡ after
-  is_new other same = changes other ∙ ap (λ b. cond b after (uses_of old other)) same
-
-  is_old : (other : List ℕ) → bytes_eq id other ≡ false → uses_of new other ≡ uses_of old other
-  is_old other differs = changes other ∙ ap (λ b. cond b after (uses_of old other)) differs
+  back : Parted new old id after before
+  back P = forth (λ is old new. P is new old)
 
   pub more_id : (bearer : ℕ) → IsOneMore nat_eq (bearers_of before) (bearers_of after) bearer → references_of after ≡ references_of before → IsOneMoreId old new id bearer
-  more_id bearer more same = record {
-    ids = λ other element.
-        ⊎_elim
-        (λ yes. rw (is_new other yes, same_old other yes, yes) (more element))
-        (λ no. rw (is_old other no, no) (omega arith))
-        (cases_Bool (bytes_eq id other));
-    references = λ other.
-        ⊎_elim
-        (λ yes. rw (is_new other yes, same_old other yes) same)
-        (λ no. rw (is_old other no) refl)
-        (cases_Bool (bytes_eq id other));
-  }
+  more_id bearer more same = one_more_id old new id before after bearer forth more same
 
   pub less_id : (bearer : ℕ) → IsOneMore nat_eq (bearers_of after) (bearers_of before) bearer → references_of after ≡ references_of before → IsOneMoreId new old id bearer
-  less_id bearer more same = record {
-    ids = λ other element.
-        ⊎_elim
-        (λ yes. rw (is_new other yes, same_old other yes, yes) (more element))
-        (λ no. rw (is_old other no, no) (omega arith))
-        (cases_Bool (bytes_eq id other));
-    references = λ other.
-        ⊎_elim
-        (λ yes. rw (is_new other yes, same_old other yes) (sym same))
-        (λ no. rw (is_old other no) refl)
-        (cases_Bool (bytes_eq id other));
-  }
+  less_id bearer more same = one_more_id new old id after before bearer back more (sym same)
 
   pub more_reference : bearers_of after ≡ bearers_of before → references_of after ≡ references_of before + 1 → IsOneMoreReference old new id
-  more_reference same more = record {
-    ids = λ other element.
-        ⊎_elim
-        (λ yes. rw (is_new other yes, same_old other yes, same) refl)
-        (λ no. rw (is_old other no) refl)
-        (cases_Bool (bytes_eq id other));
-    references = λ other.
-        ⊎_elim
-        (λ yes. rw (is_new other yes, same_old other yes, yes) more)
-        (λ no. rw (is_old other no, no) (omega arith))
-        (cases_Bool (bytes_eq id other));
-  }
+  more_reference same more = one_more_reference old new id before after forth same more
 
   pub less_reference : bearers_of after ≡ bearers_of before → references_of before ≡ references_of after + 1 → IsOneMoreReference new old id
-  less_reference same more = record {
-    ids = λ other element.
-        ⊎_elim
-        (λ yes. rw (is_new other yes, same_old other yes, same) refl)
-        (λ no. rw (is_old other no) refl)
-        (cases_Bool (bytes_eq id other));
-    references = λ other.
-        ⊎_elim
-        (λ yes. rw (is_new other yes, same_old other yes, yes) more)
-        (λ no. rw (is_old other no, no) (omega arith))
-        (cases_Bool (bytes_eq id other));
-  }
+  less_reference same more = one_more_reference new old id after before back (sym same) more
 
   pub same_uses : bearers_of after ≡ bearers_of before → references_of after ≡ references_of before → HasSameUses old new
   same_uses bearers references = record {
-    ids = λ other element.
-        ⊎_elim
-        (λ yes. rw (is_new other yes, same_old other yes, bearers) refl)
-        (λ no. rw (is_old other no) refl)
-        (cases_Bool (bytes_eq id other));
-    references = λ other.
-        ⊎_elim
-        (λ yes. rw (is_new other yes, same_old other yes) references)
-        (λ no. rw (is_old other no) refl)
-        (cases_Bool (bytes_eq id other));
+    ids = λ other element. forth (λ is was now. count_of nat_eq (bearers_of now) element ≡ count_of nat_eq (bearers_of was) element) (ap (λ bearers. count_of nat_eq bearers element) bearers) (λ uses. refl) other;
+    references = forth (λ is was now. references_of now ≡ references_of was) references (λ uses. refl);
   }
 
 -- the uses stay the same after one less

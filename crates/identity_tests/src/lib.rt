@@ -1,4 +1,4 @@
-//! Tests of the public calls on tables of keys and of ids.
+//! Tests of the public calls on tables of keys and of ids, and on paths.
 #![tactic(auto)]
 
 #[cfg(test)]
@@ -7,3 +7,5 @@ mod draw;
 mod ids;
 #[cfg(test)]
 mod keys;
+#[cfg(test)]
+mod paths;

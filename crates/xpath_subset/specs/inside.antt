@@ -1,0 +1,4 @@
+pub mod Trims
+pub mod Gives
+pub mod Lasts
+pub mod Steps

@@ -1,0 +1,8 @@
+//! The paths of identity constraints: reading a selector or a field, and which nodes a path reaches.
+#![tactic(auto)]
+
+mod path;
+mod reading;
+
+pub use path::{NameTest, Path, Paths, Step, is_reached};
+pub use reading::{XPathFault, read_field, read_selector};
