@@ -1,0 +1,2 @@
+pub mod ModelLaws
+pub mod RangeLaws

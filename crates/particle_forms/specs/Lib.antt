@@ -1,0 +1,3 @@
+pub mod Models
+pub mod Ranges
+pub mod Steps
