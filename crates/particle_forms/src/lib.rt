@@ -2,6 +2,13 @@
 #![tactic(auto)]
 
 mod extent;
+mod inhabited;
+mod made;
+mod nodes;
 mod ranges;
+mod unrolling;
 
+pub use inhabited::Inhabited;
+pub use particle_models::{PositionsError, Unrolled};
 pub use ranges::Ranges;
+pub use unrolling::{unroll, unroll_by};
