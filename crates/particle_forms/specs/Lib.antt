@@ -1,0 +1,5 @@
+pub mod Models
+pub mod Ranges
+pub mod Steps
+pub mod Accepted
+pub mod Made
