@@ -1,0 +1,6 @@
+pub mod Listing
+pub mod Adding
+pub mod Symboling
+pub mod Freshness
+pub mod Rowing
+pub mod Noting

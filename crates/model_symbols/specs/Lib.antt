@@ -1,0 +1,4 @@
+pub mod Terms
+pub mod Symbols
+pub mod Rows
+pub mod Attribution
