@@ -8,7 +8,7 @@ use Rattle.xs_names.specs.Numbering.{number_of, with_item, HasNoRepeats}
 use Rattle.xs_names.proofs.NumberingLaws.{slice_get-number_of, with_item-old, with_item-new, HasNoRepeats-with_item}
 use Rattle.model_symbols.specs.declared.terms.Accepts.{Accepts}
 use Rattle.model_symbols.specs.Rows.{with_all}
-use Rattle.model_symbols.proofs.Listing.{contains_head, contains_tail, contains_cases, none_contained, taken_cases, taken_from, contains_get}
+use Rattle.model_symbols.proofs.Items.{contains_head, contains_tail, contains_cases, none_contained, taken_cases, taken_from, contains_get}
 
 abbrev same : ℕ → ℕ → Bool
 same a b = a == b

@@ -10,7 +10,7 @@ use Rattle.xs_names.specs.Numbering.{HasNoRepeats}
 use Rattle.xs_names.proofs.NumberingLaws.{same_name-Decides, number_of-slice_get, number_of-nowhere}
 use Rattle.model_symbols.specs.Terms.{ExpandedName, name_at}
 use Rattle.model_symbols.specs.Symbols.{SymbolTable, AreNamesOf, symbol_of, count_of}
-use Rattle.model_symbols.proofs.Listing.{contains_cases, none_contained, contains_get}
+use Rattle.model_symbols.proofs.Items.{contains_cases, none_contained, contains_get}
 use Rattle.model_symbols.proofs.Symboling.{same, own_of, space_number, among, own_number}
 
 lengths : List ExpandedName → ℕ

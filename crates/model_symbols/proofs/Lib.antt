@@ -1,6 +1,7 @@
-pub mod Listing
+pub mod Items
 pub mod Adding
 pub mod Symboling
 pub mod Freshness
 pub mod Rowing
 pub mod Noting
+pub mod Together

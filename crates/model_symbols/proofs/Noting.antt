@@ -8,7 +8,7 @@ use Rattle.model_symbols.specs.declared.rows.Entry.{Entry}
 use Rattle.model_symbols.specs.declared.attribution.Attribution.{Attribution}
 use Rattle.model_symbols.specs.declared.attribution.Attribution.TheVariants.{Nothing, OneClass, Ambivalent}
 use Rattle.model_symbols.specs.Attribution.{Noted, noted, IsNoted, AreNoted, AreUpTo, with_term}
-use Rattle.model_symbols.proofs.Listing.{contains_map}
+use Rattle.model_symbols.proofs.Items.{contains_map}
 
 abbrev note : ℕ → ℕ → ℕ → Noted
 note k n c = record { term = k; symbol = n; class = c }

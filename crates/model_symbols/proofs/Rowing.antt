@@ -1,5 +1,5 @@
 -- The rows of terms.
-use Rattle.std.proofs.Common.{◌≡◌, ℕ, ◌+◌, ◌-◌, ◌<◌, ◌==◌, ◌&&◌, ◌||◌, not, Bool, true, false, List, [], ◌∷◌, ◌++◌, Option, Some, None, length, map, refl, sym, ap, subst, ◌∙◌, inl, inr, arith, eqb-true}
+use Rattle.std.proofs.Common.{◌≡◌, ℕ, ◌+◌, ◌-◌, ◌<◌, ◌==◌, ◌&&◌, ◌||◌, not, Bool, true, false, List, [], ◌∷◌, ◌++◌, Option, Some, None, length, map, get_or, refl, sym, ap, subst, ◌∙◌, inl, inr, arith, eqb-true}
 use Rattle.std.specs.Prelude.{Contains, All, nat_lt, slice_index}
 use Rattle.std.proofs.lemmas.Bool.{cases_lt, false≢true}
 use Rattle.std.proofs.lemmas.Bool.Decides.{Decides-eqb, nat_tests}
@@ -16,7 +16,7 @@ use Rattle.model_symbols.specs.declared.rows.Entry.{Entry}
 use Rattle.model_symbols.specs.Terms.{ExpandedName, name_at, spaces_in}
 use Rattle.model_symbols.specs.Symbols.{SymbolTable, AreNamesOf, symbol_of, count_of}
 use Rattle.model_symbols.specs.Rows.{IsRow, is_open, admits_symbol, entry_of, AreAdmitted, AreSymbolsIn}
-use Rattle.model_symbols.proofs.Listing.{contains_map, map_contains, get_contains}
+use Rattle.model_symbols.proofs.Items.{contains_map, map_contains, get_contains}
 use Rattle.model_symbols.proofs.Symboling.{same, own_of, own_number, symbol_inj, symbol_below, own, space, last, symbol_case}
 
 module _ (t : NameTable) (s : SymbolTable) where
@@ -40,8 +40,6 @@ module _ (t : NameTable) (s : SymbolTable) where
           subst (λ (r : List Entry). Contains r (record { symbol = symbol_of t s name; class = class })) (sym is)
           (subst (Contains (map (entry_of t s) given)) (λ i. record { symbol = symbol_of t s (e i); class = f i }) (map_contains (entry_of t s) given h.0 h.1))),
     );
-    below = All-same (λ (e : Entry). e.symbol < count_of s) row (map (entry_of t s) given) is
-        (All-map (λ (e : Entry). e.symbol < count_of s) (entry_of t s) given (λ k d l. symbol_below t s _));
   }
 
   -- a namespace that is not in the list is none of those
@@ -97,7 +95,6 @@ module _ (t : NameTable) (s : SymbolTable) where
       (λ h. let r = (are (record { symbol = symbol_of t s name; class = c })).0 h in (sym (admits_is w name all) ∙ r.1, r.2)),
       (λ h. (are (record { symbol = symbol_of t s name; class = c })).1 (symbol_below t s name, admits_is w name all ∙ h.0, h.1)),
     );
-    below = λ k d l. ((are _).0 (Contains-get_or row k d l)).0;
   }
 
   module _ (w : NsConstraint) (class n : ℕ) (row : List Entry) (are : AreAdmitted t s w class n row) where
@@ -130,3 +127,15 @@ symbols_in row n = (
       (m.0.class, subst (Contains row) (λ i. record { symbol = q i; class = m.0.class }) m.1)),
   (λ h. map_contains (λ (e : Entry). e.symbol) row (record { symbol = n; class = h.0 }) h.1),
 )
+
+pub element_below : (t : NameTable) (s : SymbolTable) (given : List Given) (row : List Entry) → row ≡ map (entry_of t s) given → All (λ (e : Entry). e.symbol < count_of s) row
+element_below t s given row is = All-same (λ (e : Entry). e.symbol < count_of s) row (map (entry_of t s) given) is
+    (All-map (λ (e : Entry). e.symbol < count_of s) (entry_of t s) given (λ k d l. symbol_below t s _))
+
+pub wildcard_below : (t : NameTable) (s : SymbolTable) (w : NsConstraint) (class bound : ℕ) (row : List Entry) → AreAdmitted t s w class bound row → All (λ (e : Entry). e.symbol < bound) row
+wildcard_below t s w class bound row are k d l = ((are (get_or row k d)).0 (Contains-get_or row k d l)).0
+
+pub list_below : (row : List Entry) (list : List ℕ) (m : ℕ) → AreSymbolsIn row list → All (λ (e : Entry). e.symbol < m) row → All (λ n. n < m) list
+list_below row list m are below k d l =
+    let h = (are (get_or list k d)).0 (Contains-get_or list k d l) in
+    All-contains (λ (e : Entry). e.symbol < m) row (record { symbol = get_or list k d; class = h.0 }) below h.1

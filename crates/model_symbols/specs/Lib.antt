@@ -2,3 +2,4 @@ pub mod Terms
 pub mod Symbols
 pub mod Rows
 pub mod Attribution
+pub mod Listed

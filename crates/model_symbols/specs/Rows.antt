@@ -14,7 +14,6 @@ use Rattle.model_symbols.specs.Symbols.{SymbolTable, symbol_of, count_of}
 -- a term gives a name a class exactly where its row has the name's symbol with that class
 pub record IsRow (t : NameTable) (s : SymbolTable) (a : Accepts) (row : List Entry) : Type 0 where
   pub gives : (name : ExpandedName) (class : ℕ) → Contains row (record { symbol = symbol_of t s name; class = class }) ↔ Gives t a name class
-  pub below : All (λ (e : Entry). e.symbol < count_of s) row
 
 -- ---- for proofs
 

@@ -12,14 +12,14 @@ pub enum Attribution {
     /// No term accepts it.
     Nothing,
     /// The first term that accepts it, and the class that all of them have.
-    OneClass(u32, u32),
+    OneClass(usize, u32),
     /// The first term that accepts it; others have another class.
-    Ambivalent(u32),
+    Ambivalent(usize),
 }
 
 impl Attribution {
     /// With one more term of a class.
-    fn with(&self, term: u32, class: u32) -> Attribution
+    fn with(&self, term: usize, class: u32) -> Attribution
         ensures { result ≡ with_term self.now term class }
     {
         match self {
@@ -37,7 +37,7 @@ impl Attribution {
 }
 
 /// Notes for each symbol what the next term, of this number, accepts.
-pub fn note_row(list: &mut Vec<Attribution>, term: u32, row: &[Entry])
+pub(crate) fn note_row(list: &mut Vec<Attribution>, term: usize, row: &[Entry])
     requires { All (λ (e : EntryData). e.symbol < length list.old.items) row.now }
     ensures noted { (notes : List Noted) → AreUpTo notes term → AreNoted notes list.old.items → AreNoted (notes ++ map (noted term) row.now) list.new.items }
     ensures count { length list.new.items ≡ length list.old.items }

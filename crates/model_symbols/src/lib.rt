@@ -2,11 +2,12 @@
 #![tactic(auto)]
 
 mod attribution;
+mod listing;
 mod rows;
 mod symbols;
 mod terms;
 
-pub use attribution::{Attribution, note_row};
-pub use rows::{Entry, accepted_of, row_of};
+pub use attribution::Attribution;
+pub use listing::{Listing, list_terms};
 pub use symbols::Symbols;
 pub use terms::{Accepts, Given};

@@ -18,13 +18,13 @@ use xs_namespaces::NsConstraint;
 
 /// A symbol that a term accepts, and the class of what it then gives.
 #[derive(Clone, Copy, Debug)]
-pub struct Entry {
-    pub symbol: u32,
-    pub class: u32,
+pub(crate) struct Entry {
+    pub(crate) symbol: u32,
+    pub(crate) class: u32,
 }
 
 /// The symbols that a term of the model accepts, each with the class of what it then gives.
-pub fn row_of(
+pub(crate) fn row_of(
     alloc: Global,
     symbols: &Symbols,
     names: &Names,
@@ -33,7 +33,8 @@ pub fn row_of(
     requires within { AreNamesOf names.now symbols.now.names }
     requires own_names { All (Contains symbols.now.names) (names_of term.now) }
     requires own_spaces { All (Contains symbols.now.spaces) (spaces_of term.now) }
-    ensures { IfOk result (λ row. HasNoRepeats names.now.names → IsRow names.now symbols.now term.now row.items) }
+    ensures gives { IfOk result (λ row. HasNoRepeats names.now.names → IsRow names.now symbols.now term.now row.items) }
+    ensures below { IfOk result (λ row. All (λ (e : EntryData). e.symbol < count_of symbols.now) row.items) }
 {
     match term {
         Accepts::Element(given) => element_row(alloc, symbols, names, given.as_slice()),
@@ -82,8 +83,9 @@ fn wildcard_row(
 }
 
 /// The symbols of a row, each once, rising.
-pub fn accepted_of(alloc: Global, row: &[Entry]) -> Result<Listed<u32>, AllocError>
+pub(crate) fn accepted_of(alloc: Global, row: &[Entry]) -> Result<Listed<u32>, AllocError>
     ensures members { IfOk result (AreSymbolsIn row.now) }
+    ensures below { IfOk result (λ list. (m : ℕ) → All (λ (e : EntryData). e.symbol < m) row.now → All (λ n. n < m) list) }
     ensures rises { IfOk result IsStrictlyIncreasing }
 {
     let mut list = Vec::new(alloc);

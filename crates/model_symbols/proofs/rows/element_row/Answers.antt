@@ -2,7 +2,7 @@ use Rattle.std.proofs.Common.{◌<◌, length}
 use Rattle.std.specs.Prelude.{Contains}
 use Rattle.std.proofs.lemmas.List.Elements.{All-contains}
 use Rattle.model_symbols.specs.declared.terms.Given.{Given}
-use Rattle.model_symbols.proofs.Listing.{map_contains, item_in}
+use Rattle.model_symbols.proofs.Items.{map_contains, item_in}
 use Rattle.model_symbols.proofs.rows.element_row.Goals as goal
 
 pub symbol-symbol-requires-clause-name : goal.symbol-symbol-requires-clause-name
