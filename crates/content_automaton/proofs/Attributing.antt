@@ -1,12 +1,12 @@
 -- The terms that an automaton gives.
-use Rattle.std.proofs.Common.{◌≡◌, ◌≢◌, ℕ, zero, suc, ◌+◌, ◌<◌, ◌≤◌, ◌↔◌, min, Bool, true, false, IsTrue, List, [], ◌∷◌, ◌++◌, Option, Some, None, inl, inr, length, map, get_or, slice_get, refl, ap, subst, sym, ◌∙◌, arith, append_assoc}
+use Rattle.std.proofs.Common.{◌≡◌, ℕ, ◌<◌, ◌≤◌, ◌↔◌, Bool, true, false, IsTrue, List, [], ◌∷◌, ◌++◌, Option, Some, None, inl, inr, length, map, get_or, slice_get, refl, ap, subst, sym, ◌∙◌, arith, append_assoc}
 use Rattle.std.specs.Prelude.{MatchOption, unwrap_or, nat_lt}
-use Rattle.std.proofs.lemmas.List.{map-append, length-map, get_or-map, get_or_past}
+use Rattle.std.proofs.lemmas.List.{map-append, length-map, get_or-map}
 use Rattle.std.proofs.lemmas.Option.{slice_get-get_or, get_or_from_slice_get, unwrap_or-slice_get}
 use Rattle.std.proofs.lemmas.Bool.{cases_lt, false≢true}
 use Rattle.xs_names.specs.Names.{NameTable}
 use Rattle.particle_models.specs.Particles.{Particle, Place, Mark}
-use Rattle.particle_models.specs.Words.{Words, BeginsWord, EndsIn, names_of}
+use Rattle.particle_models.specs.Words.{BeginsWord, EndsIn, names_of}
 use Rattle.particle_models.specs.Unrolled.{places}
 use Rattle.particle_models.specs.Model.{blank}
 use Rattle.model_symbols.specs.declared.terms.Accepts.{Accepts}
@@ -104,11 +104,13 @@ module _ (t : NameTable) (terms : List Accepts) (accepts : ℕ → ExpandedName 
     pub some_term : next < dead_of a.machine → (k : ℕ) → term_of a.machine next ≡ Some k → (id : ℕ) → slice_get a.terms k ≡ Some id → IsTermAt accepts model names name (Some id)
     some_term l k e id f =
         let h = live_term l in
-        let j : k ≡ h.2 = (let z = sym e ∙ h.3 in cc) in
-        (h.0, h.1,
+        let j : k ≡ h.2 = (let z = sym e ∙ h.3 in cc) in (
+          h.0,
+          h.1,
           (λ other ends. let o = at_place other ends in let i : o.0 ≡ k = (let z = sym o.1 ∙ e in cc) in sym o.2 ∙ (ap (nth_place model) (i ∙ j) ∙ h.4)),
           (let n = nth_number h.2 h.5 in let g : slice_get a.terms h.2 ≡ Some id = ap (slice_get a.terms) (sym j) ∙ f in let v : (nth_place model h.2).number ≡ id = (let z = sym n ∙ g in cc) in
-          ap (λ (p : Place). p.number) (sym h.4) ∙ v))
+              ap (λ (p : Place). p.number) (sym h.4) ∙ v),
+        )
 
     pub lost_term : next < dead_of a.machine → (k : ℕ) → term_of a.machine next ≡ Some k → slice_get a.terms k ≡ None → ⊥
     lost_term l k e f =

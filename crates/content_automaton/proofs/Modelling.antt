@@ -1,5 +1,5 @@
 -- The automaton of a model, of what was built.
-use Rattle.std.proofs.Common.{◌≡◌, ℕ, ◌*◌, ◌<◌, ◌≤◌, ◌↔◌, Bool, true, false, IsTrue, inl, inr, List, Option, Some, None, length, map, get_or, refl, ap, subst, sym, ◌∙◌, arith}
+use Rattle.std.proofs.Common.{◌≡◌, ℕ, ◌*◌, ◌<◌, ◌≤◌, ◌↔◌, Bool, true, false, IsTrue, inl, inr, List, Option, Some, None, length, get_or, ap, subst, sym, ◌∙◌, arith}
 use Rattle.std.specs.Prelude.{All, MatchOption}
 use Rattle.std.proofs.lemmas.Bool.{cases_lt, false≢true}
 use Rattle.std.proofs.lemmas.List.Elements.{Contains-get_or}
@@ -8,11 +8,10 @@ use Rattle.content_states.specs.declared.stop.Stop.{Stop}
 use Rattle.content_states.specs.declared.stop.Stop.TheVariants.{Memory, TooManyStates}
 use Rattle.xs_positions.specs.Tree.{Tree}
 use Rattle.xs_positions.specs.Words.{IsWord}
-use Rattle.xs_positions.specs.Positions.{ArePositionsOf}
 use Rattle.xs_names.specs.Names.{NameTable}
 use Rattle.xs_names.specs.Numbering.{HasNoRepeats}
 use Rattle.xs_namespaces.specs.declared.constraint.NsConstraint.TheVariants.{Any}
-use Rattle.particle_models.specs.Particles.{Particle, Place}
+use Rattle.particle_models.specs.Particles.{Particle}
 use Rattle.particle_models.specs.Unrolled.{unrolled}
 use Rattle.particle_models.specs.Model.{UnrolledModel}
 use Rattle.particle_models.specs.Reach.{Reach}
@@ -30,7 +29,7 @@ use Rattle.content_states.specs.Count.{IsStateCount}
 use Rattle.content_states.proofs.Pairing.{cases_then}
 use Rattle.content_automaton.specs.Recognized.{AreSymbols, IsUnambiguous}
 use Rattle.content_automaton.specs.Counted.{IsStateCountOf}
-use Rattle.content_automaton.specs.Modelled.{IsModelOf, IsAutomatonOf, AreAmbiguous, HasTooManyStates, HasTooLargeTable, HasRoom}
+use Rattle.content_automaton.specs.Modelled.{IsModelOf, IsAutomatonOf}
 use Rattle.content_automaton.proofs.Recognizing.{recognizes, apart, together, together_within, gives_terms, counted}
 
 -- what is known of the symbols, whatever the model
@@ -60,7 +59,7 @@ module _ (t : NameTable) (s : SymbolTable) (terms : List Accepts) (u : UnrolledM
       (language : Speaks tree u.table accepted a)
       (pair : MatchOption a.pair (AreReachedApart tree u.table accepted many) (λ pair. AreReachedTogether tree u.table accepted many pair.0 pair.1))
       (gives : AreReachedApart tree u.table accepted many → (names : List ℕ) → All (λ n. n < many) names → (p : ℕ) → Reach (BySymbol u.table accepted) (IsWord tree 0) names p →
-          term_of a (run a 0 names) ≡ Some (symbol_at u.table p))
+      term_of a (run a 0 names) ≡ Some (symbol_at u.table p))
       (kept : List ℕ) (kept_is : kept ≡ u.terms) where
     own : AreSymbols accepts u.terms accepted a.symbols (symbol_of t s)
     own = subst (λ (n : ℕ). AreSymbols accepts u.terms accepted n (symbol_of t s)) (sym symbols) are_symbols

@@ -1,5 +1,5 @@
 -- What an automaton of a content model says of names.
-use Rattle.std.specs.Prelude.{◌≡◌, ℕ, ◌<◌, ◌≤◌, ◌*◌, Bool, true, false, ⊤, List, [], ◌∷◌, ◌++◌, Option, Some, None, map, length, slice_index, slice_index_or, MatchOption}
+use Rattle.std.specs.Prelude.{◌≡◌, ℕ, ◌<◌, ◌≤◌, ◌*◌, Bool, true, false, List, [], ◌∷◌, ◌++◌, Option, Some, None, map, length, slice_index, slice_index_or, MatchOption}
 use Rattle.xs_names.specs.Names.{NameTable}
 use Rattle.xs_positions.specs.Positions.{Table}
 use Rattle.particle_models.specs.Particles.{Particle, Place}
@@ -13,7 +13,7 @@ use Rattle.model_symbols.specs.Terms.{ExpandedName, accepts_name}
 use Rattle.model_symbols.specs.Symbols.{SymbolTable, AreSymbolsOf, symbol_of, count_of}
 use Rattle.model_symbols.specs.Attribution.{IsStranger, IsFirstTerm}
 use Rattle.model_symbols.specs.Listed.{AreAttributed}
-use Rattle.content_states.specs.Automaton.{Automaton, state_of}
+use Rattle.content_states.specs.Automaton.{Automaton}
 use Rattle.content_automaton.specs.Recognized.{Recognizes, IsUnambiguous, GivesTerms, nth_place}
 use Rattle.content_automaton.specs.Counted.{IsStateCountOf}
 use Rattle.content_automaton.specs.declared.refused.BuildError.{BuildError}

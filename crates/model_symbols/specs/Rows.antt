@@ -1,5 +1,5 @@
 -- The symbols that a term accepts, each with the class of what the term gives.
-use Rattle.std.specs.Prelude.{◌≡◌, ℕ, ◌+◌, ◌-◌, ◌<◌, ◌↔◌, ◌==◌, Bool, true, false, IsTrue, nat_lt, List, [], ◌∷◌, slice_index, Contains, All, if◌then◌else◌, length}
+use Rattle.std.specs.Prelude.{◌≡◌, ℕ, ◌+◌, ◌-◌, ◌<◌, ◌↔◌, ◌==◌, Bool, true, false, IsTrue, nat_lt, List, [], ◌∷◌, slice_index, Contains, if◌then◌else◌, length}
 use Rattle.xs_names.specs.Names.{NameTable, space_of}
 use Rattle.xs_names.specs.Numbering.{with_item}
 use Rattle.xs_namespaces.specs.Sets.{admits}
@@ -9,7 +9,7 @@ use Rattle.model_symbols.specs.declared.terms.Given.{Given}
 use Rattle.model_symbols.specs.declared.terms.Accepts.{Accepts}
 use Rattle.model_symbols.specs.declared.rows.Entry.{Entry}
 use Rattle.model_symbols.specs.Terms.{ExpandedName, name_at, Gives}
-use Rattle.model_symbols.specs.Symbols.{SymbolTable, symbol_of, count_of}
+use Rattle.model_symbols.specs.Symbols.{SymbolTable, symbol_of}
 
 -- a term gives a name a class exactly where its row has the name's symbol with that class
 pub record IsRow (t : NameTable) (s : SymbolTable) (a : Accepts) (row : List Entry) : Type 0 where

@@ -1,12 +1,11 @@
-use Rattle.std.proofs.Common.{◌≡◌, ◌+◌, ◌<◌, ℕ, List, ◌∷◌, [], ◌++◌, replicate, sym, ap, subst, ◌∙◌, arith}
-use Rattle.std.specs.Prelude.{All, length}
+use Rattle.std.proofs.Common.{◌+◌, ◌<◌, ℕ, List, replicate, sym, ap, subst, ◌∙◌, arith}
+use Rattle.std.specs.Prelude.{All}
 use Rattle.xs_names.specs.Numbering.{HasNoRepeats}
 use Rattle.model_symbols.specs.declared.rows.Entry.{Entry}
 use Rattle.model_symbols.specs.declared.attribution.Attribution.TheVariants.{Nothing}
 use Rattle.model_symbols.specs.Terms.{names_of, spaces_of}
 use Rattle.model_symbols.specs.Symbols.{count_of}
-use Rattle.model_symbols.specs.Rows.{IsRow, AreSymbolsIn}
-use Rattle.model_symbols.specs.Attribution.{Noted}
+use Rattle.model_symbols.specs.Rows.{IsRow}
 use Rattle.model_symbols.specs.Listed.{IsListedUpTo}
 use Rattle.model_symbols.proofs.Together.{own, listed_none, listed_more, listed_all}
 use Rattle.model_symbols.proofs.listing.list_terms.Goals as goal
