@@ -1,1 +1,3 @@
 pub mod Recognizing
+pub mod Modelling
+pub mod Attributing

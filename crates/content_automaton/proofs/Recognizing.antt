@@ -17,6 +17,8 @@ use Rattle.particle_models.proofs.Marked.{names_word, names_begin, ends_reach, r
 use Rattle.content_states.specs.Moves.{takes, symbol_at}
 use Rattle.content_states.specs.Automaton.{Automaton, Accepts, Speaks, run, term_of}
 use Rattle.content_states.specs.Ambiguity.{AreReachedTogether, AreReachedApart}
+use Rattle.content_states.specs.Count.{IsReachSet, IsStateCount}
+use Rattle.content_automaton.specs.Counted.{IsReachSetOf, IsStateCountOf}
 use Rattle.content_automaton.specs.Recognized.{ExpandedName, AreSymbols, Recognizes, IsUnambiguous, GivesTerms, nth_place}
 
 number_at : (places : List Place) (terms : List ℕ) (k : ℕ) → terms ≡ map (λ (place : Place). place.number) places → slice_index terms k ≡ (get_or places k blank).number
@@ -135,6 +137,56 @@ module _ (accepts : ℕ → ExpandedName → Bool) (inhabited : ℕ → Bool) (m
       let t = ambiguous_at m.0 i j ((reach_symbols m.0 i).1 (rw m.1 a)) ((reach_symbols m.0 j).1 (rw m.1 b)) (λ same. d (sym e ∙ (same ∙ f))) in
       rw (e, f) at t
 
+  pub together_within : (x y : ℕ) → AreReachedTogether (unrolled inhabited model 0) u.table accepted many x y → (x < length (places model [])) × (y < length (places model []))
+  together_within x y (ns, below, i, j, a, b, e, f, d) =
+      let m = named ns below in
+      let n = ap length is.terms ∙ length-map (places model []) (λ (place : Place). place.number) in
+      let p : symbol_at u.table i < length u.terms = term_within i (inside m.0 i ((reach_symbols m.0 i).1 (rw m.1 a))) in
+      let q : symbol_at u.table j < length u.terms = term_within j (inside m.0 j ((reach_symbols m.0 j).1 (rw m.1 b))) in
+      (omega (arith, e), omega (arith, f))
+
+  -- sets of positions that names reach, and how many there are
+  reach_set : (set : List ℕ) → IsReachSet (unrolled inhabited model 0) u.table accepted many set ↔ IsReachSetOf accepts inhabited model u.table set
+  reach_set set = (
+    (λ h. let m = named h.names h.below in record {
+      filled = h.filled;
+      rises = h.rises;
+      names = m.0;
+      reached = λ q. (
+        (λ c. (reach_symbols m.0 q).1 (rw m.1 ((h.reached q).0 c))),
+        (λ r. (h.reached q).1 (subst (λ (ns : List ℕ). Reach BySymbol Word ns q) m.1 ((reach_symbols m.0 q).0 r))),
+      );
+    }),
+    (λ h. record {
+      filled = h.filled;
+      rises = h.rises;
+      names = map symbol h.names;
+      below = all_below h.names;
+      reached = λ q. ((λ c. (reach_symbols h.names q).0 ((h.reached q).0 c)), (λ r. (h.reached q).1 ((reach_symbols h.names q).1 r)));
+    }),
+  )
+
+  pub counted : (count : ℕ) → IsStateCount (unrolled inhabited model 0) u.table accepted many count ↔ IsStateCountOf accepts inhabited model u.table count
+  counted count = (
+    (λ h. record {
+      sets = h.sets;
+      all = λ set. ((λ c. (reach_set set).0 ((h.all set).0 c)), (λ r. (h.all set).1 ((reach_set set).1 r)));
+      different = h.different;
+      counted = h.counted;
+    }),
+    (λ h. record {
+      sets = h.sets;
+      all = λ set. ((λ c. (reach_set set).1 ((h.all set).0 c)), (λ r. (h.all set).1 ((reach_set set).0 r)));
+      different = h.different;
+      counted = h.counted;
+    }),
+  )
+
+  pub reached_term : (names : List ExpandedName) (p : ℕ) → Reach ByName Word names p → symbol_at u.table p < length (places model [])
+  reached_term names p h =
+      let n = ap length is.terms ∙ length-map (places model []) (λ (place : Place). place.number) in
+      let l = term_within p (inside names p h) in omega arith
+
 module _ (accepts : ℕ → ExpandedName → Bool) (inhabited : ℕ → Bool) (model : Particle) (u : UnrolledModel) (accepted : List (List ℕ)) (symbol : ExpandedName → ℕ) (a : Automaton)
     (no_all : HasNoAll model) (is : IsUnrolled inhabited model u) (by : IsInhabitedBy accepts inhabited) (are : AreSymbols accepts u.terms accepted a.symbols symbol) where
   pub recognizes : Speaks (unrolled inhabited model 0) u.table accepted a → Recognizes accepts model symbol a
@@ -166,4 +218,5 @@ module _ (accepts : ℕ → ExpandedName → Bool) (inhabited : ℕ → Bool) (m
         terms (map symbol all) (all_below accepts inhabited model u accepted symbol a.symbols no_all is by are all) r.0
             ((reach_symbols accepts inhabited model u accepted symbol a.symbols no_all is by are all r.0).0 r.1),
         r.2,
+        reached_term accepts inhabited model u accepted symbol a.symbols no_all is by are all r.0 r.1,
       )

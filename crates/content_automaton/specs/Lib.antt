@@ -1,1 +1,3 @@
 pub mod Recognized
+pub mod Counted
+pub mod Modelled

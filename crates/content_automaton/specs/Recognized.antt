@@ -5,11 +5,8 @@ use Rattle.particle_models.specs.Particles.{Particle, Place}
 use Rattle.particle_models.specs.Words.{IsWordOfNames, BeginsWord, EndsIn, IsAmbiguous}
 use Rattle.particle_models.specs.Unrolled.{places}
 use Rattle.particle_models.specs.Model.{blank}
+pub use Rattle.model_symbols.specs.Terms.{ExpandedName}
 use Rattle.content_states.specs.Automaton.{Automaton, state_of, dead_of, accepts_at, run, term_of}
-
--- An expanded name (Namespaces in XML 1.0, 2.1): the number of its namespace, and its local part.
-abbrev pub ExpandedName : Type 0
-ExpandedName = ℕ × List ℕ
 
 -- Each name has a symbol, and each symbol a name. Each term accepts the names whose symbols are listed for it, and no others.
 pub record AreSymbols (accepts : ℕ → ExpandedName → Bool) (terms : List ℕ) (accepted : List (List ℕ)) (symbols : ℕ) (symbol : ExpandedName → ℕ) : Type 0 where
@@ -35,4 +32,4 @@ nth_place model k = slice_index_or (places model []) k blank
 abbrev pub GivesTerms : (ℕ → ExpandedName → Bool) → Particle → (ExpandedName → ℕ) → Automaton → Type 0
 GivesTerms accepts model symbol a =
     (names : List ExpandedName) (name : ExpandedName) (place : Place) → EndsIn accepts model names name place →
-    (k : ℕ) × (term_of a (run a 0 (map symbol (names ++ name ∷ []))) ≡ Some k) × (nth_place model k ≡ place)
+    (k : ℕ) × (term_of a (run a 0 (map symbol (names ++ name ∷ []))) ≡ Some k) × (nth_place model k ≡ place) × (k < length (places model []))
