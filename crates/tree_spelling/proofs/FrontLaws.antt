@@ -53,7 +53,7 @@ nodes_more before [] item =
 nodes_more before (first ∷ its) item =
     let later = nodes_more (before ++ first ∷ []) its item in
     let sums : one_if (begins_node before first) + (nodes_behind (before ++ first ∷ []) its + one_if (begins_node (before ++ (first ∷ its)) item))
-        ≡ one_if (begins_node before first) + nodes_behind (before ++ first ∷ []) its + one_if (begins_node (before ++ (first ∷ its)) item) = omega arith in
+    ≡ one_if (begins_node before first) + nodes_behind (before ++ first ∷ []) its + one_if (begins_node (before ++ (first ∷ its)) item) = omega arith in
     ap (λ n. one_if (begins_node before first) + n) (later ∙ ap (λ l. nodes_behind (before ++ first ∷ []) its + one_if (begins_node l item)) (append_assoc before (first ∷ []) its)) ∙ sums
 
 pub nodes_item : (its : List Item) (item : Item) → node_count (its ++ item ∷ []) ≡ node_count its + one_if (begins_node its item)

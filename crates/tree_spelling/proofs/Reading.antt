@@ -120,7 +120,7 @@ element_read tag before inner more b rows outer e elements n next taken depth na
     let after = behind inside.0 in (
       after.0,
       ap (after_all (Ok b)) (append_assoc before (items.Start tag.name ∷ (map line_item tag.attributes ++ (inner ++ (items.Close tag.name ∷ more)))) (items.Close e.name ∷ rest)
-      ∙ ap (λ l. before ++ (items.Start tag.name ∷ l)) (spread tag.name (map line_item tag.attributes) inner more (items.Close e.name ∷ rest)))
+          ∙ ap (λ l. before ++ (items.Start tag.name ∷ l)) (spread tag.name (map line_item tag.attributes) inner more (items.Close e.name ∷ rest)))
           ∙ silent.goes
           ∙ ap (λ r. after_all r (map line_item tag.attributes ++ (inner ++ (items.Close tag.name ∷ rest1)))) came
           ∙ lines.1 ∙ inside.1 ∙ after.1

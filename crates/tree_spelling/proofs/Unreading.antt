@@ -132,7 +132,7 @@ text_known [] its end known rows outer e elements next taken few g =
 text_known (b ∷ own) its end known rows outer e elements next taken few g =
     let filled : (length (b ∷ own) == 0) ≡ false = (let some : 1 ≤ length (b ∷ own) = omega arith in grind (arith, nat_tests, some)) in
     let inside : text_begun (b ∷ own) (At rows outer (e ∷ elements) pending.Nothing next taken)
-        ≡ (if nat_lt 131072 next then Err (record { item = taken; reason = reasons.TooManyNodes }) else Ok (At rows outer (e ∷ elements) (pending.Chars (b ∷ own)) next (taken + 1))) = rw (some_open e elements, filled) refl in
+    ≡ (if nat_lt 131072 next then Err (record { item = taken; reason = reasons.TooManyNodes }) else Ok (At rows outer (e ∷ elements) (pending.Chars (b ∷ own)) next (taken + 1))) = rw (some_open e elements, filled) refl in
     let one = passes (nat_lt 131072 next) _ _ its end (ap (λ r. after_all r its >>= ended_all) (sym inside) ∙ g) in
     rest_text (b ∷ own) e elements end rows next its (λ z. cc)
     (known rows outer (e ∷ elements) (pending.Chars (b ∷ own)) next (taken + 1) (few_by next one.0, omega arith) one.1)
