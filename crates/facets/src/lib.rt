@@ -1,0 +1,12 @@
+//! The facets of simple types: those in force for a type, what reading its literals needs, and what a step of restriction
+//! makes of them (Datatypes 4.3; Structures 3.14).
+#![tactic(auto)]
+
+mod applicable;
+mod atomic;
+mod builtin;
+mod facets;
+mod reading;
+
+pub use atomic::Accepted;
+pub use facets::Facets;
