@@ -1,6 +1,6 @@
 -- Reading the facets of a step of restriction: Datatypes 4.3, Structures 3.14.2.
-use Rattle.std.specs.Prelude.{◌≡◌, ℕ, ◌+◌, nat_lt, Bool, true, false, ◌||◌, if◌then◌else◌, List, [], ◌∷◌, ◌++◌, Option, None, Some, Result, Ok, Err, bytes_eq, codes, ℤ, pos, negsuc}
-use Rattle.std.specs.Ordering.{int_lt}
+use Rattle.std.specs.Prelude.{◌≡◌, ℕ, ◌+◌, nat_lt, Bool, true, false, ◌||◌, if◌then◌else◌, List, [], ◌∷◌, ◌++◌, Option, None, Some, Result, Ok, Err, bytes_eq, codes, ℤ, pos, negsuc, int_lt}
+
 use Rattle.dec_value.specs.Decimal.{Decimal}
 use Rattle.white_space.specs.declared.handling.WhiteSpace.TheVariants.{Preserve, Replace, Collapse}
 use Rattle.xs_codes.specs.declared.builtin.Builtin.{Builtin}
