@@ -1,6 +1,6 @@
 //! The answer to a line of the table.
 use crate::kinds::facet_named;
-use facets::Facets;
+use facets::{Facets, Members};
 use simple_values::builtin_named;
 use std::alloc::{AllocError, Global};
 use xs_codes::{Fault, code_text};
@@ -17,8 +17,9 @@ pub fn table_scope(alloc: Global) -> Result<Scope, AllocError> {
 }
 
 /// What is wrong with the steps of a line, or what their type says of its literal. The line has the name of a built-in type,
-/// facets as `kind=value`, or `kind!=value` where the facet is fixed, `/` between two steps, and last maybe `?literal`, with
-/// tabs between them.
+/// steps with `/` between them, and last maybe `?literal`, with tabs between all these. A step is one of restriction, with
+/// facets as `kind=value`, or `kind!=value` where the facet is fixed; or `[]`, the list of the type; or `+name`, the union of
+/// the type and a built-in one.
 pub fn answer(alloc: Global, line: &str, scope: &Scope) -> Result<String, AllocError> {
     let (head, literal) = match line.split_once("\t?") {
         Some((head, literal)) => (head, Some(literal)),
@@ -33,15 +34,65 @@ pub fn answer(alloc: Global, line: &str, scope: &Scope) -> Result<String, AllocE
     };
     let mut facets = Facets::of_builtin(alloc, kind);
     for (number, step) in steps.split("\t/\t").enumerate() {
-        let step = step_of(alloc, number as u32 + 1, step, scope)?;
-        match Facets::restrict(alloc, &facets, &step)? {
-            Ok(restricted) => facets = restricted,
-            Err(fault) => return shown_fault(alloc, fault),
+        match changed(alloc, &facets, number as u32 + 1, step, scope)? {
+            Ok(made) => facets = made,
+            Err(answer) => return Ok(answer),
         }
     }
     match literal {
         Some(literal) => literal_answer(alloc, &mut facets, literal, scope),
         None => String::from_str(alloc, "ok"),
+    }
+}
+
+// What a step makes of a type, or what is wrong with it.
+fn changed(
+    alloc: Global,
+    facets: &Facets,
+    number: u32,
+    step: &str,
+    scope: &Scope,
+) -> Result<Result<Facets, String>, AllocError> {
+    if step == "[]" {
+        return list_answer(alloc, facets);
+    }
+    match step.strip_prefix('+') {
+        Some(name) => union_answer(alloc, facets, name),
+        None => step_answer(alloc, facets, number, step, scope),
+    }
+}
+
+fn list_answer(alloc: Global, facets: &Facets) -> Result<Result<Facets, String>, AllocError> {
+    match Facets::list_of(alloc, facets)? {
+        Some(made) => Ok(Ok(made)),
+        None => Ok(Err(String::from_str(alloc, "cos-list-of-atomic")?)),
+    }
+}
+
+fn union_answer(
+    alloc: Global,
+    facets: &Facets,
+    name: &str,
+) -> Result<Result<Facets, String>, AllocError> {
+    let Some(kind) = builtin_named(name) else {
+        return Ok(Err(String::from_str(alloc, "no member")?));
+    };
+    let other = Facets::of_builtin(alloc, kind);
+    let members = Members::new(alloc).with(alloc, facets)?.with(alloc, &other)?;
+    Ok(Ok(Facets::union_of(alloc, members)))
+}
+
+fn step_answer(
+    alloc: Global,
+    facets: &Facets,
+    number: u32,
+    step: &str,
+    scope: &Scope,
+) -> Result<Result<Facets, String>, AllocError> {
+    let step = step_of(alloc, number, step, scope)?;
+    match Facets::restrict(alloc, facets, &step)? {
+        Ok(made) => Ok(Ok(made)),
+        Err(fault) => Ok(Err(shown_fault(alloc, fault)?)),
     }
 }
 

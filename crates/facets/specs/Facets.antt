@@ -1,19 +1,13 @@
 -- The facets of a simple type, and what a step of restriction makes of them: Structures 3.14.6, Datatypes 4.3.
 use Rattle.std.specs.Prelude.{◌≡◌, ℕ, List, Result, Ok, Err}
-use Rattle.xs_codes.specs.declared.builtin.Builtin.{Builtin}
-use Rattle.xs_codes.specs.declared.code.Code.{Code}
 use Rattle.xs_codes.specs.declared.fault.Fault.{Fault}
 use Rattle.xs_components.specs.declared.simple.FacetItem.{FacetItem}
 use Rattle.facet_rules.specs.declared.list.FacetList.{FacetList}
 use Rattle.facet_rules.specs.declared.step.ReadStep.{ReadStep}
 use Rattle.facet_rules.specs.Rules.{outcome_of}
-use Rattle.facets.specs.declared.applicable.Family.{Family}
-use Rattle.facets.specs.declared.atomic.Accepted.{Accepted}
 use Rattle.facets.specs.declared.facets.Facets.{Facets}
-use Rattle.facets.specs.Applicable.{family_of}
-use Rattle.facets.specs.BuiltIn.{facets_of}
 use Rattle.facets.specs.Reading.{IsStepRead}
-pub use Rattle.facets.specs.Source.{of_builtin, family, IsRead}
+pub use Rattle.facets.specs.Source.{of_builtin, list_of, union_of, family, builtin, IsSourceRead, IsRead}
 
 -- the facets behind the step keep the built-in type
 abbrev pub with_list : Facets → Result FacetList Fault → Result Facets Fault

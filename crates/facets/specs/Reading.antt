@@ -24,7 +24,7 @@ use Rattle.facets.specs.declared.facets.Facets.{Facets}
 use Rattle.facets.specs.declared.reading.OneRead.{OneRead}
 use Rattle.facets.specs.declared.reading.OneRead.TheVariants as ones
 use Rattle.facets.specs.Applicable.{fits}
-use Rattle.facets.specs.Source.{family, IsRead}
+use Rattle.facets.specs.Source.{family, builtin, IsRead}
 
 -- x-limit.value: the value is past the limits; x-facet.literal: the text is no literal
 abbrev pub literal_code : ValueFault → Code
@@ -100,10 +100,10 @@ IsFitRead kinds.FractionDigits base item one = one ≡ count_read (pos 0) item
 IsFitRead kinds.Length base item one = one ≡ count_read (pos 0) item
 IsFitRead kinds.MinLength base item one = one ≡ count_read (pos 0) item
 IsFitRead kinds.MaxLength base item one = one ≡ count_read (pos 0) item
-IsFitRead kinds.MaxInclusive base item one = one ≡ bound_read base.kind item
-IsFitRead kinds.MaxExclusive base item one = one ≡ bound_read base.kind item
-IsFitRead kinds.MinExclusive base item one = one ≡ bound_read base.kind item
-IsFitRead kinds.MinInclusive base item one = one ≡ bound_read base.kind item
+IsFitRead kinds.MaxInclusive base item one = one ≡ bound_read (builtin base) item
+IsFitRead kinds.MaxExclusive base item one = one ≡ bound_read (builtin base) item
+IsFitRead kinds.MinExclusive base item one = one ≡ bound_read (builtin base) item
+IsFitRead kinds.MinInclusive base item one = one ≡ bound_read (builtin base) item
 
 abbrev pub IsReadIf : Bool → Facets → FacetItem → OneRead → Type 0
 IsReadIf true base item one = IsFitRead item.kind base item one

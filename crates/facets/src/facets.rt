@@ -4,10 +4,13 @@ ghost use Rattle.facet_rules.specs.Check.{IsChecked};
 ghost use Rattle.facets.specs.Facets as spec;
 
 use crate::Accepted;
-use crate::applicable::{Family, family_of};
-use crate::atomic::read_atomic;
+use crate::applicable::Family;
+use crate::atomic::judged;
 use crate::builtin::facets_of;
+use crate::making::{choices_of, list_facets};
+use crate::members::{Literals, Members, Source};
 use crate::reading::read_step;
+use crate::trying::{read_literal, read_union};
 use facet_rules::{FacetList, restricted};
 use simple_values::Value;
 use std::alloc::{AllocError, Global};
@@ -18,10 +21,10 @@ use xs_names::Scope;
 /// What restricting a type by a step gives: the facets behind the step, or its first fault.
 pub type Restricted = Result<Facets, Fault>;
 
-/// The facets in force for an atomic type, and the built-in type that its literals are of.
+/// The facets in force for a simple type, and what its literals are.
 #[derive(Debug, Drop)]
 pub struct Facets {
-    pub(crate) kind: Builtin,
+    pub(crate) source: Source,
     pub(crate) list: FacetList,
 }
 
@@ -32,8 +35,32 @@ impl Facets {
         ensures { result ≡ spec.of_builtin kind }
     {
         Facets {
-            kind,
+            source: Source::Literals(Literals::OfBuiltin(kind)),
             list: facets_of(alloc, kind),
+        }
+    }
+
+    /// The facets of a list of items of a type; `None` where that is a list, or a union that holds one
+    /// (`cos-list-of-atomic`).
+    pub fn list_of(alloc: Global, item: &Facets) -> Result<Option<Facets>, AllocError>
+        ensures { IfOk result (λ facets. facets ≡ spec.list_of item.now) }
+    {
+        match choices_of(alloc, item)? {
+            Some(choices) => Ok(Some(Facets {
+                source: Source::Literals(Literals::OfList(choices)),
+                list: list_facets(alloc),
+            })),
+            None => Ok(None),
+        }
+    }
+
+    /// The facets of a union of these members: none, and white space is left to the members.
+    pub fn union_of(alloc: Global, members: Members) -> Facets
+        ensures { result ≡ spec.union_of members }
+    {
+        Facets {
+            source: Source::Union(members),
+            list: FacetList::new(alloc),
         }
     }
 
@@ -53,9 +80,9 @@ impl Facets {
     {
         let mut base = base.try_clone(alloc)?;
         let step = read_step(alloc, &mut base, step.as_slice())?;
-        let Facets { kind, list } = base;
+        let Facets { source, list } = base;
         match restricted(list, step)? {
-            Ok(list) => Ok(Ok(Facets { kind, list })),
+            Ok(list) => Ok(Ok(Facets { source, list })),
             Err(fault) => Ok(Err(fault)),
         }
     }
@@ -79,7 +106,7 @@ impl Facets {
         ensures read { IfOk result (λ outcome. spec.IsRead self.old scope.now text.now outcome) }
         ensures same { self.new ≡ self.old }
     {
-        read_atomic(alloc, self.kind, &mut self.list, text, scope)
+        read_source(alloc, &mut self.source, &mut self.list, text, scope)
     }
 
     /// The same facets, with memory of their own.
@@ -87,7 +114,7 @@ impl Facets {
         ensures { IfOk result (λ copy. copy ≡ self.now) }
     {
         Ok(Facets {
-            kind: self.kind,
+            source: self.source.try_clone(alloc)?,
             list: self.list.try_clone(alloc)?,
         })
     }
@@ -96,13 +123,34 @@ impl Facets {
     pub(crate) fn family(&self) -> Family
         ensures { result ≡ spec.family self.now }
     {
-        family_of(self.kind)
+        self.source.family()
     }
 
     // The built-in type that bounds are read by.
     pub(crate) fn builtin(&self) -> Builtin
-        ensures { result ≡ self.now.kind }
+        ensures { result ≡ spec.builtin self.now }
     {
-        self.kind
+        self.source.builtin()
+    }
+}
+
+// What a text reads to as a literal of a source with these facets.
+fn read_source(
+    alloc: Global,
+    source: &mut Source,
+    list: &mut FacetList,
+    text: &str,
+    scope: &Scope,
+) -> Result<Result<Accepted, Code>, AllocError>
+    ensures read { IfOk result (λ outcome. spec.IsSourceRead source.old list.old scope.now text.now outcome) }
+    ensures source { source.new ≡ source.old }
+    ensures list { list.new ≡ list.old }
+{
+    match source {
+        Source::Literals(literals) => read_literal(alloc, literals, list, text, scope),
+        Source::Union(members) => match read_union(alloc, members, text, scope)? {
+            Ok(accepted) => Ok(judged(list, accepted.value, accepted.text)),
+            Err(code) => Ok(Err(code)),
+        },
     }
 }
