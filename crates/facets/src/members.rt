@@ -92,7 +92,7 @@ impl Source {
             Source::Literals(literals) => Ok(Source::Literals(copied_literals(alloc, literals)?)),
             Source::Union(members) => Ok(Source::Union(Members {
                 members: copied_members(alloc, Listed::new(alloc), members.members.as_slice())?,
-                gates: copied_gates(alloc, Listed::new(alloc), 0, members.gates.as_slice())?,
+                gates: same_gates(alloc, members.gates.as_slice())?,
             })),
         }
     }
@@ -106,7 +106,7 @@ pub(crate) fn copied_literals(alloc: Global, literals: &Literals) -> Result<Lite
         Literals::OfBuiltin(kind) => Ok(Literals::OfBuiltin(*kind)),
         Literals::OfList(items) => Ok(Literals::OfList(Choices {
             members: copied_plains(alloc, items.members.as_slice())?,
-            gates: copied_gates(alloc, Listed::new(alloc), 0, items.gates.as_slice())?,
+            gates: same_gates(alloc, items.gates.as_slice())?,
         })),
     }
 }
@@ -140,6 +140,21 @@ pub(crate) fn copied_members(
         })?;
     }
     Ok(all)
+}
+
+// Copies of these gates.
+fn same_gates(alloc: Global, gates: &[Gate]) -> Result<Listed<Gate>, AllocError>
+    ensures { IfOk result (λ copies. copies ≡ gates.now) }
+{
+    let mut copies = Listed::new(alloc);
+    for gate in gates {
+        copies.push(Gate {
+            from: gate.from,
+            to: gate.to,
+            list: gate.list.try_clone(alloc)?,
+        })?;
+    }
+    Ok(copies)
 }
 
 /// Copies of these gates, moved on by so many members, behind others.
