@@ -27,11 +27,7 @@ pub(crate) fn note_bounds(
     note_min_exclusive(base, facets, best)
 }
 
-fn note_max_inclusive(
-    base: &FacetList,
-    facets: &[ReadFacet],
-    best: Option<Fault>,
-) -> Option<Fault>
+fn note_max_inclusive(base: &FacetList, facets: &[ReadFacet], best: Option<Fault>) -> Option<Fault>
     ensures { result ≡ first_from best (spec.max_inclusive_rules base.now facets.now) }
 {
     let Some(at) = place_of(facets, FacetKind::MaxInclusive) else {
@@ -43,17 +39,23 @@ fn note_max_inclusive(
     let both = place_of(facets, FacetKind::MaxExclusive).is_some();
     let best = noted(best, both, at, Code::MaxInclusiveMaxExclusive);
     let crossed = are_below(own, limit_of(facets, FacetKind::MinInclusive));
-    let best = noted(best, crossed, at, Code::MinInclusiveLessThanEqualToMaxInclusive);
+    let best = noted(
+        best,
+        crossed,
+        at,
+        Code::MinInclusiveLessThanEqualToMaxInclusive,
+    );
     let crossed = are_at_most(own, limit_of(facets, FacetKind::MinExclusive));
     let best = noted(best, crossed, at, Code::MinExclusiveLessThanMaxInclusive);
-    noted(best, is_outside(base, own), at, Code::MaxInclusiveValidRestriction)
+    noted(
+        best,
+        is_outside(base, own),
+        at,
+        Code::MaxInclusiveValidRestriction,
+    )
 }
 
-fn note_max_exclusive(
-    base: &FacetList,
-    facets: &[ReadFacet],
-    best: Option<Fault>,
-) -> Option<Fault>
+fn note_max_exclusive(base: &FacetList, facets: &[ReadFacet], best: Option<Fault>) -> Option<Fault>
     ensures { result ≡ first_from best (spec.max_exclusive_rules base.now facets.now) }
 {
     let Some(at) = place_of(facets, FacetKind::MaxExclusive) else {
@@ -65,17 +67,23 @@ fn note_max_exclusive(
     let both = place_of(facets, FacetKind::MaxInclusive).is_some();
     let best = noted(best, both, at, Code::MaxInclusiveMaxExclusive);
     let crossed = are_below(own, limit_of(facets, FacetKind::MinExclusive));
-    let best = noted(best, crossed, at, Code::MinExclusiveLessThanEqualToMaxExclusive);
+    let best = noted(
+        best,
+        crossed,
+        at,
+        Code::MinExclusiveLessThanEqualToMaxExclusive,
+    );
     let crossed = are_at_most(own, limit_of(facets, FacetKind::MinInclusive));
     let best = noted(best, crossed, at, Code::MinInclusiveLessThanMaxExclusive);
-    noted(best, is_no_max_exclusive(base, own), at, Code::MaxExclusiveValidRestriction)
+    noted(
+        best,
+        is_no_max_exclusive(base, own),
+        at,
+        Code::MaxExclusiveValidRestriction,
+    )
 }
 
-fn note_min_inclusive(
-    base: &FacetList,
-    facets: &[ReadFacet],
-    best: Option<Fault>,
-) -> Option<Fault>
+fn note_min_inclusive(base: &FacetList, facets: &[ReadFacet], best: Option<Fault>) -> Option<Fault>
     ensures { result ≡ first_from best (spec.min_inclusive_rules base.now facets.now) }
 {
     let Some(at) = place_of(facets, FacetKind::MinInclusive) else {
@@ -87,17 +95,23 @@ fn note_min_inclusive(
     let both = place_of(facets, FacetKind::MinExclusive).is_some();
     let best = noted(best, both, at, Code::MinInclusiveMinExclusive);
     let crossed = are_below(limit_of(facets, FacetKind::MaxInclusive), own);
-    let best = noted(best, crossed, at, Code::MinInclusiveLessThanEqualToMaxInclusive);
+    let best = noted(
+        best,
+        crossed,
+        at,
+        Code::MinInclusiveLessThanEqualToMaxInclusive,
+    );
     let crossed = are_at_most(limit_of(facets, FacetKind::MaxExclusive), own);
     let best = noted(best, crossed, at, Code::MinInclusiveLessThanMaxExclusive);
-    noted(best, is_outside(base, own), at, Code::MinInclusiveValidRestriction)
+    noted(
+        best,
+        is_outside(base, own),
+        at,
+        Code::MinInclusiveValidRestriction,
+    )
 }
 
-fn note_min_exclusive(
-    base: &FacetList,
-    facets: &[ReadFacet],
-    best: Option<Fault>,
-) -> Option<Fault>
+fn note_min_exclusive(base: &FacetList, facets: &[ReadFacet], best: Option<Fault>) -> Option<Fault>
     ensures { result ≡ first_from best (spec.min_exclusive_rules base.now facets.now) }
 {
     let Some(at) = place_of(facets, FacetKind::MinExclusive) else {
@@ -109,10 +123,20 @@ fn note_min_exclusive(
     let both = place_of(facets, FacetKind::MinInclusive).is_some();
     let best = noted(best, both, at, Code::MinInclusiveMinExclusive);
     let crossed = are_below(limit_of(facets, FacetKind::MaxExclusive), own);
-    let best = noted(best, crossed, at, Code::MinExclusiveLessThanEqualToMaxExclusive);
+    let best = noted(
+        best,
+        crossed,
+        at,
+        Code::MinExclusiveLessThanEqualToMaxExclusive,
+    );
     let crossed = are_at_most(limit_of(facets, FacetKind::MaxInclusive), own);
     let best = noted(best, crossed, at, Code::MinExclusiveLessThanMaxInclusive);
-    noted(best, is_no_min_exclusive(base, own), at, Code::MinExclusiveValidRestriction)
+    noted(
+        best,
+        is_no_min_exclusive(base, own),
+        at,
+        Code::MinExclusiveValidRestriction,
+    )
 }
 
 // Whether the base's bound is of this kind and fixed, and the step's another.

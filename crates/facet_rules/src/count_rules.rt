@@ -28,11 +28,7 @@ pub(crate) fn note_counts(
     note_fraction_digits(base, facets, best)
 }
 
-fn note_white_space(
-    base: &FacetList,
-    facets: &[ReadFacet],
-    best: Option<Fault>,
-) -> Option<Fault>
+fn note_white_space(base: &FacetList, facets: &[ReadFacet], best: Option<Fault>) -> Option<Fault>
     ensures { result ≡ first_from best (spec.white_space_rules base.now facets.now) }
 {
     let Some(at) = place_of(facets, FacetKind::WhiteSpace) else {
@@ -82,11 +78,7 @@ fn note_length(base: &FacetList, facets: &[ReadFacet], best: Option<Fault>) -> O
     )
 }
 
-fn note_min_length(
-    base: &FacetList,
-    facets: &[ReadFacet],
-    best: Option<Fault>,
-) -> Option<Fault>
+fn note_min_length(base: &FacetList, facets: &[ReadFacet], best: Option<Fault>) -> Option<Fault>
     ensures { result ≡ first_from best (spec.min_length_rules base.now facets.now) }
 {
     let Some(at) = place_of(facets, FacetKind::MinLength) else {
@@ -121,11 +113,7 @@ fn note_min_length(
     )
 }
 
-fn note_max_length(
-    base: &FacetList,
-    facets: &[ReadFacet],
-    best: Option<Fault>,
-) -> Option<Fault>
+fn note_max_length(base: &FacetList, facets: &[ReadFacet], best: Option<Fault>) -> Option<Fault>
     ensures { result ≡ first_from best (spec.max_length_rules base.now facets.now) }
 {
     let Some(at) = place_of(facets, FacetKind::MaxLength) else {
@@ -160,11 +148,7 @@ fn note_max_length(
     )
 }
 
-fn note_total_digits(
-    base: &FacetList,
-    facets: &[ReadFacet],
-    best: Option<Fault>,
-) -> Option<Fault>
+fn note_total_digits(base: &FacetList, facets: &[ReadFacet], best: Option<Fault>) -> Option<Fault>
     ensures { result ≡ first_from best (spec.total_digits_rules base.now facets.now) }
 {
     let Some(at) = place_of(facets, FacetKind::TotalDigits) else {
@@ -206,10 +190,7 @@ fn note_fraction_digits(
         return best;
     };
     let own = count_of(facets, FacetKind::FractionDigits);
-    let total = in_force(
-        first_of(facets, FacetKind::TotalDigits),
-        base.total_digits,
-    );
+    let total = in_force(first_of(facets, FacetKind::TotalDigits), base.total_digits);
     let best = noted(
         best,
         is_changed(base.fraction_digits, own),

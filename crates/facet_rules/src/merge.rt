@@ -7,7 +7,7 @@ ghost use Rattle.facet_rules.specs.Merge as spec;
 use crate::bound_rules::note_bounds;
 use crate::count_rules::note_counts;
 use crate::defects::note_defects;
-use crate::step::{count_of, handling_of, limit_of, first_of};
+use crate::step::{count_of, first_of, handling_of, limit_of};
 use crate::{Alternatives, Bound, Count, FacetList, Handling, ReadFacet, ReadStep, ValueList};
 use std::alloc::AllocError;
 use xs_codes::Fault;
@@ -21,10 +21,7 @@ use xs_lists::Listed;
 /// # Errors
 ///
 /// The first fault of the step, by the places of its facets and then by the order of the codes.
-pub fn restricted(
-    base: FacetList,
-    step: ReadStep,
-) -> Result<Result<FacetList, Fault>, AllocError>
+pub fn restricted(base: FacetList, step: ReadStep) -> Result<Result<FacetList, Fault>, AllocError>
     ensures { IfOk result (λ outcome. outcome ≡ outcome_of base step) }
 {
     match first_of_faults(&base, step.facets.as_slice()) {
@@ -104,10 +101,7 @@ fn own_bound(
 }
 
 // The step's upper bound, else the base's.
-fn upper_behind(
-    base: Option<Bound>,
-    facets: &[ReadFacet],
-) -> Result<Option<Bound>, AllocError>
+fn upper_behind(base: Option<Bound>, facets: &[ReadFacet]) -> Result<Option<Bound>, AllocError>
     ensures { IfOk result (λ bound. bound ≡ spec.upper_behind base facets.now) }
 {
     if let Some(own) = own_bound(facets, FacetKind::MaxInclusive, true)? {
@@ -120,10 +114,7 @@ fn upper_behind(
 }
 
 // The step's lower bound, else the base's.
-fn lower_behind(
-    base: Option<Bound>,
-    facets: &[ReadFacet],
-) -> Result<Option<Bound>, AllocError>
+fn lower_behind(base: Option<Bound>, facets: &[ReadFacet]) -> Result<Option<Bound>, AllocError>
     ensures { IfOk result (λ bound. bound ≡ spec.lower_behind base facets.now) }
 {
     if let Some(own) = own_bound(facets, FacetKind::MinInclusive, true)? {

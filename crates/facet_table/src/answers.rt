@@ -78,7 +78,9 @@ fn union_answer(
         return Ok(Err(String::from_str(alloc, "no member")?));
     };
     let other = Facets::of_builtin(alloc, kind);
-    let members = Members::new(alloc).with(alloc, facets)?.with(alloc, &other)?;
+    let members = Members::new(alloc)
+        .with(alloc, facets)?
+        .with(alloc, &other)?;
     Ok(Ok(Facets::union_of(alloc, members)))
 }
 

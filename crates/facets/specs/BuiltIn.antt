@@ -19,5 +19,5 @@ abbrev pub facets_of : Builtin → FacetList
 facets_of kind = record no_facets {
   white_space = Some (record { value = white_space_of kind; fixed = false });
   upper = bound_at kind (bounds_of kind).greatest;
-  lower = bound_at kind (bounds_of kind).least
+  lower = bound_at kind (bounds_of kind).least;
 }

@@ -28,7 +28,7 @@ abbrev pub with_union : Members → Members → FacetList → Members
 with_union all others facets = record {
   members = all.members ++ others.members;
   gates = (all.gates ++ moved_on (length all.members) others.gates)
-      ++ gate (length all.members) (length (all.members ++ others.members)) facets ∷ []
+      ++ gate (length all.members) (length (all.members ++ others.members)) facets ∷ [];
 }
 
 abbrev pub with_source : Members → Source → FacetList → Members

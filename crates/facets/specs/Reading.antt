@@ -1,6 +1,5 @@
 -- Reading the facets of a step of restriction: Datatypes 4.3, Structures 3.14.2.
 use Rattle.std.specs.Prelude.{◌≡◌, ℕ, ◌+◌, nat_lt, Bool, true, false, ◌||◌, if◌then◌else◌, List, [], ◌∷◌, ◌++◌, Option, None, Some, Result, Ok, Err, bytes_eq, codes, ℤ, pos, negsuc, int_lt}
-
 use Rattle.dec_value.specs.Decimal.{Decimal}
 use Rattle.white_space.specs.declared.handling.WhiteSpace.TheVariants.{Preserve, Replace, Collapse}
 use Rattle.xs_codes.specs.declared.builtin.Builtin.{Builtin}
@@ -131,7 +130,7 @@ abbrev pub with_read : ReadStep → FacetItem → OneRead → ReadStep
 with_read step item one = record {
   facets = step.facets ++ record { kind = item.kind; fixed = item.fixed; at = item.at; reading = reading_of one } ∷ [];
   patterns = step.patterns ++ pattern_of one;
-  values = step.values ++ value_in one
+  values = step.values ++ value_in one;
 }
 
 abbrev pub no_step : ReadStep

@@ -8,5 +8,5 @@ abbrev pub invariant-loop-text : goal.invariant-loop-text
 invariant-loop-text l = record {
   same : l.choices ≡ l.initial.choices;
   read : (outcome : Result (List TypedAtom) Code) → AreItemsRead l.initial.choices l.scope l.atoms (drop l.text-index l.texts) outcome
-      → AreItemsRead l.initial.choices l.scope [] l.texts outcome
+      → AreItemsRead l.initial.choices l.scope [] l.texts outcome;
 }

@@ -9,5 +9,5 @@ invariant-loop-index l = record {
   members : l.members ≡ l.initial.members;
   gates : l.gates ≡ l.initial.gates;
   tried : (outcome : Result Accepted Code) → AreMembersTried l.initial.gates l.scope l.text l.index l.start (drop l.index l.initial.members) outcome
-      → AreMembersTried l.initial.gates l.scope l.text 0 0 l.initial.members outcome
+      → AreMembersTried l.initial.gates l.scope l.text 0 0 l.initial.members outcome;
 }

@@ -8,5 +8,5 @@ loop-place-preserved-then-place-start c = record {
   members = c.loop-place.invariant.members;
   gates = c.loop-place.invariant.gates;
   tried = λ outcome t. c.loop-place.invariant.tried outcome
-      (skipped_on (IsPlainRead c.args.scope.now c.args.text.now) c.args.gates.now c.args.members.now c.loop-place.place c.loop-place.place c.loop-place.start outcome (omega arith) c.if-place-start.true t)
+      (skipped_on (IsPlainRead c.args.scope.now c.args.text.now) c.args.gates.now c.args.members.now c.loop-place.place c.loop-place.place c.loop-place.start outcome (omega arith) c.if-place-start.true t);
 }

@@ -9,5 +9,5 @@ invariant-loop-place l = record {
   members : l.members ≡ l.initial.members;
   gates : l.gates ≡ l.initial.gates;
   tried : (outcome : Result Accepted Code) → ArePlainsTried l.initial.gates l.scope l.text l.place l.start (drop l.place l.initial.members) outcome
-      → ArePlainsTried l.initial.gates l.scope l.text 0 0 l.initial.members outcome
+      → ArePlainsTried l.initial.gates l.scope l.text 0 0 l.initial.members outcome;
 }
