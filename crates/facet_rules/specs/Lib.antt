@@ -1,0 +1,11 @@
+pub mod BoundRules
+pub mod Check
+pub mod CountRules
+pub mod Defects
+pub mod First
+pub mod Merge
+pub mod Order
+pub mod Patterns
+pub mod Rules
+pub mod Step
+pub mod inside
