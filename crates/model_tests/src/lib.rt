@@ -4,4 +4,8 @@
 #[cfg(test)]
 mod built;
 #[cfg(test)]
+mod forms;
+#[cfg(test)]
 mod models;
+#[cfg(test)]
+mod ranked;
