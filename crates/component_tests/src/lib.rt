@@ -1,6 +1,8 @@
-//! Tests of the public calls on tables of components, and of tables filled in the order of ranks.
+//! Tests of the public calls on tables of components, on the members of substitution groups, and of tables filled in the order of ranks.
 #![tactic(auto)]
 
+#[cfg(test)]
+mod members;
 #[cfg(test)]
 mod order;
 #[cfg(test)]
