@@ -142,10 +142,12 @@ fn reads_trees_and_fragments_or_answers_the_first_reason(rt: HostRuntime) -> Res
         assert_eq!(rt; fault.reason, TreeReason::EndMismatch);
         assert_eq!(rt; fault.item, 1);
     }
-    let mut scope = Prefixes::new(alloc)?;
-    scope.bind(bound(alloc, "p", "u")?)?;
+    let mut names = Names::new(alloc)?;
+    let space = names.namespace_id("u")?;
+    let mut scope = Scope::new(alloc)?;
+    scope.bind("p", space)?;
     let items = items_of(alloc, &["(p:r", "-x", "(p:s", ")p:s", ")p:r"])?;
-    let tree = fragment(alloc, &scope, items.as_slice())?
+    let tree = fragment(alloc, &names, &scope, items.as_slice())?
         .ok()
         .ok_or("no tree")?;
     assert!(rt; stand_as(tree.rows(), &[(1, 1), (2, 2), (3, 2)]));
@@ -160,7 +162,7 @@ fn reads_trees_and_fragments_or_answers_the_first_reason(rt: HostRuntime) -> Res
     assert!(rt; tree.binding_at(1, 0).is_none());
     assert!(rt; read_tree(alloc, items.as_slice())?.is_err());
     let items = items_of(alloc, &["(p:r", "-x", "(q:s", ")q:s", ")p:r"])?;
-    let fault = fragment(alloc, &scope, items.as_slice())?
+    let fault = fragment(alloc, &names, &scope, items.as_slice())?
         .err()
         .ok_or("read")?;
     assert_eq!(rt; fault.reason, TreeReason::Name(NameReason::UnboundPrefix));

@@ -1,6 +1,5 @@
 -- Trees that are made node by node stay trees.
-use Rattle.std.proofs.Common.{◌≡◌, ◌⊎◌, inl, inr, ℕ, ◌+◌, ◌≤◌, ◌<◌, List, [], ◌∷◌, ◌++◌, Bool, true, false, ◌==◌, ◌||◌, Option, Some, None, Result, Ok, Err, OnOk, OnErr, length, refl, sym, ap, ◌∙◌, arith, subst}
-use Rattle.std.specs.Prelude.{if◌then◌else◌}
+use Rattle.std.proofs.Common.{◌≡◌, inl, inr, ℕ, ◌+◌, ◌≤◌, ◌<◌, List, [], ◌∷◌, ◌++◌, Bool, true, false, ◌==◌, ◌||◌, Option, Some, None, Result, Ok, Err, OnOk, OnErr, length, refl, sym, ap, ◌∙◌, arith, subst}
 use Rattle.std.specs.List.{list_any}
 use Rattle.std.specs.Str.{bytes_eq}
 use Rattle.std.proofs.lemmas.Bool.{or_parts}
@@ -21,7 +20,7 @@ use Rattle.tree_rows.specs.declared.row.NodeKind.TheVariants.{Element}
 use Rattle.tree_building.specs.Shape.{AreSound}
 use Rattle.tree_edits.specs.Edits.{has, Found, found}
 use Rattle.tree_edits.proofs.Lying.{Lies, lies, deepest_here}
-use Rattle.tree_edits.proofs.Keeping.{IsAlone, found_alone, one_if, Joins, joins_last, changed_tree, children_put}
+use Rattle.tree_edits.proofs.Keeping.{IsAlone, found_alone, one_if, joins_last, changed_tree, children_put}
 use Rattle.plain_tree.specs.Changes.{Changes}
 use Rattle.plain_tree.specs.Nodes.{Node, first_of, node_at}
 use Rattle.plain_tree.specs.Putting.{changed, with_last, with_attribute, with_binding, depth_by, depth_of, attributes_by, attributes_of, bindings_by, bindings_of, has_name, has_prefix}

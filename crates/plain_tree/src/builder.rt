@@ -1,5 +1,5 @@
-ghost use Rattle.std.specs.Prelude.{◌≡◌, Ok, IfOk, OnOk, OnErr};
-ghost use Rattle.tag_names.specs.Scopes.{first_scope};
+ghost use Rattle.std.specs.Prelude.{◌≡◌, ◌<◌, Ok, All, length, map, IfOk, OnOk, OnErr};
+ghost use Rattle.tag_names.specs.Scopes.{first_scope, binding_in};
 ghost use Rattle.tree_building.specs.Building as steps;
 ghost use Rattle.tree_building.specs.Rules.{document_rules};
 ghost use Rattle.tree_building.specs.Sound.{tree_of as document_of, IsWell};
@@ -11,6 +11,7 @@ use std::alloc::{AllocError, Global};
 use std::marker::Model;
 use tag_names::Prefixes;
 use tree_building::{Built, Rules, TreeFault, build_document, build_fragment, documents_are_sound};
+use xs_names::{Names, Scope};
 
 /// Makes the tree of a document section, item by item. Contracts see what was built, or the fault of the item that was
 /// refused first.
@@ -100,20 +101,23 @@ pub fn read_tree(alloc: Global, items: &[Item]) -> Result<Result<Tree, TreeFault
 }
 
 /// The tree of items that stand in this scope, by the rules of a document section, or the first reason why they are no
-/// tree.
+/// tree. The scope's namespaces have their names in `names`.
 ///
 /// # Errors
 ///
 /// `AllocError` is want of memory; a `TreeFault` is the items'.
 pub fn fragment(
     alloc: Global,
-    scope: &Prefixes,
+    names: &Names,
+    scope: &Scope,
     items: &[Item],
 ) -> Result<Result<Tree, TreeFault>, AllocError>
-    ensures read { IfOk result (λ read. read ≡ steps.document (steps.built document_rules scope.now items.now)) }
+    requires { All (λ bound. bound.1 < length names.now.spaces) scope.now }
+    ensures read { IfOk result (λ read. read ≡ steps.document (steps.built document_rules (map (binding_in names.now) scope.now) items.now)) }
     ensures tree { IfOk result (λ read. IfOk read IsTree) }
 {
-    match build_fragment(alloc, scope, items)? {
+    let scope = Prefixes::of_scope(alloc, names, scope)?;
+    match build_fragment(alloc, &scope, items)? {
         Ok(built) => Ok(Ok(tree_of(built))),
         Err(fault) => Ok(Err(fault)),
     }

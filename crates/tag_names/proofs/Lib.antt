@@ -2,3 +2,4 @@ pub mod ScopeLaws
 pub mod TagLaws
 pub mod DoubleLaws
 pub mod TableLaws
+pub mod NumberedScopes

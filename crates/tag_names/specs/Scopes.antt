@@ -1,12 +1,16 @@
 -- The prefixes in scope: Namespaces in XML 1.0, 6. A scope is its bindings, the latest first.
-use Rattle.std.specs.Prelude.{ℕ, List, [], ◌∷◌, ◌==◌, Option, Some, None, length, codes, if◌then◌else◌}
+use Rattle.std.specs.Prelude.{ℕ, List, [], ◌∷◌, ◌==◌, Option, Some, None, length, slice_index_or, codes, if◌then◌else◌}
 use Rattle.std.specs.Str.{bytes_eq}
-use Rattle.xs_names.specs.Names.{xml_name}
+use Rattle.xs_names.specs.Names.{NameTable, xml_name}
 use Rattle.tree_rows.specs.declared.row.Binding.{Binding}
 
 -- outside of all elements the prefix xml alone is bound (Namespaces in XML 1.0, 3)
 abbrev pub first_scope : List Binding
 first_scope = record { prefix = codes "xml"; namespace = xml_name } ∷ []
+
+-- a binding to a numbered namespace, by the namespace's name
+abbrev pub binding_in : NameTable → List ℕ × ℕ → Binding
+binding_in names bound = record { prefix = bound.0; namespace = slice_index_or names.spaces bound.1 [] }
 
 -- the name of the namespace that the latest binding of the prefix gives; the default namespace has the empty prefix
 abbrev pub of_prefix : List Binding → List ℕ → Option (List ℕ)

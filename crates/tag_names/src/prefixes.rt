@@ -1,16 +1,17 @@
-ghost use Rattle.std.specs.Prelude.{◌≡◌, ◌∷◌, ◌++◌, [], ◌-◌, ℕ, List, drop, length, reverse, IsSome, bytes_eq, IfOk, OnOk, OnErr};
+ghost use Rattle.std.specs.Prelude.{◌≡◌, ◌<◌, ◌∷◌, ◌++◌, [], ◌-◌, ℕ, List, All, drop, length, map, reverse, IsSome, bytes_eq, IfOk, OnOk, OnErr};
 ghost use Rattle.std.specs.Option.{option_copied};
 ghost use Rattle.std.specs.Map.{update};
 ghost use Rattle.indexmap.specs.IndexMap.{get_by_text};
 ghost use Rattle.tag_names.specs.Scopes as scopes;
 ghost use Rattle.tag_names.specs.Tables.{bindings_of};
 ghost use Rattle.tree_rows.specs.declared.row.Binding.{Binding};
+ghost use Rattle.xs_names.specs.Scope.{prefix_and_space};
 
 use indexmap::IndexMap;
 use std::alloc::{AllocError, Global};
 use std::marker::Model;
 use tree_rows::Binding;
-use xs_names::{Text, XML_NAMESPACE};
+use xs_names::{Names, Scope, ScopeBinding, Text, XML_NAMESPACE};
 
 /// A binding once more. Its texts are shared, and not copied.
 fn copy_of(binding: &Binding) -> Result<Binding, AllocError>
@@ -85,6 +86,41 @@ fn bound_copies(alloc: Global, entries: &[Entry]) -> Result<Prefixes, AllocError
     Ok(copy)
 }
 
+/// A binding by the name of its namespace.
+fn binding_by_name(
+    alloc: Global,
+    names: &Names,
+    bound: &ScopeBinding,
+) -> Result<Binding, AllocError>
+    requires { bound.now.ns < length names.now.spaces }
+    ensures { IfOk result (λ binding. binding ≡ scopes.binding_in names.now (prefix_and_space bound.now)) }
+{
+    let namespace = match names.ns_text(bound.ns) {
+        None => Text::new(alloc, "")?,
+        Some(name) => Text::new(alloc, name)?,
+    };
+    Ok(Binding {
+        prefix: bound.prefix.try_clone()?,
+        namespace,
+    })
+}
+
+/// A scope of these bindings, the last of which is the latest.
+fn bound_by_name(
+    alloc: Global,
+    names: &Names,
+    bindings: &[ScopeBinding],
+) -> Result<Prefixes, AllocError>
+    requires { All (λ bound. bound.ns < length names.now.spaces) bindings.now }
+    ensures { IfOk result (λ scope. scope ≡ map (λ bound. scopes.binding_in names.now (prefix_and_space bound)) (reverse bindings.now)) }
+{
+    let mut scope = Prefixes::empty(alloc);
+    for bound in bindings {
+        scope.bind(binding_by_name(alloc, names, bound)?)?;
+    }
+    Ok(scope)
+}
+
 impl Prefixes {
     /// No bindings.
     pub(crate) fn empty(alloc: Global) -> Self
@@ -116,6 +152,14 @@ impl Prefixes {
             namespace: Text::new(alloc, XML_NAMESPACE)?,
         })?;
         Ok(scope)
+    }
+
+    /// The bindings of a scope of numbered namespaces, by their names.
+    pub fn of_scope(alloc: Global, names: &Names, scope: &Scope) -> Result<Self, AllocError>
+        requires { All (λ bound. bound.1 < length names.now.spaces) scope.now }
+        ensures { IfOk result (λ prefixes. prefixes ≡ map (scopes.binding_in names.now) scope.now) }
+    {
+        bound_by_name(alloc, names, scope.bindings())
     }
 
     /// Binds a prefix, or the default namespace. Earlier bindings of it are hidden.

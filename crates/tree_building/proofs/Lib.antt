@@ -4,7 +4,6 @@ pub mod Nested
 pub mod Kept
 pub mod OneElement
 pub mod Blocks
-pub mod Spelled
 pub mod RowCounts
 pub mod Numbers
 pub mod NamedLaws

@@ -8,5 +8,4 @@ pub mod Shape
 pub mod Sound
 pub mod Blocks
 pub mod Tags
-pub mod Spelling
 pub mod Examples

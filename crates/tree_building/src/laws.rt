@@ -1,18 +1,12 @@
-ghost use Rattle.std.specs.Prelude.{◌≡◌, ◌+◌, List, Ok};
+ghost use Rattle.std.specs.Prelude.{◌≡◌, List, Ok};
 ghost use Rattle.item_listing.specs.declared.item.Item.{Item};
 ghost use Rattle.tag_names.specs.Scopes.{first_scope};
-ghost use Rattle.tree_building.specs.Building.{tree, nothing, built, document};
+ghost use Rattle.tree_building.specs.Building.{nothing, built, document};
 ghost use Rattle.tree_building.specs.Rules.{document_rules};
 ghost use Rattle.tree_building.specs.Sound.{WillBeSound};
-ghost use Rattle.tree_building.specs.Spelling.{IsDocument, Spells};
-ghost use Rattle.tree_rows.specs.Forest.{Forest, Document, count};
+ghost use Rattle.tree_rows.specs.Forest.{Document};
 ghost use Rattle.tree_rows.specs.Whole.{IsTree};
 ghost use Rattle.tree_rows.specs.declared.row.Binding.{Binding};
-
-/// Items that spell a document, tag by tag, make that document.
-pub fn trees_are_read()
-    ensures { (f : Forest) (its : List Item) → IsDocument f → Spells f first_scope its → tree its ≡ Ok (record { forest = f; next_free = 1 + count f }) }
-{}
 
 /// What is built by the rules of a document is the rows of a tree.
 pub fn documents_are_sound()

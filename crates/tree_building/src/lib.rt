@@ -16,7 +16,7 @@ pub use build::{Built, Rows, build_block, build_document, build_fragment};
 pub use builder::Builder;
 pub use building::Building;
 pub use fault::{TreeFault, TreeReason};
-pub use laws::{documents_are_sound, documents_are_trees, trees_are_read};
+pub use laws::{documents_are_sound, documents_are_trees};
 pub use nest::Nest;
 pub use pending::{Joined, Pending};
 pub use rules::Rules;

@@ -4,7 +4,7 @@ use Rattle.std.proofs.lemmas.List.{length-append, length-reverse, length-take, r
 use Rattle.std.specs.List.{find}
 use Rattle.std.specs.Option.{option_map}
 use Rattle.indexmap.proofs.ReorderLemmas.{map-reverse}
-use Rattle.xs_names.specs.declared.scope.Binding.{Binding}
+use Rattle.xs_names.specs.declared.scope.ScopeBinding.{ScopeBinding}
 use Rattle.xs_names.specs.Scope.{prefix_and_space, binding_of, oldest}
 
 -- the first of a list are the last of its reverse
@@ -26,10 +26,10 @@ oldest-back n scope later earlier e l =
     ap (drop (length scope - n)) e ∙ drop_at later earlier (length scope - n) count
 
 -- the number of the namespace of a binding that was found
-abbrev pub found_number : Option Binding → Option ℕ
+abbrev pub found_number : Option ScopeBinding → Option ℕ
 found_number found = option_map (λ b. b.ns) found
 
-binding_of-find : (prefix : List ℕ) (bindings : List Binding) → found_number (find (λ b. bytes_eq b.prefix prefix) bindings) ≡ binding_of (map prefix_and_space bindings) prefix
+binding_of-find : (prefix : List ℕ) (bindings : List ScopeBinding) → found_number (find (λ b. bytes_eq b.prefix prefix) bindings) ≡ binding_of (map prefix_and_space bindings) prefix
 binding_of-find prefix [] = refl
 binding_of-find prefix (b ∷ bindings) = by (bytes_eq b.prefix prefix) refl (binding_of-find prefix bindings)
   where
@@ -38,5 +38,5 @@ binding_of-find prefix (b ∷ bindings) = by (bytes_eq b.prefix prefix) refl (bi
     by true e rest = rw e refl
     by false e rest = rw e rest
 
-pub binding_of-reverse : (prefix : List ℕ) (bindings : List Binding) → found_number (find (λ b. bytes_eq b.prefix prefix) (reverse bindings)) ≡ binding_of (reverse (map prefix_and_space bindings)) prefix
+pub binding_of-reverse : (prefix : List ℕ) (bindings : List ScopeBinding) → found_number (find (λ b. bytes_eq b.prefix prefix) (reverse bindings)) ≡ binding_of (reverse (map prefix_and_space bindings)) prefix
 binding_of-reverse prefix bindings = binding_of-find prefix (reverse bindings) ∙ ap (λ scope. binding_of scope prefix) (map-reverse prefix_and_space bindings)

@@ -1,9 +1,9 @@
 -- The prefixes in scope: Namespaces in XML 1.0, 6. A scope is its bindings of prefixes to namespaces, the latest first.
 use Rattle.std.specs.Prelude.{◌≡◌, ℕ, ◌-◌, List, [], ◌∷◌, Option, None, Some, drop, length, bytes_eq, codes, unwrap_or, if◌then◌else◌, refl}
-use Rattle.xs_names.specs.declared.scope.Binding.{Binding}
+use Rattle.xs_names.specs.declared.scope.ScopeBinding.{ScopeBinding}
 
 -- the prefix and the namespace of a binding
-abbrev pub prefix_and_space : Binding → List ℕ × ℕ
+abbrev pub prefix_and_space : ScopeBinding → List ℕ × ℕ
 prefix_and_space b = (b.prefix, b.ns)
 
 -- the scope outside of all elements binds the prefix xml alone (Namespaces in XML 1.0, 3)

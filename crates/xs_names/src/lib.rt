@@ -17,7 +17,7 @@ pub use ids::{NameId, NsId};
 pub use names::{Names, XML_NAMESPACE, XMLNS_NAMESPACE};
 pub use pool::TextPool;
 pub use qname::{BadName, split_qname};
-pub use scope::{Scope, Unbound};
+pub use scope::{Scope, ScopeBinding, Unbound};
 pub use text::Text;
 pub use texts::Texts;
 pub use white::is_white_space;

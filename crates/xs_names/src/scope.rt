@@ -1,6 +1,6 @@
-ghost use Rattle.std.specs.Prelude.{◌≡◌, ◌∷◌, ◌++◌, ℕ, List, None, Some, length, find, reverse, bytes_eq, IfOk, OnOk, OnErr, MatchResult};
+ghost use Rattle.std.specs.Prelude.{◌≡◌, ◌∷◌, ◌++◌, ℕ, List, None, Some, length, map, find, reverse, bytes_eq, IfOk, OnOk, OnErr, MatchResult};
 ghost use Rattle.std.specs.Option.{option_map, option_copied};
-ghost use Rattle.xs_names.specs.Scope.{first_scope, binding_of, resolved, oldest};
+ghost use Rattle.xs_names.specs.Scope.{prefix_and_space, first_scope, binding_of, resolved, oldest};
 
 use crate::{NsId, Text};
 use std::alloc::{AllocError, Global};
@@ -10,15 +10,16 @@ use std::marker::Model;
 #[derive(Debug, Clone, Copy, PartialEq, Eq)]
 pub struct Unbound;
 
-// A prefix with its namespace. The empty prefix is the default namespace.
+/// A prefix with the number of its namespace. The empty prefix is the default namespace; under the absent namespace it is
+/// undeclared.
 #[derive(Debug, Drop)]
-struct Binding {
-    prefix: Text,
-    ns: NsId,
+pub struct ScopeBinding {
+    pub prefix: Text,
+    pub ns: NsId,
 }
 
 // The last binding of the prefix.
-fn latest_binding<'a>(bindings: &'a [Binding], prefix: &str) -> Option<&'a Binding>
+fn latest_binding<'a>(bindings: &'a [ScopeBinding], prefix: &str) -> Option<&'a ScopeBinding>
     ensures { option_copied result ≡ find (λ b. bytes_eq b.prefix prefix.now) (reverse bindings.now) }
 {
     bindings
@@ -33,7 +34,7 @@ fn latest_binding<'a>(bindings: &'a [Binding], prefix: &str) -> Option<&'a Bindi
 /// after the element `truncate` goes back there.
 #[derive(Debug, Drop)]
 pub struct Scope {
-    bindings: Vec<Binding>,
+    bindings: Vec<ScopeBinding>,
 }
 
 impl Model for Scope {
@@ -52,7 +53,7 @@ impl Scope {
         ensures { IfOk result (λ scope. scope ≡ first_scope) }
     {
         let mut bindings = Vec::new(alloc);
-        bindings.push(Binding {
+        bindings.push(ScopeBinding {
             prefix: Text::new(alloc, "xml")?,
             ns: NsId::XML,
         })?;
@@ -65,7 +66,7 @@ impl Scope {
         ensures err { OnErr result (self.new ≡ self.old) }
     {
         let prefix = Text::new(*self.bindings.allocator(), prefix)?;
-        self.bindings.push(Binding { prefix, ns })?;
+        self.bindings.push(ScopeBinding { prefix, ns })?;
         Ok(())
     }
 
@@ -103,12 +104,19 @@ impl Scope {
         let held = self.bindings.as_slice();
         let mut bindings = Vec::new(alloc);
         for binding in held {
-            bindings.push(Binding {
+            bindings.push(ScopeBinding {
                 prefix: binding.prefix.try_clone()?,
                 ns: binding.ns,
             })?;
         }
         Ok(Scope { bindings })
+    }
+
+    /// The bindings in the order of their coming.
+    pub fn bindings(&self) -> &[ScopeBinding]
+        ensures { map prefix_and_space result.now ≡ reverse self.now }
+    {
+        self.bindings.as_slice()
     }
 
     /// The number of bindings.
