@@ -1,7 +1,7 @@
 -- What a block comes to, by what stands against its names and by the limits.
 use Rattle.std.proofs.Common.{◌≡◌, ℕ, ◌+◌, List, [], Option, Some, None, Result, Ok, Err, refl, sym, ap, ◌∙◌, subst, take, reverse}
 use Rattle.item_listing.specs.declared.item.Item.{Item}
-use Rattle.tree_rows.specs.Forest.{Forest, Document, text, none}
+use Rattle.tree_rows.specs.Forest.{Forest, Document, text, none, count, deepest_of}
 use Rattle.tree_rows.specs.Rows.{siblings}
 use Rattle.tree_rows.specs.declared.row.Binding.{Binding}
 use Rattle.tree_rows.specs.declared.row.Row.{Row}
@@ -13,7 +13,7 @@ use Rattle.tree_edits.specs.declared.places.Spot.{Spot}
 use Rattle.tree_edits.specs.Edits.{put, put_within, insert_within, unless, then_unless}
 use Rattle.tree_building.specs.Shape.{AreWhole}
 use Rattle.tree_edits.specs.Refusals.{IsWhy}
-use Rattle.tree_edits.specs.Spots.{tree_of, inserting, IsSpot, Puts, Inserts, Fits}
+use Rattle.tree_edits.specs.Spots.{tree_of, inserting, IsSpot, Puts, Inserts, HasRoom}
 use Rattle.tree_edits.specs.declared.names.BlockNames.{BlockNames}
 use Rattle.tree_edits.specs.declared.edit.EditError.{EditError}
 use Rattle.tree_edits.specs.declared.edit.EditError.TheVariants as errors
@@ -73,15 +73,14 @@ limit_is d parent place scope its depth names g e is first g_is why =
     (λ w. comes_to d parent place scope its depth names None (late names) (Err e) is first refl
     (ap (λ x. put_within d parent place x depth) (sym g_is) ∙ w)) why
 
-pub late_is : (rows new : List Row) (next parent place : ℕ) (scope : List Binding) (its : List Item) (depth : ℕ) (names : BlockNames) (e : EditError)
-    → AreWhole rows → AreWhole new → Fits rows new next depth
-    → names ≡ judged (tags_in scope [] its) → early names ≡ None → late names ≡ Some e → siblings new 1 ≡ block scope its
+pub late_is : (rows : List Row) (next parent place : ℕ) (scope : List Binding) (its : List Item) (depth : ℕ) (names : BlockNames) (e : EditError) (more deepest : ℕ)
+    → AreWhole rows → HasRoom rows next more depth deepest → count (block scope its) ≡ more → deepest_of 1 (block scope its) ≡ deepest
+    → names ≡ judged (tags_in scope [] its) → early names ≡ None → late names ≡ Some e
     → IsWhy (insert_within (tree_of rows next) parent place scope its depth) e
-late_is rows new next parent place scope its depth names e whole new_whole fits is first last g_is =
-    let (d, ok) = put_ok rows new next parent place depth whole new_whole fits in
+late_is rows next parent place scope its depth names e more deepest whole room size deep is first last =
+    let (d, ok) = put_ok rows next more depth deepest parent place (block scope its) whole room size deep in
     why_is (insert_within (tree_of rows next) parent place scope its depth) e
-    (comes_to (tree_of rows next) parent place scope its depth names None (Some e) (Ok d) is first last
-    (ap (λ x. put_within (tree_of rows next) parent place x depth) (sym g_is) ∙ ok))
+    (comes_to (tree_of rows next) parent place scope its depth names None (Some e) (Ok d) is first last ok)
 
 pub inserted : (rows new changed : List Row) (next free parent place : ℕ) (scope : List Binding) (its : List Item) (depth : ℕ) (names : BlockNames)
     → names ≡ judged (tags_in scope [] its) → early names ≡ None → late names ≡ None → siblings new 1 ≡ block scope its

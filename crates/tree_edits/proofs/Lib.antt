@@ -3,7 +3,9 @@ pub mod Standing
 pub mod Placing
 pub mod Spotting
 pub mod Putting
+pub mod BlockSizes
 pub mod Inserting
+pub mod NodeScopes
 pub mod Scoping
 pub mod Changing
 pub mod Lying

@@ -1,13 +1,13 @@
 -- What is put at a spot, on the rows and on the tree.
 use Rattle.std.proofs.Common.{◌≡◌, ℕ, ◌+◌, ◌≤◌, ◌<◌, List, [], ◌∷◌, ◌++◌, true, false, ◌||◌, Ok, Err, length, take, drop, refl, sym, ap, ◌∙◌, arith, nat_lt, max, subst}
 use Rattle.std.proofs.lemmas.Bool.Decides.{nat_tests}
-use Rattle.tree_rows.specs.Forest.{Forest, none, text, count, Document}
+use Rattle.tree_rows.specs.Forest.{Forest, none, text, element, count, Document}
 use Rattle.tree_rows.specs.Rows.{rows_of, siblings}
 use Rattle.tree_rows.specs.RowLaws.{siblings-all}
 use Rattle.tree_edits.specs.Edits.{deepest_of, renumbered, replaced, with_children, too_many_more, put_within}
 use Rattle.tree_building.specs.Shape.{AreWhole, AreSound, AreUnder, deepest_with, deepest_row}
 use Rattle.tree_edits.specs.EditRows.{raised}
-use Rattle.tree_edits.specs.Spots.{tree_of, IsSpot, Puts, Fits}
+use Rattle.tree_edits.specs.Spots.{tree_of, IsSpot, Puts, Fits, HasRoom, HasNoRoom}
 use Rattle.tree_rows.specs.declared.row.Row.{Row}
 use Rattle.tree_rows.specs.declared.row.Content.{Content}
 use Rattle.tree_rows.specs.declared.row.Content.TheVariants as contents
@@ -21,10 +21,10 @@ whole_from rows f e =
     let is : siblings rows 1 ≡ f = ap (λ l. siblings l 1) e ∙ siblings-all f in
     (is, e ∙ ap (rows_of 1) (sym is))
 
-count-whole : (rows : List Row) → AreWhole rows → count (siblings rows 1) ≡ length rows
+pub count-whole : (rows : List Row) → AreWhole rows → count (siblings rows 1) ≡ length rows
 count-whole rows whole = sym (ap length whole ∙ count-rows 1 (siblings rows 1))
 
-deep-whole : (levels : ℕ) (rows : List Row) → AreWhole rows → deepest_of (levels + 1) (siblings rows 1) ≡ deepest_row levels rows
+pub deep-whole : (levels : ℕ) (rows : List Row) → AreWhole rows → deepest_of (levels + 1) (siblings rows 1) ≡ deepest_row levels rows
 deep-whole levels rows whole =
     let turn : levels + 1 ≡ 1 + levels = omega arith in
     ap (λ d. deepest_of d (siblings rows 1)) turn ∙ sym (deepest-rows levels 1 (siblings rows 1)) ∙ ap (deepest_row levels) (sym whole)
@@ -35,34 +35,70 @@ are_many rows new next whole new_whole =
     ap (λ k. nat_lt 131072 (k + count (siblings new 1)) || nat_lt 4294967295 (next + count (siblings new 1))) (count-whole rows whole)
     ∙ ap (λ k. nat_lt 131072 (length rows + k) || nat_lt 4294967295 (next + k)) (count-whole new new_whole)
 
-pub put_many : (rows new : List Row) (next parent place depth : ℕ) → AreWhole rows → AreWhole new
-    → (nat_lt 131072 (length rows + length new) || nat_lt 4294967295 (next + length new)) ≡ true
-    → put_within (tree_of rows next) parent place (siblings new 1) depth ≡ Err TooManyNodes
-put_many rows new next parent place depth whole new_whole e =
-    let many = are_many rows new next whole new_whole ∙ e in
-    rw many refl
+are_more : (rows : List Row) (next more : ℕ) (new : Forest) → AreWhole rows → count new ≡ more
+    → too_many_more (tree_of rows next) (count new) ≡ (nat_lt 131072 (length rows + more) || nat_lt 4294967295 (next + more))
+are_more rows next more new whole size =
+    ap (λ k. nat_lt 131072 (k + count new) || nat_lt 4294967295 (next + count new)) (count-whole rows whole)
+    ∙ ap (λ k. nat_lt 131072 (length rows + k) || nat_lt 4294967295 (next + k)) size
 
-pub put_deep : (rows new : List Row) (next parent place depth : ℕ) → AreWhole rows → AreWhole new
-    → (nat_lt 131072 (length rows + length new) || nat_lt 4294967295 (next + length new)) ≡ false → 128 < deepest_row depth new
-    → put_within (tree_of rows next) parent place (siblings new 1) depth ≡ Err TooDeep
-put_deep rows new next parent place depth whole new_whole e h =
-    let many = are_many rows new next whole new_whole ∙ e in
-    let deep : nat_lt 128 (deepest_of (depth + 1) (siblings new 1)) ≡ true = grind (arith, nat_tests, deep-whole depth new new_whole, h) in
-    rw (many, deep) refl
+-- nodes that stand so many levels deeper
+deeper_most : (levels depth : ℕ) (f : Forest) → deepest_of (depth + levels) f ≤ deepest_of depth f + levels
+deeper_most levels depth none = omega arith
+deeper_most levels depth (text n chars next) = deeper_most levels depth next
+deeper_most levels depth (element n name bindings attributes children next) =
+    let up : depth + 1 + levels ≡ depth + levels + 1 = omega arith in
+    omega (arith, ap (λ d. deepest_of d children) up, deeper_most levels (depth + 1) children, deeper_most levels depth next)
 
--- rows that fit are put
-pub put_ok : (rows new : List Row) (next parent place depth : ℕ) → AreWhole rows → AreWhole new → Fits rows new next depth
-    → (d : Document) × (put_within (tree_of rows next) parent place (siblings new 1) depth ≡ Ok d)
-put_ok rows new next parent place depth whole new_whole fits =
-    let g : Forest = siblings new 1 in
-    let many = are_many rows new next whole new_whole ∙ fits.few in
-    let deep : nat_lt 128 (deepest_of (depth + 1) g) ≡ false = grind (arith, nat_tests, deep-whole depth new new_whole, fits.shallow) in (
+deeper_least : (levels depth : ℕ) (f : Forest) → deepest_of depth f + levels ≤ max levels (deepest_of (depth + levels) f)
+deeper_least levels depth none = omega arith
+deeper_least levels depth (text n chars next) = deeper_least levels depth next
+deeper_least levels depth (element n name bindings attributes children next) =
+    let up : depth + 1 + levels ≡ depth + levels + 1 = omega arith in
+    omega (arith, ap (λ d. deepest_of d children) up, deeper_least levels (depth + 1) children, deeper_least levels depth next)
+
+from_one : (depth : ℕ) (f : Forest) → deepest_of (depth + 1) f ≡ deepest_of (1 + depth) f
+from_one depth f = ap (λ d. deepest_of d f) (omega arith)
+
+pub put_many : (rows : List Row) (next more depth deepest : ℕ) → AreWhole rows
+    → (nat_lt 131072 (length rows + more) || nat_lt 4294967295 (next + more)) ≡ true → HasNoRoom rows next more depth deepest TooManyNodes
+put_many rows next more depth deepest whole e =
+    λ parent place new size deep. let many = are_more rows next more new whole size ∙ e in rw many refl
+
+pub put_deep : (rows : List Row) (next more depth deepest : ℕ) → AreWhole rows → depth ≤ 128
+    → (nat_lt 131072 (length rows + more) || nat_lt 4294967295 (next + more)) ≡ false → 128 < depth + deepest → HasNoRoom rows next more depth deepest TooDeep
+put_deep rows next more depth deepest whole low e h =
+    λ parent place new size deep.
+    let many = are_more rows next more new whole size ∙ e in
+    let past : 128 < deepest_of (depth + 1) new = omega (arith, from_one depth new, deeper_least depth 1 new, deep, h, low) in
+    let is : nat_lt 128 (deepest_of (depth + 1) new) ≡ true = grind (arith, nat_tests, past) in
+    rw (many, is) refl
+
+shallow_below : (depth deepest : ℕ) (f : Forest) → deepest_of 1 f ≡ deepest → depth + deepest ≤ 128 → deepest_of (depth + 1) f ≤ 128
+shallow_below depth deepest f deep h = omega (arith, from_one depth f, deeper_most depth 1 f, deep, h)
+
+-- nodes that have room are put
+pub put_ok : (rows : List Row) (next more depth deepest parent place : ℕ) (new : Forest) → AreWhole rows → HasRoom rows next more depth deepest → count new ≡ more
+    → deepest_of 1 new ≡ deepest → (d : Document) × (put_within (tree_of rows next) parent place new depth ≡ Ok d)
+put_ok rows next more depth deepest parent place new whole room size deep =
+    let many = are_more rows next more new whole size ∙ room.few in
+    let low = shallow_below depth deepest new deep room.shallow in
+    let is : nat_lt 128 (deepest_of (depth + 1) new) ≡ false = grind (arith, nat_tests, low) in (
       record {
-        forest = replaced parent (with_children place (renumbered next g)) (siblings rows 1);
-        next_free = next + count g;
+        forest = replaced parent (with_children place (renumbered next new)) (siblings rows 1);
+        next_free = next + count new;
       },
-      rw (many, deep) refl,
+      rw (many, is) refl,
     )
+
+-- rows of nodes that have room fit
+pub fits_room : (rows new : List Row) (next more depth deepest : ℕ) → AreWhole new → HasRoom rows next more depth deepest → count (siblings new 1) ≡ more
+    → deepest_of 1 (siblings new 1) ≡ deepest → Fits rows new next depth
+fits_room rows new next more depth deepest whole room size deep =
+    let same : length new ≡ more = sym (count-whole new whole) ∙ size in
+    record {
+      few = ap (λ k. nat_lt 131072 (length rows + k) || nat_lt 4294967295 (next + k)) same ∙ room.few;
+      shallow = omega (arith, deep-whole depth new whole, shallow_below depth deepest (siblings new 1) deep room.shallow);
+    }
 
 pub put_fits : (rows new changed : List Row) (next free parent place : ℕ) (s : Spot) → AreSound rows → AreWhole new → IsSpot rows parent place s
     → (nat_lt 131072 (length rows + length new) || nat_lt 4294967295 (next + length new)) ≡ false → deepest_row s.depth new ≤ 128

@@ -3,6 +3,7 @@ pub mod EditRows
 pub mod Refusals
 pub mod Places
 pub mod Blocks
+pub mod Sizes
 pub mod Walks
 pub mod Spots
 pub mod Examples

@@ -1,7 +1,7 @@
 -- Where an edit changes the rows of a tree.
 use Rattle.std.specs.Prelude.{◌≡◌, ℕ, ◌+◌, ◌≤◌, ◌<◌, false, ◌||◌, nat_lt, slice_index_or, slice_set, List, [], ◌∷◌, ◌++◌, length, take, drop, reverse, Result, Ok}
 use Rattle.tree_rows.specs.declared.limits.TheConstants.{MAX_DEPTH, MAX_NODES}
-use Rattle.tree_rows.specs.Forest.{Forest, Document}
+use Rattle.tree_rows.specs.Forest.{Forest, Document, count, deepest_of}
 use Rattle.tree_rows.specs.Rows.{rows_of, siblings}
 use Rattle.tag_names.specs.Scopes.{first_scope}
 use Rattle.tree_edits.specs.Edits.{put, put_within, insert_within, scope_in, reword, remove, found, replaced, with_children}
@@ -57,9 +57,15 @@ pub record Fits (rows new : List Row) (next depth : ℕ) : Type 0 where
   pub few : (nat_lt MAX_NODES (length rows + length new) || nat_lt 4294967295 (next + length new)) ≡ false
   pub shallow : deepest_row depth new ≤ MAX_DEPTH
 
--- new rows do not fit there
-abbrev pub CannotFit : List Row → List Row → ℕ → ℕ → EditError → Type 0
-CannotFit rows new next depth error = (parent place : ℕ) → IsWhy (put_within (tree_of rows next) parent place (siblings new 1) depth) error
+-- so many new nodes have room below an element of this depth, where the deepest element stands this deep among them
+pub record HasRoom (rows : List Row) (next more depth deepest : ℕ) : Type 0 where
+  pub few : (nat_lt MAX_NODES (length rows + more) || nat_lt 4294967295 (next + more)) ≡ false
+  pub shallow : depth + deepest ≤ MAX_DEPTH
+
+-- they have no room there
+abbrev pub HasNoRoom : List Row → ℕ → ℕ → ℕ → ℕ → EditError → Type 0
+HasNoRoom rows next more depth deepest error = (parent place : ℕ) (new : Forest) → count new ≡ more → deepest_of 1 new ≡ deepest
+    → IsWhy (put_within (tree_of rows next) parent place new depth) error
 
 -- the rows are sound, and those of the tree where the text has other characters
 pub record Rewords (rows changed : List Row) (key : ℕ) (chars : List ℕ) : Type 0 where

@@ -7,12 +7,12 @@ ghost use Rattle.tree_rows.specs.Forest.{none, text as text_node};
 ghost use Rattle.tree_edits.specs.Edits.{after, put, put_within, insert_within, reword, found, can_be_made};
 ghost use Rattle.tree_building.specs.Shape.{AreSound, AreWhole, AreUnder, deepest_row};
 ghost use Rattle.tree_edits.specs.Refusals.{IsWhy};
-ghost use Rattle.tree_edits.specs.Spots.{tree_of, inserting, IsSpot, Puts, Inserts, IsText, Fits, CannotFit, Rewords, Removes, CannotRemove};
+ghost use Rattle.tree_edits.specs.Spots.{tree_of, inserting, IsSpot, Puts, Inserts, IsText, Fits, HasRoom, HasNoRoom, Rewords, Removes, CannotRemove};
 
 use crate::names::judge_block;
 use crate::places::{Spot, span_of, spot_of, text_place};
 use crate::scope::scope_at;
-use crate::shifts::{deepest, insert_rows, raise, remove_rows};
+use crate::shifts::{insert_rows, raise, remove_rows};
 use crate::{Edit, EditError};
 use item_listing::Item;
 use std::alloc::{AllocError, Global};
@@ -23,21 +23,28 @@ use xs_names::Text;
 
 const MOST_NODES: usize = MAX_NODES as usize;
 
-const MOST_LEVELS: u64 = MAX_DEPTH as u64;
+const MOST_LEVELS: usize = MAX_DEPTH as usize;
 
 const MAX_NUMBER: usize = 4_294_967_295;
 
-/// Refuses new rows that pass a limit when they are put below an element of this depth.
-fn fit(rows: &[Row], next_free: u32, new: &[Row], depth: u32) -> Result<(), EditError>
+/// Refuses so many new nodes below an element of this depth, where they pass a limit; the deepest element stands this deep
+/// among them.
+fn fit(
+    rows: &[Row],
+    next_free: u32,
+    more: usize,
+    depth: u32,
+    deepest: usize,
+) -> Result<(), EditError>
     requires rows { AreWhole rows.now }
-    requires new { AreWhole new.now }
-    ensures ok { OnOk result (Fits rows.now new.now next_free depth) }
-    ensures err { IfErr result (CannotFit rows.now new.now next_free depth) }
+    requires shallow { depth ≤ MAX_DEPTH }
+    ensures ok { OnOk result (HasRoom rows.now next_free more depth deepest) }
+    ensures err { IfErr result (HasNoRoom rows.now next_free more depth deepest) }
 {
-    if are_too_many(rows.len(), next_free, new.len()) {
+    if are_too_many(rows.len(), next_free, more) {
         return Err(EditError::TooManyNodes);
     }
-    if deepest(new, depth) > MOST_LEVELS {
+    if deepest > MOST_LEVELS - depth as usize {
         return Err(EditError::TooDeep);
     }
     Ok(())
@@ -45,11 +52,10 @@ fn fit(rows: &[Row], next_free: u32, new: &[Row], depth: u32) -> Result<(), Edit
 
 /// Whether so many more nodes would be too many, or would use the last number.
 fn are_too_many(live: usize, next_free: u32, more: usize) -> bool
-    requires live { live < 2 ^ 63 }
-    requires more { more < 2 ^ 63 }
+    requires { live < 2 ^ 63 }
     ensures { result ≡ (nat_lt MAX_NODES (live + more) || nat_lt 4294967295 (next_free + more)) }
 {
-    live + more > MOST_NODES || next_free as usize + more > MAX_NUMBER
+    more > MOST_NODES || live + more > MOST_NODES || next_free as usize + more > MAX_NUMBER
 }
 
 /// Puts new rows that fit at a spot, and answers the next free number.
@@ -91,11 +97,11 @@ fn put_block(
     ensures err { IfErr result (λ e. (parent index : ℕ) → IsWhy (insert_within (tree_of rows.old.items next_free) parent index scope.now items.now spot.depth) e) }
     ensures kept { OnErr result (rows.new.items ≡ rows.old.items) }
 {
-    let names = judge_block(alloc, scope, items)?;
-    names.early()?;
+    let judged = judge_block(alloc, scope, items)?;
+    judged.names.early()?;
+    fit(rows, next_free, judged.nodes, spot.depth, judged.depth)?;
+    judged.names.late()?;
     let new = build_block(alloc, scope, items)?;
-    fit(rows, next_free, &new, spot.depth)?;
-    names.late()?;
     let next = put_fitting(rows, next_free, spot, new)?;
     Ok(next)
 }
@@ -152,8 +158,8 @@ fn add_text(
     ensures kept { OnErr result (rows.new.items ≡ rows.old.items) }
 {
     let spot = spot_of(rows, parent, index)?;
+    fit(rows, next_free, 1, spot.depth, 0)?;
     let new = text_row(alloc, text)?;
-    fit(rows, next_free, &new, spot.depth)?;
     let free = put_fitting(rows, next_free, spot, new)?;
     Ok(free)
 }

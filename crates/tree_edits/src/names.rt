@@ -1,13 +1,17 @@
-ghost use Rattle.std.specs.Prelude.{◌≡◌, ◌∷◌, [], ◌||◌, List, None, Some, IfOk, OnOk, IfErr};
+ghost use Rattle.std.specs.Prelude.{◌≡◌, ◌∷◌, [], ◌||◌, List, None, Some, true, false, IfOk, OnOk, IfErr};
+ghost use Rattle.tree_rows.specs.Forest.{count, deepest_of};
+ghost use Rattle.tree_building.specs.Blocks.{one_element};
+ghost use Rattle.tree_building.specs.Building.{block as block_in};
 ghost use Rattle.tree_edits.specs.Blocks as blocks;
 
 use crate::EditError;
+use crate::size::BlockSize;
 use item_listing::Item;
 use std::alloc::{AllocError, Global};
 use tag_names::{AttributeLine, AttributeLines, JudgedTag, Prefixes, Tag, TagFaults};
 use xs_names::{Text, TextPool};
 
-/// What stands against the names of a block.
+/// What stands against the names of a block: each of the faults that some of its tags has.
 #[derive(Clone, Copy, Debug)]
 pub struct BlockNames {
     /// A name is no QName.
@@ -87,6 +91,17 @@ fn lines_of(alloc: Global, items: &[Item]) -> Result<AttributeLines, AllocError>
     Ok(lines)
 }
 
+/// What a block is found to be before it is built.
+#[derive(Clone, Copy, Debug)]
+pub struct JudgedBlock {
+    /// What stands against its names.
+    pub names: BlockNames,
+    /// How many nodes it has.
+    pub nodes: usize,
+    /// How deep its deepest element stands, where its element has depth 1.
+    pub depth: usize,
+}
+
 /// A walk over the items of a block: the prefixes in scope, and how many bindings each scope around has.
 #[derive(Drop)]
 pub struct Walk {
@@ -94,6 +109,7 @@ pub struct Walk {
     scope: Prefixes,
     sizes: Vec<usize>,
     names: BlockNames,
+    size: BlockSize,
     pool: TextPool,
 }
 
@@ -101,10 +117,13 @@ impl Walk {
     ghost use Rattle.item_listing.specs.declared.item.Item.{Item};
     ghost use Rattle.item_listing.specs.declared.item.Item.TheVariants as items;
     ghost use Rattle.tree_edits.specs.Walks.{outcome};
+    ghost use Rattle.tree_edits.specs.Sizes.{nodes_in, deepest_in, all_nodes, all_deepest, Counts};
 
     /// Before the first item of a block in this scope.
     fn new(alloc: Global, scope: &Prefixes) -> Result<Self, AllocError>
-        ensures { IfOk result (λ walk. (more : List Item) → outcome walk more ≡ blocks.judged (blocks.tags_in scope.now [] more)) }
+        ensures names { IfOk result (λ walk. (more : List Item) → outcome walk more ≡ blocks.judged (blocks.tags_in scope.now [] more)) }
+        ensures nodes { IfOk result (λ walk. (more : List Item) → all_nodes walk.size more ≡ nodes_in 0 false more) }
+        ensures depth { IfOk result (λ walk. (more : List Item) → all_deepest walk.size more ≡ deepest_in 0 more) }
     {
         Ok(Walk {
             alloc,
@@ -117,13 +136,15 @@ impl Walk {
                 many: false,
                 double: false,
             },
+            size: BlockSize::new(),
             pool: TextPool::new(alloc),
         })
     }
 
     /// Judges a tag and takes its bindings into the scope.
     fn start(&mut self, name: &Text, rest: &[Item]) -> Result<(), AllocError>
-        ensures { OnOk result (outcome self.new rest.now ≡ outcome self.old (items.Start name.now ∷ rest.now)) }
+        ensures names { OnOk result (outcome self.new rest.now ≡ outcome self.old (items.Start name.now ∷ rest.now)) }
+        ensures size { self.new.size ≡ self.old.size }
     {
         let tag = Tag {
             name: name.try_clone()?,
@@ -136,25 +157,33 @@ impl Walk {
         Ok(())
     }
 
-    /// What stands against the names, where no items are left.
-    fn end(&self) -> BlockNames
-        ensures { result ≡ outcome self.now [] }
+    /// What was found, where no items are left.
+    fn end(&self) -> JudgedBlock
+        ensures names { result.names ≡ outcome self.now [] }
+        ensures nodes { result.nodes ≡ all_nodes self.now.size [] }
+        ensures depth { result.depth ≡ all_deepest self.now.size [] }
     {
-        self.names
+        JudgedBlock {
+            names: self.names,
+            nodes: self.size.nodes,
+            depth: self.size.depth,
+        }
     }
 
     /// Goes back to the scope around.
     fn close(&mut self, name: &Text)
-        ensures { (more : List Item) → outcome self.new more ≡ outcome self.old (items.Close name.now ∷ more) }
+        ensures names { (more : List Item) → outcome self.new more ≡ outcome self.old (items.Close name.now ∷ more) }
+        ensures size { self.new.size ≡ self.old.size }
     {
         if let Some(size) = self.sizes.pop() {
             self.scope.truncate(size);
         }
     }
 
-    /// Takes the next item; these are behind it.
-    fn item(&mut self, item: &Item, rest: &[Item]) -> Result<(), AllocError>
-        ensures { OnOk result (outcome self.new rest.now ≡ outcome self.old (item.now ∷ rest.now)) }
+    /// Judges the names of the next item; these items are behind it.
+    fn tag(&mut self, item: &Item, rest: &[Item]) -> Result<(), AllocError>
+        ensures names { OnOk result (outcome self.new rest.now ≡ outcome self.old (item.now ∷ rest.now)) }
+        ensures size { self.new.size ≡ self.old.size }
     {
         match item {
             Item::Start(name) => self.start(name, rest),
@@ -165,15 +194,32 @@ impl Walk {
             _ => Ok(()),
         }
     }
+
+    /// Takes the next item; these are behind it.
+    fn item(&mut self, item: &Item, rest: &[Item]) -> Result<(), AllocError>
+        ensures names { OnOk result (outcome self.new rest.now ≡ outcome self.old (item.now ∷ rest.now)) }
+        ensures size { OnOk result (Counts self.old.size self.new.size item.now) }
+    {
+        self.tag(item, rest)?;
+        self.size.item(item)
+    }
 }
 
-/// What stands against the names of a block whose parent gives this scope.
+/// What a block is found to be that stands in this scope: what stands against its names, how many nodes it has, and how deep
+/// it is. Nothing is built.
+///
+/// # Errors
+///
+/// `AllocError` is want of memory.
 pub fn judge_block(
     alloc: Global,
     scope: &Prefixes,
     items: &[Item],
-) -> Result<BlockNames, AllocError>
-    ensures { IfOk result (λ names. names ≡ blocks.judged (blocks.tags_in scope.now [] items.now)) }
+) -> Result<JudgedBlock, AllocError>
+    requires one { one_element items.now ≡ true }
+    ensures names { IfOk result (λ block. block.names ≡ blocks.judged (blocks.tags_in scope.now [] items.now)) }
+    ensures nodes { IfOk result (λ block. block.nodes ≡ count (block_in scope.now items.now)) }
+    ensures depth { IfOk result (λ block. block.depth ≡ deepest_of 1 (block_in scope.now items.now)) }
 {
     let mut walk = Walk::new(alloc, scope)?;
     let mut left = items;

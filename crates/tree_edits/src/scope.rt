@@ -1,11 +1,14 @@
 ghost use Rattle.std.specs.Prelude.{◌≡◌, ◌+◌, ◌<◌, ◌≤◌, List, IfOk, IfSome, MatchOption, length, reverse, take};
+ghost use Rattle.tree_rows.specs.Rows.{siblings};
 ghost use Rattle.tree_rows.specs.declared.row.Binding.{Binding};
 ghost use Rattle.tree_rows.specs.declared.limits.TheConstants.{MAX_DEPTH};
 ghost use Rattle.tag_names.specs.Scopes.{first_scope};
+ghost use Rattle.tree_building.specs.Shape.{AreSound};
+ghost use Rattle.tree_edits.specs.Edits.{scope_in};
 ghost use Rattle.tree_edits.specs.Places.{scope_above};
 ghost use Rattle.tree_edits.specs.Walks.{IsLastAbove};
 
-use crate::places::Spot;
+use crate::places::{Spot, place_of};
 use std::alloc::{AllocError, Global};
 use tag_names::Prefixes;
 use tree_rows::Row;
@@ -47,4 +50,36 @@ pub fn scope_at(alloc: Global, rows: &[Row], spot: Spot) -> Result<Prefixes, All
     ensures { IfOk result (λ scope. scope ≡ scope_above (spot.depth + 1) first_scope (reverse (take (spot.parent + 1) rows.now))) }
 {
     scope_of(alloc, &rows[..spot.parent + 1], spot.depth + 1)
+}
+
+/// The scope in which the row of a place stands, if it has this depth.
+fn scope_before(
+    alloc: Global,
+    rows: &[Row],
+    place: usize,
+    depth: u32,
+) -> Result<Prefixes, AllocError>
+    requires { place ≤ length rows.now }
+    ensures { IfOk result (λ scope. scope ≡ scope_above depth first_scope (reverse (take place rows.now))) }
+{
+    scope_of(alloc, &rows[..place], depth)
+}
+
+/// The scope inside of a node: its bindings and those of the elements around it, the innermost first; the scope around the
+/// root where there is no such node.
+///
+/// # Errors
+///
+/// `AllocError` is want of memory.
+pub fn scope_of_node(alloc: Global, rows: &[Row], node: u32) -> Result<Prefixes, AllocError>
+    requires { AreSound rows.now }
+    ensures { IfOk result (λ scope. scope ≡ scope_in node first_scope (siblings rows.now 1)) }
+{
+    let place = place_of(rows, node);
+    let Some(row) = rows.get(place) else {
+        return Prefixes::new(alloc);
+    };
+    let mut scope = scope_before(alloc, rows, place, row.depth)?;
+    scope.bind_all(row.bindings.as_slice())?;
+    Ok(scope)
 }

@@ -1,23 +1,10 @@
 ghost use Rattle.std.specs.Prelude.{◌≡◌, ◌++◌, ◌+◌, ◌^◌, ◌<◌, ◌≤◌, OnOk, OnErr, length, take, drop};
 ghost use Rattle.tree_rows.specs.declared.limits.TheConstants.{MAX_DEPTH};
-ghost use Rattle.tree_building.specs.Shape.{deepest_row, AreUnder};
+ghost use Rattle.tree_building.specs.Shape.{AreUnder};
 ghost use Rattle.tree_edits.specs.EditRows.{raised};
 
 use std::alloc::AllocError;
-use tree_rows::{Content, Row};
-
-/// The depth of the deepest element, where the rows stand so many levels deeper; 0 where there is none.
-pub fn deepest(rows: &[Row], levels: u32) -> u64
-    ensures { result ≡ deepest_row levels rows.now }
-{
-    let mut deepest = 0;
-    for row in rows {
-        if let Content::Element(_) = &row.content {
-            deepest = deepest.max(row.depth as u64 + levels as u64);
-        }
-    }
-    deepest
-}
+use tree_rows::Row;
 
 /// The same on a slice.
 fn raise_slice(rows: &mut [Row], free: u32, levels: u32)

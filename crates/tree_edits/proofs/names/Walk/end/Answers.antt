@@ -1,5 +1,5 @@
 use Rattle.tree_edits.proofs.Scoping.{joined_none}
 use Rattle.tree_edits.proofs.names.Walk.end.Goals as goal
 
-pub returns : goal.returns
-returns c = joined_none c.args.self.now.names
+pub returns-clause-names : goal.returns-clause-names
+returns-clause-names c = joined_none c.args.self.now.names

@@ -2,8 +2,8 @@ use Rattle.std.proofs.Common.{ap, ◌++◌, ◌∙◌}
 use Rattle.tree_edits.proofs.Scoping.{joined_one, started}
 use Rattle.tree_edits.proofs.names.Walk.start.Goals as goal
 
-pub returns : goal.returns
-returns c =
+pub returns-clause-names : goal.returns-clause-names
+returns-clause-names c =
     started c.args.self.now.names c.and_tag-self.result c.args.self.now.scope c.bind_all.new.self c.in_ok-named.field-0.named.bindings c.args.self.now.sizes.items
     c.push.new.self.items c.len.result (record { name = c.in_ok-try_clone.field-0; attributes = c.in_ok-lines_of.field-0 }) c.args.name.now c.args.rest.now
     c.in_ok-try_clone.ensures c.in_ok-lines_of.ensures
