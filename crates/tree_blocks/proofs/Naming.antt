@@ -106,10 +106,11 @@ tag_rests names b tag item its (Some reason) l g = tt
 tag_rests names b tag item its None l g =
     let scope = scope_in b.nest in
     let around = arounds b.nest.outer b.nest.elements in
-    let more = tag_names (tags_in (scope_within scope tag) (scope ∷ around) its) in
-    (refl,
-    ap (λ r. r ++ more) (names-append b.rows (element_row b tag ∷ [])) ∙ append_assoc (row_names b.rows) (named scope tag ∷ []) more
-    ∙ ap (λ t. row_names b.rows ++ tag_first scope around t its) (sym (no_lines tag its l)) ∙ g)
+    let more = tag_names (tags_in (scope_within scope tag) (scope ∷ around) its) in (
+      refl,
+      ap (λ r. r ++ more) (names-append b.rows (element_row b tag ∷ [])) ∙ append_assoc (row_names b.rows) (named scope tag ∷ []) more
+          ∙ ap (λ t. row_names b.rows ++ tag_first scope around t its) (sym (no_lines tag its l)) ∙ g,
+    )
 
 -- what came last becomes a node
 settled_rests : (names : List Named) (b : Building) (p : Pending) (its : List Item) → b.pending ≡ p → lines_of its ≡ [] → will_name b p its ≡ names

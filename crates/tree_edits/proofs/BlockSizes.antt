@@ -87,12 +87,14 @@ tag_rests n m b tag item its None g =
     let w = with_element b tag.name (element_row b tag) in
     let around : length w.nest.elements ≡ length b.nest.elements + 1 = omega arith in
     let k = nodes_in (length b.nest.elements + 1) false its in
-    let d = deepest_in (length b.nest.elements + 1) its in
-    (refl, record {
-      nodes = ap (λ o. length w.rows + nodes_in o false its) around ∙ ap (λ r. r + k) (one_row b.rows (element_row b tag)) ∙ omega (arith, g.nodes);
-      depth = ap (λ o. max (deepest_row 0 w.rows) (deepest_in o its)) around ∙ ap (λ r. max r d) (deepest-append 0 b.rows (element_row b tag ∷ []))
-          ∙ omega (arith, g.depth);
-    })
+    let d = deepest_in (length b.nest.elements + 1) its in (
+      refl,
+      record {
+        nodes = ap (λ o. length w.rows + nodes_in o false its) around ∙ ap (λ r. r + k) (one_row b.rows (element_row b tag)) ∙ omega (arith, g.nodes);
+        depth = ap (λ o. max (deepest_row 0 w.rows) (deepest_in o its)) around ∙ ap (λ r. max r d) (deepest-append 0 b.rows (element_row b tag ∷ []))
+            ∙ omega (arith, g.depth);
+      },
+    )
 
 -- what came last becomes a node
 settled_rests : (n m : ℕ) (b : Building) (p : Pending) (its : List Item) → b.pending ≡ p → Breaks its → Comes n m b.rows (length b.nest.elements) p its
@@ -101,11 +103,13 @@ settled_rests n m b pending.Nothing its e breaks g = (e, g)
 settled_rests n m b (pending.Start tag item) its e breaks g = tag_rests n m b tag item its (fault_of b.rules (scope_in b.nest) tag) g
 settled_rests n m b (pending.Chars chars) its e breaks g =
     let row = text_row b chars in
-    let o = length b.nest.elements in
-    (refl, record {
-      nodes = ap (λ r. r + nodes_in o false its) (one_row b.rows row) ∙ ap (λ k. length b.rows + 1 + k) (sym (breaks o)) ∙ omega (arith, g.nodes);
-      depth = ap (λ r. max r (deepest_in o its)) (deepest-append 0 b.rows (row ∷ [])) ∙ omega (arith, g.depth);
-    })
+    let o = length b.nest.elements in (
+      refl,
+      record {
+        nodes = ap (λ r. r + nodes_in o false its) (one_row b.rows row) ∙ ap (λ k. length b.rows + 1 + k) (sym (breaks o)) ∙ omega (arith, g.nodes);
+        depth = ap (λ r. max r (deepest_in o its)) (deepest-append 0 b.rows (row ∷ [])) ∙ omega (arith, g.depth);
+      },
+    )
 
 counted_holds : (n m : ℕ) (b : Building) (p : Pending) (its : List Item) → b.pending ≡ p → Comes n m b.rows (length b.nest.elements) p its → Holds n m its (Ok (counted b))
 counted_holds n m b p its e g = subst (λ q. Comes n m b.rows (length b.nest.elements) q its) (sym e) g
