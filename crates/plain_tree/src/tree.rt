@@ -65,7 +65,8 @@ impl Tree {
         self.rows.as_slice()
     }
 
-    /// Makes an edit. New nodes get the numbers from the next free one on, in document order.
+    /// Makes an edit. New nodes get the numbers from the next free one on, in document order. What `after` says is what the first
+    /// of the edit's tests that stands says, or the edit made: the law `edits_are_tested` of `tree_edits`.
     ///
     /// # Errors
     ///
