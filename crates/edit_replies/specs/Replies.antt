@@ -2,7 +2,7 @@
 use Rattle.std.specs.Prelude.{◌≡◌, ℕ, List, [], ◌∷◌, ◌++◌, false, Option, Some, None, Result, Ok, Err, codes}
 use Rattle.std.specs.Fmt.{decimal}
 use Rattle.tree_rows.specs.Forest.{Document}
-use Rattle.tree_edits.specs.Edits.{after}
+use Rattle.tree_edits.specs.Tests.{edited}
 use Rattle.tree_edits.specs.Refusals as refusals
 use Rattle.tree_edits.specs.declared.edit.EditError.{EditError}
 use Rattle.assess_model.specs.Tables.{Tables}
@@ -58,7 +58,7 @@ assess_reply (Some Element) None = []
 assess_reply (Some Element) (Some e) = entry_line e
 
 abbrev pub reply : Tables → Standing → Result Command ScriptFault → Reply
-reply t s (Ok (commands.Change edit)) = change_reply t s (after s.document edit)
+reply t s (Ok (commands.Change edit)) = change_reply t s (edited s.document edit)
 reply t s (Ok (commands.Assess node)) =
     record { text = assess_reply (kind_of node s.document.forest) (entry_of node (assessment t s.document.forest)); next = s }
 reply t s (Ok commands.Total) = record { text = total_line (total_of t s.document); next = s }

@@ -1,5 +1,6 @@
 ghost use Rattle.std.specs.Prelude.{◌≡◌, ◌++◌, ◌≤◌, true, false, OnOk, string_bytes};
-ghost use Rattle.tree_edits.specs.Edits.{after, can_be_made};
+ghost use Rattle.tree_edits.specs.Edits.{can_be_made};
+ghost use Rattle.tree_edits.specs.Tests.{edited};
 ghost use Rattle.session_model.specs.State.{known};
 ghost use Rattle.session_model.specs.Asking.{entry_of};
 ghost use Rattle.tree_rows.specs.Kinds.{kind_of};
@@ -48,7 +49,7 @@ pub fn answer_change<S: Session, L: Ledger>(
     requires made { can_be_made edit.now ≡ true }
     requires live { (S.state session.old).closed ≡ false }
     ensures answers { OnOk result (AnswersBy (S.state session.old) (S.state session.new) (string_bytes out.old) (string_bytes out.new)
-        (change_reply (S.state session.old).tables (standing_of (S.state session.old)) (after (S.state session.old).document edit.now))) }
+        (change_reply (S.state session.old).tables (standing_of (S.state session.old)) (edited (S.state session.old).document edit.now))) }
     ensures steps { steps.old ≤ steps.new }
 {
     match session.apply(edit, steps) {

@@ -36,7 +36,8 @@ impl Model for Tree {
 impl Tree {
     ghost use Rattle.tree_rows.specs.Rows.{rows_of, siblings};
     ghost use Rattle.tree_building.specs.Shape.{AreSound};
-    ghost use Rattle.tree_edits.specs.Edits.{after, can_be_made};
+    ghost use Rattle.tree_edits.specs.Edits.{can_be_made};
+    ghost use Rattle.tree_edits.specs.Tests.{edited};
     ghost use Rattle.tree_edits.specs.Refusals.{IsWhy};
     ghost use Rattle.plain_tree.specs.Behind.{IsNode, found_by};
     ghost use Rattle.plain_tree.specs.Nodes.{node_at, name_at, chars_at, attribute_at, binding_at, child_at};
@@ -65,17 +66,16 @@ impl Tree {
         self.rows.as_slice()
     }
 
-    /// Makes an edit. New nodes get the numbers from the next free one on, in document order. What `after` says is what the first
-    /// of the edit's tests that stands says, or the edit made: the law `edits_are_tested` of `tree_edits`.
+    /// Makes an edit. New nodes get the numbers from the next free one on, in document order.
     ///
     /// # Errors
     ///
-    /// The refusal of the least number that the edit has, or `EditError::Memory`, which is want of
+    /// The refusal of the first of the edit's tests that stands, in the order of the numbers, or `EditError::Memory`, which is want of
     /// memory. The tree is then as before, and no number was used.
     pub fn apply_edit(&mut self, alloc: Global, edit: &Edit) -> Result<(), EditError>
         requires { can_be_made edit.now ≡ true }
-        ensures ok { OnOk result (after self.old edit.now ≡ Ok self.new) }
-        ensures err { IfErr result (IsWhy (after self.old edit.now)) }
+        ensures ok { OnOk result (edited self.old edit.now ≡ Ok self.new) }
+        ensures err { IfErr result (IsWhy (edited self.old edit.now)) }
         ensures kept { OnErr result (self.new ≡ self.old) }
         ensures tree { IsTree self.new }
         ensures numbers { OnOk result (GivesNew self.old self.new) }

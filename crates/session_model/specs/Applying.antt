@@ -1,6 +1,6 @@
 -- What an edit does to a session.
 use Rattle.std.specs.Prelude.{◌≡◌, ◌≢◌, ℕ, ◌+◌, ◌-◌, ◌^◌, min, true, false, Result, Ok, Err}
-use Rattle.tree_edits.specs.Edits.{after}
+use Rattle.tree_edits.specs.Tests.{edited}
 use Rattle.tree_edits.specs.declared.edit.Edit.{Edit}
 use Rattle.tree_edits.specs.declared.edit.EditError.TheVariants as edit_errors
 use Rattle.session_model.specs.State.{State}
@@ -15,8 +15,8 @@ next_revision revision = min (revision + 1) (2 ^ 64 - 1)
 -- session was closed, and nothing has changed; or memory was wanting, and the session is closed
 abbrev pub Applies : State → Edit → Result (Unit {0}) SessionError → State → Type 0
 Applies old edit (Ok done) new =
-    (old.closed ≡ false) × (after old.document edit ≡ Ok new.document) × (new.tables ≡ old.tables)
+    (old.closed ≡ false) × (edited old.document edit ≡ Ok new.document) × (new.tables ≡ old.tables)
     × (new.revision ≡ next_revision old.revision) × (new.closed ≡ false)
-Applies old edit (Err (errors.Refused e)) new = (old.closed ≡ false) × (after old.document edit ≡ Err e) × (e ≢ edit_errors.Memory) × (new ≡ old)
+Applies old edit (Err (errors.Refused e)) new = (old.closed ≡ false) × (edited old.document edit ≡ Err e) × (e ≢ edit_errors.Memory) × (new ≡ old)
 Applies old edit (Err errors.Memory) new = (old.closed ≡ false) × (new.closed ≡ true)
 Applies old edit (Err errors.Closed) new = (old.closed ≡ true) × (new ≡ old)

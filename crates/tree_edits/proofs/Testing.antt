@@ -10,6 +10,9 @@ use Rattle.tree_building.specs.Building.{block}
 use Rattle.tree_edits.specs.Blocks.{Placed, tags_in, judged, early, late, has_bad_name, has_unbound, uses_reserved, has_too_many, has_double}
 use Rattle.tree_edits.specs.Edits.{Found, found, has, width, scope_in, put_into, put_at, put_within, insert_within, unless, then_unless, reword, reword_at, remove, after, too_many_more, is_root}
 use Rattle.tree_edits.specs.Tests.{Test, first_refusal, is_missing, is_text, is_element, width_of, depth_of, put_tests, name_tests, size_tests, attribute_tests, with_nodes, made, unless_refused, tests_of, edited}
+use Rattle.tree_rows.specs.Whole.{IsTree}
+use Rattle.tree_edits.specs.Keeping.{KeepsTree}
+use Rattle.tree_edits.proofs.Keeping.{edit_keeps}
 use Rattle.tree_edits.specs.declared.edit.Edit.{Edit}
 use Rattle.tree_edits.specs.declared.edit.Edit.TheVariants as edits
 use Rattle.tree_edits.specs.declared.edit.EditError.{EditError}
@@ -139,3 +142,7 @@ edit_tested d (edits.Insert parent place its) = sym (insert_tested d parent plac
 edit_tested d (edits.AddText parent place chars) = sym (text_tested d parent place chars)
 edit_tested d (edits.SetText key chars) = sym (reword_tested d key chars (found key 1 d.forest))
 edit_tested d (edits.Remove key) = sym (remove_tested d key (found key 1 d.forest) (found_there key 1 d.forest))
+
+-- an edit that is made keeps a tree
+pub edited_keeps : (d : Document) (edit : Edit) (e : Document) → IsTree d → edited d edit ≡ Ok e → KeepsTree d e
+edited_keeps d edit e tree end = edit_keeps d edit e tree (edit_tested d edit ∙ end)

@@ -161,7 +161,7 @@ remove d key None = Err UnknownNode
 remove d key (Some it) =
     if is_root key d.forest then Err RootFixed else Ok (record d { forest = replaced key (λ node. none) d.forest })
 
--- the document after an edit, or the least refusal by its number
+-- the document after an edit, or the least refusal by its number, step by step: the same as what the edit's tests say
 abbrev pub after : Document → Edit → Result Document EditError
 after d (edits.Insert parent place its) =
     put d.forest parent place (insert_within d parent place (scope_in parent first_scope d.forest) its)

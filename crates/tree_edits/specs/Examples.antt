@@ -4,7 +4,7 @@ use Rattle.std.proofs.Common.{refl}
 use Rattle.std.specs.Str.{chars}
 use Rattle.item_listing.specs.declared.item.Item.TheVariants as items
 use Rattle.tree_rows.specs.Forest.{Forest, Document, none, text, element}
-use Rattle.tree_edits.specs.Edits.{after}
+use Rattle.tree_edits.specs.Tests.{edited}
 use Rattle.tree_edits.specs.declared.edit.Edit.TheVariants as edits
 use Rattle.tree_edits.specs.declared.edit.EditError.TheVariants.{RootFixed, BadIndex, NotText, UnknownNode, UnboundPrefix}
 
@@ -18,27 +18,27 @@ with_text more = record {
 }
 
 -- a new element gets the next free number, and its prefix is looked up in the scope of its parent
-inserted : after (with_text none) (edits.Insert 1 1 (items.Start (codes "p:a") ∷ items.Close (codes "p:a") ∷ []))
+inserted : edited (with_text none) (edits.Insert 1 1 (items.Start (codes "p:a") ∷ items.Close (codes "p:a") ∷ []))
     ≡ Ok (record (with_text (element 4 (record { namespace = Some (codes "u"); local = codes "a" }) [] [] none none)) { next_free = 5 })
 unfolding chars
 inserted = refl
 
-unbound : after (with_text none) (edits.Insert 1 1 (items.Start (codes "q:a") ∷ items.Close (codes "q:a") ∷ [])) ≡ Err UnboundPrefix
+unbound : edited (with_text none) (edits.Insert 1 1 (items.Start (codes "q:a") ∷ items.Close (codes "q:a") ∷ [])) ≡ Err UnboundPrefix
 unfolding chars
 unbound = refl
 
-past_the_end : after (with_text none) (edits.AddText 1 2 (codes "y")) ≡ Err BadIndex
+past_the_end : edited (with_text none) (edits.AddText 1 2 (codes "y")) ≡ Err BadIndex
 unfolding chars
 past_the_end = refl
 
-no_text : after (with_text none) (edits.SetText 1 (codes "y")) ≡ Err NotText
+no_text : edited (with_text none) (edits.SetText 1 (codes "y")) ≡ Err NotText
 unfolding chars
 no_text = refl
 
-fixed_root : after (with_text none) (edits.Remove 1) ≡ Err RootFixed
+fixed_root : edited (with_text none) (edits.Remove 1) ≡ Err RootFixed
 unfolding chars
 fixed_root = refl
 
-taken_away : after (with_text none) (edits.Remove 3) ≡ Err UnknownNode
+taken_away : edited (with_text none) (edits.Remove 3) ≡ Err UnknownNode
 unfolding chars
 taken_away = refl

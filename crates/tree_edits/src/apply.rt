@@ -5,6 +5,7 @@ ghost use Rattle.tree_rows.specs.Rows.{siblings};
 ghost use Rattle.tree_building.specs.Blocks.{one_element};
 ghost use Rattle.tree_rows.specs.Forest.{none, text as text_node};
 ghost use Rattle.tree_edits.specs.Edits.{after, put, put_within, insert_within, reword, found, can_be_made};
+ghost use Rattle.tree_edits.specs.Tests.{edited};
 ghost use Rattle.tree_building.specs.Shape.{AreSound, AreWhole, AreUnder, deepest_row};
 ghost use Rattle.tree_edits.specs.Refusals.{IsWhy};
 ghost use Rattle.tree_edits.specs.Spots.{tree_of, inserting, IsSpot, Puts, Inserts, IsText, Fits, HasRoom, HasNoRoom, Rewords, Removes, CannotRemove};
@@ -197,8 +198,8 @@ fn remove_node(rows: &mut Vec<Row>, node: u32) -> Result<(), EditError>
     Ok(())
 }
 
-/// Makes an edit on the rows of a tree, and answers the next free number.
-pub fn edit_rows(
+/// Makes an edit on the rows of a tree step by step, and answers the next free number.
+fn change_rows(
     alloc: Global,
     rows: &mut Vec<Row>,
     next_free: u32,
@@ -231,4 +232,26 @@ pub fn edit_rows(
             Ok(next_free)
         }
     }
+}
+
+/// Makes an edit on the rows of a tree, and answers the next free number.
+///
+/// # Errors
+///
+/// The refusal of the first of the edit's tests that stands, or `EditError::Memory`, which is want of memory. The rows are
+/// then as before.
+pub fn edit_rows(
+    alloc: Global,
+    rows: &mut Vec<Row>,
+    next_free: u32,
+    edit: &Edit,
+) -> Result<u32, EditError>
+    requires sound { AreSound rows.old.items }
+    requires block { can_be_made edit.now ≡ true }
+    ensures ok { IfOk result (λ free. edited (tree_of rows.old.items next_free) edit.now ≡ Ok (tree_of rows.new.items free)) }
+    ensures sound { OnOk result (AreSound rows.new.items) }
+    ensures err { IfErr result (IsWhy (edited (tree_of rows.old.items next_free) edit.now)) }
+    ensures kept { OnErr result (rows.new.items ≡ rows.old.items) }
+{
+    change_rows(alloc, rows, next_free, edit)
 }

@@ -12,7 +12,7 @@ mod size;
 
 pub use apply::edit_rows;
 pub use edit::{Edit, EditError};
-pub use laws::{edits_are_tested, edits_keep_trees};
+pub use laws::edits_keep_trees;
 pub use names::{BlockNames, JudgedBlock, judge_block};
 pub use places::{below_count, place_of};
 pub use scope::scope_of_node;

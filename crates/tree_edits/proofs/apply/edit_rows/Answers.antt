@@ -1,12 +1,9 @@
-use Rattle.tree_edits.proofs.Outcomes.{err_same}
+use Rattle.tree_edits.proofs.Testing.{edit_tested}
+use Rattle.tree_edits.specs.Spots.{tree_of}
 use Rattle.tree_edits.proofs.apply.edit_rows.Goals as goal
 
-pub returns-in_err-set_text-in-SetText-clause-err : goal.returns-in_err-set_text-in-SetText-clause-err
-returns-in_err-set_text-in-SetText-clause-err c =
-    err_same c.from_residual.result c.in_err-set_text-in-SetText.field-0.0 _ c.from_residual.ensures.1
-    (rw c.in-SetText.is (c.in_err-set_text-in-SetText.ensures.err c.args.next_free))
+pub returns-clause-ok : goal.returns-clause-ok
+returns-clause-ok c = rw (← edit_tested (tree_of c.args.rows.now.items c.args.next_free) c.args.edit.now) c.change_rows.ensures.ok
 
-pub returns-in_err-remove_node-in-Remove-clause-err : goal.returns-in_err-remove_node-in-Remove-clause-err
-returns-in_err-remove_node-in-Remove-clause-err c =
-    err_same c.from_residual-in_err-remove_node-in-Remove.result c.in_err-remove_node-in-Remove.field-0.0 _ c.from_residual-in_err-remove_node-in-Remove.ensures.1
-    (rw c.in-Remove.is (c.in_err-remove_node-in-Remove.ensures.err c.args.next_free))
+pub returns-clause-err : goal.returns-clause-err
+returns-clause-err c = rw (← edit_tested (tree_of c.args.rows.now.items c.args.next_free) c.args.edit.now) c.change_rows.ensures.err
