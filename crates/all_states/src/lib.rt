@@ -1,0 +1,10 @@
+//! The words of an `all` by the members that were seen.
+#![tactic(auto)]
+
+mod machine;
+mod member;
+mod state;
+
+pub use machine::{AllMachine, MOST_MEMBERS};
+pub use member::AllMember;
+pub use state::AllState;
