@@ -1,5 +1,5 @@
 -- Content models that are an all (Structures 3.8.2), and the members of an all.
-use Rattle.std.specs.Prelude.{◌≡◌, ℕ, ◌<◌, ◌≤◌, ◌↔◌, ◌==◌, Bool, IsTrue, List, [], ◌∷◌, Option, Some, All, length, slice_index_or}
+use Rattle.std.specs.Prelude.{◌≡◌, ℕ, ◌<◌, ◌≤◌, ◌↔◌, ◌==◌, Bool, false, IsTrue, List, [], ◌∷◌, Option, Some, All, length, slice_index_or}
 use Rattle.std.specs.List.{list_any}
 use Rattle.particle_models.specs.Particles.{Particle, Particles, term, all_of, occurs, none, member}
 use Rattle.all_states.specs.declared.member.AllMember.{AllMember}
@@ -30,9 +30,9 @@ pub record IsAllOf (members : List AllMember) (optional : Bool) (model : Particl
 abbrev pub IsOnce : AllMember → Type 0
 IsOnce m = (m.least ≤ 1) × (m.most ≡ Some 1)
 
--- the members that have to come accept some name
-abbrev pub HasWords : (ℕ → Bool) → List AllMember → Type 0
-HasWords inhabited members = All (λ (m : AllMember). 0 < m.least → IsTrue (inhabited m.term)) members
+-- the members that have to come accept some name, as is told of each
+abbrev pub HaveNames : List Bool → List AllMember → Type 0
+HaveNames inhabited members = (i : ℕ) (m : AllMember) → i < length members → 0 < (slice_index_or members i m).least → IsTrue (slice_index_or inhabited i false)
 
 -- A name has the number of the member that accepts it; a name that no member accepts has a number past the last.
 abbrev pub AreLetters : {Name : Type 0} → (ℕ → Name → Bool) → List AllMember → (Name → ℕ) → Type 0

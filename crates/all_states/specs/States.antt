@@ -3,14 +3,14 @@ use Rattle.std.specs.Prelude.{◌≡◌, ◌≢◌, ℕ, ◌+◌, ◌^◌, ◌<�
 use Rattle.std.specs.Int.{bit_at}
 use Rattle.particle_models.specs.Particles.{Particle}
 use Rattle.particle_models.specs.Words.{IsWordOfNames, BeginsWord}
-use Rattle.all_states.specs.Shape.{HasWords, no_member}
+use Rattle.all_states.specs.Shape.{HaveNames, no_member}
 use Rattle.all_states.specs.declared.member.AllMember.{AllMember}
 use Rattle.all_states.specs.declared.state.AllState.{AllState}
 use Rattle.all_states.specs.declared.machine.AllMachine.{AllMachine}
 
 -- a member of this number was not seen yet
 abbrev pub is_new : AllState → ℕ → Bool
-is_new s letter = nat_lt letter 64 && (bit_at s.seen letter == 0)
+is_new s letter = nat_lt letter 64 && not (bit_at s.seen letter == 1)
 
 -- the state after a child of the member of this number, or of none; a member that was seen already ends every word
 abbrev pub next_of : AllState → ℕ → AllState
@@ -34,10 +34,10 @@ abbrev pub state_of : AllMachine → List ℕ → AllState
 state_of m letters = run (start_of m) letters
 
 -- what is known of an all of these members
-pub record IsMachineOf (inhabited : ℕ → Bool) (members : List AllMember) (optional : Bool) (m : AllMachine) : Type 0 where
+pub record IsMachineOf (inhabited : List Bool) (members : List AllMember) (optional : Bool) (m : AllMachine) : Type 0 where
   pub required : (i : ℕ) → (bit_at m.required i ≡ 1) ↔ ((i < length members) × (0 < (slice_index_or members i no_member).least))
   pub optional_is : m.optional ≡ optional
-  pub has_words : IsTrue m.has_words ↔ HasWords inhabited members
+  pub has_words : IsTrue m.has_words ↔ HaveNames inhabited members
 
 -- After names the state is not dead exactly where they begin a word of the model, and accepting exactly where they are one.
 pub record Recognizes {Name : Type 0} (accepts : ℕ → Name → Bool) (model : Particle) (letter : Name → ℕ) (m : AllMachine) : Type 0 where

@@ -1,8 +1,7 @@
 //! The states of an `all`.
 
-ghost use Rattle.std.specs.Prelude.{◌≡◌, ◌≤◌, ℕ, Bool, map, length};
+ghost use Rattle.std.specs.Prelude.{◌≡◌, ◌≤◌, length};
 ghost use Rattle.all_states.specs.States.{start_of, accepts_at, IsMachineOf};
-ghost use Rattle.all_states.specs.declared.member.AllMember.{AllMember as AllMemberData};
 
 use crate::member::AllMember;
 use crate::state::{AllState, with_bit};
@@ -20,19 +19,18 @@ pub struct AllMachine {
 }
 
 impl AllMachine {
-    /// What the words of an `all` of these members need; `inhabited` says of the particle of each number whether it accepts
-    /// some name.
+    /// What the words of an `all` of these members need; `inhabited` says of each member whether it accepts some name.
     pub fn of(members: &[AllMember], optional: bool, inhabited: &[bool]) -> AllMachine
         requires few { length members.now ≤ 64 }
         requires each { length inhabited.now ≡ length members.now }
-        ensures { (flags : ℕ → Bool) → map (λ (m : AllMemberData). flags m.term) members.now ≡ inhabited.now → IsMachineOf flags members.now optional result }
+        ensures { IsMachineOf inhabited.now members.now optional result }
     {
         let mut required = 0;
         let mut has_words = true;
         for (place, member) in members.iter().enumerate() {
             if member.least > 0 {
                 required = with_bit(required, place as u32);
-                has_words = has_words && inhabited[place];
+                has_words &= inhabited[place];
             }
         }
         AllMachine {
