@@ -1,12 +1,12 @@
 -- Content models that are an all (Structures 3.8.2), and the members of an all.
-use Rattle.std.specs.Prelude.{◌≡◌, ℕ, ◌<◌, ◌≤◌, ◌↔◌, ◌==◌, Bool, false, IsTrue, List, [], ◌∷◌, Option, Some, All, length, slice_index_or}
+use Rattle.std.specs.Prelude.{◌≡◌, ℕ, ◌<◌, ◌≤◌, ◌↔◌, ◌==◌, Bool, false, IsTrue, List, [], ◌∷◌, Option, None, Some, All, length, slice_index_or}
 use Rattle.std.specs.List.{list_any}
 use Rattle.particle_models.specs.Particles.{Particle, Particles, term, all_of, occurs, none, member}
 use Rattle.all_states.specs.declared.member.AllMember.{AllMember}
 
 -- what stands in the place of no member
 abbrev pub no_member : AllMember
-no_member = record { term = 0; least = 0; most = Some 0 }
+no_member = record { term = 0; least = 0; most = None }
 
 -- the particles of the members, in order
 abbrev pub particles_of : List AllMember → Particles
@@ -38,3 +38,8 @@ HaveNames inhabited members = (i : ℕ) (m : AllMember) → i < length members �
 abbrev pub AreLetters : {Name : Type 0} → (ℕ → Name → Bool) → List AllMember → (Name → ℕ) → Type 0
 AreLetters {Name} accepts members letter =
     (i : ℕ) (m : AllMember) → i < length members → (name : Name) → IsTrue (accepts (slice_index_or members i m).term name) ↔ (letter name ≡ i)
+
+-- each member that has to come accepts some name
+abbrev pub HasNames : {Name : Type 0} → (ℕ → Name → Bool) → List AllMember → Type 0
+HasNames {Name} accepts members =
+    (i : ℕ) → i < length members → 0 < (slice_index_or members i no_member).least → (name : Name) × IsTrue (accepts (slice_index_or members i no_member).term name)
