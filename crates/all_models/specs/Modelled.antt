@@ -1,10 +1,11 @@
 -- What an automaton of an all says of names.
-use Rattle.std.specs.Prelude.{◌≡◌, ℕ, ◌≤◌, ◌<◌, Bool, List, [], ◌∷◌, ◌++◌, true, false, Option, Some, All, map, length, slice_get, slice_index, slice_index_or, MatchOption, if◌then◌else◌, IsTrue}
+use Rattle.std.specs.Prelude.{◌≡◌, ℕ, ◌≤◌, ◌<◌, Bool, List, [], ◌∷◌, ◌++◌, true, false, Option, Some, None, All, map, length, slice_get, slice_index, slice_index_or, MatchOption, if◌then◌else◌, IsTrue}
 use Rattle.xs_names.specs.Names.{NameTable}
 use Rattle.particle_models.specs.Particles.{Particle, Place}
 use Rattle.particle_models.specs.Words.{BeginsWord, EndsIn}
 use Rattle.model_symbols.specs.declared.terms.Accepts.{Accepts}
 use Rattle.model_symbols.specs.declared.attribution.Attribution.{Attribution}
+use Rattle.model_symbols.specs.declared.attribution.Attribution.TheVariants.{Nothing, OneClass, Ambivalent}
 use Rattle.model_symbols.specs.Terms.{ExpandedName}
 use Rattle.model_symbols.specs.Symbols.{SymbolTable, symbol_of}
 use Rattle.model_symbols.specs.Attribution.{IsStranger, IsFirstTerm}
@@ -13,8 +14,8 @@ use Rattle.all_states.specs.declared.machine.AllMachine.{AllMachine}
 use Rattle.all_states.specs.declared.member.AllMember.{AllMember}
 use Rattle.all_states.specs.Shape.{IsAllOf, IsOnce, no_member}
 use Rattle.all_states.specs.States.{Recognizes}
-use Rattle.content_automaton.specs.Recognized.{IsUnambiguous}
-use Rattle.content_automaton.specs.Modelled.{AcceptAs, IsAmbiguousBy}
+use Rattle.all_models.specs.Temp.{IsUnambiguous}
+use Rattle.all_models.specs.Temp.{AcceptAs, IsAmbiguousBy}
 
 -- what the words need, the symbols, the member for the names of each symbol, the particles of the members, what is attributed to
 -- the names of each symbol, and two members that accept one name
@@ -29,6 +30,10 @@ pub record AllModel : Type 0 where
 -- the member for the names of a symbol; 64 where there is none, or no word has any name
 abbrev pub letter_of : AllModel → ℕ → ℕ
 letter_of a symbol = if a.machine.has_words then slice_index_or a.letters symbol 64 else 64
+
+-- two members that accept one name, where words have names
+abbrev pub pair_of : AllModel → Option (ℕ × ℕ)
+pair_of a = if a.machine.has_words then a.pair else None
 
 -- What an automaton was built of: the members of a model that is an all, and what they accept. Each member comes at most once.
 pub record IsAllModel (t : NameTable) (terms : List Accepts) (members : List AllMember) (optional : Bool) (accepts : ℕ → ExpandedName → Bool) (model : Particle) : Type 0 where
@@ -57,9 +62,22 @@ terms_at terms pair = (slice_index terms pair.0, slice_index terms pair.1)
 pub record IsAllAutomatonOf (t : NameTable) (terms : List Accepts) (accepts : ℕ → ExpandedName → Bool) (members : List AllMember) (model : Particle) (a : AllModel) : Type 0 where
   pub recognizes : IsUnambiguous accepts model → Recognizes accepts model (λ name. letter_of a (symbol_of t a.symbols name)) a.machine
   pub given : IsUnambiguous accepts model → (name : ExpandedName) → IsMemberFor accepts model name (slice_get a.terms (letter_of a (symbol_of t a.symbols name)))
-  pub wordless : a.machine.has_words ≡ false → IsUnambiguous accepts model
-  pub pair : a.machine.has_words ≡ true → MatchOption a.pair (IsUnambiguous accepts model)
+  pub pair : MatchOption (pair_of a) (IsUnambiguous accepts model)
       (λ pair. (pair.0 < length a.terms) × (pair.1 < length a.terms) × IsAmbiguousBy accepts model (Some (terms_at a.terms pair)))
   pub terms_are : a.terms ≡ map (λ (m : AllMember). m.term) members
   pub count : length terms ≡ length members
   pub attributed : AreAttributed t a.symbols terms a.attributions
+
+-- ---- for proofs
+
+-- the first term that something is attributed to
+abbrev pub first_of : Attribution → Option ℕ
+first_of Nothing = None
+first_of (OneClass first class) = Some first
+first_of (Ambivalent first) = Some first
+
+-- the terms that it is attributed to are of different classes
+abbrev pub is_ambivalent : Attribution → Bool
+is_ambivalent Nothing = false
+is_ambivalent (OneClass first class) = false
+is_ambivalent (Ambivalent first) = true

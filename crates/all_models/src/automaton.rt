@@ -8,11 +8,11 @@ ghost use Rattle.model_symbols.specs.declared.terms.Accepts.{Accepts as AcceptsD
 ghost use Rattle.model_symbols.specs.Terms.{ExpandedName, name_at};
 ghost use Rattle.model_symbols.specs.Symbols.{IsNamed, AreNamesOf, AreSymbolsOf, count_of, symbol_of};
 ghost use Rattle.model_symbols.specs.Attribution.{IsAmbivalent};
-ghost use Rattle.content_automaton.specs.Recognized.{IsUnambiguous};
-ghost use Rattle.content_automaton.specs.Modelled.{IsAmbiguousBy};
+ghost use Rattle.all_models.specs.Temp.{IsUnambiguous};
+ghost use Rattle.all_models.specs.Temp.{IsAmbiguousBy};
 ghost use Rattle.all_states.specs.declared.member.AllMember.{AllMember as AllMemberData};
 ghost use Rattle.all_states.specs.States.{start_of, next_of, accepts_at};
-ghost use Rattle.all_models.specs.Modelled.{IsAllModel, IsAllAutomatonOf, IsMemberFor, IsFirstMember, letter_of};
+ghost use Rattle.all_models.specs.Modelled.{IsAllModel, IsAllAutomatonOf, IsMemberFor, IsFirstMember, letter_of, pair_of, first_of, is_ambivalent};
 
 use crate::letters::{STRANGER, find_inhabited, find_letters};
 use all_states::{AllMachine, AllMember, AllState};
@@ -153,10 +153,13 @@ impl AllAutomaton {
         ensures { (t : NameTable) (terms : List AcceptsData) (accepts : ℕ → ExpandedName → Bool) (members : List AllMemberData) (model : Particle) → IsAllAutomatonOf t terms accepts members model self.now →
             (name : ExpandedName) → symbol ≡ symbol_of t self.now.symbols name → IsFirstMember t terms members name result }
     {
-        match self.attribution(symbol as usize)? {
-            Attribution::Nothing => None,
-            Attribution::OneClass(first, _) | Attribution::Ambivalent(first) => self.nth_term(first),
-        }
+        let Some(attribution) = self.attribution(symbol as usize) else {
+            return None;
+        };
+        let Some(number) = first_of(&attribution) else {
+            return None;
+        };
+        self.nth_term(number)
     }
 
     /// Whether the names with the symbol are ambivalent: members of different classes accept them (Structures 3.4.4).
@@ -164,10 +167,10 @@ impl AllAutomaton {
         ensures { (t : NameTable) (terms : List AcceptsData) (accepts : ℕ → ExpandedName → Bool) (members : List AllMemberData) (model : Particle) → IsAllAutomatonOf t terms accepts members model self.now →
             (name : ExpandedName) → symbol ≡ symbol_of t self.now.symbols name → IsTrue result ↔ IsAmbivalent t terms name }
     {
-        matches!(
-            self.attribution(symbol as usize),
-            Some(Attribution::Ambivalent(_))
-        )
+        match self.attribution(symbol as usize) {
+            Some(attribution) => is_ambivalent(&attribution),
+            None => false,
+        }
     }
 
     /// Two members at different places in which prefixes with the same names end (Structures 3.8.6): two that accept one name.
@@ -175,14 +178,27 @@ impl AllAutomaton {
     pub fn ambiguous(&self) -> Option<(TermId, TermId)>
         ensures { (t : NameTable) (terms : List AcceptsData) (accepts : ℕ → ExpandedName → Bool) (members : List AllMemberData) (model : Particle) → IsAllAutomatonOf t terms accepts members model self.now → IsAmbiguousBy accepts model result }
     {
-        if !self.machine.has_words() {
+        let Some(pair) = self.met_members() else {
             return None;
+        };
+        let Some(one) = self.nth_term(pair.0 as usize) else {
+            return None;
+        };
+        let Some(other) = self.nth_term(pair.1 as usize) else {
+            return None;
+        };
+        Some((one, other))
+    }
+
+    /// Two members that accept one name, where words have names.
+    fn met_members(&self) -> Option<(u16, u16)>
+        ensures { result ≡ pair_of self.now }
+    {
+        if self.machine.has_words() {
+            self.pair
+        } else {
+            None
         }
-        let (one, other) = self.pair?;
-        Some((
-            self.nth_term(one as usize)?,
-            self.nth_term(other as usize)?,
-        ))
     }
 
     /// The particle of the member of a number.
@@ -197,5 +213,25 @@ impl AllAutomaton {
         ensures { result ≡ slice_get self.now.attributions symbol }
     {
         self.attributions.get(symbol).copied()
+    }
+}
+
+/// The first term.
+fn first_of(attribution: &Attribution) -> Option<usize>
+    ensures { result ≡ first_of attribution.now }
+{
+    match attribution {
+        Attribution::Nothing => None,
+        Attribution::OneClass(first, _) | Attribution::Ambivalent(first) => Some(*first),
+    }
+}
+
+/// Whether terms of different classes accept it.
+fn is_ambivalent(attribution: &Attribution) -> bool
+    ensures { result ≡ is_ambivalent attribution.now }
+{
+    match attribution {
+        Attribution::Nothing | Attribution::OneClass(_, _) => false,
+        Attribution::Ambivalent(_) => true,
     }
 }

@@ -1,7 +1,7 @@
 //! Which member accepts the names with a symbol.
 
 ghost use Rattle.std.specs.Prelude.{◌≢◌, ◌≡◌, ℕ, ◌<◌, ◌≤◌, map, length, slice_index_or, All, IfOk};
-ghost use Rattle.all_models.specs.Letters.{AreLettersOf, AreNoted, is_filled};
+ghost use Rattle.all_models.specs.Letters.{AreLettersOf, AreNoted, IsNoted, is_filled};
 
 use std::alloc::{AllocError, Global};
 use xs_lists::Listed;
@@ -29,10 +29,7 @@ pub(crate) fn find_letters(
     let mut letters = vec![in alloc; STRANGER; symbols as usize]?;
     let mut pair = None;
     for (member, row) in accepted.iter().enumerate() {
-        let found = note(&mut letters, member as u16, row.as_slice());
-        if pair.is_none() {
-            pair = found;
-        }
+        pair = pair.or(note(&mut letters, member as u16, row.as_slice()));
     }
     Ok(Letters { letters, pair })
 }
@@ -46,14 +43,26 @@ fn note(letters: &mut Vec<u16>, member: u16, row: &[u32]) -> Option<(u16, u16)>
 {
     let mut pair = None;
     for symbol in row {
-        let place = *symbol as usize;
-        if letters[place] == STRANGER {
-            letters[place] = member;
-        } else if letters[place] != member {
-            pair = Some((letters[place], member));
-        }
+        pair = note_one(letters, member, *symbol as usize).or(pair);
     }
     pair
+}
+
+/// Notes that the next member accepts a symbol, unless an earlier one does; and answers that one.
+fn note_one(letters: &mut Vec<u16>, member: u16, symbol: usize) -> Option<(u16, u16)>
+    requires member { member < 64 }
+    requires below { symbol < length letters.old.items }
+    ensures { IsNoted letters.old.items member symbol letters.new.items result }
+{
+    let letter = letters[symbol];
+    if letter == STRANGER {
+        letters[symbol] = member;
+        return None;
+    }
+    if letter == member {
+        return None;
+    }
+    Some((letter, member))
 }
 
 /// For each member whether it accepts some name.
