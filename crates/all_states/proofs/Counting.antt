@@ -4,7 +4,7 @@ use Rattle.std.specs.List.{All}
 use Rattle.std.proofs.lemmas.Bool.{cases_eq}
 use Rattle.std.proofs.lemmas.List.Elements.{All-nil, All-cons, All-head, All-tail}
 use Rattle.xs_positions.specs.Words.{Allows}
-use Rattle.particle_models.specs.Particles.{Particle, term, occurs, Place, Mark}
+use Rattle.particle_models.specs.Particles.{term, occurs, Place, Mark}
 use Rattle.particle_models.specs.Words.{Words, WordsOfEach, Times, Interleaves}
 use Rattle.all_states.specs.Shape.{no_member, particles_of}
 use Rattle.all_states.specs.declared.member.AllMember.{AllMember}

@@ -1,5 +1,5 @@
 -- Marks that are of members, each at most once, begin a word.
-use Rattle.std.proofs.Common.{◌≡◌, ◌≢◌, ℕ, zero, suc, ◌+◌, ◌-◌, ◌<◌, ◌≤◌, Bool, IsTrue, List, [], ◌∷◌, ◌++◌, Option, Some, length, get_or, refl, sym, ap, subst, ◌∙◌, inl, inr, arith, append-nil, append_assoc}
+use Rattle.std.proofs.Common.{◌≡◌, ℕ, zero, suc, ◌+◌, ◌-◌, ◌<◌, ◌≤◌, Bool, IsTrue, List, [], ◌∷◌, ◌++◌, Option, Some, length, get_or, refl, sym, ap, subst, ◌∙◌, inl, inr, arith, append-nil, append_assoc}
 use Rattle.std.specs.List.{All}
 use Rattle.std.proofs.lemmas.Bool.{cases_eq, cases_lt}
 use Rattle.std.proofs.lemmas.List.Elements.{All-nil, All-cons, All-head, All-tail, All-append}
@@ -8,7 +8,7 @@ use Rattle.particle_models.specs.Particles.{Mark}
 use Rattle.particle_models.specs.Words.{WordsOfEach}
 use Rattle.all_states.specs.Shape.{no_member, particles_of, IsOnce}
 use Rattle.all_states.specs.declared.member.AllMember.{AllMember}
-use Rattle.all_states.proofs.Counting.{place_at, index, count_of, count_same, count_other, count_append, IsOf, Fits, Counts, all_counts, counts_all}
+use Rattle.all_states.proofs.Counting.{place_at, index, count_of, count_same, count_other, count_append, Fits, all_counts, counts_all}
 
 module _ {Name : Type 0} (accepts : ℕ → Name → Bool) (members : List AllMember) where
   abbrev pub at : ℕ → AllMember
@@ -107,11 +107,13 @@ module _ {Name : Type 0} (accepts : ℕ → Name → Bool) (members : List AllMe
     -- such marks begin a word
     pub begins : (front : List (Mark Name)) → Fit front → NoneTwice front → (rest : List (Mark Name)) × WordsOfEach accepts (particles_of members) [] 0 (front ++ rest)
     begins front fit twice =
-        let f = fill front fit twice (length members) (omega arith) in
-        (f.rest, counts_all accepts members 0 (front ++ f.rest) f.fit (λ j l.
-            let z : 0 + j ≡ j = omega arith in
-            subst (λ (k : ℕ). Allows (at j).least (at j).most (count_of k (front ++ f.rest))) (sym z)
-            (once_allows (at j) (count_of j (front ++ f.rest)) (once j no_member l) (f.filled j l) (f.none_twice j l))))
+        let f = fill front fit twice (length members) (omega arith) in (
+          f.rest,
+          counts_all accepts members 0 (front ++ f.rest) f.fit (λ j l.
+              let z : 0 + j ≡ j = omega arith in
+              subst (λ (k : ℕ). Allows (at j).least (at j).most (count_of k (front ++ f.rest))) (sym z)
+              (once_allows (at j) (count_of j (front ++ f.rest)) (once j no_member l) (f.filled j l) (f.none_twice j l))),
+        )
 
   -- a mark of a member that has come
   some_mark : (j : ℕ) (word : List (Mark Name)) → Fit word → 0 < count_of j word → (x : Mark Name) × (index x ≡ j) × Fits accepts 0 members x

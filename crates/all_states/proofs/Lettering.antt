@@ -1,5 +1,5 @@
 -- The words of an all by the members that accept their names, where at most one accepts a name.
-use Rattle.std.proofs.Common.{◌≡◌, ◌≢◌, ℕ, zero, suc, ◌+◌, ◌-◌, ◌<◌, ◌≤◌, ◌==◌, ◌↔◌, Bool, true, false, IsTrue, List, [], ◌∷◌, ◌++◌, Option, Some, map, length, get_or, refl, sym, ap, subst, ◌∙◌, inl, inr, arith, if◌then◌else◌, eq-eqb, eqb-true}
+use Rattle.std.proofs.Common.{◌≡◌, ◌≢◌, ℕ, suc, ◌+◌, ◌-◌, ◌<◌, ◌≤◌, ◌==◌, Bool, true, false, IsTrue, List, [], ◌∷◌, ◌++◌, map, length, get_or, refl, sym, ap, subst, ◌∙◌, inl, inr, arith, if◌then◌else◌, eq-eqb, eqb-true}
 use Rattle.std.specs.List.{All}
 use Rattle.std.proofs.lemmas.Bool.{cases_eq}
 use Rattle.std.proofs.lemmas.List.Elements.{All-nil, All-cons, All-head, All-tail}
@@ -9,7 +9,7 @@ use Rattle.particle_models.specs.Words.{WordsOfEach, names_of}
 use Rattle.all_states.specs.Shape.{no_member, particles_of, IsOnce, AreLetters}
 use Rattle.all_states.specs.declared.member.AllMember.{AllMember}
 use Rattle.all_states.proofs.Counting.{index, count_of, count_append, Fits, all_counts, counts_all}
-use Rattle.all_states.proofs.Filling.{at, Fit, NoneTwice, mark_at, fits_at, front_all, word_fits, begins}
+use Rattle.all_states.proofs.Filling.{Fit, mark_at, fits_at, front_all, word_fits, begins}
 
 -- how many of the letters are this one
 abbrev pub count_in : ℕ → List ℕ → ℕ

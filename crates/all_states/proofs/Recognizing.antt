@@ -1,23 +1,22 @@
 -- The states of an all recognize its words.
-use Rattle.std.proofs.Common.{◌≡◌, ◌≢◌, ℕ, zero, suc, ◌+◌, ◌<◌, ◌≤◌, ◌==◌, ◌&&◌, ◌||◌, ◌⊎◌, ◌↔◌, not, Bool, true, false, IsTrue, List, [], ◌∷◌, ◌++◌, Option, Some, map, length, get_or, refl, sym, ap, subst, ◌∙◌, inl, inr, arith, append-nil, eqb-true, eq-eqb, if◌then◌else◌}
-use Rattle.std.specs.Prelude.{nat_lt, bit_and, min}
-use Rattle.std.specs.List.{All, list_any}
+use Rattle.std.proofs.Common.{◌≡◌, ◌≢◌, ℕ, zero, suc, ◌<◌, ◌≤◌, ◌==◌, ◌&&◌, ◌||◌, ◌⊎◌, ◌↔◌, not, Bool, true, false, IsTrue, List, [], ◌∷◌, ◌++◌, Option, map, length, get_or, refl, sym, ap, subst, ◌∙◌, inl, inr, arith, eqb-true, eq-eqb}
+use Rattle.std.specs.Prelude.{nat_lt, bit_and}
+use Rattle.std.specs.List.{All}
 use Rattle.std.specs.Int.{bit_at}
 use Rattle.std.proofs.lemmas.Bool.{cases_eq, false≢true}
 use Rattle.std.proofs.lemmas.Bool.Decides.{nat_tests}
 use Rattle.std.proofs.lemmas.Nat.Bits.{bit_at_and, bit_at-zero, bit_at-lt, same_from_bits}
-use Rattle.std.proofs.lemmas.List.Elements.{All-nil, All-cons, All-head, All-tail}
+use Rattle.std.proofs.lemmas.List.Elements.{All-nil, All-cons, All-head}
 use Rattle.xs_positions.specs.Words.{Allows}
 use Rattle.particle_models.specs.Particles.{Particle, Mark}
 use Rattle.particle_models.specs.Words.{Words, WordsOfEach, IsWordOfNames, BeginsWord, names_of}
-use Rattle.all_states.specs.Shape.{no_member, particles_of, all_within, IsAllOf, IsOnce, HaveNames, AreLetters}
-use Rattle.all_states.specs.States.{is_new, next_of, start_of, accepts_at, run, state_of, IsMachineOf, Recognizes}
+use Rattle.all_states.specs.Shape.{no_member, particles_of, IsAllOf, IsOnce, AreLetters}
+use Rattle.all_states.specs.States.{is_new, next_of, start_of, accepts_at, state_of, IsMachineOf, Recognizes}
 use Rattle.all_states.specs.declared.member.AllMember.{AllMember}
 use Rattle.all_states.specs.declared.state.AllState.{AllState}
 use Rattle.all_states.specs.declared.machine.AllMachine.{AllMachine}
-use Rattle.all_states.proofs.Filling.{word_has}
-use Rattle.all_states.proofs.Around.{may_miss, within_words, words_within}
-use Rattle.all_states.proofs.Lettering.{count_in, in_same, AreIn, IsGood, IsFull, IsEach, BeginsEach, each_full, full_each, begins_good, good_begins}
+use Rattle.all_states.proofs.Around.{within_words, words_within}
+use Rattle.all_states.proofs.Lettering.{count_in, in_same, IsGood, IsFull, each_full, full_each, begins_good, good_begins}
 use Rattle.all_states.proofs.Running.{Stands, AreKnown, run_stands, start_stands, dead_stays}
 
 no_names : {Name : Type 0} (word : List (Mark Name)) → names_of word ≡ [] → word ≡ []
@@ -115,7 +114,6 @@ dead_not false e = refl
 
 module _ {Name : Type 0} (accepts : ℕ → Name → Bool) (members : List AllMember) (optional : Bool) (model : Particle) (is : IsAllOf members optional model)
     (once : All IsOnce members) (few : length members ≤ 64) (inhabited : List Bool) (m : AllMachine) (of : IsMachineOf inhabited members optional m) (letter : Name → ℕ) where
-
   -- ---- where each member that has to come accepts a name
   module _ (lives : m.has_words ≡ true) (are : AreLetters accepts members letter) (known : (name : Name) → (letter name < length members) ⊎ (64 ≤ letter name))
       (has : (j : ℕ) → j < length members → 0 < (get_or members j no_member).least → (name : Name) × IsTrue (accepts (get_or members j no_member).term name)) where
@@ -168,9 +166,11 @@ module _ {Name : Type 0} (accepts : ℕ → Name → Bool) (members : List AllMe
     -- all that is required was seen exactly where the names are those of a word of the all
     full_then : (names : List Name) (e : (state_of m (map letter names)).dead ≡ false) → bit_and (state_of m (map letter names)).seen m.required ≡ m.required → IsFull members (map letter names)
     full_then names e r =
-        let g = (stands names).alive e in
-        (g.0, (λ j l. once_allows (get_or members j no_member) (count_in j (map letter names)) (once j no_member l)
-            (least_then j l (cases_lt0 (get_or members j no_member).least)) (g.1 j l)))
+        let g = (stands names).alive e in (
+          g.0,
+          (λ j l. once_allows (get_or members j no_member) (count_in j (map letter names)) (once j no_member l)
+              (least_then j l (cases_lt0 (get_or members j no_member).least)) (g.1 j l)),
+        )
       where
         cases_lt0 : (n : ℕ) → (n ≡ 0) ⊎ (0 < n)
         cases_lt0 zero = inl refl
@@ -203,12 +203,12 @@ module _ {Name : Type 0} (accepts : ℕ → Name → Bool) (members : List AllMe
                 (names_word accepts members optional model is names).1
                 (inl (subst IsTrue of.optional_is p.0, seen_none names e (eqb-true (state_of m (map letter names)).seen 0 p.1))))
             | inr f ↦ (names_word accepts members optional model is names).1
-              (inr (full_each accepts members letter are names (full_then names e (eqb-true (bit_and (state_of m (map letter names)).seen m.required) m.required f))))
+                (inr (full_each accepts members letter are names (full_then names e (eqb-true (bit_and (state_of m (map letter names)).seen m.required) m.required f))))
           ]),
       (λ w. elim ((names_word accepts members optional model is names).0 w) [
         | inl o ↦ subst (λ (xs : List Name). IsTrue (accepts_at m (state_of m (map letter xs)))) (sym o.1)
-          (both_and (not (start_of m).dead) _ (dead_not (start_of m).dead ((stands []).gone empty_good))
-          (or_left (m.optional && (0 == 0)) _ (both_and m.optional (0 == 0) (subst IsTrue (sym of.optional_is) o.0) refl)))
+            (both_and (not (start_of m).dead) _ (dead_not (start_of m).dead ((stands []).gone empty_good))
+            (or_left (m.optional && (0 == 0)) _ (both_and m.optional (0 == 0) (subst IsTrue (sym of.optional_is) o.0) refl)))
         | inr v ↦ (
             let f = each_full accepts members letter are names v in
             let e = (stands names).gone (full_good (map letter names) f) in

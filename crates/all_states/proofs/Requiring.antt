@@ -1,5 +1,5 @@
 -- The members that have to come, as bits, and whether they have names.
-use Rattle.std.proofs.Common.{◌≡◌, ℕ, ◌+◌, ◌^◌, ◌<◌, ◌≤◌, ◌&&◌, ◌↔◌, ◌⊎◌, Bool, true, false, IsTrue, List, length, get_or, refl, sym, ap, subst, ◌∙◌, inl, inr, arith}
+use Rattle.std.proofs.Common.{◌≡◌, ℕ, ◌+◌, ◌^◌, ◌<◌, ◌&&◌, ◌↔◌, ◌⊎◌, Bool, true, false, IsTrue, List, get_or, refl, sym, ap, subst, ◌∙◌, inl, inr, arith}
 use Rattle.std.specs.Prelude.{bit_or, max}
 use Rattle.std.specs.Int.{bit_at}
 use Rattle.std.proofs.lemmas.Bool.{cases_eq, false≢true}
@@ -32,7 +32,7 @@ required_set members i old new is l e = record { bits = λ j. by j (cases_eq j i
         )
       where
         lower : (j : ℕ) → (j ≡ i → ⊥) → j < i + 1 → j < i
-        lower j d l = elim (cases_eq j i) [ | inl s ↦ absurd (d s) | inr n ↦ omega arith ]
+        lower j d l = elim (cases_eq j i) [ inl s ↦ absurd (d s) | inr n ↦ omega arith ]
 
 pub required_skip : (members : List AllMember) (i old : ℕ) → IsRequired members i old → (get_or members i no_member).least ≡ 0 → IsRequired members (i + 1) old
 required_skip members i old is z = record { bits = λ j. ((λ h. let r = (is.bits j).0 h in let k = r.0 in (omega arith, r.1)), (λ h. (is.bits j).1 (lower j h.0 h.1, h.1))) }

@@ -1,6 +1,6 @@
 -- The states after letters.
-use Rattle.std.proofs.Common.{◌≡◌, ◌≢◌, ℕ, zero, suc, ◌+◌, ◌^◌, ◌<◌, ◌≤◌, ◌==◌, ◌&&◌, ◌⊎◌, not, Bool, true, false, IsTrue, List, [], ◌∷◌, ◌++◌, length, get_or, refl, sym, ap, subst, ◌∙◌, inl, inr, arith, append_assoc, append-nil, if◌then◌else◌}
-use Rattle.std.specs.Prelude.{nat_lt, bit_or, max}
+use Rattle.std.proofs.Common.{◌≡◌, ◌≢◌, ℕ, zero, suc, ◌^◌, ◌<◌, ◌≤◌, ◌==◌, ◌⊎◌, Bool, true, false, List, [], ◌∷◌, ◌++◌, length, refl, sym, ap, subst, ◌∙◌, inl, inr, arith, append_assoc, append-nil}
+use Rattle.std.specs.Prelude.{nat_lt, bit_or}
 use Rattle.std.specs.List.{All}
 use Rattle.std.specs.Int.{bit_at}
 use Rattle.std.proofs.Common.{eqb-true, eq-eqb}
@@ -11,7 +11,7 @@ use Rattle.std.proofs.lemmas.List.Elements.{All-nil, All-cons, All-head, All-tai
 use Rattle.all_states.specs.States.{is_new, next_of, run}
 use Rattle.all_states.specs.declared.member.AllMember.{AllMember}
 use Rattle.all_states.specs.declared.state.AllState.{AllState}
-use Rattle.all_states.proofs.Lettering.{count_in, in_same, in_other, in_append, AreIn, IsGood}
+use Rattle.all_states.proofs.Lettering.{count_in, in_same, in_other, in_append, IsGood}
 
 all_front : (P : ℕ → Type 0) (xs ys : List ℕ) → All P (xs ++ ys) → All P xs
 all_front P [] ys h = All-nil P

@@ -1,5 +1,5 @@
 -- Content models that are an all (Structures 3.8.2), and the members of an all.
-use Rattle.std.specs.Prelude.{◌≡◌, ℕ, ◌<◌, ◌≤◌, ◌↔◌, ◌==◌, Bool, false, IsTrue, List, [], ◌∷◌, Option, None, Some, All, length, slice_index_or}
+use Rattle.std.specs.Prelude.{◌≡◌, ℕ, ◌<◌, ◌≤◌, ◌↔◌, ◌==◌, Bool, false, IsTrue, List, [], ◌∷◌, None, Some, All, length, slice_index_or}
 use Rattle.std.specs.List.{list_any}
 use Rattle.particle_models.specs.Particles.{Particle, Particles, term, all_of, occurs, none, member}
 use Rattle.all_states.specs.declared.member.AllMember.{AllMember}
