@@ -1,3 +1,0 @@
-pub mod Temp
-pub mod Letters
-pub mod Modelled
