@@ -1,0 +1,5 @@
+pub mod Building
+pub mod Reading
+pub mod Spelling
+pub mod Refusing
+pub mod Unreading

@@ -1,0 +1,4 @@
+pub mod SchemaTurns
+pub mod Beginning
+pub mod DocumentTurns
+pub mod CommandTurns
