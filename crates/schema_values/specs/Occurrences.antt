@@ -49,8 +49,8 @@ is_unbounded (Some text) = bytes_eq text (codes "unbounded")
 abbrev pub most_of : Option (List ℕ) → Option ℕ
 most_of text = if is_unbounded text then None else Some (count_of text)
 
-abbrev pub occurs : List Attribute → Occurs
-occurs attributes = record {
+abbrev pub occurs_of : List Attribute → Occurs
+occurs_of attributes = record {
   min = count_of (value_of an.MinOccurs attributes);
   max = most_of (value_of an.MaxOccurs attributes);
 }

@@ -98,8 +98,8 @@ fn most_of(text: &Option<Text>) -> Option<u32>
 }
 
 /// How often a particle may occur (Structures 3.9.2).
-pub fn occurs(alloc: Global, attributes: &[Attribute]) -> Result<Occurs, AllocError>
-    ensures { IfOk result (λ value. value ≡ spec.occurs attributes.now) }
+pub fn occurs_of(alloc: Global, attributes: &[Attribute]) -> Result<Occurs, AllocError>
+    ensures { IfOk result (λ value. value ≡ spec.occurs_of attributes.now) }
 {
     let min = value_of(alloc, AttributeName::MinOccurs, attributes)?;
     let max = value_of(alloc, AttributeName::MaxOccurs, attributes)?;

@@ -1,0 +1,2 @@
+mod LeastLaws
+mod WalkLaws
