@@ -8,3 +8,4 @@ pub mod Faults
 pub mod Shapes
 pub mod Shaped
 pub mod inside
+pub mod Examples
