@@ -1,2 +1,2 @@
-mod LeastLaws
-mod WalkLaws
+pub mod LeastLaws
+pub mod WalkLaws
