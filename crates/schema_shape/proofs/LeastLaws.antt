@@ -1,11 +1,11 @@
 -- The least fault of some elements and others, and what they declare.
 use Rattle.std.proofs.Common.{◌≡◌, ℕ, Bool, true, false, nat_lt, arith, List, [], ◌∷◌, ◌++◌, Option, None, Some, refl, sym, append_assoc, append-nil}
-use Rattle.schema_shape.specs.Constructs.{Construct}
-use Rattle.schema_shape.specs.Faults.{least_fault, lesser, fault_of}
+use Rattle.schema_faults.specs.Constructs.{Construct}
+use Rattle.schema_faults.specs.Faults.{least_fault, lesser, fault_of}
 use Rattle.schema_shape.specs.Shapes.{shapes, shapes_of}
-use Rattle.schema_shape.specs.declared.broken.Broken.{Broken}
+use Rattle.schema_faults.specs.declared.broken.Broken.{Broken}
 use Rattle.schema_shape.specs.declared.walk.Findings.{Findings}
-use Rattle.schema_shape.specs.inside.Walks.{with_constructs}
+use Rattle.schema_shape.specs.inside.Walks.{with_construct, with_constructs}
 
 pub lesser_none : (f : Option Broken) → lesser f None ≡ f
 lesser_none None = refl
@@ -42,3 +42,7 @@ found_append found es more =
 
 pub found_none : (found : Findings) → with_constructs found [] ≡ found
 found_none found = rw (lesser_none found.fault, append-nil found.shapes) refl
+
+-- an element, and then those behind it
+pub found_first : (found : Findings) (e : Construct) (es : List Construct) → with_constructs (with_construct found e) es ≡ with_constructs found (e ∷ es)
+found_first found e es = rw (lesser_assoc found.fault (fault_of e) (least_fault es), append_assoc found.shapes (shapes_of e) (shapes es)) refl

@@ -1,10 +1,3 @@
-pub mod Constructs
-pub mod Children
-pub mod ShapeFaults
-pub mod Unsupported
-pub mod Limits
-pub mod Representation
-pub mod Faults
 pub mod Shapes
 pub mod Shaped
 pub mod inside

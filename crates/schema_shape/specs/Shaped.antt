@@ -4,10 +4,10 @@ use Rattle.tag_names.specs.Scopes.{first_scope}
 use Rattle.tree_rows.specs.Forest.{Forest}
 use Rattle.xs_codes.specs.declared.fault.Fault.{Fault}
 use Rattle.schema_grammar.specs.declared.kinds.Kind.TheVariants as k
-use Rattle.schema_shape.specs.Constructs.{Construct, constructs}
-use Rattle.schema_shape.specs.Faults.{least_fault}
+use Rattle.schema_faults.specs.Constructs.{Construct, constructs}
+use Rattle.schema_faults.specs.Faults.{least_fault}
 use Rattle.schema_shape.specs.Shapes.{shapes}
-use Rattle.schema_shape.specs.declared.broken.Broken.{Broken}
+use Rattle.schema_faults.specs.declared.broken.Broken.{Broken}
 use Rattle.schema_shape.specs.declared.forms.ShapedSchema.{ShapedSchema}
 
 -- the elements of a document; outside of its root no element has bindings

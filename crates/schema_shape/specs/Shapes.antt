@@ -23,7 +23,7 @@ use Rattle.schema_values.specs.Occurrences.{occurs_of}
 use Rattle.schema_values.specs.Spaces.{spaces_of}
 use Rattle.schema_values.specs.declared.spaces.Spaces.{Spaces}
 use Rattle.schema_values.specs.declared.spaces.Spaces.TheVariants as spaces
-use Rattle.schema_shape.specs.Constructs.{Construct}
+use Rattle.schema_faults.specs.Constructs.{Construct}
 use Rattle.schema_shape.specs.declared.forms.AttributeForm.{AttributeForm}
 use Rattle.schema_shape.specs.declared.forms.ComplexTypeForm.{ComplexTypeForm}
 use Rattle.schema_shape.specs.declared.forms.Compositor.{Compositor}

@@ -1,11 +1,11 @@
 ghost use Rattle.std.specs.Prelude.{◌≡◌, IfOk};
 ghost use Rattle.std.specs.Option.{option_and_then};
 ghost use Rattle.schema_shape.specs.Shapes as spec;
-ghost use Rattle.schema_shape.specs.inside.Elements.{construct_of};
+ghost use Rattle.schema_faults.specs.Elements.{construct_of};
 
 use crate::component_shapes::{component_form, qualified_of};
 use crate::content_shapes::required_of;
-use crate::element::Element;
+use schema_faults::Element;
 use crate::forms::{Form, SchemaForm, Shape};
 use schema_grammar::{AttributeName, Class, Kind, is_in, tag_of};
 use schema_values::{methods_of, value_of};

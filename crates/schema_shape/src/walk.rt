@@ -1,15 +1,14 @@
-ghost use Rattle.std.specs.Prelude.{◌≡◌, ◌∷◌, [], OnOk, IfOk};
-ghost use Rattle.schema_shape.specs.Constructs.{constructs};
-ghost use Rattle.schema_shape.specs.Constructs as spec;
+ghost use Rattle.std.specs.Prelude.{◌≡◌, ◌++◌, OnOk, IfOk};
+ghost use Rattle.schema_faults.specs.Constructs.{constructs};
+ghost use Rattle.schema_faults.specs.Constructs as spec;
 ghost use Rattle.schema_shape.specs.Shaped.{shaped};
-ghost use Rattle.schema_shape.specs.inside.Elements.{construct_of};
-ghost use Rattle.schema_shape.specs.inside.Walks.{with_constructs, element_constructs};
+ghost use Rattle.schema_shape.specs.Shapes.{shapes_of};
+ghost use Rattle.schema_faults.specs.Elements.{construct_of};
+ghost use Rattle.schema_shape.specs.inside.Walks.{with_construct, with_constructs, element_constructs};
 
-use crate::element::Element;
-use crate::faults::{fault_of, lesser};
-use crate::forms::{Shape, ShapedSchema};
+use schema_faults::{Broken, Element, fault_of, lesser};
+use crate::forms::{ShapeList, ShapedSchema};
 use crate::shaped::{declares, shape_of};
-use crate::Broken;
 use plain_tree::Tree;
 use schema_grammar::{Kind, kind_below, tag_of};
 use std::alloc::{AllocError, Global};
@@ -23,17 +22,25 @@ use xs_lists::Listed;
 #[derive(Drop)]
 pub(crate) struct Findings {
     pub fault: Option<Broken>,
-    pub shapes: Listed<Shape>,
+    pub shapes: ShapeList,
+}
+
+/// Puts what an element declares behind the others; some declare nothing.
+fn put_shape(alloc: Global, element: &Element, shapes: &mut ShapeList) -> Result<(), AllocError>
+    ensures { OnOk result (shapes.new ≡ shapes.old ++ shapes_of (construct_of element.now)) }
+{
+    if declares(element.kind) {
+        shapes.push(shape_of(alloc, element)?)?;
+    }
+    Ok(())
 }
 
 /// Judges an element, and puts what it declares behind the others.
 fn judge(alloc: Global, element: &Element, found: &mut Findings) -> Result<(), AllocError>
-    ensures { OnOk result (found.new ≡ with_constructs found.old (construct_of element.now ∷ [])) }
+    ensures { OnOk result (found.new ≡ with_construct found.old (construct_of element.now)) }
 {
     let fault = fault_of(alloc, element)?;
-    if declares(element.kind) {
-        found.shapes.push(shape_of(alloc, element)?)?;
-    }
+    put_shape(alloc, element, &mut found.shapes)?;
     found.fault = lesser(found.fault, fault);
     Ok(())
 }

@@ -4,12 +4,15 @@ use Rattle.tree_rows.specs.Forest.{Forest}
 use Rattle.tree_rows.specs.declared.row.Binding.{Binding}
 use Rattle.tree_rows.specs.declared.row.Row.{Row}
 use Rattle.schema_grammar.specs.declared.kinds.Kind.{Kind}
-use Rattle.schema_shape.specs.Constructs.{Construct, constructs, nearest}
-use Rattle.schema_shape.specs.Faults.{least_fault, lesser}
-use Rattle.schema_shape.specs.Shapes.{shapes}
+use Rattle.schema_faults.specs.Constructs.{Construct, constructs, nearest}
+use Rattle.schema_faults.specs.Faults.{fault_of, least_fault, lesser}
+use Rattle.schema_shape.specs.Shapes.{shapes, shapes_of}
 use Rattle.schema_shape.specs.declared.walk.Findings.{Findings}
 
--- what was found, and then what these elements have
+-- what was found, and then what an element has, and what these elements have
+abbrev pub with_construct : Findings → Construct → Findings
+with_construct found e = record { fault = lesser found.fault (fault_of e); shapes = found.shapes ++ shapes_of e }
+
 abbrev pub with_constructs : Findings → List Construct → Findings
 with_constructs found es = record { fault = lesser found.fault (least_fault es); shapes = found.shapes ++ shapes es }
 

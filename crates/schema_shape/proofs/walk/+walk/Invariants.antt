@@ -1,6 +1,6 @@
 use Rattle.std.proofs.Common.{◌≡◌, ◌≤◌, ◌+◌, ◌*◌}
 use Rattle.tree_rows.specs.Forest.{count}
-use Rattle.schema_shape.specs.Constructs.{constructs}
+use Rattle.schema_faults.specs.Constructs.{constructs}
 use Rattle.schema_shape.specs.inside.Walks.{with_constructs}
 use Rattle.schema_shape.proofs.walk.+walk.Given as goal
 

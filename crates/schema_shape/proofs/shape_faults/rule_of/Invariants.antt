@@ -1,6 +1,0 @@
-use Rattle.std.proofs.Common.{◌≡◌, drop}
-use Rattle.schema_shape.specs.ShapeFaults.{rule_of}
-use Rattle.schema_shape.proofs.shape_faults.rule_of.Given as goal
-
-abbrev pub invariant-loop-rule : goal.invariant-loop-rule
-invariant-loop-rule l = rule_of (drop l.rule-index l.rules) l.attribute ≡ rule_of l.rules l.attribute
