@@ -18,9 +18,12 @@ is_identity k.Key = true
 is_identity k.Keyref = true
 is_identity _ = false
 
+abbrev pub field_count : List Tag → ℕ
+field_count tags = length (filter (is_in c.Field) tags)
+
 -- x-limit.fields: an identity constraint has more fields than the limit
 abbrev pub has_many_fields : Kind → List Tag → Bool
-has_many_fields kind tags = is_identity kind && nat_lt MAX_FIELDS (length (filter (is_in c.Field) tags))
+has_many_fields kind tags = is_identity kind && nat_lt MAX_FIELDS (field_count tags)
 
 abbrev pub is_number_facet : Kind → Bool
 is_number_facet k.Length = true

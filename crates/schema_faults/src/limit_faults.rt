@@ -15,14 +15,21 @@ pub const MAX_FIELDS: usize = 16;
 /// The greatest number that a facet may have.
 pub const MAX_FACET_NUMBER: u64 = 4_294_967_295;
 
+/// How many fields are among the children.
+fn field_count(tags: &[Tag]) -> usize
+    ensures { result ≡ spec.field_count tags.now }
+{
+    tags.iter().filter(|tag| is_in(Class::Field, **tag)).count()
+}
+
 /// Whether an identity constraint has more fields than the limit.
 fn has_many_fields(kind: Kind, tags: &[Tag]) -> bool
     ensures { result ≡ spec.has_many_fields kind tags.now }
 {
     match kind {
-        Kind::Unique | Kind::Key | Kind::Keyref => {
-            tags.iter().filter(|tag| is_in(Class::Field, **tag)).count() > MAX_FIELDS
-        }
+        Kind::Unique => field_count(tags) > MAX_FIELDS,
+        Kind::Key => field_count(tags) > MAX_FIELDS,
+        Kind::Keyref => field_count(tags) > MAX_FIELDS,
         _ => false,
     }
 }
