@@ -30,8 +30,13 @@ constructs parent above scope none = []
 constructs parent above scope (text number chars next) = constructs parent above scope next
 constructs parent above scope (element number name bindings attributes children next) =
     record {
-      item = number; kind = kind_below parent (tag_of name); above = above; bindings = bindings; scope = bindings ++ scope;
-      attributes = attributes; children = children
+      item = number;
+      kind = kind_below parent (tag_of name);
+      above = above;
+      bindings = bindings;
+      scope = bindings ++ scope;
+      attributes = attributes;
+      children = children;
     }
     ∷ (constructs (kind_below parent (tag_of name)) (nearest above number bindings) (bindings ++ scope) children
     ++ constructs parent above scope next)

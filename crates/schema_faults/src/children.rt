@@ -15,7 +15,14 @@ pub(crate) fn child_tags(alloc: Global, siblings: Siblings<'_>) -> Result<Vec<Ta
 {
     let mut tags = Vec::new(alloc);
     let mut left = siblings;
-    'left: while let Some(Sibling { row, children, next }) = left.first() {
+    'left: while let Some(
+        Sibling {
+            row,
+            children,
+            next,
+        },
+    ) = left.first()
+    {
         if let Content::Element(name) = &row.content {
             tags.push(tag_of(name))?;
         }
@@ -29,7 +36,14 @@ pub(crate) fn has_characters(siblings: Siblings<'_>) -> bool
     ensures { result ≡ spec.has_characters siblings.entry }
 {
     let mut left = siblings;
-    'left: while let Some(Sibling { row, children, next }) = left.first() {
+    'left: while let Some(
+        Sibling {
+            row,
+            children,
+            next,
+        },
+    ) = left.first()
+    {
         if let Content::Chars(text) = &row.content {
             if !is_white_space(text.as_str()) {
                 return true;

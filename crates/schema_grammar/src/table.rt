@@ -33,15 +33,21 @@ pub fn rules(kind: Kind) -> &'static [Rule]
     ensures { result.now ≡ table.rules kind }
 {
     match kind {
-        Kind::Schema => rules!([] [Id: NcName, TargetNamespace: Collapsed, Version: Collapsed, FinalDefault: AnyFinal, BlockDefault: Block, ElementFormDefault: Form, AttributeFormDefault: Form]),
+        Kind::Schema =>
+            rules!([] [Id: NcName, TargetNamespace: Collapsed, Version: Collapsed, FinalDefault: AnyFinal, BlockDefault: Block, ElementFormDefault: Form, AttributeFormDefault: Form]),
         Kind::Include => rules!([SchemaLocation: Collapsed] [Id: NcName]),
         Kind::Import => rules!([] [Id: NcName, Namespace: Collapsed, SchemaLocation: Collapsed]),
         Kind::Redefine => rules!([SchemaLocation: Collapsed] [Id: NcName]),
-        Kind::TopElement => rules!([Name: NcName] [Id: NcName, Type: QName, SubstitutionGroup: QName, Default: Raw, Fixed: Raw, Nillable: Boolean, Abstract: Boolean, Final: ComplexFinal, Block: Block]),
-        Kind::LocalElement => rules!([] [Id: NcName, Name: NcName, Ref: QName, Type: QName, Default: Raw, Fixed: Raw, Nillable: Boolean, Block: Block, Form: Form, MinOccurs: Digits, MaxOccurs: Bound]),
-        Kind::TopAttribute => rules!([Name: NcName] [Id: NcName, Type: QName, Default: Raw, Fixed: Raw]),
-        Kind::LocalAttribute => rules!([] [Id: NcName, Name: NcName, Ref: QName, Type: QName, Default: Raw, Fixed: Raw, Form: Form, Use: Use]),
-        Kind::TopComplexType => rules!([Name: NcName] [Id: NcName, Abstract: Boolean, Final: ComplexFinal, Block: Block, Mixed: Boolean]),
+        Kind::TopElement =>
+            rules!([Name: NcName] [Id: NcName, Type: QName, SubstitutionGroup: QName, Default: Raw, Fixed: Raw, Nillable: Boolean, Abstract: Boolean, Final: ComplexFinal, Block: Block]),
+        Kind::LocalElement =>
+            rules!([] [Id: NcName, Name: NcName, Ref: QName, Type: QName, Default: Raw, Fixed: Raw, Nillable: Boolean, Block: Block, Form: Form, MinOccurs: Digits, MaxOccurs: Bound]),
+        Kind::TopAttribute =>
+            rules!([Name: NcName] [Id: NcName, Type: QName, Default: Raw, Fixed: Raw]),
+        Kind::LocalAttribute =>
+            rules!([] [Id: NcName, Name: NcName, Ref: QName, Type: QName, Default: Raw, Fixed: Raw, Form: Form, Use: Use]),
+        Kind::TopComplexType =>
+            rules!([Name: NcName] [Id: NcName, Abstract: Boolean, Final: ComplexFinal, Block: Block, Mixed: Boolean]),
         Kind::LocalComplexType => rules!([] [Id: NcName, Mixed: Boolean]),
         Kind::SimpleContent => rules!([] [Id: NcName]),
         Kind::ComplexContent => rules!([] [Id: NcName, Mixed: Boolean]),
@@ -50,7 +56,8 @@ pub fn rules(kind: Kind) -> &'static [Rule]
         Kind::ComplexContentRestriction => rules!([Base: QName] [Id: NcName]),
         Kind::ComplexContentExtension => rules!([Base: QName] [Id: NcName]),
         Kind::TopGroup => rules!([Name: NcName] [Id: NcName]),
-        Kind::GroupReference => rules!([Ref: QName] [Id: NcName, MinOccurs: Digits, MaxOccurs: Bound]),
+        Kind::GroupReference =>
+            rules!([Ref: QName] [Id: NcName, MinOccurs: Digits, MaxOccurs: Bound]),
         Kind::NamedAll => rules!([] [Id: NcName]),
         Kind::NamedChoice => rules!([] [Id: NcName]),
         Kind::NamedSequence => rules!([] [Id: NcName]),
@@ -59,8 +66,10 @@ pub fn rules(kind: Kind) -> &'static [Rule]
         Kind::All => rules!([] [Id: NcName, MinOccurs: Digits, MaxOccurs: Bound]),
         Kind::Choice => rules!([] [Id: NcName, MinOccurs: Digits, MaxOccurs: Bound]),
         Kind::Sequence => rules!([] [Id: NcName, MinOccurs: Digits, MaxOccurs: Bound]),
-        Kind::Any => rules!([] [Id: NcName, Namespace: Namespaces, ProcessContents: Process, MinOccurs: Digits, MaxOccurs: Bound]),
-        Kind::AnyAttribute => rules!([] [Id: NcName, Namespace: Namespaces, ProcessContents: Process]),
+        Kind::Any =>
+            rules!([] [Id: NcName, Namespace: Namespaces, ProcessContents: Process, MinOccurs: Digits, MaxOccurs: Bound]),
+        Kind::AnyAttribute =>
+            rules!([] [Id: NcName, Namespace: Namespaces, ProcessContents: Process]),
         Kind::TopSimpleType => rules!([Name: NcName] [Id: NcName, Final: SimpleFinal]),
         Kind::LocalSimpleType => rules!([] [Id: NcName]),
         Kind::Restriction => rules!([] [Id: NcName, Base: QName]),
@@ -102,14 +111,30 @@ pub fn contents(kind: Kind) -> &'static [&'static [Step]]
         Kind::LocalElement => &[steps!(Annotation maybe, Type maybe, Identity any)],
         Kind::TopAttribute => &[steps!(Annotation maybe, SimpleType maybe)],
         Kind::LocalAttribute => &[steps!(Annotation maybe, SimpleType maybe)],
-        Kind::TopComplexType => &[steps!(Annotation maybe, SimpleContent once), steps!(Annotation maybe, ComplexContent once), steps!(Annotation maybe, ModelGroup maybe, Attributes any, AnyAttribute maybe)],
-        Kind::LocalComplexType => &[steps!(Annotation maybe, SimpleContent once), steps!(Annotation maybe, ComplexContent once), steps!(Annotation maybe, ModelGroup maybe, Attributes any, AnyAttribute maybe)],
+        Kind::TopComplexType => &[
+            steps!(Annotation maybe, SimpleContent once),
+            steps!(Annotation maybe, ComplexContent once),
+            steps!(Annotation maybe, ModelGroup maybe, Attributes any, AnyAttribute maybe),
+        ],
+        Kind::LocalComplexType => &[
+            steps!(Annotation maybe, SimpleContent once),
+            steps!(Annotation maybe, ComplexContent once),
+            steps!(Annotation maybe, ModelGroup maybe, Attributes any, AnyAttribute maybe),
+        ],
         Kind::SimpleContent => &[steps!(Annotation maybe, Derivation once)],
         Kind::ComplexContent => &[steps!(Annotation maybe, Derivation once)],
-        Kind::SimpleContentRestriction => &[steps!(Annotation maybe, SimpleType maybe, Facet any, Attributes any, AnyAttribute maybe)],
-        Kind::SimpleContentExtension => &[steps!(Annotation maybe, Attributes any, AnyAttribute maybe)],
-        Kind::ComplexContentRestriction => &[steps!(Annotation maybe, ModelGroup maybe, Attributes any, AnyAttribute maybe)],
-        Kind::ComplexContentExtension => &[steps!(Annotation maybe, ModelGroup maybe, Attributes any, AnyAttribute maybe)],
+        Kind::SimpleContentRestriction => &[
+            steps!(Annotation maybe, SimpleType maybe, Facet any, Attributes any, AnyAttribute maybe),
+        ],
+        Kind::SimpleContentExtension => &[
+            steps!(Annotation maybe, Attributes any, AnyAttribute maybe),
+        ],
+        Kind::ComplexContentRestriction => &[
+            steps!(Annotation maybe, ModelGroup maybe, Attributes any, AnyAttribute maybe),
+        ],
+        Kind::ComplexContentExtension => &[
+            steps!(Annotation maybe, ModelGroup maybe, Attributes any, AnyAttribute maybe),
+        ],
         Kind::TopGroup => &[steps!(Annotation maybe, Compositor once)],
         Kind::GroupReference => &[steps!(Annotation maybe)],
         Kind::NamedAll => &[steps!(Annotation maybe, Element any)],
@@ -156,9 +181,25 @@ pub fn is_in(class: Class, tag: Tag) -> bool
     match class {
         Class::Anything => true,
         Class::Annotation => matches!(tag, Tag::Annotation),
-        Class::Head => matches!(tag, Tag::Include | Tag::Import | Tag::Redefine | Tag::Annotation),
-        Class::Top => matches!(tag, Tag::SimpleType | Tag::ComplexType | Tag::Group | Tag::AttributeGroup | Tag::Element | Tag::Attribute | Tag::Notation | Tag::Annotation),
-        Class::Redefined => matches!(tag, Tag::SimpleType | Tag::ComplexType | Tag::Group | Tag::AttributeGroup | Tag::Annotation),
+        Class::Head => matches!(
+            tag,
+            Tag::Include | Tag::Import | Tag::Redefine | Tag::Annotation
+        ),
+        Class::Top => matches!(
+            tag,
+            Tag::SimpleType
+                | Tag::ComplexType
+                | Tag::Group
+                | Tag::AttributeGroup
+                | Tag::Element
+                | Tag::Attribute
+                | Tag::Notation
+                | Tag::Annotation
+        ),
+        Class::Redefined => matches!(
+            tag,
+            Tag::SimpleType | Tag::ComplexType | Tag::Group | Tag::AttributeGroup | Tag::Annotation
+        ),
         Class::Type => matches!(tag, Tag::SimpleType | Tag::ComplexType),
         Class::Identity => matches!(tag, Tag::Unique | Tag::Key | Tag::Keyref),
         Class::SimpleType => matches!(tag, Tag::SimpleType),
@@ -167,11 +208,28 @@ pub fn is_in(class: Class, tag: Tag) -> bool
         Class::Derivation => matches!(tag, Tag::Restriction | Tag::Extension),
         Class::ModelGroup => matches!(tag, Tag::Group | Tag::All | Tag::Choice | Tag::Sequence),
         Class::Compositor => matches!(tag, Tag::All | Tag::Choice | Tag::Sequence),
-        Class::Particle => matches!(tag, Tag::Element | Tag::Group | Tag::Choice | Tag::Sequence | Tag::Any),
+        Class::Particle => matches!(
+            tag,
+            Tag::Element | Tag::Group | Tag::Choice | Tag::Sequence | Tag::Any
+        ),
         Class::Element => matches!(tag, Tag::Element),
         Class::Attributes => matches!(tag, Tag::Attribute | Tag::AttributeGroup),
         Class::AnyAttribute => matches!(tag, Tag::AnyAttribute),
-        Class::Facet => matches!(tag, Tag::Length | Tag::MinLength | Tag::MaxLength | Tag::Pattern | Tag::Enumeration | Tag::WhiteSpace | Tag::MaxInclusive | Tag::MaxExclusive | Tag::MinInclusive | Tag::MinExclusive | Tag::TotalDigits | Tag::FractionDigits),
+        Class::Facet => matches!(
+            tag,
+            Tag::Length
+                | Tag::MinLength
+                | Tag::MaxLength
+                | Tag::Pattern
+                | Tag::Enumeration
+                | Tag::WhiteSpace
+                | Tag::MaxInclusive
+                | Tag::MaxExclusive
+                | Tag::MinInclusive
+                | Tag::MinExclusive
+                | Tag::TotalDigits
+                | Tag::FractionDigits
+        ),
         Class::Variety => matches!(tag, Tag::Restriction | Tag::List | Tag::Union),
         Class::Selector => matches!(tag, Tag::Selector),
         Class::Field => matches!(tag, Tag::Field),

@@ -37,8 +37,12 @@ shapes_append (e ∷ es) more = rw (shapes_append es more) (sym (append_assoc (s
 
 pub found_append : (found : Findings) (es more : List Construct) → with_constructs (with_constructs found es) more ≡ with_constructs found (es ++ more)
 found_append found es more =
-    rw (least_append es more, shapes_append es more, lesser_assoc found.fault (least_fault es) (least_fault more),
-      append_assoc found.shapes (shapes es) (shapes more)) refl
+    rw (
+      least_append es more,
+      shapes_append es more,
+      lesser_assoc found.fault (least_fault es) (least_fault more),
+      append_assoc found.shapes (shapes es) (shapes more),
+    ) refl
 
 pub found_none : (found : Findings) → with_constructs found [] ≡ found
 found_none found = rw (lesser_none found.fault, append-nil found.shapes) refl

@@ -19,7 +19,7 @@ use Rattle.schema_shape.proofs.LeastLaws.{found_append, found_first, found_none}
 constructs_at : (parent : Kind) (above : ℕ) (scope : List Binding) (row : Row) (name : Expanded) (children next left : Forest)
     → left ≡ node row.number row.content row.bindings row.attributes children next → row.content ≡ contents.Element name
     → constructs parent above scope left
-      ≡ element_constructs (kind_below parent (tag_of name)) above scope row children ++ constructs parent above scope next
+    ≡ element_constructs (kind_below parent (tag_of name)) above scope row children ++ constructs parent above scope next
 constructs_at parent above scope row name children next left e f = rw (e, f) refl
 
 module _ (parent kind : Kind) (above : ℕ) (scope : List Binding) (left children next : Forest) (row : Row) (name : Expanded)
@@ -53,12 +53,25 @@ fewer_behind siblings left children next row e few =
 pub with_below : (kind : Kind) (above within : ℕ) (scope scope' : List Binding) (row : Row) (children : Forest) (found found' found'' : Findings)
     → scope' ≡ row.bindings ++ scope
     → found' ≡ with_construct found (record {
-        item = row.number; kind = kind; above = above; bindings = row.bindings; scope = scope'; attributes = row.attributes; children = children })
+      item = row.number;
+      kind = kind;
+      above = above;
+      bindings = row.bindings;
+      scope = scope';
+      attributes = row.attributes;
+      children = children;
+    })
     → within ≡ nearest above row.number row.bindings → found'' ≡ with_constructs found' (constructs kind within scope' children)
     → found'' ≡ with_constructs found (element_constructs kind above scope row children)
 with_below kind above within scope scope' row children found found' found'' s e w b =
     let es = constructs kind (nearest above row.number row.bindings) (row.bindings ++ scope) children in
     let it : Construct = record {
-        item = row.number; kind = kind; above = above; bindings = row.bindings; scope = row.bindings ++ scope; attributes = row.attributes;
-        children = children } in
+      item = row.number;
+      kind = kind;
+      above = above;
+      bindings = row.bindings;
+      scope = row.bindings ++ scope;
+      attributes = row.attributes;
+      children = children;
+    } in
     b ∙ rw (e, w, s) (found_first found it es)

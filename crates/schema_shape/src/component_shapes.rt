@@ -3,7 +3,9 @@ ghost use Rattle.std.specs.Option.{option_map};
 ghost use Rattle.schema_shape.specs.Shapes as spec;
 
 use crate::content_shapes::{content_form, required_of};
-use crate::forms::{AttributeForm, ComplexTypeForm, ElementForm, Form, IdentityKind, Use, ValueForm};
+use crate::forms::{
+    AttributeForm, ComplexTypeForm, ElementForm, Form, IdentityKind, Use, ValueForm,
+};
 use schema_grammar::{AttributeName, Kind};
 use schema_values::{flag_of, methods_of, name_of, occurs_of, raw_of, value_of};
 use std::alloc::{AllocError, Global};

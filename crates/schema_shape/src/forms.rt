@@ -100,36 +100,84 @@ pub enum IdentityKind {
 #[derive(Debug, Drop)]
 pub enum Form {
     Schema(SchemaForm),
-    Include { location: Text },
+    Include {
+        location: Text,
+    },
     /// The namespace is empty where it is the absent one.
-    Import { namespace: Option<Text>, location: Option<Text> },
-    Redefine { location: Text },
+    Import {
+        namespace: Option<Text>,
+        location: Option<Text>,
+    },
+    Redefine {
+        location: Text,
+    },
     Element(ElementForm),
     Attribute(AttributeForm),
     ComplexType(ComplexTypeForm),
-    SimpleType { name: Option<Text>, finals: Option<Methods> },
-    Group { name: Text },
-    AttributeGroup { name: Text },
-    Identity { kind: IdentityKind, name: Text, refer: Option<Expanded> },
-    Selector { path: Text },
-    Field { path: Text },
+    SimpleType {
+        name: Option<Text>,
+        finals: Option<Methods>,
+    },
+    Group {
+        name: Text,
+    },
+    AttributeGroup {
+        name: Text,
+    },
+    Identity {
+        kind: IdentityKind,
+        name: Text,
+        refer: Option<Expanded>,
+    },
+    Selector {
+        path: Text,
+    },
+    Field {
+        path: Text,
+    },
     SimpleContent,
-    ComplexContent { mixed: Option<bool> },
+    ComplexContent {
+        mixed: Option<bool>,
+    },
     /// A restriction or an extension in simpleContent or complexContent.
-    Derivation { by_extension: bool, base: Option<Expanded> },
-    GroupReference { to: Option<Expanded>, occurs: Occurs },
-    AttributeGroupReference { to: Option<Expanded> },
-    ModelGroup { compositor: Compositor, occurs: Occurs },
-    Any { wildcard: WildcardForm, occurs: Occurs },
+    Derivation {
+        by_extension: bool,
+        base: Option<Expanded>,
+    },
+    GroupReference {
+        to: Option<Expanded>,
+        occurs: Occurs,
+    },
+    AttributeGroupReference {
+        to: Option<Expanded>,
+    },
+    ModelGroup {
+        compositor: Compositor,
+        occurs: Occurs,
+    },
+    Any {
+        wildcard: WildcardForm,
+        occurs: Occurs,
+    },
     AnyAttribute(WildcardForm),
     /// A restriction of a simple type.
-    Restriction { base: Option<Expanded> },
+    Restriction {
+        base: Option<Expanded>,
+    },
     /// A list, by the type of its items.
-    ItemType { of: Option<Expanded> },
+    ItemType {
+        of: Option<Expanded>,
+    },
     /// A union, by the types of its members that it names.
-    Union { members: Listed<Expanded> },
+    Union {
+        members: Listed<Expanded>,
+    },
     /// A facet's value as it stands. It is read in the scope of its element.
-    Facet { kind: FacetKind, text: Text, fixed: bool },
+    Facet {
+        kind: FacetKind,
+        text: Text,
+        fixed: bool,
+    },
     /// Nothing.
     Nothing,
 }

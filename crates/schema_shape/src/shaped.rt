@@ -5,8 +5,8 @@ ghost use Rattle.schema_faults.specs.Elements.{construct_of};
 
 use crate::component_shapes::{component_form, qualified_of};
 use crate::content_shapes::required_of;
-use schema_faults::Element;
 use crate::forms::{Form, SchemaForm, Shape};
+use schema_faults::Element;
 use schema_grammar::{AttributeName, Class, Kind, is_in, tag_of};
 use schema_values::{methods_of, value_of};
 use std::alloc::{AllocError, Global};
@@ -76,7 +76,14 @@ fn member_numbers(alloc: Global, siblings: Siblings<'_>) -> Result<Listed<u32>, 
 {
     let mut numbers = Listed::new(alloc);
     let mut left = siblings;
-    'left: while let Some(Sibling { row, children, next }) = left.first() {
+    'left: while let Some(
+        Sibling {
+            row,
+            children,
+            next,
+        },
+    ) = left.first()
+    {
         if let Content::Element(name) = &row.content {
             if !is_in(Class::Annotation, tag_of(name)) {
                 numbers.push(row.number)?;

@@ -6,10 +6,10 @@ ghost use Rattle.schema_shape.specs.Shapes.{shapes_of};
 ghost use Rattle.schema_faults.specs.Elements.{construct_of};
 ghost use Rattle.schema_shape.specs.inside.Walks.{with_construct, with_constructs, element_constructs};
 
-use schema_faults::{Broken, Element, fault_of, lesser};
 use crate::forms::{ShapeList, ShapedSchema};
 use crate::shaped::{declares, shape_of};
 use plain_tree::Tree;
+use schema_faults::{Broken, Element, fault_of, lesser};
 use schema_grammar::{Kind, kind_below, tag_of};
 use std::alloc::{AllocError, Global};
 use tag_names::Prefixes;
@@ -66,9 +66,24 @@ fn walk(
     ensures scope { OnOk result (scope.new ≡ scope.old) }
 {
     let mut left = siblings;
-    'left: while let Some(Sibling { row, children, next }) = left.first() {
+    'left: while let Some(
+        Sibling {
+            row,
+            children,
+            next,
+        },
+    ) = left.first()
+    {
         if let Content::Element(name) = &row.content {
-            enter(alloc, kind_below(parent, tag_of(name)), above, scope, row, children, found)?;
+            enter(
+                alloc,
+                kind_below(parent, tag_of(name)),
+                above,
+                scope,
+                row,
+                children,
+                found,
+            )?;
         }
         left = next;
     }
@@ -128,7 +143,14 @@ pub fn shape(
         fault: None,
         shapes: Listed::new(alloc),
     };
-    walk(alloc, Kind::Document, 0, &mut scope, index.top(), &mut found)?;
+    walk(
+        alloc,
+        Kind::Document,
+        0,
+        &mut scope,
+        index.top(),
+        &mut found,
+    )?;
     let Findings { fault, shapes } = found;
     match fault {
         None => Ok(Ok(ShapedSchema { shapes })),

@@ -31,11 +31,7 @@ fn named_space(space: Option<&Text>) -> Result<Option<Text>, AllocError>
 /// # Errors
 ///
 /// `AllocError` is want of memory.
-pub fn qname_of(
-    alloc: Global,
-    scope: &Prefixes,
-    text: &str,
-) -> Result<Option<Expanded>, AllocError>
+pub fn qname_of(alloc: Global, scope: &Prefixes, text: &str) -> Result<Option<Expanded>, AllocError>
     ensures { IfOk result (λ name. name ≡ spec.qname_of scope.now text.now) }
 {
     match split_qname(text) {

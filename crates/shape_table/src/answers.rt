@@ -6,10 +6,8 @@ use xs_codes::code_text;
 use xs_names::Text;
 
 /// What stands before and behind the pieces of a line that begins with `+`.
-const OPENING: [&str; 2] = [
-    "(xs:schema",
-    "Axmlns:xs http://www.w3.org/2001/XMLSchema",
-];
+const OPENING: [&str; 2] = ["(xs:schema", "Axmlns:xs http://www.w3.org/2001/XMLSchema"];
+
 const CLOSING: &str = ")xs:schema";
 
 /// The answer to a line.

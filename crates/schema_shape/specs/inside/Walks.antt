@@ -20,7 +20,12 @@ with_constructs found es = record { fault = lesser found.fault (least_fault es);
 abbrev pub element_constructs : Kind → ℕ → List Binding → Row → Forest → List Construct
 element_constructs kind above scope row children =
     record {
-      item = row.number; kind = kind; above = above; bindings = row.bindings; scope = row.bindings ++ scope;
-      attributes = row.attributes; children = children
+      item = row.number;
+      kind = kind;
+      above = above;
+      bindings = row.bindings;
+      scope = row.bindings ++ scope;
+      attributes = row.attributes;
+      children = children;
     }
     ∷ constructs kind (nearest above row.number row.bindings) (row.bindings ++ scope) children

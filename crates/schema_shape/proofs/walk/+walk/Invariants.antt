@@ -14,8 +14,8 @@ abbrev pub invariant-walk-left : goal.invariant-walk-left
 invariant-walk-left l = record {
   fewer : count l.left ≤ count l.fn.siblings;
   found : with_constructs l.found (constructs l.parent l.above l.scope l.left)
-    ≡ with_constructs l.initial.found (constructs l.parent l.above l.initial.scope l.fn.siblings);
-  scope : l.scope ≡ l.initial.scope
+      ≡ with_constructs l.initial.found (constructs l.parent l.above l.initial.scope l.fn.siblings);
+  scope : l.scope ≡ l.initial.scope;
 }
 
 abbrev pub decreases-walk-left : goal.decreases-walk-left
