@@ -1,0 +1,9 @@
+use xs_codes::Code;
+
+/// A constraint that an element breaks.
+#[derive(Debug, Clone, Copy, PartialEq, Eq)]
+pub struct Broken {
+    /// The number of the element.
+    pub item: u32,
+    pub code: Code,
+}
