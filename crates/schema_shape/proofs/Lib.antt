@@ -1,2 +1,0 @@
-pub mod LeastLaws
-pub mod WalkLaws

@@ -1,4 +1,0 @@
-pub mod Shapes
-pub mod Shaped
-pub mod inside
-pub mod Examples
