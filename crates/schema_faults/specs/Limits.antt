@@ -21,7 +21,7 @@ is_identity _ = false
 abbrev pub field_count : List Tag → ℕ
 field_count tags = length (filter (is_in c.Field) tags)
 
--- x-limit.fields: an identity constraint has more fields than the limit
+-- x-limit.fields (own): an identity constraint has more fields than the limit
 abbrev pub has_many_fields : Kind → List Tag → Bool
 has_many_fields kind tags = is_identity kind && nat_lt MAX_FIELDS (field_count tags)
 
@@ -40,6 +40,6 @@ is_large (Some n) = nat_lt MAX_FACET_NUMBER n
 abbrev pub has_large_value : List Attribute → Bool
 has_large_value attributes = is_large (option_and_then digits_of (raw_of an.Value attributes))
 
--- x-limit.value: the number of a facet is past the limit
+-- x-limit.value (own): the number of a facet is past the limit
 abbrev pub has_large_number : Kind → List Attribute → Bool
 has_large_number kind attributes = is_number_facet kind && has_large_value attributes

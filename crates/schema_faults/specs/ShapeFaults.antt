@@ -15,12 +15,12 @@ use Rattle.schema_values.specs.Attributes.{is_named, has}
 use Rattle.schema_values.specs.Fits.{fits}
 use Rattle.schema_faults.specs.Children.{has_characters, follows}
 
--- x-shape.root: the root is not `schema` of the schema namespace
+-- x-shape.root (own): the root is not `schema` of the schema namespace
 abbrev pub is_no_schema : Kind → Bool
 is_no_schema k.NoSchema = true
 is_no_schema _ = false
 
--- x-shape.content: the child elements are not those of the table
+-- x-shape.content (own): the child elements are not those of the table
 abbrev pub has_wrong_children : Kind → List Tag → Bool
 has_wrong_children kind tags = not (list_any (λ steps. follows steps tags) (contents kind))
 
@@ -29,7 +29,7 @@ abbrev pub is_annotation : Kind → Bool
 is_annotation k.Annotation = true
 is_annotation _ = false
 
--- x-shape.text: there are characters other than white space
+-- x-shape.text (own): there are characters other than white space
 abbrev pub has_text : Kind → Forest → Bool
 has_text kind children = not (is_annotation kind) && has_characters children
 
@@ -50,7 +50,7 @@ is_allowed rules a = is_foreign a.name.namespace || is_some (rule_of rules a)
 abbrev pub is_met : List Attribute → Rule → Bool
 is_met attributes rule = not rule.required || has rule.name attributes
 
--- x-shape.attribute: there is an attribute that the table lacks, or a required one is not there
+-- x-shape.attribute (own): there is an attribute that the table lacks, or a required one is not there
 abbrev pub has_wrong_attribute : Kind → List Attribute → Bool
 has_wrong_attribute kind attributes = not (list_all (is_allowed (rules kind)) attributes && list_all (is_met attributes) (rules kind))
 
@@ -62,6 +62,6 @@ fits_rule scope a (Some rule) = fits scope rule.kind a.value
 abbrev pub is_fit : List Binding → List Rule → Attribute → Bool
 is_fit scope rules a = fits_rule scope a (rule_of rules a)
 
--- x-shape.value: a value is not of its kind
+-- x-shape.value (own): a value is not of its kind
 abbrev pub has_wrong_value : List Binding → Kind → List Attribute → Bool
 has_wrong_value scope kind attributes = not (list_all (is_fit scope (rules kind)) attributes)

@@ -36,7 +36,7 @@ abbrev pub names_builtin : List ℕ → TypeNames → Bool
 names_builtin local names =
     names_this local names.of || (names_this local names.base || (names_this local names.item || list_any (is_builtin local) names.members))
 
--- x-unsupported.notation: the element is `notation`
+-- x-unsupported.notation (own): the element is `notation`
 abbrev pub is_notation : Kind → Bool
 is_notation k.Notation = true
 is_notation _ = false
@@ -45,7 +45,7 @@ abbrev pub is_schema : Kind → Bool
 is_schema k.Schema = true
 is_schema _ = false
 
--- x-unsupported.target: targetNamespace is the schema namespace
+-- x-unsupported.target (own): targetNamespace is the schema namespace
 abbrev pub has_schema_target : Kind → List Attribute → Bool
 has_schema_target kind attributes =
     is_schema kind && bytes_eq (unwrap_or (value_of an.TargetNamespace attributes) []) schema_namespace

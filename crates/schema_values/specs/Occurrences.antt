@@ -28,7 +28,7 @@ is_greater None high = false
 is_greater (Some low) None = false
 is_greater (Some low) (Some high) = nat_lt high low
 
--- x-limit.occurs: a finite bound is past the limit
+-- x-limit.occurs (own): a finite bound is past the limit
 abbrev pub is_past_limit : List Attribute → Bool
 is_past_limit attributes = is_past (bound_of (value_of an.MinOccurs attributes)) || is_past (bound_of (value_of an.MaxOccurs attributes))
 
