@@ -3,13 +3,13 @@ ghost use Rattle.tree_rows.specs.Whole.{IsNamespace};
 
 use crate::lines::items_of;
 use plain_tree::{
-    Attribute, Binding, Builder, Edit, EditError, Expanded, NodeKind, Prefixes, Row, Tree,
-    TreeReason, fragment, read_tree,
+    Attribute, Binding, Builder, Edit, EditError, Expanded, NodeKind, Row, Tree, TreeReason,
+    fragment, read_tree,
 };
 use std::alloc::Global;
 use std::test::Fail;
 use tag_names::NameReason;
-use xs_names::Text;
+use xs_names::{Names, Scope, Text};
 
 /// The tree of these lines, one item after another.
 fn tree_of(alloc: Global, lines: &[&str]) -> Result<Tree, Fail> {
