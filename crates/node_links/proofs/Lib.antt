@@ -1,0 +1,4 @@
+pub mod Among
+pub mod Seen
+pub mod Putting
+pub mod Taking

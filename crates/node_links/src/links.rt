@@ -1,0 +1,236 @@
+//! Nodes by number, linked.
+
+ghost use Rattle.std.specs.Prelude.{◌≡◌, ◌≢◌, ℕ, ◌+◌, ◌^◌, ◌<◌, ◌≤◌, ◌++◌, [], ◌∷◌, length, drop, replicate, slice_get, None, Some, OnOk, OnErr, IfOk};
+ghost use Rattle.std.specs.Option.{option_map, option_and_then, option_copied};
+ghost use Rattle.child_trees.specs.Lists.{IsLive, IsUpTo, acts_along};
+ghost use Rattle.node_links.specs.Firsts.{no_child, first_found};
+ghost use Rattle.node_links.specs.Linked.{entries};
+
+use crate::Content;
+use crate::firsts::{Child, First, Firsts, NO_CHILD};
+use crate::slots::{Hook, Slot, Slots};
+use child_trees::{Leaf, SeqId, Seqs};
+use std::alloc::{AllocError, Global};
+use std::marker::Model;
+use xsv_steps::{Silent, Steps};
+
+/// The nodes of a document by number. Contracts see the node of each number that was given out: its parent, its depth,
+/// what it holds, and the numbers of its children in order.
+///
+/// A number that was given out and has no node may be given a node once more by `put`, and by no other call.
+#[derive(Drop)]
+pub struct NodeLinks {
+    slots: Slots,
+    lists: Seqs<Firsts>,
+}
+
+impl Model for NodeLinks {
+    ghost use Rattle.node_links.specs.Nodes.{Nodes};
+    ghost use Rattle.node_links.specs.Linked.{nodes_of, IsLinked};
+
+    ghost Value = { Nodes };
+
+    ghost view = { λ t. nodes_of t.slots.slots t.lists };
+
+    ghost invariant = { λ t. IsLinked t.slots.slots t.lists };
+}
+
+/// The first child from a place on, and the first element.
+fn first_from(lists: &Seqs<Firsts>, list: SeqId, place: u32) -> First
+    requires live { IsLive lists.now list }
+    requires place { IsUpTo lists.now list place }
+    ensures { result ≡ acts_along first_found no_child (drop place (entries lists.now list)) }
+{
+    lists.from(list, place, NO_CHILD, &mut Steps::new(Silent))
+}
+
+impl NodeLinks {
+    ghost use Rattle.node_links.specs.Nodes.{Node, node, IsNode, IsChildAt, IsSound, Inserts, Removes, Holds, is_element, depth_by, children_by, alone};
+
+    /// A root alone, which has the number 1 and depth 1.
+    ///
+    /// # Errors
+    ///
+    /// `AllocError` is want of memory.
+    pub fn with_root(alloc: Global, content: Content) -> Result<NodeLinks, AllocError>
+        ensures root { IfOk result (λ t. t ≡ alone content) }
+        ensures sound { IfOk result IsSound }
+    {
+        let mut slots = Slots::new(alloc);
+        let mut lists = Seqs::new(alloc, Firsts::new(alloc));
+        slots.add_numbers(2)?;
+        slots.reserve()?;
+        let list = lists.new_seq()?;
+        slots.put(Slot {
+            number: 1,
+            hook: None,
+            depth: 1,
+            list,
+            count: 0,
+            content,
+        });
+        Ok(NodeLinks { slots, lists })
+    }
+
+    /// The number that the next new node gets.
+    pub fn next_free(&self) -> u32
+        ensures next { result ≡ length self.now }
+        ensures sound { IsSound self.now }
+    {
+        self.slots.len() as u32
+    }
+
+    /// What a node holds; `None` where the number is of no node.
+    pub fn content(&self, number: u32) -> Option<&Content>
+        ensures content { option_copied result ≡ option_map (λ it. it.content) (node self.now number) }
+        ensures sound { IsSound self.now }
+    {
+        match self.slots.get(number) {
+            None => None,
+            Some(slot) => Some(&slot.content),
+        }
+    }
+
+    /// The parent of a node; `None` for a root, and where the number is of no node.
+    pub fn parent(&self, number: u32) -> Option<u32>
+        ensures parent { result ≡ option_and_then (λ it. it.parent) (node self.now number) }
+        ensures sound { IsSound self.now }
+    {
+        match self.slots.get(number) {
+            None => None,
+            Some(slot) => match slot.hook {
+                None => None,
+                Some(hook) => Some(hook.parent),
+            },
+        }
+    }
+
+    /// How deep a node stands, a root having depth 1; 0 where the number is of no node.
+    pub fn depth(&self, number: u32) -> u32
+        ensures depth { result ≡ depth_by (node self.now number) }
+        ensures sound { IsSound self.now }
+    {
+        match self.slots.get(number) {
+            None => 0,
+            Some(slot) => slot.depth,
+        }
+    }
+
+    /// How many children a node has; 0 where the number is of no node.
+    pub fn child_count(&self, number: u32) -> u32
+        ensures count { result ≡ length (children_by (node self.now number)) }
+        ensures sound { IsSound self.now }
+    {
+        match self.slots.get(number) {
+            None => 0,
+            Some(slot) => slot.count,
+        }
+    }
+
+    /// The child at a place, counted from 0; `None` where there is none. It takes steps logarithmic in the number of
+    /// children.
+    pub fn child_at(&self, number: u32, place: u32) -> Option<u32>
+        ensures child { result ≡ slice_get (children_by (node self.now number)) place }
+        ensures sound { IsSound self.now }
+    {
+        match self.slots.get(number) {
+            None => None,
+            Some(slot) => {
+                if place < slot.count {
+                    first_from(&self.lists, slot.list, place).child
+                } else {
+                    None
+                }
+            }
+        }
+    }
+
+    /// Gives out so many numbers more, which no node has yet.
+    ///
+    /// # Errors
+    ///
+    /// `AllocError` is want of memory, or of numbers below 4,294,967,296. All is then as it was.
+    pub fn add_numbers(&mut self, count: u32) -> Result<(), AllocError>
+        ensures ok { OnOk result (self.new ≡ self.old ++ replicate count None) }
+        ensures err { OnErr result (self.new ≡ self.old) }
+        ensures sound { IsSound self.new }
+    {
+        self.slots.add_numbers(count)
+    }
+
+    /// Puts a node without children under a number that no node has, as the child of a node at a place.
+    ///
+    /// # Errors
+    ///
+    /// `AllocError` is want of memory. All is then as it was.
+    pub fn put(
+        &mut self,
+        number: u32,
+        parent: u32,
+        place: u32,
+        content: Content,
+    ) -> Result<(), AllocError>
+        requires given { number < length self.old }
+        requires free { node self.old number ≡ None }
+        requires parent { (it : Node) × IsNode self.old parent it × (place ≤ length it.children) × (it.depth + 1 < 2 ^ 32) }
+        ensures ok { OnOk result (Inserts self.old self.new parent place number content) }
+        ensures err { OnErr result (self.new ≡ self.old) }
+        ensures sound { IsSound self.new }
+    {
+        let Some(above) = self.slots.get(parent) else {
+            unreachable!()
+        };
+        let (order, depth, count) = (above.list, above.depth, above.count);
+        if count == u32::MAX {
+            return Err(AllocError);
+        }
+        self.slots.reserve()?;
+        let list = self.lists.new_seq()?;
+        let is_element = content.is_element();
+        let leaf = Leaf {
+            letter: Some(Child { number, is_element }),
+            element: is_element,
+            marked: is_element,
+        };
+        let item = match self
+            .lists
+            .insert(order, place, leaf, &(), &mut Steps::new(Silent))
+        {
+            Ok(item) => item,
+            Err(error) => {
+                self.lists.drop_seq(list);
+                return Err(error);
+            }
+        };
+        self.slots.put(Slot {
+            number,
+            hook: Some(Hook { parent, item }),
+            depth: depth + 1,
+            list,
+            count: 0,
+            content,
+        });
+        self.slots.set_count(parent, count + 1);
+        Ok(())
+    }
+
+    /// Takes a node away that is no root and has no children, and answers what it held. It takes no memory.
+    pub fn take(&mut self, number: u32) -> Content
+        requires { (it : Node) × IsNode self.old number it × (it.children ≡ []) × (it.parent ≢ None) }
+        ensures content { (it : Node) → IsNode self.old number it → result ≡ it.content }
+        ensures change { (p place : ℕ) → IsChildAt self.old p place number → Removes self.old self.new p place number }
+        ensures sound { IsSound self.new }
+    {
+        let slot = self.slots.take(number);
+        self.lists.drop_seq(slot.list);
+        let Some(hook) = slot.hook else {
+            unreachable!()
+        };
+        self.lists.remove(hook.item, &mut Steps::new(Silent));
+        if let Some(parent) = self.slots.get(hook.parent) {
+            let count = parent.count;
+            self.slots.set_count(hook.parent, count - 1);
+        }
+        slot.content
+    }
+}
