@@ -17,7 +17,7 @@ use Rattle.node_links.proofs.Seen.{node_is, seen, shown, number_hung}
 
 module _ (ss : List (Option Slot)) (v : Orders) (ts : List (Option Slot)) (w : Orders) (p : ℕ) (s : Slot) (place c : ℕ) (new : Slot) (e : Entry First)
     (i : IsLinked ss v) (r : Puts ss v ts w p s place c new e) where
-  more : Slot
+  abbrev more : Slot
   more = record s { count = s.count + 1 }
 
   p_not_c : p ≢ c
@@ -71,7 +71,7 @@ module _ (ss : List (Option Slot)) (v : Orders) (ts : List (Option Slot)) (w : O
   stays : (m : ℕ) (t : Slot) → slot ss m ≡ Some t → Stays m t
   stays m t h = elim (same_or_other m p) [
       inl k ↦ let q : t ≡ s = same_Some t s (sym h ∙ ap (slot ss) k ∙ r.parent_was) in
-        record { now = more; is = ap (slot ts) k ∙ r.parent_is; same = ap (λ x. record x { count = s.count + 1 }) q }
+        record { now = more; is = ap (slot ts) k ∙ r.parent_is; same = ap (λ (x : Slot). record x { count = s.count + 1 }) q }
     | inr n ↦ record { now = t; is = r.others m n (live_not_c m t h) ∙ h; same = refl } ]
 
   hung : (n : ℕ) (t u : Slot) (x : Entry First) → u.depth ≡ t.depth → IsHung ss n t x → IsHung ts n u x
@@ -190,13 +190,13 @@ module _ (ss : List (Option Slot)) (v : Orders) (ts : List (Option Slot)) (w : O
         let z = seen ss v p it h in
         let q : node_in v s ≡ it = ap (node_in v) (same_Some s z.slot_is (sym r.parent_was ∙ z.there)) ∙ z.same in
         shown ts w p more r.parent_is ∙ ap (λ y. Some (record { parent = option_map (λ k. k.parent) s.hook; depth = s.depth; content = s.content; children = y })) children_new
-        ∙ ap (λ y. Some (record y { children = insert y.children place c })) q;
+        ∙ ap (λ (y : Node). Some (record y { children = insert y.children place c })) q;
     child = λ it h.
         let z = seen ss v p it h in
         let q : node_in v s ≡ it = ap (node_in v) (same_Some s z.slot_is (sym r.parent_was ∙ z.there)) ∙ z.same in
         shown ts w c new r.here
         ∙ ap (λ y. Some (record { parent = option_map (λ k. k.parent) y; depth = new.depth; content = new.content; children = numbers (entries w new.list) })) r.hook
-        ∙ ap (λ y. Some (record { parent = Some p; depth = y; content = new.content; children = numbers (entries w new.list) })) (r.below ∙ ap (λ y. y.depth + 1) q)
+        ∙ ap (λ y. Some (record { parent = Some p; depth = y; content = new.content; children = numbers (entries w new.list) })) (r.below ∙ ap (λ (y : Node). y.depth + 1) q)
         ∙ ap (λ y. Some (record { parent = Some p; depth = it.depth + 1; content = new.content; children = numbers y })) entries_new;
     others = λ m n o. node_is ts w m ∙ ap (option_map (node_in w)) (r.others m n o) ∙ seen_same m n (slot ss m) refl ∙ sym (node_is ss v m);
   }

@@ -17,11 +17,11 @@ use Rattle.node_links.proofs.Seen.{node_is, seen, shown, number_hung}
 
 module _ (ss : List (Option Slot)) (v : Orders) (ts : List (Option Slot)) (w : Orders) (p : ℕ) (s : Slot) (place c : ℕ) (old : Slot) (e : Entry First)
     (i : IsLinked ss v) (r : Takes ss v ts w p s place c old e) where
-  less : Slot
+  abbrev less : Slot
   less = r.parent_is.0
 
   same_less : less ≡ record s { count = less.count }
-  same_less = r.parent_is.1.1
+  same_less = r.parent_is.2
 
   e_there : Has e (entries v s.list)
   e_there = has-at (entries v s.list) place e r.within r.at
@@ -46,7 +46,7 @@ module _ (ss : List (Option Slot)) (v : Orders) (ts : List (Option Slot)) (w : O
 
   kinds : (m : ℕ) (t : Slot) → slot ts m ≡ Some t → IsParent m t ⊎ IsOld m t
   kinds m t h = elim (same_or_other m p) [
-      inl k ↦ inl (record { at = k; is = same_Some t less (sym h ∙ ap (slot ts) k ∙ r.parent_is.1.0) })
+      inl k ↦ inl (record { at = k; is = same_Some t less (sym h ∙ ap (slot ts) k ∙ r.parent_is.1) })
     | inr n ↦ elim (same_or_other m c) [
         inl k ↦ absurd (none-some t (sym r.gone ∙ ap (slot ts) (sym k) ∙ h))
       | inr o ↦ inr (record { not_p = n; not_c = o; is = sym (r.others m n o) ∙ h }) ] ]
@@ -60,7 +60,7 @@ module _ (ss : List (Option Slot)) (v : Orders) (ts : List (Option Slot)) (w : O
   stays : (m : ℕ) (t : Slot) → slot ss m ≡ Some t → m ≢ c → Stays m t
   stays m t h n = elim (same_or_other m p) [
       inl k ↦ let q : t ≡ s = same_Some t s (sym h ∙ ap (slot ss) k ∙ r.parent_was) in
-        record { now = less; is = ap (slot ts) k ∙ r.parent_is.1.0; same = ap (λ x. record x { count = less.count }) q ∙ sym same_less }
+        record { now = less; is = ap (slot ts) k ∙ r.parent_is.1; same = ap (λ (x : Slot). record x { count = less.count }) q ∙ sym same_less }
     | inr o ↦ record { now = t; is = r.others m o n ∙ h; same = refl } ]
 
   list_less : less.list ≡ s.list
@@ -143,7 +143,7 @@ module _ (ss : List (Option Slot)) (v : Orders) (ts : List (Option Slot)) (w : O
         let o = i.owner p s r.parent_was in
         let l : length (entries v s.list) ≡ s.count = ap (λ y. length (list_or y)) o.is ∙ sym o.count in
         let len = length-remove (entries v s.list) place r.within in
-        let c1 = r.parent_is.1.1.1 in
+        let c1 = r.parent_is.3 in
         record { list = remove (entries v s.list) place; is = ap (get w) list_less ∙ r.edited; count = omega arith })
     | inr z ↦ let o = i.owner n t z.is in record { list = o.list; is = entries_old n t z.is z.not_p z.not_c ∙ o.is; count = o.count } ]
 
@@ -183,10 +183,10 @@ module _ (ss : List (Option Slot)) (v : Orders) (ts : List (Option Slot)) (w : O
     parent = λ it h.
         let z = seen ss v p it h in
         let q : node_in v s ≡ it = ap (node_in v) (same_Some s z.slot_is (sym r.parent_was ∙ z.there)) ∙ z.same in
-        shown ts w p less r.parent_is.1.0
+        shown ts w p less r.parent_is.1
         ∙ ap (λ y. Some (record { parent = option_map (λ k. k.parent) less.hook; depth = less.depth; content = less.content; children = y })) (ap numbers entries_less ∙ numbers_less)
         ∙ ap (λ (y : Slot). Some (record { parent = option_map (λ k. k.parent) y.hook; depth = y.depth; content = y.content; children = remove (numbers (entries v s.list)) place })) same_less
-        ∙ ap (λ y. Some (record y { children = remove y.children place })) q;
+        ∙ ap (λ (y : Node). Some (record y { children = remove y.children place })) q;
     gone = node_is ts w c ∙ ap (option_map (node_in w)) r.gone;
     others = λ m n o. node_is ts w m ∙ ap (option_map (node_in w)) (r.others m n o) ∙ seen_same m n o (slot ss m) refl ∙ sym (node_is ss v m);
   }

@@ -3,6 +3,8 @@ use Rattle.std.specs.Prelude.{◌≡◌, ◌≢◌, ◌⊎◌, ℕ, ◌+◌, ◌
 use Rattle.std.specs.Option.{option_map}
 use Rattle.child_trees.specs.Lists.{Lists, Entry, get, IsLive}
 use Rattle.node_links.specs.declared.firsts.First.{First}
+use Rattle.node_links.specs.declared.firsts.Child.{Child}
+use Rattle.node_links.specs.declared.links.Hung.{Hung}
 use Rattle.node_links.specs.declared.slots.Slot.{Slot}
 use Rattle.node_links.specs.declared.slots.Hook.{Hook}
 use Rattle.node_links.specs.Firsts.{firsts_of}
@@ -114,3 +116,18 @@ pub record Takes (ss : List (Option Slot)) (v : Orders) (ts : List (Option Slot)
   pub at : (d : Entry First) → slice_index_or (entries v s.list) place d ≡ e
   pub edited : get w s.list ≡ Some (remove (entries v s.list) place)
   pub rest : (q : ℕ) → q ≢ s.list → q ≢ old.list → get w q ≡ get v q
+
+-- each list that was there is there still
+abbrev pub KeepsLists : Orders → Orders → Type 0
+KeepsLists v w = (q : ℕ) → IsLive v q → get w q ≡ get v q
+
+-- the entry of a child under its item
+abbrev pub entry_of : Child → ℕ → Entry First
+entry_of child item = record { item = item; element = child.is_element; marked = child.is_element; act = firsts_of child }
+
+-- a new list, which is empty, and an entry more at a place of another
+pub record HangsMore (v w : Orders) (order place : ℕ) (child : Child) (hung : Hung) : Type 0 where
+  pub fresh : ¬ IsLive v hung.list
+  pub empty : get w hung.list ≡ Some []
+  pub edited : get w order ≡ Some (insert (entries v order) place (entry_of child hung.item))
+  pub rest : (q : ℕ) → q ≢ order → q ≢ hung.list → get w q ≡ get v q

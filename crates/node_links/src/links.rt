@@ -1,15 +1,15 @@
 //! Nodes by number, linked.
 
-ghost use Rattle.std.specs.Prelude.{◌≡◌, ◌≢◌, ℕ, ◌+◌, ◌^◌, ◌<◌, ◌≤◌, ◌++◌, [], ◌∷◌, length, drop, replicate, slice_get, None, Some, OnOk, OnErr, IfOk};
+ghost use Rattle.std.specs.Prelude.{◌≡◌, ◌≢◌, ℕ, ◌+◌, ◌^◌, ◌<◌, ◌≤◌, ◌++◌, [], ◌∷◌, length, drop, take, slice_get, None, Some, OnOk, OnErr, IfOk};
 ghost use Rattle.std.specs.Option.{option_map, option_and_then, option_copied};
 ghost use Rattle.child_trees.specs.Lists.{IsLive, IsUpTo, acts_along};
 ghost use Rattle.node_links.specs.Firsts.{no_child, first_found};
-ghost use Rattle.node_links.specs.Linked.{entries};
+ghost use Rattle.node_links.specs.Linked.{entries, HangsMore, KeepsLists};
 
 use crate::Content;
 use crate::firsts::{Child, First, Firsts, NO_CHILD};
 use crate::slots::{Hook, Slot, Slots};
-use child_trees::{Leaf, SeqId, Seqs};
+use child_trees::{ItemId, Leaf, SeqId, Seqs};
 use std::alloc::{AllocError, Global};
 use std::marker::Model;
 use xsv_steps::{Silent, Steps};
@@ -44,6 +44,41 @@ fn first_from(lists: &Seqs<Firsts>, list: SeqId, place: u32) -> First
     lists.from(list, place, NO_CHILD, &mut Steps::new(Silent))
 }
 
+/// A new list, and an item of another one.
+#[derive(Clone, Copy, Debug, PartialEq, Eq)]
+pub struct Hung {
+    pub list: SeqId,
+    pub item: ItemId,
+}
+
+/// Makes a list for a child's own children, and puts the child into another list at a place.
+#[tactic(none)]
+fn hang(
+    lists: &mut Seqs<Firsts>,
+    order: SeqId,
+    place: u32,
+    child: Child,
+) -> Result<Hung, AllocError>
+    requires live { IsLive lists.old order }
+    requires place { place ≤ length (entries lists.old order) }
+    ensures ok { IfOk result (λ hung. HangsMore lists.old lists.new order place child hung) }
+    ensures err { OnErr result (KeepsLists lists.old lists.new) }
+{
+    let list = lists.new_seq()?;
+    let leaf = Leaf {
+        letter: Some(child),
+        element: child.is_element,
+        marked: child.is_element,
+    };
+    match lists.insert(order, place, leaf, &(), &mut Steps::new(Silent)) {
+        Ok(item) => Ok(Hung { list, item }),
+        Err(error) => {
+            lists.drop_seq(list);
+            Err(error)
+        }
+    }
+}
+
 impl NodeLinks {
     ghost use Rattle.node_links.specs.Nodes.{Node, node, IsNode, IsChildAt, IsSound, Inserts, Removes, Holds, is_element, depth_by, children_by, alone};
 
@@ -52,13 +87,15 @@ impl NodeLinks {
     /// # Errors
     ///
     /// `AllocError` is want of memory.
+    #[tactic(none)]
     pub fn with_root(alloc: Global, content: Content) -> Result<NodeLinks, AllocError>
         ensures root { IfOk result (λ t. t ≡ alone content) }
         ensures sound { IfOk result IsSound }
     {
         let mut slots = Slots::new(alloc);
         let mut lists = Seqs::new(alloc, Firsts::new(alloc));
-        slots.add_numbers(2)?;
+        slots.add_number()?;
+        slots.add_number()?;
         slots.reserve()?;
         let list = lists.new_seq()?;
         slots.put(Slot {
@@ -129,6 +166,7 @@ impl NodeLinks {
 
     /// The child at a place, counted from 0; `None` where there is none. It takes steps logarithmic in the number of
     /// children.
+    #[tactic(none)]
     pub fn child_at(&self, number: u32, place: u32) -> Option<u32>
         ensures child { result ≡ slice_get (children_by (node self.now number)) place }
         ensures sound { IsSound self.now }
@@ -145,17 +183,27 @@ impl NodeLinks {
         }
     }
 
-    /// Gives out so many numbers more, which no node has yet.
+    /// Gives out one number more, which no node has yet.
     ///
     /// # Errors
     ///
     /// `AllocError` is want of memory, or of numbers below 4,294,967,296. All is then as it was.
-    pub fn add_numbers(&mut self, count: u32) -> Result<(), AllocError>
-        ensures ok { OnOk result (self.new ≡ self.old ++ replicate count None) }
+    pub fn add_number(&mut self) -> Result<u32, AllocError>
+        ensures number { IfOk result (λ n. n ≡ length self.old) }
+        ensures ok { OnOk result (self.new ≡ self.old ++ None ∷ []) }
         ensures err { OnErr result (self.new ≡ self.old) }
         ensures sound { IsSound self.new }
     {
-        self.slots.add_numbers(count)
+        self.slots.add_number()
+    }
+
+    /// Takes back the numbers from this one on, of which none is a node's.
+    pub fn cut_numbers(&mut self, until: u32)
+        requires { (n : ℕ) → until ≤ n → node self.old n ≡ None }
+        ensures change { self.new ≡ take until self.old }
+        ensures sound { IsSound self.new }
+    {
+        self.slots.cut_numbers(until);
     }
 
     /// Puts a node without children under a number that no node has, as the child of a node at a place.
@@ -163,6 +211,7 @@ impl NodeLinks {
     /// # Errors
     ///
     /// `AllocError` is want of memory. All is then as it was.
+    #[tactic(none)]
     pub fn put(
         &mut self,
         number: u32,
@@ -185,23 +234,9 @@ impl NodeLinks {
             return Err(AllocError);
         }
         self.slots.reserve()?;
-        let list = self.lists.new_seq()?;
         let is_element = content.is_element();
-        let leaf = Leaf {
-            letter: Some(Child { number, is_element }),
-            element: is_element,
-            marked: is_element,
-        };
-        let item = match self
-            .lists
-            .insert(order, place, leaf, &(), &mut Steps::new(Silent))
-        {
-            Ok(item) => item,
-            Err(error) => {
-                self.lists.drop_seq(list);
-                return Err(error);
-            }
-        };
+        let child = Child { number, is_element };
+        let Hung { list, item } = hang(&mut self.lists, order, place, child)?;
         self.slots.put(Slot {
             number,
             hook: Some(Hook { parent, item }),
@@ -215,22 +250,26 @@ impl NodeLinks {
     }
 
     /// Takes a node away that is no root and has no children, and answers what it held. It takes no memory.
+    #[tactic(none)]
     pub fn take(&mut self, number: u32) -> Content
         requires { (it : Node) × IsNode self.old number it × (it.children ≡ []) × (it.parent ≢ None) }
         ensures content { (it : Node) → IsNode self.old number it → result ≡ it.content }
         ensures change { (p place : ℕ) → IsChildAt self.old p place number → Removes self.old self.new p place number }
         ensures sound { IsSound self.new }
     {
-        let slot = self.slots.take(number);
-        self.lists.drop_seq(slot.list);
-        let Some(hook) = slot.hook else {
-            unreachable!()
-        };
+        let Slot {
+            hook,
+            list,
+            content,
+            ..
+        } = self.slots.take(number);
+        self.lists.drop_seq(list);
+        let Some(hook) = hook else { unreachable!() };
         self.lists.remove(hook.item, &mut Steps::new(Silent));
         if let Some(parent) = self.slots.get(hook.parent) {
             let count = parent.count;
             self.slots.set_count(hook.parent, count - 1);
         }
-        slot.content
+        content
     }
 }

@@ -1,6 +1,6 @@
 //! The nodes in a slab, each found by its number.
 
-ghost use Rattle.std.specs.Prelude.{◌≡◌, ◌≢◌, ℕ, ◌+◌, ◌^◌, ◌<◌, ◌≤◌, ◌++◌, length, replicate, take, None, Some, IfOk, OnOk, OnErr};
+ghost use Rattle.std.specs.Prelude.{◌≡◌, ◌≢◌, ℕ, ◌+◌, ◌^◌, ◌<◌, ◌≤◌, ◌++◌, ◌∷◌, [], length, take, None, Some, IfOk, OnOk, OnErr};
 ghost use Rattle.std.specs.Option.{option_copied};
 
 use crate::Content;
@@ -85,6 +85,7 @@ impl Slots {
     }
 
     /// Puts a node under its number.
+    #[tactic(none)]
     pub fn put(&mut self, slot: Slot)
         requires within { slot.number < length self.old.slots }
         requires free { slot_of self.old.slots slot.number ≡ None }
@@ -122,17 +123,20 @@ impl Slots {
         self.put(slot);
     }
 
-    /// Gives out so many numbers more, which no node has.
-    pub fn add_numbers(&mut self, count: u32) -> Result<(), AllocError>
-        ensures ok { OnOk result (self.new.slots ≡ self.old.slots ++ replicate count None) }
-        ensures err { OnErr result (self.new.slots ≡ self.old.slots) }
+    /// Gives out one number more, which no node has.
+    pub fn add_number(&mut self) -> Result<u32, AllocError>
+        ensures number { IfOk result (λ n. n ≡ length self.old.slots) }
+        ensures ok { OnOk result (self.new.slots ≡ self.old.slots ++ None ∷ []) }
         ensures few { OnOk result (length self.new.slots < 2 ^ 32) }
+        ensures err { OnErr result (self.new.slots ≡ self.old.slots) }
+        ensures room { self.new.room ≡ self.old.room }
     {
-        if self.keys.len() + count as usize > u32::MAX as usize {
+        if self.keys.len() >= u32::MAX as usize {
             return Err(AllocError);
         }
-        let many = self.keys.len() + count as usize;
-        self.keys.resize(many, None)
+        let number = self.keys.len() as u32;
+        self.keys.push(None)?;
+        Ok(number)
     }
 
     /// Takes the numbers from this one on back, of which none is a node's.
