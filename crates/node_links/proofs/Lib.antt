@@ -5,3 +5,4 @@ pub mod Taking
 pub mod Keyed
 pub mod Leading
 pub mod Writing
+pub mod Changing

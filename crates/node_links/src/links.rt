@@ -52,7 +52,6 @@ pub struct Hung {
 }
 
 /// Makes a list for a child's own children, and puts the child into another list at a place.
-#[tactic(none)]
 fn hang(
     lists: &mut Seqs<Firsts>,
     order: SeqId,
@@ -87,18 +86,28 @@ impl NodeLinks {
     /// # Errors
     ///
     /// `AllocError` is want of memory.
-    #[tactic(none)]
     pub fn with_root(alloc: Global, content: Content) -> Result<NodeLinks, AllocError>
         ensures root { IfOk result (λ t. t ≡ alone content) }
         ensures sound { IfOk result IsSound }
     {
-        let mut slots = Slots::new(alloc);
-        let mut lists = Seqs::new(alloc, Firsts::new(alloc));
-        slots.add_number()?;
-        slots.add_number()?;
-        slots.reserve()?;
-        let list = lists.new_seq()?;
-        slots.put(Slot {
+        let mut links = NodeLinks {
+            slots: Slots::new(alloc),
+            lists: Seqs::new(alloc, Firsts::new(alloc)),
+        };
+        links.plant(content)?;
+        Ok(links)
+    }
+
+    /// Puts a root under the number 1 where there is nothing.
+    fn plant(&mut self, content: Content) -> Result<(), AllocError>
+        requires { self.old ≡ [] }
+        ensures { OnOk result (self.new ≡ alone content) }
+    {
+        self.slots.add_number()?;
+        self.slots.add_number()?;
+        self.slots.reserve()?;
+        let list = self.lists.new_seq()?;
+        self.slots.put(Slot {
             number: 1,
             hook: None,
             depth: 1,
@@ -106,7 +115,7 @@ impl NodeLinks {
             count: 0,
             content,
         });
-        Ok(NodeLinks { slots, lists })
+        Ok(())
     }
 
     /// The number that the next new node gets.
@@ -166,7 +175,6 @@ impl NodeLinks {
 
     /// The child at a place, counted from 0; `None` where there is none. It takes steps logarithmic in the number of
     /// children.
-    #[tactic(none)]
     pub fn child_at(&self, number: u32, place: u32) -> Option<u32>
         ensures child { result ≡ slice_get (children_by (node self.now number)) place }
         ensures sound { IsSound self.now }

@@ -85,7 +85,6 @@ impl Slots {
     }
 
     /// Puts a node under its number.
-    #[tactic(none)]
     pub fn put(&mut self, slot: Slot)
         requires within { slot.number < length self.old.slots }
         requires free { slot_of self.old.slots slot.number ≡ None }
