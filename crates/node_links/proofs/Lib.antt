@@ -6,3 +6,4 @@ pub mod Keyed
 pub mod Leading
 pub mod Writing
 pub mod Changing
+pub mod Making

@@ -52,6 +52,7 @@ pub struct Hung {
 }
 
 /// Makes a list for a child's own children, and puts the child into another list at a place.
+#[tactic(none)]
 fn hang(
     lists: &mut Seqs<Firsts>,
     order: SeqId,
@@ -86,6 +87,7 @@ impl NodeLinks {
     /// # Errors
     ///
     /// `AllocError` is want of memory.
+    #[tactic(none)]
     pub fn with_root(alloc: Global, content: Content) -> Result<NodeLinks, AllocError>
         ensures root { IfOk result (λ t. t ≡ alone content) }
         ensures sound { IfOk result IsSound }
@@ -99,6 +101,7 @@ impl NodeLinks {
     }
 
     /// Puts a root under the number 1 where there is nothing.
+    #[tactic(none)]
     fn plant(&mut self, content: Content) -> Result<(), AllocError>
         requires { self.old ≡ [] }
         ensures { OnOk result (self.new ≡ alone content) }
@@ -175,6 +178,7 @@ impl NodeLinks {
 
     /// The child at a place, counted from 0; `None` where there is none. It takes steps logarithmic in the number of
     /// children.
+    #[tactic(none)]
     pub fn child_at(&self, number: u32, place: u32) -> Option<u32>
         ensures child { result ≡ slice_get (children_by (node self.now number)) place }
         ensures sound { IsSound self.now }
