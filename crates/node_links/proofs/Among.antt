@@ -7,7 +7,9 @@ use Rattle.node_links.specs.Nodes.{Has, Lacks, Distinct}
 pub same_or_other : (m n : ℕ) → (m ≡ n) ⊎ (m ≢ n)
 same_or_other m n =
     elim (nat_eq m n) as (λ b. nat_eq m n ≡ b → (m ≡ n) ⊎ (m ≢ n)) [
-      true ↦ λ e. inl (grind (arith, nat_tests)) | false ↦ λ e. inr (grind (arith, nat_tests)) ] refl
+      | true ↦ λ e. inl (grind (arith, nat_tests))
+      | false ↦ λ e. inr (grind (arith, nat_tests))
+    ] refl
 
 pub map-insert : {A B : Type 0} (f : A → B) (xs : List A) (i : ℕ) (x : A) → map f (insert xs i x) ≡ insert (map f xs) i (f x)
 map-insert f xs i x = map-append f (take i xs) (x ∷ drop i xs) ∙ (λ k. sym (take-map f i xs) k ++ f x ∷ sym (drop-map f i xs) k)
@@ -36,8 +38,9 @@ pub record FromMap {A : Type 0} (f : A → ℕ) (xs : List A) (y : ℕ) : Type 0
 pub from-map : {A : Type 0} (f : A → ℕ) (xs : List A) (y : ℕ) → Has y (map f xs) → FromMap f xs y
 from-map f [] y h = absurd h
 from-map f (x ∷ xs) y h = elim h [
-    inl e ↦ record { item = x; has = inl refl; is = e }
-  | inr k ↦ let z = from-map f xs y k in record { item = z.item; has = inr z.has; is = z.is } ]
+  | inl e ↦ record { item = x; has = inl refl; is = e }
+  | inr k ↦ let z = from-map f xs y k in record { item = z.item; has = inr z.has; is = z.is }
+]
 
 pub has-map : {A : Type 0} (f : A → ℕ) (xs : List A) (x : A) → Has x xs → Has (f x) (map f xs)
 has-map f [] x h = absurd h

@@ -36,10 +36,11 @@ cut_links ss ts v u e free i =
   where
     same : (n : ℕ) → slot (take u ss) n ≡ slot ss n
     same n = elim (cases_lt n u) [
-        inl lt ↦ get_or-take u ss n None lt
+      | inl lt ↦ get_or-take u ss n None lt
       | inr le ↦
           get_or-eq_default (take u ss) None (let a = take_few u ss in omega arith)
-          ∙ sym (no_slot v (slot ss n) (sym (node_is ss v n) ∙ free n le)) ]
+          ∙ sym (no_slot v (slot ss n) (sym (node_is ss v n) ∙ free n le))
+    ]
 
 pub cut_seen : (ss ts : List (Option Slot)) (v : Orders) (u : ℕ) → ts ≡ take u ss → nodes_of ts v ≡ take u (nodes_of ss v)
 cut_seen ss ts v u e = ap (λ x. nodes_of x v) e ∙ sym (take-map (option_map (node_in v)) u ss)

@@ -46,11 +46,12 @@ module _ (keys ks : List (Option ℕ)) (slab sl : Slab Slot) (n key : ℕ) (kept
 
   pub kept_on : ((k : ℕ) → key_at ks n ≡ Some k → IsKeyOf sl k n) → AreKept ks sl
   kept_on here m k e = elim (same_or_other m n) [
-      inl q ↦ subst (IsKeyOf sl k) (sym q) (here k (ap (key_at ks) (sym q) ∙ e))
+    | inl q ↦ subst (IsKeyOf sl k) (sym q) (here k (ap (key_at ks) (sym q) ∙ e))
     | inr d ↦
         let was = sym (others m d) ∙ e in
         let o = kept m k was in
-        (o.0, away m k d was ∙ o.1, o.2) ]
+        (o.0, away m k d was ∙ o.1, o.2)
+  ]
 
 module _ (keys : List (Option ℕ)) (slab sl : Slab Slot) (n key : ℕ) (kept : AreKept keys slab) where
   -- a new key is no other number's
@@ -97,8 +98,8 @@ module _ (keys : List (Option ℕ)) (slab sl : Slab Slot) (n key : ℕ) (kept : 
 pub within_of : (keys : List (Option ℕ)) (slab : Slab Slot) (n : ℕ) (s : Slot) → slot (map (slot_by slab) keys) n ≡ Some s → n < length keys
 within_of keys slab n s e =
     elim (cases_lt n (length keys)) [
-      inl lt ↦ lt
-    | inr out ↦ absurd (none-some s (sym (ap (slot_by slab) (get_or-eq_default keys None out)) ∙ sym (slot_is keys slab n) ∙ e))
+      | inl lt ↦ lt
+      | inr out ↦ absurd (none-some s (sym (ap (slot_by slab) (get_or-eq_default keys None out)) ∙ sym (slot_is keys slab n) ∙ e))
     ]
 
 pub taken_key : (keys : List (Option ℕ)) (slab : Slab Slot) (n : ℕ) (r : Option ℕ) (s : Slot) (k : ℕ) → slot (map (slot_by slab) keys) n ≡ Some s

@@ -58,7 +58,8 @@ sound ss v i = record {
         child = node_in v d.child;
         is = subst (λ y. IsNode (nodes_of ss v) y (node_in v d.child)) here (shown ss v d.number d.child d.is);
         parent = ap (option_map (λ h. h.parent)) d.hook;
-        below = d.below ∙ ap (λ y. y.depth + 1) z.same };
+        below = d.below ∙ ap (λ y. y.depth + 1) z.same;
+      };
   up = λ c p it k h.
       let z = seen ss v c it k in
       let o = hooked z.slot_is.hook p (ap (λ y. y.parent) z.same ∙ h) in
@@ -66,7 +67,8 @@ sound ss v i = record {
       record {
         parent = node_in v u.parent;
         is = subst (λ y. IsNode (nodes_of ss v) y (node_in v u.parent)) o.parent (shown ss v o.hook.parent u.parent u.is);
-        has = subst (λ y. Has y (numbers (entries v u.parent.list))) u.child (has-map number_of (entries v u.parent.list) u.entry u.has) };
+        has = subst (λ y. Has y (numbers (entries v u.parent.list))) u.child (has-map number_of (entries v u.parent.list) u.entry u.has);
+      };
   once = λ p it k. let z = seen ss v p it k in subst (λ y. Distinct y.children) z.same (i.once p z.slot_is z.there);
   few = subst (λ n. n < 2 ^ 32) (sym (length-map ss (option_map (node_in v)))) i.few;
 }

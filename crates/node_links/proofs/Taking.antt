@@ -46,10 +46,12 @@ module _ (ss : List (Option Slot)) (v : Orders) (ts : List (Option Slot)) (w : O
 
   kinds : (m : ℕ) (t : Slot) → slot ts m ≡ Some t → IsParent m t ⊎ IsOld m t
   kinds m t h = elim (same_or_other m p) [
-      inl k ↦ inl (record { at = k; is = same_Some t less (sym h ∙ ap (slot ts) k ∙ r.parent_is.1) })
+    | inl k ↦ inl (record { at = k; is = same_Some t less (sym h ∙ ap (slot ts) k ∙ r.parent_is.1) })
     | inr n ↦ elim (same_or_other m c) [
-        inl k ↦ absurd (none-some t (sym r.gone ∙ ap (slot ts) (sym k) ∙ h))
-      | inr o ↦ inr (record { not_p = n; not_c = o; is = sym (r.others m n o) ∙ h }) ] ]
+      | inl k ↦ absurd (none-some t (sym r.gone ∙ ap (slot ts) (sym k) ∙ h))
+      | inr o ↦ inr (record { not_p = n; not_c = o; is = sym (r.others m n o) ∙ h })
+    ]
+  ]
 
   -- a slot of before but c's is there still
   record Stays (m : ℕ) (t : Slot) : Type 0 where
@@ -59,9 +61,10 @@ module _ (ss : List (Option Slot)) (v : Orders) (ts : List (Option Slot)) (w : O
 
   stays : (m : ℕ) (t : Slot) → slot ss m ≡ Some t → m ≢ c → Stays m t
   stays m t h n = elim (same_or_other m p) [
-      inl k ↦ let q : t ≡ s = same_Some t s (sym h ∙ ap (slot ss) k ∙ r.parent_was) in
+    | inl k ↦ let q : t ≡ s = same_Some t s (sym h ∙ ap (slot ss) k ∙ r.parent_was) in
         record { now = less; is = ap (slot ts) k ∙ r.parent_is.1; same = ap (λ (x : Slot). record x { count = less.count }) q ∙ sym same_less }
-    | inr o ↦ record { now = t; is = r.others m o n ∙ h; same = refl } ]
+    | inr o ↦ record { now = t; is = r.others m o n ∙ h; same = refl }
+  ]
 
   list_less : less.list ≡ s.list
   list_less = ap (λ y. y.list) same_less
@@ -94,16 +97,19 @@ module _ (ss : List (Option Slot)) (v : Orders) (ts : List (Option Slot)) (w : O
   hung n t u x d h o =
       let k = stays h.number h.child h.is o in
       record {
-        number = h.number; child = k.now; is = k.is;
+        number = h.number;
+        child = k.now;
+        is = k.is;
         act = subst (λ (y : Slot). x.act ≡ firsts_of (record { number = h.number; is_element = is_element y.content })) k.same h.act;
         element = subst (λ (y : Slot). x.element ≡ is_element y.content) k.same h.element;
         marked = subst (λ (y : Slot). x.marked ≡ is_element y.content) k.same h.marked;
         hook = subst (λ (y : Slot). y.hook ≡ Some (record { parent = n; item = x.item })) k.same h.hook;
-        below = subst (λ (y : Slot). y.depth ≡ u.depth + 1) k.same (h.below ∙ ap (λ y. y + 1) (sym d)) }
+        below = subst (λ (y : Slot). y.depth ≡ u.depth + 1) k.same (h.below ∙ ap (λ y. y + 1) (sym d));
+      }
 
   down : (n : ℕ) (t : Slot) (x : Entry First) → slot ts n ≡ Some t → Has x (entries w t.list) → IsHung ts n t x
   down n t x h k = elim (kinds n t h) [
-      inl z ↦
+    | inl z ↦
         let there = subst (Has x) (ap (λ y. entries w y.list) z.is ∙ entries_less) k in
         let d = i.down p s x r.parent_was (from_less x there) in
         subst (λ y. IsHung ts y t x) (sym z.at) (subst (λ y. IsHung ts p y x) (sym z.is)
@@ -111,51 +117,63 @@ module _ (ss : List (Option Slot)) (v : Orders) (ts : List (Option Slot)) (w : O
     | inr z ↦
         let d = i.down n t x z.is (subst (λ y. Has x (list_or y)) (entries_old n t z.is z.not_p z.not_c) k) in
         hung n t t x refl d (λ q.
-          let same : d.child ≡ old = same_Some d.child old (sym d.is ∙ ap (slot ss) q ∙ r.was) in
-          let hooks = same_Some (record { parent = n; item = x.item }) (record { parent = p; item = e.item }) (sym d.hook ∙ ap (λ y. y.hook) same ∙ r.hook) in
-          z.not_p (ap (λ y. y.parent) hooks)) ]
+        let same : d.child ≡ old = same_Some d.child old (sym d.is ∙ ap (slot ss) q ∙ r.was) in
+        let hooks = same_Some (record { parent = n; item = x.item }) (record { parent = p; item = e.item }) (sym d.hook ∙ ap (λ y. y.hook) same ∙ r.hook) in
+        z.not_p (ap (λ y. y.parent) hooks))
+  ]
 
   hangs : (m : ℕ) (h : Hook) → m ≢ c → Hangs ss v m h → Hangs ts w m h
   hangs m h n u =
       let not_leaf : h.parent ≢ c = λ q.
-          absurd (subst (Has u.entry) (ap (λ y. entries v y.list) (same_Some u.parent old (sym u.is ∙ ap (slot ss) q ∙ r.was)) ∙ r.leaf) u.has) in
+      absurd (subst (Has u.entry) (ap (λ y. entries v y.list) (same_Some u.parent old (sym u.is ∙ ap (slot ss) q ∙ r.was)) ∙ r.leaf) u.has) in
       let k = stays h.parent u.parent u.is not_leaf in
       let has : Has u.entry (entries w u.parent.list) = elim (same_or_other h.parent p) [
-          inl o ↦
+        | inl o ↦
             let q : u.parent ≡ s = same_Some u.parent s (sym u.is ∙ ap (slot ss) o ∙ r.parent_was) in
             subst (λ (y : Slot). Has u.entry (entries w y.list)) (sym q) (subst (Has u.entry) (sym (ap list_or r.edited))
             (elim (has-remove (entries v s.list) place e u.entry r.within r.at (subst (λ (y : Slot). Has u.entry (entries v y.list)) q u.has)) [
-                inl z ↦ absurd (n (sym u.child ∙ ap number_of (sym z) ∙ r.child))
-              | inr z ↦ z ]))
-        | inr o ↦ subst (λ y. Has u.entry (list_or y)) (sym (entries_old h.parent u.parent u.is o not_leaf)) u.has ] in
+              | inl z ↦ absurd (n (sym u.child ∙ ap number_of (sym z) ∙ r.child))
+              | inr z ↦ z
+            ]))
+        | inr o ↦ subst (λ y. Has u.entry (list_or y)) (sym (entries_old h.parent u.parent u.is o not_leaf)) u.has
+      ] in
       record {
-        parent = k.now; is = k.is; entry = u.entry; item = u.item; child = u.child;
-        has = subst (λ (y : Slot). Has u.entry (entries w y.list)) k.same has }
+        parent = k.now;
+        is = k.is;
+        entry = u.entry;
+        item = u.item;
+        child = u.child;
+        has = subst (λ (y : Slot). Has u.entry (entries w y.list)) k.same has;
+      }
 
   up : (m : ℕ) (t : Slot) (h : Hook) → slot ts m ≡ Some t → t.hook ≡ Some h → Hangs ts w m h
   up m t h a b = elim (kinds m t a) [
-      inl z ↦ hangs m h (λ q. p_not_c (sym z.at ∙ q)) (i.up m s h (ap (slot ss) z.at ∙ r.parent_was) (ap (λ y. y.hook) (sym same_less) ∙ ap (λ y. y.hook) (sym z.is) ∙ b))
-    | inr z ↦ hangs m h z.not_c (i.up m t h z.is b) ]
+    | inl z ↦ hangs m h (λ q. p_not_c (sym z.at ∙ q)) (i.up m s h (ap (slot ss) z.at ∙ r.parent_was) (ap (λ y. y.hook) (sym same_less) ∙ ap (λ y. y.hook) (sym z.is) ∙ b))
+    | inr z ↦ hangs m h z.not_c (i.up m t h z.is b)
+  ]
 
   owner : (n : ℕ) (t : Slot) → slot ts n ≡ Some t → IsOwner w t
   owner n t h = elim (kinds n t h) [
-      inl z ↦ subst (IsOwner w) (sym z.is) (
+    | inl z ↦ subst (IsOwner w) (sym z.is) (
         let o = i.owner p s r.parent_was in
         let l : length (entries v s.list) ≡ s.count = ap (λ y. length (list_or y)) o.is ∙ sym o.count in
         let len = length-remove (entries v s.list) place r.within in
         let c1 = r.parent_is.3 in
         record { list = remove (entries v s.list) place; is = ap (get w) list_less ∙ r.edited; count = omega arith })
-    | inr z ↦ let o = i.owner n t z.is in record { list = o.list; is = entries_old n t z.is z.not_p z.not_c ∙ o.is; count = o.count } ]
+    | inr z ↦ let o = i.owner n t z.is in record { list = o.list; is = entries_old n t z.is z.not_p z.not_c ∙ o.is; count = o.count }
+  ]
 
   once : (n : ℕ) (t : Slot) → slot ts n ≡ Some t → Distinct (numbers (entries w t.list))
   once n t h = elim (kinds n t h) [
-      inl z ↦ subst (λ y. Distinct (numbers y)) (sym (ap (λ y. entries w y.list) z.is ∙ entries_less)) (subst Distinct (sym numbers_less) rest.0)
-    | inr z ↦ subst (λ y. Distinct (numbers (list_or y))) (sym (entries_old n t z.is z.not_p z.not_c)) (i.once n t z.is) ]
+    | inl z ↦ subst (λ y. Distinct (numbers y)) (sym (ap (λ y. entries w y.list) z.is ∙ entries_less)) (subst Distinct (sym numbers_less) rest.0)
+    | inr z ↦ subst (λ y. Distinct (numbers (list_or y))) (sym (entries_old n t z.is z.not_p z.not_c)) (i.once n t z.is)
+  ]
 
   own : (n : ℕ) (t : Slot) → slot ts n ≡ Some t → t.number ≡ n
   own n t h = elim (kinds n t h) [
-      inl z ↦ ap (λ y. y.number) (z.is ∙ same_less) ∙ i.own p s r.parent_was ∙ sym z.at
-    | inr z ↦ i.own n t z.is ]
+    | inl z ↦ ap (λ y. y.number) (z.is ∙ same_less) ∙ i.own p s r.parent_was ∙ sym z.at
+    | inr z ↦ i.own n t z.is
+  ]
 
   record WasList (m : ℕ) (t : Slot) : Type 0 where
     before : Slot
@@ -164,8 +182,9 @@ module _ (ss : List (Option Slot)) (v : Orders) (ts : List (Option Slot)) (w : O
 
   lists : (m : ℕ) (t : Slot) → slot ts m ≡ Some t → WasList m t
   lists m t h = elim (kinds m t h) [
-      inl z ↦ record { before = s; is = ap (slot ss) z.at ∙ r.parent_was; same = sym list_less ∙ ap (λ y. y.list) (sym z.is) }
-    | inr z ↦ record { before = t; is = z.is; same = refl } ]
+    | inl z ↦ record { before = s; is = ap (slot ss) z.at ∙ r.parent_was; same = sym list_less ∙ ap (λ y. y.list) (sym z.is) }
+    | inr z ↦ record { before = t; is = z.is; same = refl }
+  ]
 
   apart : (n m : ℕ) (t u : Slot) → slot ts n ≡ Some t → slot ts m ≡ Some u → t.list ≡ u.list → n ≡ m
   apart n m t u h k q = let a = lists n t h in let b = lists m u k in i.apart n m a.before b.before a.is b.is (a.same ∙ q ∙ sym b.same)

@@ -33,11 +33,14 @@ module _ (ss ts : List (Option Slot)) (v : Orders) (n : ℕ) (s : Slot) (content
 
   stays : (m : ℕ) (t : Slot) → slot ss m ≡ Some t → Stays m t
   stays m t h = elim (same_or_other m n) [
-      inl k ↦ let q : t ≡ s = same_Some t s (sym h ∙ ap (slot ss) k ∙ was) in
+    | inl k ↦ let q : t ≡ s = same_Some t s (sym h ∙ ap (slot ss) k ∙ was) in
         record {
-          now = record s { content = content }; is = ap (slot ts) k ∙ r.changed;
-          alike = subst (λ y. Alike y (record s { content = content })) (sym q) (record { number = refl; hook = refl; depth = refl; list = refl; count = refl; element = same }) }
-    | inr d ↦ record { now = t; is = r.others m d ∙ h; alike = record { number = refl; hook = refl; depth = refl; list = refl; count = refl; element = refl } } ]
+          now = record s { content = content };
+          is = ap (slot ts) k ∙ r.changed;
+          alike = subst (λ y. Alike y (record s { content = content })) (sym q) (record { number = refl; hook = refl; depth = refl; list = refl; count = refl; element = same });
+        }
+    | inr d ↦ record { now = t; is = r.others m d ∙ h; alike = record { number = refl; hook = refl; depth = refl; list = refl; count = refl; element = refl } }
+  ]
 
   record Was (m : ℕ) (t : Slot) : Type 0 where
     old : Slot
@@ -46,22 +49,28 @@ module _ (ss ts : List (Option Slot)) (v : Orders) (n : ℕ) (s : Slot) (content
 
   before : (m : ℕ) (t : Slot) → slot ts m ≡ Some t → Was m t
   before m t h = elim (same_or_other m n) [
-      inl k ↦ let q : t ≡ record s { content = content } = same_Some t (record s { content = content }) (sym h ∙ ap (slot ts) k ∙ r.changed) in
+    | inl k ↦ let q : t ≡ record s { content = content } = same_Some t (record s { content = content }) (sym h ∙ ap (slot ts) k ∙ r.changed) in
         record {
-          old = s; is = ap (slot ss) k ∙ was;
-          alike = subst (Alike s) (sym q) (record { number = refl; hook = refl; depth = refl; list = refl; count = refl; element = same }) }
-    | inr d ↦ record { old = t; is = sym (r.others m d) ∙ h; alike = record { number = refl; hook = refl; depth = refl; list = refl; count = refl; element = refl } } ]
+          old = s;
+          is = ap (slot ss) k ∙ was;
+          alike = subst (Alike s) (sym q) (record { number = refl; hook = refl; depth = refl; list = refl; count = refl; element = same });
+        }
+    | inr d ↦ record { old = t; is = sym (r.others m d) ∙ h; alike = record { number = refl; hook = refl; depth = refl; list = refl; count = refl; element = refl } }
+  ]
 
   hung : (m : ℕ) (t u : Slot) (x : Entry First) → u.depth ≡ t.depth → IsHung ss m t x → IsHung ts m u x
   hung m t u x d h =
       let k = stays h.number h.child h.is in
       record {
-        number = h.number; child = k.now; is = k.is;
+        number = h.number;
+        child = k.now;
+        is = k.is;
         act = h.act ∙ ap (λ b. firsts_of (record { number = h.number; is_element = b })) (sym k.alike.element);
         element = h.element ∙ sym k.alike.element;
         marked = h.marked ∙ sym k.alike.element;
         hook = k.alike.hook ∙ h.hook;
-        below = k.alike.depth ∙ h.below ∙ ap (λ y. y + 1) (sym d) }
+        below = k.alike.depth ∙ h.below ∙ ap (λ y. y + 1) (sym d);
+      }
 
   pub linked-write : IsLinked ts v
   linked-write = record {

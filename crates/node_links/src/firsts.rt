@@ -122,7 +122,13 @@ impl Summary for Firsts {
         self.cells[*cell as usize] = NO_CHILD;
     }
 
-    fn set_leaf<L: Ledger>(&mut self, cell: &u32, _source: &(), letter: Child, _steps: &mut Steps<L>) {
+    fn set_leaf<L: Ledger>(
+        &mut self,
+        cell: &u32,
+        _source: &(),
+        letter: Child,
+        _steps: &mut Steps<L>,
+    ) {
         self.cells[*cell as usize] = first_of(letter);
     }
 
