@@ -1,0 +1,12 @@
+//! Content models in a small notation, read into tables of components, and their automata.
+#![tactic(auto)]
+
+mod compiled;
+mod notation;
+mod ranked;
+mod schema;
+mod spaces;
+mod terms;
+
+pub use compiled::{Compiled, Refused};
+pub use schema::Schema;
