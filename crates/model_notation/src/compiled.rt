@@ -47,7 +47,8 @@ impl Schema {
         self.compile_ranked(alloc, root)
     }
 
-    fn root(&self) -> Option<ParticleId>
+    /// The particle of the model, where one was read.
+    pub fn root(&self) -> Option<ParticleId>
         ensures { IfSome result (λ id. id < length self.now.parts.particles.parts) }
     {
         match self.root {
@@ -85,6 +86,7 @@ impl Schema {
         }))
     }
 
+    #[tactic(auto, using(crate::proofs::Named::names_below))]
     fn automaton(
         &self,
         alloc: Global,

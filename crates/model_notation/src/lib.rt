@@ -6,7 +6,10 @@ mod notation;
 mod ranked;
 mod schema;
 mod spaces;
+mod symbols;
 mod terms;
 
 pub use compiled::{Compiled, Refused};
+pub use ranked::is_ranked;
 pub use schema::Schema;
+pub use symbols::Accepted;

@@ -1,20 +1,31 @@
 //! Whether the references of particles and groups go lower, in tables without types.
 
-ghost use Rattle.std.specs.Prelude.{◌≡◌, ℕ, ◌≤◌, None, Some, All, length, slice_get, IsTrue, IfSome};
-ghost use Rattle.xs_references.specs.Ranked.{held_particles, named_group, IsBelow, EachPart, IsRanked};
+ghost use Rattle.std.specs.Prelude.{◌≡◌, ℕ, ◌<◌, ◌≤◌, None, All, length, slice_index, slice_index_or, IsTrue, IfSome};
+ghost use Rattle.xs_references.specs.Ranked.{held_particles, named_group, IsBelow, IsRanked};
 ghost use Rattle.xs_components.specs.declared.element.ElementDecl.{ElementDecl};
+ghost use Rattle.xs_components.specs.declared.group.GroupDef.{GroupDef};
+ghost use Rattle.xs_components.specs.declared.particle.Particle.{Particle};
 
 use xs_components::{Components, ElementDecl, GroupDef, Particle, ParticleId, Term};
 
 /// Whether there are no types and no heads, and each reference of a particle or a group goes to one of lower rank.
-pub(crate) fn is_ranked(parts: &Components) -> bool
+pub fn is_ranked(parts: &Components) -> bool
     ensures { IsTrue result → IsRanked parts.now }
 {
-    has_no_types(parts)
-        && have_no_heads(parts.elements())
-        && groups_are_ranked(parts)
-        && hold_lower(parts)
-        && refer_lower(parts)
+    let (particles, ranks) = (parts.particles(), parts.particle_ranks());
+    if !has_no_types(parts) {
+        return false;
+    }
+    if !have_no_heads(parts.elements()) {
+        return false;
+    }
+    if !groups_are_ranked(parts, parts.groups(), parts.group_ranks()) {
+        return false;
+    }
+    if !hold_lower(parts, particles, ranks) {
+        return false;
+    }
+    refer_lower(parts, particles, ranks)
 }
 
 fn has_no_types(parts: &Components) -> bool
@@ -25,13 +36,22 @@ fn has_no_types(parts: &Components) -> bool
     parts.simples().is_empty() && parts.complexes().is_empty() && parts.attr_groups().is_empty()
 }
 
+fn has_no_head(element: &ElementDecl) -> bool
+    ensures { IsTrue result → element.now.head ≡ None }
+{
+    match element.head {
+        Some(_) => false,
+        None => true,
+    }
+}
+
 fn have_no_heads(elements: &[ElementDecl]) -> bool
-    ensures { IsTrue result → (n : ℕ) (part : ElementDecl) → slice_get elements.now n ≡ Some part → part.head ≡ None }
+    ensures { IsTrue result → (n : ℕ) (part : ElementDecl) → n < length elements.now → (slice_index_or elements.now n part).head ≡ None }
 {
     for element in elements {
-        let None = element.head else {
+        if !has_no_head(element) {
             return false;
-        };
+        }
     }
     true
 }
@@ -55,11 +75,11 @@ fn group_is_ranked(parts: &Components, part: &GroupDef, rank: u32) -> bool
     }
 }
 
-fn groups_are_ranked(parts: &Components) -> bool
-    ensures { IsTrue result → EachPart parts.now.groups (λ rank part. IfSome part.particle (IsBelow parts.now.particles rank)) }
+fn groups_are_ranked(parts: &Components, groups: &[GroupDef], ranks: &[u32]) -> bool
+    requires count { length ranks.now ≡ length groups.now }
+    ensures { IsTrue result → (n : ℕ) (part : GroupDef) → n < length groups.now → IfSome (slice_index_or groups.now n part).particle (IsBelow parts.now.particles (slice_index ranks.now n)) }
 {
-    let ranks = parts.group_ranks();
-    for (number, part) in parts.groups().iter().enumerate() {
+    for (number, part) in groups.iter().enumerate() {
         if !group_is_ranked(parts, part, ranks[number]) {
             return false;
         }
@@ -102,11 +122,11 @@ fn refers_lower(parts: &Components, part: &Particle, rank: u32) -> bool
     ranks[group.number() as usize] < rank
 }
 
-fn hold_lower(parts: &Components) -> bool
-    ensures { IsTrue result → EachPart parts.now.particles (λ rank part. All (IsBelow parts.now.particles rank) (held_particles part.term)) }
+fn hold_lower(parts: &Components, particles: &[Particle], ranks: &[u32]) -> bool
+    requires count { length ranks.now ≡ length particles.now }
+    ensures { IsTrue result → (n : ℕ) (part : Particle) → n < length particles.now → All (IsBelow parts.now.particles (slice_index ranks.now n)) (held_particles (slice_index_or particles.now n part).term) }
 {
-    let ranks = parts.particle_ranks();
-    for (number, part) in parts.particles().iter().enumerate() {
+    for (number, part) in particles.iter().enumerate() {
         if !holds_lower(parts, part, ranks[number]) {
             return false;
         }
@@ -114,11 +134,11 @@ fn hold_lower(parts: &Components) -> bool
     true
 }
 
-fn refer_lower(parts: &Components) -> bool
-    ensures { IsTrue result → EachPart parts.now.particles (λ rank part. IfSome (named_group part.term) (IsBelow parts.now.groups rank)) }
+fn refer_lower(parts: &Components, particles: &[Particle], ranks: &[u32]) -> bool
+    requires count { length ranks.now ≡ length particles.now }
+    ensures { IsTrue result → (n : ℕ) (part : Particle) → n < length particles.now → IfSome (named_group (slice_index_or particles.now n part).term) (IsBelow parts.now.groups (slice_index ranks.now n)) }
 {
-    let ranks = parts.particle_ranks();
-    for (number, part) in parts.particles().iter().enumerate() {
+    for (number, part) in particles.iter().enumerate() {
         if !refers_lower(parts, part, ranks[number]) {
             return false;
         }

@@ -9,7 +9,7 @@ use crate::spaces::{Spaces, intern_word};
 use model_symbols::{Accepts, Given};
 use std::alloc::{AllocError, Global};
 use xs_components::{
-    Components, ConstraintIdList, ElementDecl, GroupDef, GroupId, Methods, NameIdList, Particle,
+    Components, ConstraintIdList, ElementDecl, ElementId, GroupDef, GroupId, Methods, NameIdList, Particle,
     ParticleId, Place, Process, Term, TermId, Wildcard,
 };
 use xs_lists::Listed;
@@ -21,8 +21,7 @@ use xs_names::{NameId, Names};
 pub struct Schema {
     pub names: Names,
     pub parts: Components,
-    /// The particle of the model, where one was read.
-    pub root: Option<ParticleId>,
+    pub(crate) root: Option<ParticleId>,
     /// How many cells are left to the table of an automaton.
     pub cells: u32,
     spaces: Spaces,
@@ -249,19 +248,23 @@ impl Schema {
         Ok(given)
     }
 
+    fn given_to(&self, alloc: Global, element: ElementId) -> Result<Listed<Given>, AllocError>
+        ensures { IfOk result (λ given. All (λ (g : GivenData). g.name < length self.now.names.names) given) }
+    {
+        match self.elements.get(element.number() as usize) {
+            Some(text) => self.given(alloc, text.as_str()),
+            None => Ok(Listed::new(alloc)),
+        }
+    }
+
     /// What a term accepts. The classes of wildcards are 1,000 and more.
+    #[tactic(auto, using(crate::proofs::Named::accepted_below))]
     pub fn accepts(&self, alloc: Global, id: TermId) -> Result<Accepts, AllocError>
         requires { id < length self.now.parts.particles.parts }
         ensures { IfOk result (λ accepts. All (λ n. n < length self.now.names.names) (names_of accepts)) }
     {
         match &self.parts.particle(id.particle()).term {
-            Term::Element(element) => {
-                let given = match self.elements.get(element.number() as usize) {
-                    Some(text) => self.given(alloc, text.as_str())?,
-                    None => Listed::new(alloc),
-                };
-                Ok(Accepts::Element(given))
-            }
+            Term::Element(element) => Ok(Accepts::Element(self.given_to(alloc, *element)?)),
             Term::Any(wildcard) => {
                 let class = class_of(wildcard.process);
                 Ok(Accepts::Wildcard(wildcard.namespaces.clone()?, class))

@@ -17,6 +17,7 @@ pub(crate) struct Terms {
 
 impl Schema {
     /// The terms of these numbers; `None` where a particle is no term.
+    #[tactic(auto, using(crate::proofs::Named::named_below))]
     pub(crate) fn terms(
         &self,
         alloc: Global,
@@ -29,15 +30,23 @@ impl Schema {
         let mut ids = Vec::new(alloc);
         let mut accepts = Vec::new(alloc);
         for number in numbers {
-            let Some(particle) = self.parts.particle_at(*number) else {
-                return Ok(None);
-            };
-            let Some(id) = self.parts.term(particle) else {
+            let Some(id) = self.term(*number) else {
                 return Ok(None);
             };
             ids.push(id)?;
             accepts.push(self.accepts(alloc, id)?)?;
         }
         Ok(Some(Terms { ids, accepts }))
+    }
+
+    // The term of a number.
+    #[tactic(auto, using(crate::proofs::Terms::found_same))]
+    fn term(&self, number: u32) -> Option<TermId>
+        ensures { IfSome result (λ id. (id ≡ number) × (id < length self.now.parts.particles.parts)) }
+    {
+        match self.parts.particle_at(number) {
+            Some(particle) => self.parts.term(particle),
+            None => None,
+        }
     }
 }
