@@ -1,3 +1,3 @@
 pub mod Named
 pub mod Ranking
-pub mod Terms
+pub mod Numbers

@@ -40,7 +40,7 @@ impl Schema {
     }
 
     // The term of a number.
-    #[tactic(auto, using(crate::proofs::Terms::found_same))]
+    #[tactic(auto, using(crate::proofs::Numbers::found_same))]
     fn term(&self, number: u32) -> Option<TermId>
         ensures { IfSome result (λ id. (id ≡ number) × (id < length self.now.parts.particles.parts)) }
     {
