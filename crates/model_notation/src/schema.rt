@@ -9,8 +9,8 @@ use crate::spaces::{Spaces, intern_word};
 use model_symbols::{Accepts, Given};
 use std::alloc::{AllocError, Global};
 use xs_components::{
-    Components, ConstraintIdList, ElementDecl, ElementId, GroupDef, GroupId, Methods, NameIdList, Particle,
-    ParticleId, Place, Process, Term, TermId, Wildcard,
+    Components, ConstraintIdList, ElementDecl, ElementId, GroupDef, GroupId, Methods, NameIdList,
+    Particle, ParticleId, Place, Process, Term, TermId, Wildcard,
 };
 use xs_lists::Listed;
 use xs_members::Members;

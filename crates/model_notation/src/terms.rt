@@ -18,11 +18,7 @@ pub(crate) struct Terms {
 impl Schema {
     /// The terms of these numbers; `None` where a particle is no term.
     #[tactic(auto, using(crate::proofs::Named::named_below))]
-    pub(crate) fn terms(
-        &self,
-        alloc: Global,
-        numbers: &[u32],
-    ) -> Result<Option<Terms>, AllocError>
+    pub(crate) fn terms(&self, alloc: Global, numbers: &[u32]) -> Result<Option<Terms>, AllocError>
         ensures ids { IfOk result (λ found. IfSome found (λ terms. terms.ids.items ≡ numbers.now)) }
         ensures count { IfOk result (λ found. IfSome found (λ terms. length terms.accepts.items ≡ length numbers.now)) }
         ensures named { IfOk result (λ found. IfSome found (λ terms. (n : ℕ) → IsNamed terms.accepts.items n → n < length self.now.names.names)) }

@@ -20,8 +20,14 @@ const ROWS: [(&str, Expected); 7] = [
     ("seq( a{0,2} ){0,2}", Clear(5)),
     ("seq( a{1000} a{1000} a{47} )", Clear(2_048)),
     ("seq( a{1000} a{1000} a{48} )", Not(Refused::TooManyStates)),
-    ("seq( a{1000} a{1000} a{49} )", Not(Refused::TooManyPositions)),
-    ("seq( or( a b )* a or( a b ){12} )", Not(Refused::TooManyStates)),
+    (
+        "seq( a{1000} a{1000} a{49} )",
+        Not(Refused::TooManyPositions),
+    ),
+    (
+        "seq( or( a b )* a or( a b ){12} )",
+        Not(Refused::TooManyStates),
+    ),
     ("seq( or( a b )* a or( a b ){2} )", Ambiguous(9)),
 ];
 
