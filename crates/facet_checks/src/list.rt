@@ -94,10 +94,14 @@ impl FacetList {
     pub fn try_clone(&self, alloc: Global) -> Result<FacetList, AllocError>
         ensures { IfOk result (λ copy. copy ≡ self.now) }
     {
-        let (max_inclusive, max_exclusive) =
-            copied_side(self.max_inclusive.as_ref(), self.max_exclusive.as_ref())?;
-        let (min_inclusive, min_exclusive) =
-            copied_side(self.min_inclusive.as_ref(), self.min_exclusive.as_ref())?;
+        let (max_inclusive, max_exclusive) = copied_side(
+            self.max_inclusive.as_ref(),
+            self.max_exclusive.as_ref(),
+        )?;
+        let (min_inclusive, min_exclusive) = copied_side(
+            self.min_inclusive.as_ref(),
+            self.min_exclusive.as_ref(),
+        )?;
         Ok(FacetList {
             white_space: self.white_space,
             patterns: copied_steps(alloc, self.patterns.as_slice())?,
