@@ -35,10 +35,14 @@ abbrev pub known_behind : Known → Option Facets → Known
 known_behind known None = knowns.Neither
 known_behind known (Some facets) = known
 
--- cos-list-of-atomic (Structures 3.14.6): the items of a list of lists have no literals
+-- the facets of a list, whatever its items are
+abbrev pub list_of_any : Facets
+list_of_any = unwrap_or (list_of (of_builtin AnySimpleType)) (of_builtin AnySimpleType)
+
+-- cos-list-of-atomic (Structures 3.14.6): a list of lists has no literals
 abbrev pub IsListKnown : Option Facets → Known → Facets → Known → Type 0
 IsListKnown (Some made) item facets known = (facets ≡ made) × (known ≡ made_from item)
-IsListKnown None item facets known = (Some facets ≡ list_of (of_builtin AnySimpleType)) × (known ≡ knowns.Facets)
+IsListKnown None item facets known = (facets ≡ list_of_any) × (known ≡ knowns.Facets)
 
 abbrev mutual
   -- The facets in force for a type, and what is known of it (Structures 3.14.6): those of a built-in type; those that a step

@@ -1,0 +1,4 @@
+pub mod Codes
+pub mod Trials
+pub mod Framing
+pub mod Validity
