@@ -1,5 +1,5 @@
 -- Whether a value meets the facets in force for its type: Datatypes 4.1.4 and 4.3.
-use Rattle.std.specs.Prelude.{◌≡◌, ◌↔◌, ℕ, ◌==◌, nat_le, Bool, true, false, ◌||◌, IsTrue, if◌then◌else◌, List, [], ◌∷◌, Option, Some, None}
+use Rattle.std.specs.Prelude.{◌≡◌, ◌↔◌, ℕ, ◌==◌, nat_le, Bool, true, false, ◌||◌, IsTrue, if◌then◌else◌, List, [], ◌∷◌, Option, Some, None, refl}
 use Rattle.dec_value.specs.Decimal.{Decimal, total_digits_of}
 use Rattle.xs_codes.specs.declared.code.Code.{Code}
 use Rattle.xs_codes.specs.declared.code.Code.TheVariants.{CvcPatternValid, CvcLengthValid, CvcMinLengthValid, CvcMaxLengthValid, CvcEnumerationValid, CvcMaxInclusiveValid, CvcMaxExclusiveValid, CvcMinInclusiveValid, CvcMinExclusiveValid, CvcTotalDigitsValid, CvcFractionDigitsValid}
@@ -11,6 +11,7 @@ use Rattle.simple_values.specs.Same.{same, length_of}
 use Rattle.facet_checks.specs.declared.list.Count.{Count}
 use Rattle.facet_checks.specs.declared.list.Bound.{Bound}
 use Rattle.facet_checks.specs.declared.list.FacetList.{FacetList}
+use Rattle.facet_checks.specs.List.{no_facets}
 use Rattle.facet_checks.specs.Order.{is_below, is_at_most}
 use Rattle.facet_checks.specs.Patterns.{MatchesEach}
 
@@ -22,20 +23,22 @@ abbrev pub or_else : Option Code → Option Code → Option Code
 or_else (Some code) other = Some code
 or_else None other = other
 
+-- cvc-length-valid (Datatypes 4.3.1.3): the length, in characters, octets or items, is the one of the facet
 abbrev pub is_exactly : Option Count → ℕ → Bool
 is_exactly None n = true
 is_exactly (Some limit) n = n == limit.value
 
+-- cvc-minLength-valid (Datatypes 4.3.2.3): the length is at least the one of the facet
 abbrev pub is_from : Option Count → ℕ → Bool
 is_from None n = true
 is_from (Some limit) n = nat_le limit.value n
 
+-- cvc-maxLength-valid (Datatypes 4.3.3.3): the length is at most the one of the facet
 abbrev pub is_up_to : Option Count → ℕ → Bool
 is_up_to None n = true
 is_up_to (Some limit) n = nat_le n limit.value
 
--- cvc-length-valid, cvc-minLength-valid, cvc-maxLength-valid (Datatypes 4.3.1.3, 4.3.2.3, 4.3.3.3): the length, in
--- characters, octets or items, is the one of the facet, at least it, at most it; a value without a length meets all
+-- 4.3.1 to 4.3.3: a value without a length meets every facet of length
 abbrev pub length_code : FacetList → Option ℕ → Option Code
 length_code facets None = None
 length_code facets (Some n) =
@@ -89,13 +92,19 @@ abbrev pub number_of : Value → Option Decimal
 number_of (values.Atom _ atom) = atom_number atom
 number_of (values.List items) = None
 
--- cvc-totalDigits-valid, cvc-fractionDigits-valid (Datatypes 4.3.11.3, 4.3.12.3): the number has at most so many digits, and
--- so many behind the point
+-- cvc-totalDigits-valid (Datatypes 4.3.11.3): the number has at most so many digits
+abbrev pub is_within_digits : Option Count → Decimal → Bool
+is_within_digits limit d = is_up_to limit (total_digits_of d)
+
+-- cvc-fractionDigits-valid (Datatypes 4.3.12.3): the number has at most so many digits behind the point
+abbrev pub is_within_fraction : Option Count → Decimal → Bool
+is_within_fraction limit d = is_up_to limit d.scale
+
 abbrev pub digits_code : FacetList → Option Decimal → Option Code
 digits_code facets None = None
 digits_code facets (Some d) =
-    or_else (unless (is_up_to facets.total_digits (total_digits_of d)) CvcTotalDigitsValid)
-    (unless (is_up_to facets.fraction_digits d.scale) CvcFractionDigitsValid)
+    or_else (unless (is_within_digits facets.total_digits d) CvcTotalDigitsValid)
+    (unless (is_within_fraction facets.fraction_digits d) CvcFractionDigitsValid)
 
 abbrev pub values_code : Option (List Value) → Value → Option Code
 values_code listed value = unless (is_listed listed value) CvcEnumerationValid
@@ -116,3 +125,13 @@ check_code matching facets value = if matching then unmet_code facets value else
 abbrev pub IsChecked : FacetList → Value → List ℕ → Option Code → Type 0
 IsChecked facets value text code =
     (matching : Bool) × (IsTrue matching ↔ MatchesEach facets.patterns text) × (code ≡ check_code matching facets value)
+
+abbrev pub two_at_most : FacetList
+two_at_most = record no_facets { max_length = Some (record { value = 2; fixed = false }) }
+
+-- for example
+pub example-longer : length_code two_at_most (Some 3) ≡ Some CvcMaxLengthValid
+example-longer = refl
+
+pub example-without-length : length_code two_at_most None ≡ None
+example-without-length = refl

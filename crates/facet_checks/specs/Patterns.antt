@@ -1,22 +1,29 @@
 -- Patterns: Datatypes 4.3.4 and appendix F.
-use Rattle.std.specs.Prelude.{◌≡◌, ℕ, List, [], ◌∷◌, ◌⊎◌, Result, Ok, Err, Option, Some, None}
+use Rattle.std.specs.Prelude.{◌≡◌, ℕ, Bool, true, false, if◌then◌else◌, List, [], ◌∷◌, ◌⊎◌, Result, Ok, Err, Option, Some, None}
 use Rattle.std.specs.Str.{chars}
 use Rattle.pattern_terms.specs.Regex.{Regex}
 use Rattle.pattern_syntax.specs.Reading.{Reads}
 use Rattle.pattern_syntax.specs.declared.fault.PatternFault.{PatternFault}
-use Rattle.pattern_syntax.specs.declared.fault.PatternFault.TheVariants.{Syntax, UnsupportedBlock, UnknownClass, TooLarge}
+use Rattle.pattern_syntax.specs.declared.fault.PatternFault.TheVariants.{Syntax, UnsupportedBlock, UnknownClass}
 use Rattle.xs_regex.specs.Meaning.{MatchesPattern}
 use Rattle.xs_regex.specs.Outcome.{limited}
 use Rattle.xs_codes.specs.declared.code.Code.{Code}
 use Rattle.xs_codes.specs.declared.code.Code.TheVariants.{XPattern, XUnsupportedBlock, XLimitPattern}
 
--- x-pattern, x-unsupported.block, x-limit.pattern (Datatypes, appendix F): a pattern is no regular expression, or names a
--- class that there is not; it names a block that is not supported; a number in it or the count of its positions is too large
+-- x-pattern (own): the text is no regular expression by Datatypes, appendix F, or names a class that there is not
+abbrev pub is_no_expression : PatternFault → Bool
+is_no_expression (Syntax place) = true
+is_no_expression UnknownClass = true
+is_no_expression _ = false
+
+-- x-unsupported.block (own): it names a block of characters
+abbrev pub is_of_blocks : PatternFault → Bool
+is_of_blocks UnsupportedBlock = true
+is_of_blocks _ = false
+
+-- x-limit.pattern (own): a number in it, or the count of its positions, is too large
 abbrev pub pattern_code : PatternFault → Code
-pattern_code (Syntax place) = XPattern
-pattern_code UnknownClass = XPattern
-pattern_code UnsupportedBlock = XUnsupportedBlock
-pattern_code TooLarge = XLimitPattern
+pattern_code fault = if is_no_expression fault then XPattern else (if is_of_blocks fault then XUnsupportedBlock else XLimitPattern)
 
 -- the code of a text that is refused as a pattern
 abbrev pub refusal_of : Result Regex PatternFault → Option Code

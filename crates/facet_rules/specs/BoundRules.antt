@@ -59,42 +59,62 @@ is_no_min_exclusive base own =
     are_below own (bound_value base.min_exclusive) || (are_below (bound_value base.max_inclusive) own
     || (are_below own (bound_value base.min_inclusive) || are_at_most (bound_value base.max_exclusive) own))
 
+-- maxInclusive-maxExclusive (Datatypes 4.3.8.4): both stand in the step
+abbrev pub has_both_upper : List ReadFacet → Bool
+has_both_upper facets = is_some (place_of kinds.MaxInclusive facets) && is_some (place_of kinds.MaxExclusive facets)
+
+-- minInclusive-minExclusive (Datatypes 4.3.9.4): both stand in the step
+abbrev pub has_both_lower : List ReadFacet → Bool
+has_both_lower facets = is_some (place_of kinds.MinInclusive facets) && is_some (place_of kinds.MinExclusive facets)
+
+-- minInclusive-less-than-equal-to-maxInclusive (Datatypes 4.3.7.4): the step's maxInclusive is less than its minInclusive
+abbrev pub are_inclusive_crossed : List ReadFacet → Bool
+are_inclusive_crossed facets = are_below (limit_of kinds.MaxInclusive facets) (limit_of kinds.MinInclusive facets)
+
+-- minExclusive-less-than-equal-to-maxExclusive (Datatypes 4.3.8.4): the step's maxExclusive is less than its minExclusive
+abbrev pub are_exclusive_crossed : List ReadFacet → Bool
+are_exclusive_crossed facets = are_below (limit_of kinds.MaxExclusive facets) (limit_of kinds.MinExclusive facets)
+
+-- minExclusive-less-than-maxInclusive (Datatypes 4.3.9.4): the step's maxInclusive is at most its minExclusive
+abbrev pub is_inclusive_below : List ReadFacet → Bool
+is_inclusive_below facets = are_at_most (limit_of kinds.MaxInclusive facets) (limit_of kinds.MinExclusive facets)
+
+-- minInclusive-less-than-maxExclusive (Datatypes 4.3.10.4): the step's maxExclusive is at most its minInclusive
+abbrev pub is_exclusive_below : List ReadFacet → Bool
+is_exclusive_below facets = are_at_most (limit_of kinds.MaxExclusive facets) (limit_of kinds.MinInclusive facets)
+
 -- Each bound of a step has the rules that it takes part in, with the step's others or with the base's.
--- maxInclusive-maxExclusive (Datatypes 4.3.8.4), minInclusive-minExclusive (4.3.9.4): both stand in one step.
--- minInclusive-less-than-equal-to-maxInclusive (4.3.7.4), minExclusive-less-than-equal-to-maxExclusive (4.3.8.4): the upper
--- one is less than the lower one. minExclusive-less-than-maxInclusive (4.3.9.4), minInclusive-less-than-maxExclusive
--- (4.3.10.4): it is less, or the same.
 
 abbrev pub max_inclusive_rules : FacetList → List ReadFacet → List Rule
 max_inclusive_rules base facets = placed (place_of kinds.MaxInclusive facets) (λ at.
     rule (is_moved base.max_inclusive (limit_of kinds.MaxInclusive facets)) at StRestrictFacets ∷
-    rule (is_some (place_of kinds.MaxExclusive facets)) at MaxInclusiveMaxExclusive ∷
-    rule (are_below (limit_of kinds.MaxInclusive facets) (limit_of kinds.MinInclusive facets)) at MinInclusiveLessThanEqualToMaxInclusive ∷
-    rule (are_at_most (limit_of kinds.MaxInclusive facets) (limit_of kinds.MinExclusive facets)) at MinExclusiveLessThanMaxInclusive ∷
+    rule (has_both_upper facets) at MaxInclusiveMaxExclusive ∷
+    rule (are_inclusive_crossed facets) at MinInclusiveLessThanEqualToMaxInclusive ∷
+    rule (is_inclusive_below facets) at MinExclusiveLessThanMaxInclusive ∷
     rule (is_no_max_inclusive base (limit_of kinds.MaxInclusive facets)) at MaxInclusiveValidRestriction ∷ [])
 
 abbrev pub max_exclusive_rules : FacetList → List ReadFacet → List Rule
 max_exclusive_rules base facets = placed (place_of kinds.MaxExclusive facets) (λ at.
     rule (is_moved base.max_exclusive (limit_of kinds.MaxExclusive facets)) at StRestrictFacets ∷
-    rule (is_some (place_of kinds.MaxInclusive facets)) at MaxInclusiveMaxExclusive ∷
-    rule (are_below (limit_of kinds.MaxExclusive facets) (limit_of kinds.MinExclusive facets)) at MinExclusiveLessThanEqualToMaxExclusive ∷
-    rule (are_at_most (limit_of kinds.MaxExclusive facets) (limit_of kinds.MinInclusive facets)) at MinInclusiveLessThanMaxExclusive ∷
+    rule (has_both_upper facets) at MaxInclusiveMaxExclusive ∷
+    rule (are_exclusive_crossed facets) at MinExclusiveLessThanEqualToMaxExclusive ∷
+    rule (is_exclusive_below facets) at MinInclusiveLessThanMaxExclusive ∷
     rule (is_no_max_exclusive base (limit_of kinds.MaxExclusive facets)) at MaxExclusiveValidRestriction ∷ [])
 
 abbrev pub min_inclusive_rules : FacetList → List ReadFacet → List Rule
 min_inclusive_rules base facets = placed (place_of kinds.MinInclusive facets) (λ at.
     rule (is_moved base.min_inclusive (limit_of kinds.MinInclusive facets)) at StRestrictFacets ∷
-    rule (is_some (place_of kinds.MinExclusive facets)) at MinInclusiveMinExclusive ∷
-    rule (are_below (limit_of kinds.MaxInclusive facets) (limit_of kinds.MinInclusive facets)) at MinInclusiveLessThanEqualToMaxInclusive ∷
-    rule (are_at_most (limit_of kinds.MaxExclusive facets) (limit_of kinds.MinInclusive facets)) at MinInclusiveLessThanMaxExclusive ∷
+    rule (has_both_lower facets) at MinInclusiveMinExclusive ∷
+    rule (are_inclusive_crossed facets) at MinInclusiveLessThanEqualToMaxInclusive ∷
+    rule (is_exclusive_below facets) at MinInclusiveLessThanMaxExclusive ∷
     rule (is_no_min_inclusive base (limit_of kinds.MinInclusive facets)) at MinInclusiveValidRestriction ∷ [])
 
 abbrev pub min_exclusive_rules : FacetList → List ReadFacet → List Rule
 min_exclusive_rules base facets = placed (place_of kinds.MinExclusive facets) (λ at.
     rule (is_moved base.min_exclusive (limit_of kinds.MinExclusive facets)) at StRestrictFacets ∷
-    rule (is_some (place_of kinds.MinInclusive facets)) at MinInclusiveMinExclusive ∷
-    rule (are_below (limit_of kinds.MaxExclusive facets) (limit_of kinds.MinExclusive facets)) at MinExclusiveLessThanEqualToMaxExclusive ∷
-    rule (are_at_most (limit_of kinds.MaxInclusive facets) (limit_of kinds.MinExclusive facets)) at MinExclusiveLessThanMaxInclusive ∷
+    rule (has_both_lower facets) at MinInclusiveMinExclusive ∷
+    rule (are_exclusive_crossed facets) at MinExclusiveLessThanEqualToMaxExclusive ∷
+    rule (is_inclusive_below facets) at MinExclusiveLessThanMaxInclusive ∷
     rule (is_no_min_exclusive base (limit_of kinds.MinExclusive facets)) at MinExclusiveValidRestriction ∷ [])
 
 abbrev pub bound_rules : FacetList → List ReadFacet → List Rule

@@ -36,7 +36,7 @@ fn note_max_inclusive(base: &FacetList, facets: &[ReadFacet], best: Option<Fault
     let own = limit_of(facets, FacetKind::MaxInclusive);
     let moved = is_moved(base.max_inclusive.as_ref(), own);
     let best = noted(best, moved, at, Code::StRestrictFacets);
-    let both = place_of(facets, FacetKind::MaxExclusive).is_some();
+    let both = has_both_upper(facets);
     let best = noted(best, both, at, Code::MaxInclusiveMaxExclusive);
     let crossed = are_below(own, limit_of(facets, FacetKind::MinInclusive));
     let best = noted(
@@ -64,7 +64,7 @@ fn note_max_exclusive(base: &FacetList, facets: &[ReadFacet], best: Option<Fault
     let own = limit_of(facets, FacetKind::MaxExclusive);
     let moved = is_moved(base.max_exclusive.as_ref(), own);
     let best = noted(best, moved, at, Code::StRestrictFacets);
-    let both = place_of(facets, FacetKind::MaxInclusive).is_some();
+    let both = has_both_upper(facets);
     let best = noted(best, both, at, Code::MaxInclusiveMaxExclusive);
     let crossed = are_below(own, limit_of(facets, FacetKind::MinExclusive));
     let best = noted(
@@ -92,7 +92,7 @@ fn note_min_inclusive(base: &FacetList, facets: &[ReadFacet], best: Option<Fault
     let own = limit_of(facets, FacetKind::MinInclusive);
     let moved = is_moved(base.min_inclusive.as_ref(), own);
     let best = noted(best, moved, at, Code::StRestrictFacets);
-    let both = place_of(facets, FacetKind::MinExclusive).is_some();
+    let both = has_both_lower(facets);
     let best = noted(best, both, at, Code::MinInclusiveMinExclusive);
     let crossed = are_below(limit_of(facets, FacetKind::MaxInclusive), own);
     let best = noted(
@@ -120,7 +120,7 @@ fn note_min_exclusive(base: &FacetList, facets: &[ReadFacet], best: Option<Fault
     let own = limit_of(facets, FacetKind::MinExclusive);
     let moved = is_moved(base.min_exclusive.as_ref(), own);
     let best = noted(best, moved, at, Code::StRestrictFacets);
-    let both = place_of(facets, FacetKind::MinInclusive).is_some();
+    let both = has_both_lower(facets);
     let best = noted(best, both, at, Code::MinInclusiveMinExclusive);
     let crossed = are_below(limit_of(facets, FacetKind::MaxExclusive), own);
     let best = noted(
@@ -137,6 +137,22 @@ fn note_min_exclusive(base: &FacetList, facets: &[ReadFacet], best: Option<Fault
         at,
         Code::MinExclusiveValidRestriction,
     )
+}
+
+// Whether the step has both upper bounds.
+fn has_both_upper(facets: &[ReadFacet]) -> bool
+    ensures { result ≡ spec.has_both_upper facets.now }
+{
+    place_of(facets, FacetKind::MaxInclusive).is_some()
+        && place_of(facets, FacetKind::MaxExclusive).is_some()
+}
+
+// Whether the step has both lower bounds.
+fn has_both_lower(facets: &[ReadFacet]) -> bool
+    ensures { result ≡ spec.has_both_lower facets.now }
+{
+    place_of(facets, FacetKind::MinInclusive).is_some()
+        && place_of(facets, FacetKind::MinExclusive).is_some()
 }
 
 // Whether the base's bound of a kind is fixed, and the step's another.

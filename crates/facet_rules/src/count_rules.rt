@@ -102,7 +102,7 @@ fn note_min_length(base: &FacetList, facets: &[ReadFacet], best: Option<Fault>) 
     );
     let best = noted(
         best,
-        is_under(exact, number(own)),
+        is_outside(exact, number(own), None),
         at,
         Code::LengthMinLengthMaxLength,
     );
@@ -137,7 +137,7 @@ fn note_max_length(base: &FacetList, facets: &[ReadFacet], best: Option<Fault>) 
     );
     let best = noted(
         best,
-        is_under(number(own), exact),
+        is_outside(exact, None, number(own)),
         at,
         Code::LengthMinLengthMaxLength,
     );
@@ -265,11 +265,11 @@ fn is_under(a: Option<u32>, b: Option<u32>) -> bool
     }
 }
 
-// Whether a number is less than the least or greater than the most.
-fn is_outside(n: Option<u32>, least: Option<u32>, most: Option<u32>) -> bool
-    ensures { result ≡ spec.is_outside n least most }
+// Whether the exact number is less than the least or greater than the most.
+fn is_outside(exact: Option<u32>, least: Option<u32>, most: Option<u32>) -> bool
+    ensures { result ≡ spec.is_outside exact least most }
 {
-    is_under(n, least) || is_under(most, n)
+    is_under(exact, least) || is_under(most, exact)
 }
 
 // Whether the base's handling of white space is fixed, and the step's another.

@@ -47,7 +47,7 @@ fn is_before(a: Fault, b: Fault) -> bool
 }
 
 /// The first of these faults.
-pub(crate) fn sooner(best: Option<Fault>, fault: Fault) -> Option<Fault>
+pub fn sooner(best: Option<Fault>, fault: Fault) -> Option<Fault>
     ensures { result ≡ spec.sooner best fault }
 {
     match best {
@@ -57,7 +57,7 @@ pub(crate) fn sooner(best: Option<Fault>, fault: Fault) -> Option<Fault>
 }
 
 /// The first of these faults, where the rule of the second is broken.
-pub(crate) fn noted(best: Option<Fault>, broken: bool, at: Place, code: Code) -> Option<Fault>
+pub fn noted(best: Option<Fault>, broken: bool, at: Place, code: Code) -> Option<Fault>
     ensures { result ≡ spec.noted best (record { broken = broken; at = at; code = code }) }
 {
     if broken {

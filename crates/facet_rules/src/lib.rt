@@ -9,5 +9,6 @@ mod first;
 mod merge;
 mod step;
 
-pub use merge::{Judged, judged, restricted};
+pub use first::{noted, sooner};
+pub use merge::{Judged, judge, restricted};
 pub use step::{ReadFacet, ReadFacets, ReadStep, Reading};

@@ -42,7 +42,7 @@ pub struct Judged {
 }
 
 /// The first fault of a step, and the facets in force behind it.
-pub fn judged(base: FacetList, step: ReadStep) -> Result<Judged, AllocError>
+pub fn judge(base: FacetList, step: ReadStep) -> Result<Judged, AllocError>
     ensures { IfOk result (λ judged. judged ≡ judged_of base step) }
 {
     let fault = first_of_faults(&base, step.facets.as_slice());

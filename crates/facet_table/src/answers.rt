@@ -1,4 +1,5 @@
 //! The answer to a line of the table.
+use crate::each::each_fault;
 use crate::kinds::facet_named;
 use facets::{Facets, Members};
 use simple_values::builtin_named;
@@ -19,22 +20,24 @@ pub fn table_scope(alloc: Global) -> Result<Scope, AllocError> {
 /// What is wrong with the steps of a line, or what their type says of its literal. The line has the name of a built-in type,
 /// steps with `/` between them, and last maybe `?literal`, with tabs between all these. A step is one of restriction, with
 /// facets as `kind=value`, or `kind!=value` where the facet is fixed; or `[]`, the list of the type; or `+name`, the union of
-/// the type and a built-in one.
+/// the type and a built-in one. A line that begins with `each` is answered with what is wrong with each step.
 pub fn answer(alloc: Global, line: &str, scope: &Scope) -> Result<String, AllocError> {
+    if let Some(rest) = line.strip_prefix("each\t") {
+        return each_fault(alloc, rest, scope);
+    }
     let (head, literal) = match line.split_once("\t?") {
         Some((head, literal)) => (head, Some(literal)),
         None => (line, None),
     };
-    let (name, steps) = match head.split_once('\t') {
-        Some((name, steps)) => (name, steps),
-        None => (head, ""),
-    };
+    let (name, steps) = type_and_steps(head);
     let Some(kind) = builtin_named(name) else {
         return String::from_str(alloc, "no type");
     };
     let mut facets = Facets::of_builtin(alloc, kind);
-    for (number, step) in steps.split("\t/\t").enumerate() {
-        match changed(alloc, &facets, number as u32 + 1, step, scope)? {
+    let mut number = 0;
+    for step in steps.split("\t/\t") {
+        number = next(number);
+        match changed(alloc, &facets, number, step, scope)? {
             Ok(made) => facets = made,
             Err(answer) => return Ok(answer),
         }
@@ -42,6 +45,14 @@ pub fn answer(alloc: Global, line: &str, scope: &Scope) -> Result<String, AllocE
     match literal {
         Some(literal) => literal_answer(alloc, &mut facets, literal, scope),
         None => String::from_str(alloc, "ok"),
+    }
+}
+
+/// The name of the type of a line, and its steps.
+pub(crate) fn type_and_steps(head: &str) -> (&str, &str) {
+    match head.split_once('\t') {
+        Some((name, steps)) => (name, steps),
+        None => (head, ""),
     }
 }
 
@@ -62,14 +73,16 @@ fn changed(
     }
 }
 
-fn list_answer(alloc: Global, facets: &Facets) -> Result<Result<Facets, String>, AllocError> {
+/// The list of a type, or what is wrong with it.
+pub(crate) fn list_answer(alloc: Global, facets: &Facets) -> Result<Result<Facets, String>, AllocError> {
     match Facets::list_of(alloc, facets)? {
         Some(made) => Ok(Ok(made)),
         None => Ok(Err(String::from_str(alloc, "cos-list-of-atomic")?)),
     }
 }
 
-fn union_answer(
+/// The union of a type and a built-in one.
+pub(crate) fn union_answer(
     alloc: Global,
     facets: &Facets,
     name: &str,
@@ -98,8 +111,8 @@ fn step_answer(
     }
 }
 
-// The facets of a step, the item of each counted from 1, in a document with the number of the step.
-fn step_of(
+/// The facets of a step, the item of each counted from 1, in a document with the number of the step.
+pub(crate) fn step_of(
     alloc: Global,
     number: u32,
     texts: &str,
@@ -120,7 +133,8 @@ fn step_of(
     Ok(step)
 }
 
-fn next(count: u32) -> u32 {
+/// The number behind this one.
+pub(crate) fn next(count: u32) -> u32 {
     count.wrapping_add(1)
 }
 
@@ -148,7 +162,8 @@ fn push_item(
     })
 }
 
-fn shown_fault(alloc: Global, fault: Fault) -> Result<String, AllocError> {
+/// A fault as the table shows it.
+pub(crate) fn shown_fault(alloc: Global, fault: Fault) -> Result<String, AllocError> {
     let code = code_text(fault.code);
     let (step, item) = (fault.document, fault.item);
     format!(in alloc; "{step}.{item} {code}")

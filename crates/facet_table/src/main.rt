@@ -3,6 +3,7 @@
 #![tactic(auto)]
 
 mod answers;
+mod each;
 mod kinds;
 
 use std::io;

@@ -20,7 +20,7 @@ use Rattle.facet_rules.specs.declared.step.Reading.TheVariants as readings
 use Rattle.facet_texts.specs.declared.read.FacetRead.{FacetRead}
 use Rattle.facet_texts.specs.declared.read.FacetRead.TheVariants as reads
 
--- x-limit.value (own): the value is past the limits; x-facet.literal (own): the text is no literal
+-- x-facet.literal (own): the text is no literal; x-limit.value: its value is past the limits
 abbrev pub literal_code : ValueFault → Code
 literal_code NotLexical = XFacetLiteral
 literal_code Limit = XLimitValue

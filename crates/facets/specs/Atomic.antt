@@ -41,7 +41,7 @@ abbrev pub IsValueJudged : FacetList → List ℕ → Result Value ValueFault �
 IsValueJudged facets text (Err fault) outcome = outcome ≡ Err (fault_code fault)
 IsValueJudged facets text (Ok value) outcome = IsJudged facets value text outcome
 
--- x-limit.items: a list has more than 65,536 items
+-- x-limit.items (own): a list has more than 65,536 items
 abbrev pub is_past_items : Option Builtin → List ℕ → Bool
 is_past_items None text = false
 is_past_items (Some item) text = nat_lt 65_536 (length (items text))

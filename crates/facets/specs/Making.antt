@@ -84,6 +84,6 @@ abbrev pub choices_by : Source → FacetList → Option Choices
 choices_by (sources.Literals literals) facets = choice_of_one literals facets
 choices_by (sources.Union members) facets = choice_of_union members facets
 
--- cos-list-of-atomic (Structures 3.14.6): what the items of a list are; the type is no list, and no union that holds one
+-- cos-list-of-atomic (Datatypes 4.1.5): what the items of a list are; the type is no list, and no union that holds one
 abbrev pub choices_of : Facets → Option Choices
 choices_of item = choices_by item.source item.list

@@ -112,7 +112,7 @@ IsListReadIf true choices facets scope text outcome = outcome ≡ Err XLimitItem
 IsListReadIf false choices facets scope text outcome =
     (atoms : Result (List TypedAtom) Code) × AreItemsRead choices scope [] (items text) atoms × IsListJudged facets text atoms outcome
 
--- x-limit.items: a list has more than 65,536 items. Else its items are read, and then the facets are tried.
+-- x-limit.items (own): a list has more than 65,536 items. Else its items are read, and then the facets are tried.
 abbrev pub IsListRead : Choices → FacetList → Scope → List ℕ → Result Accepted Code → Type 0
 IsListRead choices facets scope text outcome =
     IsListReadIf (nat_lt 65_536 (length (items (normalized (way_of facets) text)))) choices facets scope (normalized (way_of facets) text) outcome

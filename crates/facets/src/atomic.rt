@@ -36,7 +36,7 @@ pub(crate) fn read_atomic(
         return Ok(Err(Code::XLimitItems));
     }
     match read_normalized(alloc, kind, treated.as_str(), scope)? {
-        Ok(value) => Ok(judged(list, value, treated)),
+        Ok(value) => Ok(judged_value(list, value, treated)),
         Err(fault) => Ok(Err(code_of(fault))),
     }
 }
@@ -65,7 +65,7 @@ pub(crate) fn way_of(list: &FacetList) -> WhiteSpace
 }
 
 /// The value, if it meets the facets.
-pub(crate) fn judged(list: &mut FacetList, value: Value, text: Text) -> Result<Accepted, Code>
+pub(crate) fn judged_value(list: &mut FacetList, value: Value, text: Text) -> Result<Accepted, Code>
     ensures judged { spec.IsJudged list.old value text result }
     ensures same { list.new ≡ list.old }
 {

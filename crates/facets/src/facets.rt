@@ -5,7 +5,7 @@ ghost use Rattle.facets.specs.Facets as spec;
 
 use crate::known::{Judged, Known, judged_step};
 use crate::Accepted;
-use crate::atomic::judged;
+use crate::atomic::judged_value;
 use crate::builtin::facets_of;
 use crate::making::{choices_of, list_facets};
 use crate::members::{Literals, Members, Source};
@@ -166,7 +166,7 @@ fn read_source(
     match source {
         Source::Literals(literals) => read_literal(alloc, literals, list, text, scope),
         Source::Union(members) => match read_union(alloc, members, text, scope)? {
-            Ok(accepted) => Ok(judged(list, accepted.value, accepted.text)),
+            Ok(accepted) => Ok(judged_value(list, accepted.value, accepted.text)),
             Err(code) => Ok(Err(code)),
         },
     }

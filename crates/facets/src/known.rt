@@ -4,7 +4,7 @@ ghost use Rattle.facets.specs.Facets as spec;
 
 use crate::Facets;
 use facet_checks::FacetList;
-use facet_rules::{ReadStep, judged};
+use facet_rules::{ReadStep, judge};
 use std::alloc::{AllocError, Global};
 use xs_codes::Fault;
 
@@ -39,9 +39,9 @@ pub(crate) fn judged_step(
 {
     match known {
         Known::Neither => {
-            let fault = judged(FacetList::new(alloc), step)?.fault;
+            let by_none = judge(FacetList::new(alloc), step)?;
             Ok(Judged {
-                fault,
+                fault: by_none.fault,
                 facets: None,
             })
         }
@@ -53,14 +53,14 @@ fn judged_whole(base: Facets, step: ReadStep) -> Result<Judged, AllocError>
     ensures { IfOk result (λ judged. judged ≡ spec.judged_whole base step) }
 {
     let Facets { source, list } = base;
-    let judged = judged(list, step)?;
-    match judged.list {
+    let made = judge(list, step)?;
+    match made.list {
         Some(list) => Ok(Judged {
-            fault: judged.fault,
+            fault: made.fault,
             facets: Some(Facets { source, list }),
         }),
         None => Ok(Judged {
-            fault: judged.fault,
+            fault: made.fault,
             facets: None,
         }),
     }

@@ -3,7 +3,7 @@ ghost use Rattle.std.specs.Prelude.{◌≡◌, [], ◌++◌, IfOk, OnOk};
 ghost use Rattle.facets.specs.Trying as spec;
 
 use crate::Accepted;
-use crate::atomic::{MOST_ITEMS, judged, read_atomic, way_of};
+use crate::atomic::{MOST_ITEMS, judged_value, read_atomic, way_of};
 use crate::members::{Choices, Gate, Literals, Member, Members, Plain};
 use facet_checks::FacetList;
 use simple_values::{Atoms, TypedAtom, Value};
@@ -203,7 +203,7 @@ fn read_list(
     }
     let texts = items(alloc, treated.as_str())?;
     match read_items(alloc, choices, texts.as_slice(), scope)? {
-        Ok(atoms) => Ok(judged(list, Value::List(atoms), treated)),
+        Ok(atoms) => Ok(judged_value(list, Value::List(atoms), treated)),
         Err(code) => Ok(Err(code)),
     }
 }
