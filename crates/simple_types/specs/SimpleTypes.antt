@@ -23,7 +23,7 @@ pub record TypeTable : Type 0 where
 
 pub record AreTypesOf (t : Tables) (types : TypeTable) : Type 0 where
   pub simples : AreSimplesJudged t types.simples
-  pub complexes : AreContentsJudged t types.complexes
+  pub complexes : AreContentsJudged t types.simples types.complexes
 
 abbrev pub sooner_if : Option Fault → Option Fault → Option Fault
 sooner_if best None = best

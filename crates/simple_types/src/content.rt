@@ -6,7 +6,6 @@ ghost use Rattle.simple_types.specs.Forms.{IsContentMade};
 ghost use Rattle.simple_types.specs.Forms as forms;
 ghost use Rattle.simple_types.specs.Judging as spec;
 ghost use Rattle.simple_types.specs.Lookup as look;
-ghost use Rattle.simple_types.specs.inside.Numbers.{IsContentNumberMade};
 
 use crate::filling::unknown_types;
 use crate::forms::judged_step;
@@ -39,7 +38,7 @@ pub(crate) fn judged_contents(
 ) -> Result<Vec<JudgedType>, AllocError>
     requires ranked { IsRanked parts.now }
     requires simples { spec.AreSimplesJudged parts.now simples.now }
-    ensures { IfOk result (λ table. spec.AreContentsJudged parts.now table.items) }
+    ensures { IfOk result (λ table. spec.AreContentsJudged parts.now simples.now table.items) }
 {
     let order = order_of(alloc, parts.complex_ranks())?;
     let mut table = unknown_types(alloc, parts.complex_ranks().len())?;
@@ -59,7 +58,7 @@ fn fill_contents(
     requires simples { spec.AreSimplesJudged parts.now simples.now }
     requires order { IsOrder (length parts.now.complexes.parts) parts.now.complexes.ranks order.now }
     requires alike { length table.old ≡ length parts.now.complexes.parts }
-    ensures { OnOk result (spec.AreContentsJudged parts.now table.new) }
+    ensures { OnOk result (spec.AreContentsJudged parts.now simples.now table.new) }
 {
     for x in order {
         let judged = judged_content(alloc, parts, simples, table, *x)?;
@@ -77,7 +76,7 @@ fn judged_content(
     number: u32,
 ) -> Result<JudgedType, AllocError>
     requires there { number < length parts.now.complexes.parts }
-    ensures { IfOk result (λ judged. IsContentNumberMade parts.now (look.looked_up simples.now) (look.content_of simples.now table.now) number judged) }
+    ensures { IfOk result (λ judged. spec.IsContentAt parts.now simples.now table.now number judged) }
 {
     match parts.complex_at(number) {
         Some(id) => content_by(alloc, simples, table, parts.complex(id)),

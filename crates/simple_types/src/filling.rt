@@ -3,8 +3,6 @@ ghost use Rattle.std.specs.Prelude.{◌≡◌, ◌<◌, length, IfOk, OnOk};
 ghost use Rattle.xs_references.specs.Order.{IsOrder};
 ghost use Rattle.xs_references.specs.Ranked.{IsRanked};
 ghost use Rattle.simple_types.specs.Judging as spec;
-ghost use Rattle.simple_types.specs.Lookup.{looked_up};
-ghost use Rattle.simple_types.specs.inside.Numbers.{IsNumberMade};
 
 use crate::forms::judged_part;
 use crate::{JudgedType, TypeFacets};
@@ -67,7 +65,7 @@ fn judged_number(
     number: u32,
 ) -> Result<JudgedType, AllocError>
     requires there { number < length parts.now.simples.parts }
-    ensures { IfOk result (λ judged. IsNumberMade parts.now (looked_up table.now) number judged) }
+    ensures { IfOk result (λ judged. spec.IsSimpleAt parts.now table.now number judged) }
 {
     match parts.simple_at(number) {
         Some(id) => judged_part(alloc, parts, table, parts.simple(id)),

@@ -10,7 +10,6 @@ use xs_names::Scope;
 
 /// What a text comes to by the type that has these facets: its value, with the text that this was read from, or the code of
 /// why it is none (Structures 3.14.4).
-#[tactic(auto, using(crate::proofs::Validity::read_is_valid))]
 pub fn validated(
     alloc: Global,
     facets: &mut Facets,

@@ -1,0 +1,3 @@
+pub mod FilledLaws
+pub mod InForce
+pub mod Stable
