@@ -66,9 +66,12 @@ module _ (look : TypeId → TypeFacets) (tree : TypeId → TypeTree) where
   members_in_force : (members : List TypeId) (front : Members) (known : Known) → All IsLooked members
       → AreMembers (members_of (map tree members)) front known (members_behind look front members) (known_of_members look known members)
   members_in_force [] front known h = (refl, refl)
-  members_in_force (m ∷ ms) front known h =
-      ((look m).facets, (look m).known, All-head IsLooked m ms h
-      , members_in_force ms (with_member front (look m).facets) (made_from_both known (look m).known) (All-tail IsLooked m ms h))
+  members_in_force (m ∷ ms) front known h = (
+    (look m).facets,
+    (look m).known,
+    All-head IsLooked m ms h,
+    members_in_force ms (with_member front (look m).facets) (made_from_both known (look m).known) (All-tail IsLooked m ms h),
+  )
 
   form_in_force : (t : Tables) (at : Place) (form : SimpleForm) (made : JudgedType) → All IsLooked (named_types form) → IsFormMade t look at form made → IsInForce (form_tree tree form) made.of
   form_in_force t at (Restrict base step) made h is =
@@ -120,7 +123,7 @@ module _ (t : Tables) (ranked : IsRanked t) (table : List JudgedType) (are : Are
           let low' = All-weaker (IsLower t (first_height + slice_index t.simples.ranks n)) (IsLower t (first_height + bound)) (λ of l. record { there = l.there; lower = omega (arith, l.lower, low) }) (named_types part.form) (ranked.simples n part e) in
           subst (λ tree. IsInForce tree made.of) (sym (simple_tree_is t ranked (types.Simple n) ∙ ap (part_tree (simple_tree t)) e))
           (form_in_force (looked_up table) (simple_tree t) t part.at part.form made
-            (All-weaker (IsLower t (first_height + bound)) (λ of. IsInForce (simple_tree t of) (looked_up table of)) rec (named_types part.form) low') is)
+          (All-weaker (IsLower t (first_height + bound)) (λ of. IsInForce (simple_tree t of) (looked_up table of)) rec (named_types part.form) low') is)
 
   -- any simple type, by a table that is judged
   pub simple_in_force : (of : TypeId) → IsInForce (simple_tree t of) (looked_up table of)
@@ -170,7 +173,7 @@ module _ (t : Tables) (ranked : IsRanked t) (simples complexes : List JudgedType
           let base : IsLower t (first_height + bound) part.base = record { there = l.there; lower = omega (arith, l.lower, low) } in
           subst (λ tree. IsInForce tree made.of) (sym (type_tree_is t ranked (types.Complex n) ∙ ap (content_part (simple_tree t) (type_tree t)) e))
           (content_in_force (looked_up simples) (content_of simples complexes) (simple_tree t) (type_tree t) part.by_extension part.base part.content made
-            (own_in_force t ranked simples are part.content) (rec part.base base) is)
+          (own_in_force t ranked simples are part.content) (rec part.base base) is)
 
 -- any type whose literals are known, by tables that are judged
 module _ (t : Tables) (ranked : IsRanked t) (types_of : TypeTable) (are : AreTypesOf t types_of) where

@@ -1,3 +1,5 @@
+pub mod Defined
 pub mod FilledLaws
 pub mod InForce
 pub mod Stable
+pub mod Whole

@@ -70,7 +70,7 @@ module _ (t : Tables) (ranked : IsRanked t) where
       of (Some part) e h =
           form-same (looked_up table) (looked_up (set table x v)) t part.at part.form made
           (All-weaker (IsLower t (first_height + slice_index t.simples.ranks y)) (λ of. looked_up table of ≡ looked_up (set table x v) of)
-            (looked-same table x (slice_index t.simples.ranks y) v low) (named_types part.form) (ranked.simples y part e)) h
+          (looked-same table x (slice_index t.simples.ranks y) v low) (named_types part.form) (ranked.simples y part e)) h
 
   content-same : (simples table : List JudgedType) (x rank : ℕ) (v : JudgedType) → rank ≤ slice_index t.complexes.ranks x → (of : TypeId) → IsLower t (first_height + rank) of → content_of simples table of ≡ content_of simples (set table x v) of
   content-same simples table x rank v low types.AnyType l = refl

@@ -10,7 +10,7 @@ use Rattle.facet_rules.specs.First.{sooner}
 use Rattle.facets.specs.declared.atomic.Accepted.{Accepted}
 use Rattle.facets.specs.declared.known.Known.TheVariants.{Whole}
 use Rattle.facets.specs.Trying.{Scope}
-use Rattle.simple_validity.specs.TypeTree.{TypeTree}
+use Rattle.simple_validity.specs.TypeTree.{TypeTree, not_simple, built_in, restriction, list_type, union_type, MemberTrees, no_member, member}
 use Rattle.simple_validity.specs.SimpleValidity.{IsValid}
 use Rattle.simple_types.specs.declared.judged.JudgedType.{JudgedType}
 use Rattle.simple_types.specs.Lookup.{content_of}
@@ -53,3 +53,16 @@ value_of (Err code) = Err code
 -- 3.14.4: the value of a text, or the first code
 abbrev pub IsValueOf : TypeTree → Scope → List ℕ → Result Value Code → Type 0
 IsValueOf tree scope text outcome = (answer : Result Accepted Code) × IsValid tree scope text answer × (outcome ≡ value_of answer)
+
+abbrev mutual
+  -- all that the type is made of is simple
+  pub IsSimpleTree : TypeTree → Type 0
+  IsSimpleTree not_simple = ⊥
+  IsSimpleTree (built_in kind) = Unit {0}
+  IsSimpleTree (restriction base step) = IsSimpleTree base
+  IsSimpleTree (list_type item) = IsSimpleTree item
+  IsSimpleTree (union_type members) = AreSimpleTrees members
+
+  pub AreSimpleTrees : MemberTrees → Type 0
+  AreSimpleTrees no_member = Unit {0}
+  AreSimpleTrees (member first rest) = IsSimpleTree first × AreSimpleTrees rest

@@ -12,7 +12,7 @@ use crate::forms::judged_step;
 use crate::lookup::{entry_at, looked_up};
 use crate::{JudgedType, TypeFacets};
 use std::alloc::{AllocError, Global};
-use xs_components::{Components, ComplexType, ContentForm, TypeId};
+use xs_components::{ComplexType, Components, ContentForm, TypeId};
 use xs_references::order_of;
 
 /// What is in force for a simple type, or for the content of a complex one.
@@ -42,7 +42,13 @@ pub(crate) fn judged_contents(
 {
     let order = order_of(alloc, parts.complex_ranks())?;
     let mut table = unknown_types(alloc, parts.complex_ranks().len())?;
-    fill_contents(alloc, parts, simples, order.as_slice(), table.as_mut_slice())?;
+    fill_contents(
+        alloc,
+        parts,
+        simples,
+        order.as_slice(),
+        table.as_mut_slice(),
+    )?;
     Ok(table)
 }
 
@@ -98,7 +104,13 @@ fn content_by(
             judged_step(alloc, behind, step)
         }
         (ContentForm::Simple { .. }, true) => base_content(alloc, simples, table, part.base),
-        (ContentForm::Complex { effective: None, .. }, true) => base_content(alloc, simples, table, part.base),
+        (
+            ContentForm::Complex {
+                effective: None,
+                ..
+            },
+            true,
+        ) => base_content(alloc, simples, table, part.base),
         _ => Ok(JudgedType {
             of: TypeFacets::unknown(alloc),
             fault: None,

@@ -100,11 +100,7 @@ fn judged_list(
 }
 
 // What is in force for a list of items of which so much is known.
-fn list_facets(
-    alloc: Global,
-    made: Option<Facets>,
-    item: Known,
-) -> Result<TypeFacets, AllocError>
+fn list_facets(alloc: Global, made: Option<Facets>, item: Known) -> Result<TypeFacets, AllocError>
     ensures { IfOk result (λ of. of ≡ spec.list_facets made item) }
 {
     match made {

@@ -61,7 +61,12 @@ pub(crate) fn note_base(
     ensures { result ≡ first_from best (spec.base_rules parts.now at base) }
 {
     let best = noted(best, is_any_simple_type(base), at, Code::XSimpleBase);
-    noted(best, is_final_for_restriction(parts, base), at, Code::StPropsCorrect3)
+    noted(
+        best,
+        is_final_for_restriction(parts, base),
+        at,
+        Code::StPropsCorrect3,
+    )
 }
 
 /// Notes what is wrong with the item type of a list, of which literals are lists or not.
@@ -73,7 +78,12 @@ pub(crate) fn note_item(
 ) -> Option<Fault>
     ensures { result ≡ first_from spec.no_fault (spec.item_rules parts.now at item is_atomic) }
 {
-    let best = noted(None, is_final_for_lists(parts, item), at, Code::XSimpleFinal);
+    let best = noted(
+        None,
+        is_final_for_lists(parts, item),
+        at,
+        Code::XSimpleFinal,
+    );
     noted(best, !is_atomic, at, Code::CosListOfAtomic)
 }
 
@@ -83,7 +93,12 @@ pub(crate) fn note_members(parts: &Components, at: Place, members: &[TypeId]) ->
 {
     let mut best = None;
     for member in members {
-        best = noted(best, is_final_for_unions(parts, *member), at, Code::XSimpleFinal);
+        best = noted(
+            best,
+            is_final_for_unions(parts, *member),
+            at,
+            Code::XSimpleFinal,
+        );
     }
     best
 }

@@ -76,8 +76,20 @@ impl SimpleTypes {
                 let mut facets = Facets::of_builtin(alloc, kind);
                 value_by(alloc, &mut facets, text, scope)
             }
-            TypeId::Simple(id) => value_in(alloc, self.simples.as_mut_slice(), id.number(), text, scope),
-            TypeId::Complex(id) => value_in(alloc, self.complexes.as_mut_slice(), id.number(), text, scope),
+            TypeId::Simple(id) => value_in(
+                alloc,
+                self.simples.as_mut_slice(),
+                id.number(),
+                text,
+                scope,
+            ),
+            TypeId::Complex(id) => value_in(
+                alloc,
+                self.complexes.as_mut_slice(),
+                id.number(),
+                text,
+                scope,
+            ),
         }
     }
 }

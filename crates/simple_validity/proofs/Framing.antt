@@ -96,9 +96,9 @@ framed_with front (OfUnion others) own h s =
     let whole : length (front.members ++ others.members) ≡ length front.members + length others.members = length-append front.members others.members in
     ends_append (length (front.members ++ others.members)) (front.gates ++ moved_on (length front.members) others.gates) (gate (length front.members) (length (front.members ++ others.members)) own ∷ [])
     (ends_append (length (front.members ++ others.members)) front.gates (moved_on (length front.members) others.gates)
-      (ends_more (length front.members) (length (front.members ++ others.members)) (omega (arith, whole)) front.gates h)
-      (ends_more (length front.members + length others.members) (length (front.members ++ others.members)) (omega (arith, whole)) (moved_on (length front.members) others.gates)
-        (ends_moved (length front.members) (length others.members) others.gates s)))
+    (ends_more (length front.members) (length (front.members ++ others.members)) (omega (arith, whole)) front.gates h)
+    (ends_more (length front.members + length others.members) (length (front.members ++ others.members)) (omega (arith, whole)) (moved_on (length front.members) others.gates)
+    (ends_moved (length front.members) (length others.members) others.gates s)))
     (omega arith, tt)
 
 -- a step leaves the literals as they are

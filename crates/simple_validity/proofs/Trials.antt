@@ -108,9 +108,11 @@ module _ (n k : ℕ) (g : Gate) (gs back : List Gate) (acc : Accepted) (next fir
 
   by_code : (code : Option Code) → (nat_lt k g.from || nat_le g.to k) ≡ false → IsChecked g.list acc.value acc.text code → first ≡ end_if code (n + g.to) → IsShutMoved n k (g ∷ gs) back acc next
   by_code None e checked is = open_gate (subst (λ b. IsShutIf b g acc None) (sym e) (None, checked, refl)) is
-  by_code (Some code) e checked is =
-      (Some g.to, (Some g.to, subst (λ b. IsShutIf b g acc (Some g.to)) (sym e) (Some code, checked, refl), refl)
-      , subst (λ first. IsShutBy first (IsShut (moved_on n gs ++ back) (n + k) acc next) next) is then_shut)
+  by_code (Some code) e checked is = (
+    Some g.to,
+    (Some g.to, subst (λ b. IsShutIf b g acc (Some g.to)) (sym e) (Some code, checked, refl), refl),
+    subst (λ first. IsShutBy first (IsShut (moved_on n gs ++ back) (n + k) acc next) next) is then_shut,
+  )
 
   by_test : (b : Bool) → (nat_lt k g.from || nat_le g.to k) ≡ b → IsShutIf b (moved_gate n g) acc first → IsShutMoved n k (g ∷ gs) back acc next
   by_test true e at = open_gate (subst (λ b. IsShutIf b g acc None) (sym e) refl) at
@@ -243,9 +245,12 @@ module _ {M : Type 0} (Reads : M → Outcome → Type 0) (n most : ℕ) (front i
 
   -- the members of a union, tried where it stands among others, come to the answer that they come to alone
   segment : (members : List M) (i s index start : ℕ) (outcome : Outcome) → index ≡ n + i → start ≡ n + s → i + length members ≡ most → s ≤ most → AreTried Reads all_gates index start (members ++ rest) outcome → Segment i s members outcome
-  segment [] i s index start outcome at from whole small t =
-      (Err CvcDatatypeValid1, refl, restart Reads all_gates rest (n + most) start (n + most) outcome (omega arith) (omega arith)
-      (let same : index ≡ n + most = omega arith in subst (λ i. AreTried Reads all_gates i start rest outcome) same t))
+  segment [] i s index start outcome at from whole small t = (
+    Err CvcDatatypeValid1,
+    refl,
+    restart Reads all_gates rest (n + most) start (n + most) outcome (omega arith) (omega arith)
+        (let same : index ≡ n + most = omega arith in subst (λ i. AreTried Reads all_gates i start rest outcome) same t),
+  )
   segment (m ∷ ms) i s index start outcome at from whole small t =
       by_start m ms i s index start outcome at from (omega arith) (omega arith)
       (λ s' start' from' small' t'. segment ms (i + 1) s' (index + 1) start' outcome (omega arith) from' (omega arith) small' t') small
@@ -283,9 +288,11 @@ module _ {M : Type 0} (Reads : M → Outcome → Type 0) (n : ℕ) (front inner 
       let none : next ≡ None = ahead (n + length members) (n + k) (omega arith) later behind acc next (subst (λ first. IsShutBy first (IsShut later (n + k) acc next) next) is shut) in
       (Ok acc, (Ok acc, tried, (None, checked, refl)), subst (λ next. Turns next acc) none turns)
   by_judged acc k small tried (Some code) next first checked is shut turns =
-      let some : next ≡ Some (n + length members) = subst (λ first. IsShutBy first (IsShut later (n + k) acc next) next) is shut in
-      (Err code, (Ok acc, tried, (Some code, checked, refl))
-      , subst (λ l. IsTrialIf l code Next outcome) (sym (checked_code own acc.value acc.text code checked)) (subst (λ next. Turns next acc) some turns (omega arith)))
+      let some : next ≡ Some (n + length members) = subst (λ first. IsShutBy first (IsShut later (n + k) acc next) next) is shut in (
+        Err code,
+        (Ok acc, tried, (Some code, checked, refl)),
+        subst (λ l. IsTrialIf l code Next outcome) (sym (checked_code own acc.value acc.text code checked)) (subst (λ next. Turns next acc) some turns (omega arith)),
+      )
 
   in_gate : (k : ℕ) → k < length members → (nat_lt (n + k) n || nat_le (n + length members) (n + k)) ≡ false
   in_gate k small = false_or (nat_lt (n + k) n) (nat_le (n + length members) (n + k)) (grind arith) (grind (arith, small))
@@ -311,9 +318,12 @@ module _ {M : Type 0} (Reads : M → Outcome → Type 0) (n : ℕ) (front later 
 
   one_limit : (code : Code) (turn : Turn) (l : Bool) → is_limit code ≡ l → Reads m (Err code) → turn ≡ (if l then Ends (Err code) else From n) → IsTurned turn Then outcome → Single
   one_limit code turn true e reads is turned = (Err code, reads, subst (λ l. IsTrialIf l code (Then (n + 1)) outcome) (sym e) (subst (λ turn. IsTurned turn Then outcome) is turned))
-  one_limit code turn false e reads is turned =
-      (Err code, reads, subst (λ l. IsTrialIf l code (Then (n + 1)) outcome) (sym e)
-      (restart Reads (front ++ later) rest (n + 1) n (n + 1) outcome (omega arith) (omega arith) (subst (λ turn. IsTurned turn Then outcome) is turned)))
+  one_limit code turn false e reads is turned = (
+    Err code,
+    reads,
+    subst (λ l. IsTrialIf l code (Then (n + 1)) outcome) (sym e)
+        (restart Reads (front ++ later) rest (n + 1) n (n + 1) outcome (omega arith) (omega arith) (subst (λ turn. IsTurned turn Then outcome) is turned)),
+  )
 
   one_turn : (first : Outcome) (turn : Turn) → Reads m first → IsTurn (front ++ later) n n first turn → IsTurned turn Then outcome → Single
   one_turn (Err code) turn reads is turned = one_limit code turn (is_limit code) refl reads is turned

@@ -107,13 +107,16 @@ module _ (scope : Scope) (text : List ℕ) where
       let n = length front.members in
       let next : length (front.members ++ others.members) ≡ n + length others.members = length-append front.members others.members in
       let same : (with_union front others own).gates ++ later ≡ front.gates ++ (moved_on n others.gates ++ gate n (n + length others.members) own ∷ later) =
-          ap (λ e. ((front.gates ++ moved_on n others.gates) ++ gate n e own ∷ []) ++ later) next
-          ∙ append_assoc (front.gates ++ moved_on n others.gates) (gate n (n + length others.members) own ∷ []) later
-          ∙ append_assoc front.gates (moved_on n others.gates) (gate n (n + length others.members) own ∷ later) in
+      ap (λ e. ((front.gates ++ moved_on n others.gates) ++ gate n e own ∷ []) ++ later) next
+      ∙ append_assoc (front.gates ++ moved_on n others.gates) (gate n (n + length others.members) own ∷ []) later
+      ∙ append_assoc front.gates (moved_on n others.gates) (gate n (n + length others.members) own ∷ later) in
       let r = union_in_turn (IsMemberRead scope text) n front.gates others.gates later own others.members more outcome h s (subst (λ n. StartFrom n later) next behind)
-          (subst (λ gates. AreMembersTried gates scope text n n (others.members ++ more) outcome) same t) in
-      (r.0, r.1, subst (λ e. IsTrialThen r.0 (AreMembersTried ((with_union front others own).gates ++ later) scope text e e more outcome) outcome) (sym next)
-      (subst (λ gates. IsTrialThen r.0 (AreMembersTried gates scope text (n + length others.members) (n + length others.members) more outcome) outcome) (sym same) r.2))
+      (subst (λ gates. AreMembersTried gates scope text n n (others.members ++ more) outcome) same t) in (
+        r.0,
+        r.1,
+        subst (λ e. IsTrialThen r.0 (AreMembersTried ((with_union front others own).gates ++ later) scope text e e more outcome) outcome) (sym next)
+            (subst (λ gates. IsTrialThen r.0 (AreMembersTried gates scope text (n + length others.members) (n + length others.members) more outcome) outcome) (sym same) r.2),
+      )
 
 -- the members of a union that are atomic
 abbrev AreAlike : List Plain → List Member → Type 0
@@ -163,9 +166,13 @@ module _ (gates : List Gate) (scope : Scope) (text : List ℕ) where
           → ((next : ℕ) → ArePlainsTried gates scope text (index + 1) next ps outcome → AreMembersTried gates scope text (index + 1) next ms outcome)
           → IsTriedIf (IsMemberRead scope text) gates b m index start (λ next. AreMembersTried gates scope text (index + 1) next ms outcome) outcome
       by true t rec = rec start t
-      by false t rec =
-          (t.0, t.1, subst (λ (m : Member). IsMemberRead scope text m t.0) (sym is.0) t.2, t.3
-          , turned_map t.1 (λ next. ArePlainsTried gates scope text (index + 1) next ps outcome) (λ next. AreMembersTried gates scope text (index + 1) next ms outcome) outcome rec t.4)
+      by false t rec = (
+        t.0,
+        t.1,
+        subst (λ (m : Member). IsMemberRead scope text m t.0) (sym is.0) t.2,
+        t.3,
+        turned_map t.1 (λ next. ArePlainsTried gates scope text (index + 1) next ps outcome) (λ next. AreMembersTried gates scope text (index + 1) next ms outcome) outcome rec t.4,
+      )
 
 -- what a list makes of what an item comes to
 abbrev IsSame : Outcome → Outcome → Type 0
@@ -203,7 +210,7 @@ module _ (own : FacetList) (choices : Choices) (scope : Scope) (text : List ℕ)
       let tried = alike_tried made.gates scope text plains members.members as' 0 0 first plain in
       let placed = subst (λ e. AreMembersTried (moved_on 0 members.gates ++ gate 0 e own ∷ []) scope text 0 0 members.members first) many tried in
       let r = union_in_turn (IsMemberRead scope text) 0 [] members.gates [] own members.members [] first tt s tt
-          (subst (λ ms. AreMembersTried (moved_on 0 members.gates ++ gate 0 (0 + length members.members) own ∷ []) scope text 0 0 ms first) (sym (append-nil members.members)) placed) in
+      (subst (λ ms. AreMembersTried (moved_on 0 members.gates ++ gate 0 (0 + length members.members) own ∷ []) scope text 0 0 ms first) (sym (append-nil members.members)) placed) in
       (r.0, r.1, same_of_trial r.0 first r.2)
 
   item_in : (source : Source) → IsFramedSource source → choices_by source own ≡ Some choices → ItemIn source
@@ -241,8 +248,8 @@ list_literal item of item_known made (Some choices) e facets known is h rec list
     let whole = whole_from item_known (subst IsWhole is.1 h) in
     list_read choices scope (λ part answer. (of : Facets) × IsMade item of × IsLiteral item of.list scope part answer)
     (λ part first read.
-      let i = item_in of.list choices scope part first read of.source (framed item of item_known made) e in
-      (i.0, (of, made_whole item of item_known whole made, rec whole of.list scope part i.0 i.1), i.2))
+    let i = item_in of.list choices scope part first read of.source (framed item of item_known made) e in
+    (i.0, (of, made_whole item of item_known whole made, rec whole of.list scope part i.0 i.1), i.2))
     list text outcome (subst (λ (f : Facets). IsSourceRead f.source list scope text outcome) is.0 t)
 
 mutual
@@ -262,7 +269,7 @@ mutual
       → (scope : Scope) (text : List ℕ) (outcome : Outcome) → AreMembersTried all.gates scope text (length front.members) (length front.members) (drop (length front.members) all.members) outcome → AreTried members scope text outcome
   tried no_member front front_known all known is h framed' scope text outcome t =
       let none : drop (length front.members) all.members ≡ [] =
-          ap (λ ms. drop (length front.members) ms) (ap (λ (m : Members). m.members) is.0 ∙ sym (append-nil front.members)) ∙ drop-append_seam front.members [] in
+      ap (λ ms. drop (length front.members) ms) (ap (λ (m : Members). m.members) is.0 ∙ sym (append-nil front.members)) ∙ drop-append_seam front.members [] in
       subst (λ ms. AreMembersTried all.gates scope text (length front.members) (length front.members) ms outcome) none t
   tried (member first rest) front front_known all known is h framed' scope text outcome t =
       let of : Facets = is.0 in
@@ -273,19 +280,23 @@ mutual
       let source_framed = framed first of is.1 is.2 in
       let whole = (whole_from_both front_known is.1 (whole_front rest front' next_known all known is.3 h)).1 in
       let behind : drop (length front.members) all.members ≡ own ++ g.members =
-          ap (λ ms. drop (length front.members) ms) (g.are_members ∙ ap (λ ms. ms ++ g.members) (members_with front of.source of.list) ∙ append_assoc front.members own g.members)
-          ∙ drop-append_seam front.members (own ++ g.members) in
+      ap (λ ms. drop (length front.members) ms) (g.are_members ∙ ap (λ ms. ms ++ g.members) (members_with front of.source of.list) ∙ append_assoc front.members own g.members)
+      ∙ drop-append_seam front.members (own ++ g.members) in
       let behind' : drop (length front'.members) all.members ≡ g.members =
-          ap (λ ms. drop (length front'.members) ms) g.are_members ∙ drop-append_seam front'.members g.members in
+      ap (λ ms. drop (length front'.members) ms) g.are_members ∙ drop-append_seam front'.members g.members in
       let t' = subst (λ ms. AreMembersTried (front'.gates ++ g.gates) scope text (length front.members) (length front.members) ms outcome) behind
-          (subst (λ gates. AreMembersTried gates scope text (length front.members) (length front.members) (drop (length front.members) all.members) outcome) g.are_gates t) in
-      let r = in_turn scope text front of.source of.list g.members g.gates outcome framed' source_framed g.behind t' in
-      (of, r.0, made_whole first of is.1 whole is.2, literal first of is.1 is.2 whole of.list scope text r.0 r.1
-      , trial_map r.0 (AreMembersTried (front'.gates ++ g.gates) scope text (length front'.members) (length front'.members) g.members outcome) (AreTried rest scope text outcome) outcome
-        (λ more. tried rest front' next_known all known is.3 h (framed_with front of.source of.list framed' source_framed) scope text outcome
-          (subst (λ ms. AreMembersTried all.gates scope text (length front'.members) (length front'.members) ms outcome) (sym behind')
-          (subst (λ gates. AreMembersTried gates scope text (length front'.members) (length front'.members) g.members outcome) (sym g.are_gates) more)))
-        r.2)
+      (subst (λ gates. AreMembersTried gates scope text (length front.members) (length front.members) (drop (length front.members) all.members) outcome) g.are_gates t) in
+      let r = in_turn scope text front of.source of.list g.members g.gates outcome framed' source_framed g.behind t' in (
+        of,
+        r.0,
+        made_whole first of is.1 whole is.2,
+        literal first of is.1 is.2 whole of.list scope text r.0 r.1,
+        trial_map r.0 (AreMembersTried (front'.gates ++ g.gates) scope text (length front'.members) (length front'.members) g.members outcome) (AreTried rest scope text outcome) outcome
+            (λ more. tried rest front' next_known all known is.3 h (framed_with front of.source of.list framed' source_framed) scope text outcome
+            (subst (λ ms. AreMembersTried all.gates scope text (length front'.members) (length front'.members) ms outcome) (sym behind')
+            (subst (λ gates. AreMembersTried gates scope text (length front'.members) (length front'.members) g.members outcome) (sym g.are_gates) more)))
+            r.2,
+      )
 
 -- what a type reads is what it comes to
 pub read_is_valid : (tree : TypeTree) (facets : Facets) → IsMade tree facets → (scope : Scope) (text : List ℕ) (outcome : Outcome) → IsRead facets scope text outcome → IsValid tree scope text outcome
