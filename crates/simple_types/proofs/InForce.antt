@@ -33,7 +33,8 @@ use Rattle.simple_types.specs.declared.judged.JudgedType.{JudgedType}
 use Rattle.simple_types.specs.Lookup.{unknown, entry_of, entry_at, looked_up, content_of}
 use Rattle.simple_types.specs.Forms.{left_behind, IsStepMade, list_facets, members_behind, known_of_members, union_facets, IsRestrictionMade, list_made, union_made, IsFormMade, without_fault, restricted, IsContentMade}
 use Rattle.simple_types.specs.Judging.{Holds, IsSimpleAt, IsContentAt, AreSimplesJudged, AreContentsJudged}
-use Rattle.simple_types.specs.SimpleTypes.{TypeTable, AreTypesOf, IsWhole}
+use Rattle.simple_types.specs.declared.types.SimpleTypes.{SimpleTypes}
+use Rattle.simple_types.specs.SimpleTypes.{AreTypesOf, IsWhole}
 
 abbrev IsInForce : TypeTree → TypeFacets → Type 0
 IsInForce tree of = AreInForce tree of.facets of.known
@@ -176,7 +177,7 @@ module _ (t : Tables) (ranked : IsRanked t) (simples complexes : List JudgedType
           (own_in_force t ranked simples are part.content) (rec part.base base) is)
 
 -- any type whose literals are known, by tables that are judged
-module _ (t : Tables) (ranked : IsRanked t) (types_of : TypeTable) (are : AreTypesOf t types_of) where
+module _ (t : Tables) (ranked : IsRanked t) (types_of : SimpleTypes) (are : AreTypesOf t types_of) where
   pub type_is_made : (of : TypeId) → IsWhole types_of of → IsMade (type_tree t of) (content_of types_of.simples types_of.complexes of).facets
   type_is_made types.AnyType whole = absurd (subst IsKnownWhole whole tt)
   type_is_made (types.Builtin kind) whole =

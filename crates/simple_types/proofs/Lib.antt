@@ -1,3 +1,4 @@
+pub mod Building
 pub mod Defined
 pub mod FilledLaws
 pub mod InForce

@@ -36,7 +36,8 @@ use Rattle.simple_types.specs.Lookup.{unknown, entry_of, entry_at, looked_up, co
 use Rattle.simple_types.specs.TypeRules.{no_fault, base_rules, item_rules, members_rules, is_final_for_lists}
 use Rattle.simple_types.specs.Forms.{left_behind, IsStepMade, list_facets, known_of_members, IsRestrictionMade, list_made, union_made, IsFormMade, without_fault, IsContentMade}
 use Rattle.simple_types.specs.Judging.{Holds, IsSimpleAt, IsContentAt, AreSimplesJudged, AreContentsJudged}
-use Rattle.simple_types.specs.SimpleTypes.{TypeTable, AreTypesOf, IsWhole, sooner_if, first_of, first_fault_of, IsSimpleTree, AreSimpleTrees}
+use Rattle.simple_types.specs.declared.types.SimpleTypes.{SimpleTypes}
+use Rattle.simple_types.specs.SimpleTypes.{AreTypesOf, IsWhole, sooner_if, first_of, first_fault_of, IsSimpleTree, AreSimpleTrees}
 
 sooner-some : (best : Option Fault) (fault : Fault) → sooner best fault ≡ None → ⊥
 sooner-some None fault e = none-some fault (sym e)
@@ -202,7 +203,7 @@ module _ (step_known : (behind : Facets) (step : List FacetItem) (judged : Judge
     ]
 
   -- where no type is at fault, every type that is simple is known
-  pub all_whole : (t : Tables) → IsRanked t → (types_of : TypeTable) → AreTypesOf t types_of → first_fault_of types_of ≡ None → (of : TypeId) → IsSimpleTree (type_tree t of) → IsWhole types_of of
+  pub all_whole : (t : Tables) → IsRanked t → (types_of : SimpleTypes) → AreTypesOf t types_of → first_fault_of types_of ≡ None → (of : TypeId) → IsSimpleTree (type_tree t of) → IsWhole types_of of
   all_whole t ranked types_of are none of simple =
       let outer = first_of-none types_of.complexes (first_of None types_of.simples) none in
       let inner = first_of-none types_of.simples None outer.0 in

@@ -1,5 +1,5 @@
 //! The simple content of complex types, judged in the order of their ranks.
-ghost use Rattle.std.specs.Prelude.{◌≡◌, ◌<◌, length, IfOk, OnOk};
+ghost use Rattle.std.specs.Prelude.{◌≡◌, ◌<◌, true, false, length, IfOk, OnOk};
 ghost use Rattle.xs_references.specs.Order.{IsOrder};
 ghost use Rattle.xs_references.specs.Ranked.{IsRanked};
 ghost use Rattle.simple_types.specs.Forms.{IsContentMade};
@@ -98,23 +98,62 @@ fn content_by(
 ) -> Result<JudgedType, AllocError>
     ensures { IfOk result (λ judged. IsContentMade (look.looked_up simples.now) (look.content_of simples.now table.now) part.now.by_extension part.now.base part.now.content judged) }
 {
-    match (&part.content, part.by_extension) {
-        (ContentForm::Simple { own, step }, false) => {
-            let behind = restricted(alloc, simples, table, *own, part.base)?;
+    if part.by_extension {
+        extended(alloc, simples, table, part.base, &part.content)
+    } else {
+        restricted(alloc, simples, table, part.base, &part.content)
+    }
+}
+
+// An extension has the content of its base, unless it has a particle of its own.
+fn extended(
+    alloc: Global,
+    simples: &[JudgedType],
+    table: &[JudgedType],
+    base: TypeId,
+    content: &ContentForm,
+) -> Result<JudgedType, AllocError>
+    ensures { IfOk result (λ judged. IsContentMade (look.looked_up simples.now) (look.content_of simples.now table.now) true base content.now judged) }
+{
+    match content {
+        ContentForm::Simple { .. } => base_content(alloc, simples, table, base),
+        ContentForm::Complex {
+            effective: None,
+            ..
+        } => base_content(alloc, simples, table, base),
+        ContentForm::Complex {
+            effective: Some(_),
+            ..
+        } => Ok(no_content(alloc)),
+    }
+}
+
+// A restriction of simple content, by facets.
+fn restricted(
+    alloc: Global,
+    simples: &[JudgedType],
+    table: &[JudgedType],
+    base: TypeId,
+    content: &ContentForm,
+) -> Result<JudgedType, AllocError>
+    ensures { IfOk result (λ judged. IsContentMade (look.looked_up simples.now) (look.content_of simples.now table.now) false base content.now judged) }
+{
+    match content {
+        ContentForm::Simple { own, step } => {
+            let behind = content_behind(alloc, simples, table, *own, base)?;
             judged_step(alloc, behind, step)
         }
-        (ContentForm::Simple { .. }, true) => base_content(alloc, simples, table, part.base),
-        (
-            ContentForm::Complex {
-                effective: None,
-                ..
-            },
-            true,
-        ) => base_content(alloc, simples, table, part.base),
-        _ => Ok(JudgedType {
-            of: TypeFacets::unknown(alloc),
-            fault: None,
-        }),
+        ContentForm::Complex { .. } => Ok(no_content(alloc)),
+    }
+}
+
+// No simple content.
+fn no_content(alloc: Global) -> JudgedType
+    ensures { result ≡ forms.without_fault look.unknown }
+{
+    JudgedType {
+        of: TypeFacets::unknown(alloc),
+        fault: None,
     }
 }
 
@@ -134,7 +173,7 @@ fn base_content(
 }
 
 // What a restriction of simple content restricts.
-fn restricted(
+fn content_behind(
     alloc: Global,
     simples: &[JudgedType],
     table: &[JudgedType],

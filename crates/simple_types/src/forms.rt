@@ -7,7 +7,7 @@ ghost use Rattle.simple_types.specs.Forms as spec;
 use crate::lookup::looked_up;
 use crate::rules::{note_base, note_item, note_members};
 use crate::{JudgedType, TypeFacets};
-use facets::{Facets, Known, Members};
+use facets::{Facets, Judged, Known, Members};
 use std::alloc::{AllocError, Global};
 use xs_codes::{Builtin, Fault};
 use xs_components::{Components, FacetStep, Place, SimpleForm, SimpleType, TypeId};
@@ -43,10 +43,10 @@ fn judged_restriction(
     ensures { IfOk result (λ judged. spec.IsRestrictionMade parts.now (spec_looked_up table.now) at base step.now judged) }
 {
     let behind = looked_up(alloc, table, base)?;
-    let judged = judged_step(alloc, behind, step)?;
+    let JudgedType { of, fault } = judged_step(alloc, behind, step)?;
     Ok(JudgedType {
-        of: judged.of,
-        fault: note_base(parts, at, base, judged.fault),
+        of,
+        fault: note_base(parts, at, base, fault),
     })
 }
 
@@ -58,10 +58,10 @@ pub(crate) fn judged_step(
 ) -> Result<JudgedType, AllocError>
     ensures { IfOk result (λ judged. spec.IsStepMade behind step.now judged) }
 {
-    let judged = Facets::judge(alloc, &behind.facets, behind.known, step)?;
+    let Judged { fault, facets } = Facets::judge(alloc, &behind.facets, behind.known, step)?;
     Ok(JudgedType {
-        of: left_behind(behind, judged.facets),
-        fault: judged.fault,
+        of: left_behind(behind, facets),
+        fault,
     })
 }
 

@@ -16,24 +16,16 @@ use facets::{Accepted, Facets};
 use simple_validity::validated;
 use simple_values::Value;
 use std::alloc::{AllocError, Global};
-use std::marker::Model;
 use xs_codes::{Code, Fault};
 use xs_components::{Components, TypeId};
+use xs_lists::Listed;
 use xs_names::Scope;
 
 /// The simple types of a set and the simple contents of its complex types, ready to judge texts.
 #[derive(Debug, Drop)]
 pub struct SimpleTypes {
-    simples: Vec<JudgedType>,
-    complexes: Vec<JudgedType>,
-}
-
-impl Model for SimpleTypes {
-    ghost use Rattle.simple_types.specs.SimpleTypes.{TypeTable};
-
-    ghost Value = { TypeTable };
-
-    ghost view = { λ types. record { simples = types.simples.items; complexes = types.complexes.items } };
+    simples: Listed<JudgedType>,
+    complexes: Listed<JudgedType>,
 }
 
 /// What building gives: the types, or the first fault among them.
@@ -55,7 +47,10 @@ impl SimpleTypes {
         let best = first_of(None, simples.as_slice());
         match first_of(best, complexes.as_slice()) {
             Some(fault) => Ok(Err(fault)),
-            None => Ok(Ok(SimpleTypes { simples, complexes })),
+            None => Ok(Ok(SimpleTypes {
+                simples: Listed::from_vec(simples),
+                complexes: Listed::from_vec(complexes),
+            })),
         }
     }
 
