@@ -1,4 +1,4 @@
-pub mod Building
+pub mod Built
 pub mod Defined
 pub mod FilledLaws
 pub mod InForce

@@ -20,9 +20,9 @@ pub(crate) fn content_of(
     alloc: Global,
     simples: &[JudgedType],
     complexes: &[JudgedType],
-    of: TypeId,
+    of: &TypeId,
 ) -> Result<TypeFacets, AllocError>
-    ensures { IfOk result (λ found. found ≡ look.content_of simples.now complexes.now of) }
+    ensures { IfOk result (λ found. found ≡ look.content_of simples.now complexes.now of.now) }
 {
     match of {
         TypeId::Complex(id) => entry_at(alloc, complexes, id.number()),
@@ -99,9 +99,9 @@ fn content_by(
     ensures { IfOk result (λ judged. IsContentMade (look.looked_up simples.now) (look.content_of simples.now table.now) part.now.by_extension part.now.base part.now.content judged) }
 {
     if part.by_extension {
-        extended(alloc, simples, table, part.base, &part.content)
+        extended(alloc, simples, table, &part.base, &part.content)
     } else {
-        restricted(alloc, simples, table, part.base, &part.content)
+        restricted(alloc, simples, table, &part.base, &part.content)
     }
 }
 
@@ -110,10 +110,10 @@ fn extended(
     alloc: Global,
     simples: &[JudgedType],
     table: &[JudgedType],
-    base: TypeId,
+    base: &TypeId,
     content: &ContentForm,
 ) -> Result<JudgedType, AllocError>
-    ensures { IfOk result (λ judged. IsContentMade (look.looked_up simples.now) (look.content_of simples.now table.now) true base content.now judged) }
+    ensures { IfOk result (λ judged. IsContentMade (look.looked_up simples.now) (look.content_of simples.now table.now) true base.now content.now judged) }
 {
     match content {
         ContentForm::Simple { .. } => base_content(alloc, simples, table, base),
@@ -133,14 +133,14 @@ fn restricted(
     alloc: Global,
     simples: &[JudgedType],
     table: &[JudgedType],
-    base: TypeId,
+    base: &TypeId,
     content: &ContentForm,
 ) -> Result<JudgedType, AllocError>
-    ensures { IfOk result (λ judged. IsContentMade (look.looked_up simples.now) (look.content_of simples.now table.now) false base content.now judged) }
+    ensures { IfOk result (λ judged. IsContentMade (look.looked_up simples.now) (look.content_of simples.now table.now) false base.now content.now judged) }
 {
     match content {
         ContentForm::Simple { own, step } => {
-            let behind = content_behind(alloc, simples, table, *own, base)?;
+            let behind = content_behind(alloc, simples, table, own, base)?;
             judged_step(alloc, behind, step)
         }
         ContentForm::Complex { .. } => Ok(no_content(alloc)),
@@ -162,9 +162,9 @@ fn base_content(
     alloc: Global,
     simples: &[JudgedType],
     table: &[JudgedType],
-    base: TypeId,
+    base: &TypeId,
 ) -> Result<JudgedType, AllocError>
-    ensures { IfOk result (λ judged. judged ≡ forms.without_fault (look.content_of simples.now table.now base)) }
+    ensures { IfOk result (λ judged. judged ≡ forms.without_fault (look.content_of simples.now table.now base.now)) }
 {
     Ok(JudgedType {
         of: content_of(alloc, simples, table, base)?,
@@ -177,10 +177,10 @@ fn content_behind(
     alloc: Global,
     simples: &[JudgedType],
     table: &[JudgedType],
-    own: Option<TypeId>,
-    base: TypeId,
+    own: &Option<TypeId>,
+    base: &TypeId,
 ) -> Result<TypeFacets, AllocError>
-    ensures { IfOk result (λ behind. behind ≡ forms.restricted (look.looked_up simples.now) (look.content_of simples.now table.now) own base) }
+    ensures { IfOk result (λ behind. behind ≡ forms.restricted (look.looked_up simples.now) (look.content_of simples.now table.now) own.now base.now) }
 {
     match own {
         Some(own) => looked_up(alloc, simples, own),

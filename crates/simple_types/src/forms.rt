@@ -23,9 +23,9 @@ pub(crate) fn judged_part(
 {
     match &part.form {
         SimpleForm::Restrict { base, step } => {
-            judged_restriction(alloc, parts, table, part.at, *base, step)
+            judged_restriction(alloc, parts, table, part.at, base, step)
         }
-        SimpleForm::ListOf { item } => judged_list(alloc, parts, table, part.at, *item),
+        SimpleForm::ListOf { item } => judged_list(alloc, parts, table, part.at, item),
         SimpleForm::UnionOf { members } => {
             judged_union(alloc, parts, table, part.at, members.as_slice())
         }
@@ -37,10 +37,10 @@ fn judged_restriction(
     parts: &Components,
     table: &[JudgedType],
     at: Place,
-    base: TypeId,
+    base: &TypeId,
     step: &FacetStep,
 ) -> Result<JudgedType, AllocError>
-    ensures { IfOk result (λ judged. spec.IsRestrictionMade parts.now (spec_looked_up table.now) at base step.now judged) }
+    ensures { IfOk result (λ judged. spec.IsRestrictionMade parts.now (spec_looked_up table.now) at base.now step.now judged) }
 {
     let behind = looked_up(alloc, table, base)?;
     let JudgedType { of, fault } = judged_step(alloc, behind, step)?;
@@ -86,9 +86,9 @@ fn judged_list(
     parts: &Components,
     table: &[JudgedType],
     at: Place,
-    item: TypeId,
+    item: &TypeId,
 ) -> Result<JudgedType, AllocError>
-    ensures { IfOk result (λ judged. judged ≡ spec.list_made parts.now (spec_looked_up table.now) at item) }
+    ensures { IfOk result (λ judged. judged ≡ spec.list_made parts.now (spec_looked_up table.now) at item.now) }
 {
     let of = looked_up(alloc, table, item)?;
     let made = Facets::list_of(alloc, &of.facets)?;
@@ -172,7 +172,7 @@ fn union_facets(
     let mut all = Members::new(alloc);
     let mut known = Known::Whole;
     for member in members {
-        let of = looked_up(alloc, table, *member)?;
+        let of = looked_up(alloc, table, member)?;
         all = all.with(alloc, &of.facets)?;
         known = made_from_both(known, of.known);
     }

@@ -11,13 +11,13 @@ use xs_components::TypeId;
 pub(crate) fn looked_up(
     alloc: Global,
     table: &[JudgedType],
-    of: TypeId,
+    of: &TypeId,
 ) -> Result<TypeFacets, AllocError>
-    ensures { IfOk result (λ found. found ≡ spec.looked_up table.now of) }
+    ensures { IfOk result (λ found. found ≡ spec.looked_up table.now of.now) }
 {
     match of {
         TypeId::Builtin(kind) => Ok(TypeFacets {
-            facets: Facets::of_builtin(alloc, kind),
+            facets: Facets::of_builtin(alloc, *kind),
             known: Known::Whole,
         }),
         TypeId::Simple(id) => entry_at(alloc, table, id.number()),

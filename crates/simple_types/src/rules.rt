@@ -8,8 +8,8 @@ use xs_codes::{Builtin, Code, Fault};
 use xs_components::{Components, Methods, Place, TypeId};
 
 // The methods that a type of the tables is final for.
-fn finals_of(parts: &Components, of: TypeId) -> Option<Methods>
-    ensures { result ≡ spec.finals_of parts.now of }
+fn finals_of(parts: &Components, of: &TypeId) -> Option<Methods>
+    ensures { result ≡ spec.finals_of parts.now of.now }
 {
     let TypeId::Simple(id) = of else {
         return None;
@@ -18,8 +18,8 @@ fn finals_of(parts: &Components, of: TypeId) -> Option<Methods>
     Some(parts.simple(id).finals)
 }
 
-fn is_final_for_restriction(parts: &Components, of: TypeId) -> bool
-    ensures { result ≡ spec.is_final_for_restriction parts.now of }
+fn is_final_for_restriction(parts: &Components, of: &TypeId) -> bool
+    ensures { result ≡ spec.is_final_for_restriction parts.now of.now }
 {
     match finals_of(parts, of) {
         Some(finals) => finals.restriction,
@@ -27,8 +27,8 @@ fn is_final_for_restriction(parts: &Components, of: TypeId) -> bool
     }
 }
 
-fn is_final_for_lists(parts: &Components, of: TypeId) -> bool
-    ensures { result ≡ spec.is_final_for_lists parts.now of }
+fn is_final_for_lists(parts: &Components, of: &TypeId) -> bool
+    ensures { result ≡ spec.is_final_for_lists parts.now of.now }
 {
     match finals_of(parts, of) {
         Some(finals) => finals.by_list,
@@ -36,8 +36,8 @@ fn is_final_for_lists(parts: &Components, of: TypeId) -> bool
     }
 }
 
-fn is_final_for_unions(parts: &Components, of: TypeId) -> bool
-    ensures { result ≡ spec.is_final_for_unions parts.now of }
+fn is_final_for_unions(parts: &Components, of: &TypeId) -> bool
+    ensures { result ≡ spec.is_final_for_unions parts.now of.now }
 {
     match finals_of(parts, of) {
         Some(finals) => finals.by_union,
@@ -45,8 +45,8 @@ fn is_final_for_unions(parts: &Components, of: TypeId) -> bool
     }
 }
 
-fn is_any_simple_type(of: TypeId) -> bool
-    ensures { result ≡ spec.is_any_simple_type of }
+fn is_any_simple_type(of: &TypeId) -> bool
+    ensures { result ≡ spec.is_any_simple_type of.now }
 {
     matches!(of, TypeId::Builtin(Builtin::AnySimpleType))
 }
@@ -55,10 +55,10 @@ fn is_any_simple_type(of: TypeId) -> bool
 pub(crate) fn note_base(
     parts: &Components,
     at: Place,
-    base: TypeId,
+    base: &TypeId,
     best: Option<Fault>,
 ) -> Option<Fault>
-    ensures { result ≡ first_from best (spec.base_rules parts.now at base) }
+    ensures { result ≡ first_from best (spec.base_rules parts.now at base.now) }
 {
     let best = noted(best, is_any_simple_type(base), at, Code::XSimpleBase);
     noted(
@@ -73,10 +73,10 @@ pub(crate) fn note_base(
 pub(crate) fn note_item(
     parts: &Components,
     at: Place,
-    item: TypeId,
+    item: &TypeId,
     is_atomic: bool,
 ) -> Option<Fault>
-    ensures { result ≡ first_from spec.no_fault (spec.item_rules parts.now at item is_atomic) }
+    ensures { result ≡ first_from spec.no_fault (spec.item_rules parts.now at item.now is_atomic) }
 {
     let best = noted(
         None,
@@ -95,7 +95,7 @@ pub(crate) fn note_members(parts: &Components, at: Place, members: &[TypeId]) ->
     for member in members {
         best = noted(
             best,
-            is_final_for_unions(parts, *member),
+            is_final_for_unions(parts, member),
             at,
             Code::XSimpleFinal,
         );
