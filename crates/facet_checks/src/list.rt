@@ -94,6 +94,14 @@ impl FacetList {
     pub fn try_clone(&self, alloc: Global) -> Result<FacetList, AllocError>
         ensures { IfOk result (λ copy. copy ≡ self.now) }
     {
+        let (max_inclusive, max_exclusive) = copied_side(
+            self.max_inclusive.as_ref(),
+            self.max_exclusive.as_ref(),
+        )?;
+        let (min_inclusive, min_exclusive) = copied_side(
+            self.min_inclusive.as_ref(),
+            self.min_exclusive.as_ref(),
+        )?;
         Ok(FacetList {
             white_space: self.white_space,
             patterns: copied_steps(alloc, self.patterns.as_slice())?,
@@ -101,14 +109,24 @@ impl FacetList {
             min_length: self.min_length,
             max_length: self.max_length,
             enumeration: copied_values(self.enumeration.as_ref())?,
-            max_inclusive: copied_bound(self.max_inclusive.as_ref())?,
-            max_exclusive: copied_bound(self.max_exclusive.as_ref())?,
-            min_inclusive: copied_bound(self.min_inclusive.as_ref())?,
-            min_exclusive: copied_bound(self.min_exclusive.as_ref())?,
+            max_inclusive,
+            max_exclusive,
+            min_inclusive,
+            min_exclusive,
             total_digits: self.total_digits,
             fraction_digits: self.fraction_digits,
         })
     }
+}
+
+// The bounds of a side, copied.
+fn copied_side(
+    inclusive: Option<&Bound>,
+    exclusive: Option<&Bound>,
+) -> Result<(Option<Bound>, Option<Bound>), AllocError>
+    ensures { IfOk result (λ copies. copies ≡ (option_copied inclusive.entry, option_copied exclusive.entry)) }
+{
+    Ok((copied_bound(inclusive)?, copied_bound(exclusive)?))
 }
 
 fn copied_bound(bound: Option<&Bound>) -> Result<Option<Bound>, AllocError>

@@ -28,13 +28,16 @@ bound_in (Some facet) = bound_at facet.fixed facet.reading
 abbrev pub own_bound : FacetKind → List ReadFacet → Option Bound
 own_bound kind facets = bound_in (first_of kind facets)
 
+abbrev pub has_bound : FacetKind → List ReadFacet → Bool
+has_bound kind facets = is_some (limit_of kind facets)
+
 -- the step has an upper bound
 abbrev pub has_upper : List ReadFacet → Bool
-has_upper facets = is_some (limit_of kinds.MaxInclusive facets) || is_some (limit_of kinds.MaxExclusive facets)
+has_upper facets = has_bound kinds.MaxInclusive facets || has_bound kinds.MaxExclusive facets
 
 -- the step has a lower bound
 abbrev pub has_lower : List ReadFacet → Bool
-has_lower facets = is_some (limit_of kinds.MinInclusive facets) || is_some (limit_of kinds.MinExclusive facets)
+has_lower facets = has_bound kinds.MinInclusive facets || has_bound kinds.MinExclusive facets
 
 -- a bound of the step replaces both bounds of its side
 abbrev pub bound_behind : Option Bound → Bool → FacetKind → List ReadFacet → Option Bound

@@ -4,8 +4,8 @@ ghost use Rattle.std.specs.Option.{option_copied};
 ghost use Rattle.facet_rules.specs.First.{first_from};
 ghost use Rattle.facet_rules.specs.BoundRules as spec;
 
-use crate::first::noted;
 use crate::ReadFacet;
+use crate::first::noted;
 use crate::step::{limit_of, place_of};
 use facet_checks::{Bound, FacetList, is_at_most, is_below};
 use simple_values::{Value, same};

@@ -111,20 +111,28 @@ fn handling_behind(base: Option<Handling>, own: Option<Handling>) -> Option<Hand
     }
 }
 
+// Whether the step has a bound of a kind.
+fn has_bound(facets: &[ReadFacet], kind: FacetKind) -> bool
+    ensures { result ≡ spec.has_bound kind facets.now }
+{
+    match limit_of(facets, kind) {
+        Some(_) => true,
+        None => false,
+    }
+}
+
 // Whether the step has an upper bound.
 fn has_upper(facets: &[ReadFacet]) -> bool
     ensures { result ≡ spec.has_upper facets.now }
 {
-    limit_of(facets, FacetKind::MaxInclusive).is_some()
-        || limit_of(facets, FacetKind::MaxExclusive).is_some()
+    has_bound(facets, FacetKind::MaxInclusive) || has_bound(facets, FacetKind::MaxExclusive)
 }
 
 // Whether the step has a lower bound.
 fn has_lower(facets: &[ReadFacet]) -> bool
     ensures { result ≡ spec.has_lower facets.now }
 {
-    limit_of(facets, FacetKind::MinInclusive).is_some()
-        || limit_of(facets, FacetKind::MinExclusive).is_some()
+    has_bound(facets, FacetKind::MinInclusive) || has_bound(facets, FacetKind::MinExclusive)
 }
 
 // The bound that the step has of a kind, if it has one.

@@ -74,7 +74,10 @@ fn changed(
 }
 
 /// The list of a type, or what is wrong with it.
-pub(crate) fn list_answer(alloc: Global, facets: &Facets) -> Result<Result<Facets, String>, AllocError> {
+pub(crate) fn list_answer(
+    alloc: Global,
+    facets: &Facets,
+) -> Result<Result<Facets, String>, AllocError> {
     match Facets::list_of(alloc, facets)? {
         Some(made) => Ok(Ok(made)),
         None => Ok(Err(String::from_str(alloc, "cos-list-of-atomic")?)),

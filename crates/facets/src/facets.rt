@@ -3,10 +3,10 @@ ghost use Rattle.std.specs.Prelude.{◌≡◌, IfOk};
 ghost use Rattle.facet_checks.specs.Check.{IsChecked};
 ghost use Rattle.facets.specs.Facets as spec;
 
-use crate::known::{Judged, Known, judged_step};
 use crate::Accepted;
 use crate::atomic::judged_value;
 use crate::builtin::facets_of;
+use crate::known::{Judged, Known, judged_step};
 use crate::making::{choices_of, list_facets};
 use crate::members::{Literals, Members, Source};
 use crate::reading::read_step;
