@@ -80,9 +80,9 @@ fn try_plains(
     Ok(Err(Code::CvcDatatypeValid1))
 }
 
-// What comes of a member's answer in a trial.
+/// What comes of a member's answer in a trial.
 #[derive(Debug, Drop)]
-enum Turn {
+pub enum Turn {
     /// The trial ends with this.
     Ends(Outcome),
     /// It goes on behind the member, with the members from an index on.

@@ -2,4 +2,4 @@ pub mod Codes
 pub mod Trials
 pub mod Framing
 pub mod TreeLaws
-pub mod Validity
+pub mod ReadLaws

@@ -1,7 +1,7 @@
 use Rattle.std.proofs.lemmas.Result.{IfOk-weaker}
 use Rattle.facets.specs.Source.{IsRead}
 use Rattle.simple_validity.specs.SimpleValidity.{IsValid}
-use Rattle.simple_validity.proofs.Validity.{read_is_valid}
+use Rattle.simple_validity.proofs.ReadLaws.{read_is_valid}
 use Rattle.simple_validity.proofs.validity.validated.Goals as goal
 
 pub returns : goal.returns
