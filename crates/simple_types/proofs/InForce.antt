@@ -35,6 +35,7 @@ use Rattle.simple_types.specs.Forms.{left_behind, IsStepMade, list_facets, membe
 use Rattle.simple_types.specs.Judging.{Holds, IsSimpleAt, IsContentAt, AreSimplesJudged, AreContentsJudged}
 use Rattle.simple_types.specs.declared.types.SimpleTypes.{SimpleTypes}
 use Rattle.simple_types.specs.SimpleTypes.{AreTypesOf, IsWhole}
+use Rattle.simple_types.specs.inside.Numbers.{IsMadeAt}
 
 abbrev IsInForce : TypeTree → TypeFacets → Type 0
 IsInForce tree of = AreInForce tree of.facets of.known
@@ -196,3 +197,14 @@ module _ (t : Tables) (ranked : IsRanked t) (types_of : SimpleTypes) (are : AreT
 pub made_at : (tree : TypeTree) (entry : Option JudgedType) → (entry_of entry).known ≡ Whole → IsMade tree (entry_of entry).facets → Holds (λ judged. IsMade tree judged.of.facets) entry
 made_at tree None whole h = absurd (subst IsKnownWhole whole tt)
 made_at tree (Some judged) whole h = h
+
+module _ (t : Tables) (ranked : IsRanked t) (types_of : SimpleTypes) (are : AreTypesOf t types_of) where
+  -- the literals of no type are known by its being any type
+  pub any_type_is_not_whole : IsWhole types_of types.AnyType → ⊥
+  any_type_is_not_whole whole = subst IsKnownWhole whole tt
+
+  pub simple_is_made : (id : ℕ) → IsWhole types_of (types.Simple id) → IsMadeAt (type_tree t (types.Simple id)) types_of.simples id
+  simple_is_made id whole = made_at (type_tree t (types.Simple id)) (slice_get types_of.simples id) whole (type_is_made t ranked types_of are (types.Simple id) whole)
+
+  pub content_is_made : (id : ℕ) → IsWhole types_of (types.Complex id) → IsMadeAt (type_tree t (types.Complex id)) types_of.complexes id
+  content_is_made id whole = made_at (type_tree t (types.Complex id)) (slice_get types_of.complexes id) whole (type_is_made t ranked types_of are (types.Complex id) whole)
