@@ -15,7 +15,7 @@ pub(crate) fn unknown_types(alloc: Global, count: usize) -> Result<Vec<JudgedTyp
     ensures { IfOk result (λ table. length table.items ≡ count) }
 {
     let mut table = Vec::new(alloc);
-    for _made in 0..count {
+    for _ in 0..count {
         table.push(JudgedType {
             of: TypeFacets::unknown(alloc),
             fault: None,
