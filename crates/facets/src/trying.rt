@@ -84,7 +84,7 @@ fn try_plains(
 #[derive(Debug, Drop)]
 pub enum Turn {
     /// The trial ends with this.
-    Ends(Outcome),
+    Ends(Result<Accepted, Code>),
     /// It goes on behind the member, with the members from an index on.
     From(usize),
 }
