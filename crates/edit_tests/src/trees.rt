@@ -4,12 +4,11 @@ ghost use Rattle.tree_rows.specs.Whole.{IsNamespace};
 use crate::lines::items_of;
 use plain_tree::{
     Attribute, Binding, Builder, Edit, EditError, Expanded, NodeKind, Row, Tree, TreeReason,
-    fragment, read_tree,
+    read_tree,
 };
 use std::alloc::Global;
 use std::test::Fail;
-use tag_names::NameReason;
-use xs_names::{Names, Scope, Text};
+use xs_names::Text;
 
 /// The tree of these lines, one item after another.
 fn tree_of(alloc: Global, lines: &[&str]) -> Result<Tree, Fail> {
@@ -142,31 +141,6 @@ fn reads_trees_and_fragments_or_answers_the_first_reason(rt: HostRuntime) -> Res
         assert_eq!(rt; fault.reason, TreeReason::EndMismatch);
         assert_eq!(rt; fault.item, 1);
     }
-    let mut names = Names::new(alloc)?;
-    let space = names.namespace_id("u")?;
-    let mut scope = Scope::new(alloc)?;
-    scope.bind("p", space)?;
-    let items = items_of(alloc, &["(p:r", "-x", "(p:s", ")p:s", ")p:r"])?;
-    let tree = fragment(alloc, &names, &scope, items.as_slice())?
-        .ok()
-        .ok_or("no tree")?;
-    assert!(rt; stand_as(tree.rows(), &[(1, 1), (2, 2), (3, 2)]));
-    assert_eq!(rt; tree.next_free(), 4);
-    let name = tree.name(3).ok_or("no element")?;
-    assert!(rt; name.local.as_str() == "s");
-    assert!(rt;
-        name.namespace
-            .as_ref()
-            .is_some_and(|space| space.as_str() == "u")
-    );
-    assert!(rt; tree.binding_at(1, 0).is_none());
-    assert!(rt; read_tree(alloc, items.as_slice())?.is_err());
-    let items = items_of(alloc, &["(p:r", "-x", "(q:s", ")q:s", ")p:r"])?;
-    let fault = fragment(alloc, &names, &scope, items.as_slice())?
-        .err()
-        .ok_or("read")?;
-    assert_eq!(rt; fault.reason, TreeReason::Name(NameReason::UnboundPrefix));
-    assert_eq!(rt; fault.item, 2);
     Ok(())
 }
 
