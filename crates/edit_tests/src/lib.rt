@@ -4,6 +4,8 @@
 #[cfg(test)]
 mod edits;
 #[cfg(test)]
+mod fragments;
+#[cfg(test)]
 mod lines;
 #[cfg(test)]
 mod script;

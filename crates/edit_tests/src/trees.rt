@@ -131,7 +131,7 @@ fn makes_an_edit(rt: HostRuntime) -> Result<(), Fail> {
 }
 
 #[test]
-fn reads_trees_and_fragments_or_answers_the_first_reason(rt: HostRuntime) -> Result<(), Fail> {
+fn reads_trees_or_answers_the_first_reason(rt: HostRuntime) -> Result<(), Fail> {
     let alloc = rt.alloc();
     let items = items_of(alloc, &LINES)?;
     let tree = read_tree(alloc, items.as_slice())?.ok().ok_or("no tree")?;

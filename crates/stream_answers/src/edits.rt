@@ -26,7 +26,7 @@ fn begins_block(line: &str) -> bool
 /// Answers a command, with the items of its block where it has one.
 fn answer<L: Ledger>(
     alloc: Global,
-    mut session: PlainSession,
+    mut session: Box<PlainSession>,
     line: &Text,
     block: Option<Items>,
     out: &mut String,
@@ -36,14 +36,14 @@ fn answer<L: Ledger>(
     ensures turns { IfOk result (Turns (turns.answered session line.now block) (string_bytes out.old) (string_bytes out.new)) }
     ensures steps { steps.old ≤ steps.new }
 {
-    answer_line(alloc, &mut session, line, block, out, steps)?;
+    answer_line(alloc, &mut *session, line, block, out, steps)?;
     Ok(Turn::Goes(Place::Edits(session)))
 }
 
 /// A command comes, which begins a block or is answered.
 fn take_command<L: Ledger>(
     alloc: Global,
-    session: PlainSession,
+    session: Box<PlainSession>,
     line: Text,
     out: &mut String,
     steps: &mut Steps<L>,
@@ -55,18 +55,19 @@ fn take_command<L: Ledger>(
     if !begins_block(line.as_str()) {
         return answer(alloc, session, &line, None, out, steps);
     }
-    Ok(Turn::Goes(Place::Block(Block {
+    let block = Block {
         session,
         line,
         items: Items::new(alloc),
-    })))
+    };
+    Ok(Turn::Goes(Place::Block(Box::new(alloc, block)?)))
 }
 
 /// Answers an item in the edits section.
 pub fn answer_edits<L: Ledger>(
     alloc: Global,
     line: u32,
-    session: PlainSession,
+    session: Box<PlainSession>,
     item: Item,
     out: &mut String,
     steps: &mut Steps<L>,
@@ -83,28 +84,19 @@ pub fn answer_edits<L: Ledger>(
 }
 
 /// One more item of a block.
-fn grow(block: Block, item: Item) -> Result<Turn, AllocError>
+fn grow(mut block: Box<Block>, item: Item) -> Result<Turn, AllocError>
     requires { block.session.closed ≡ false }
     ensures { (text : List ℕ) → IfOk result (Turns (turns.block_grown block item) text text) }
 {
-    let Block {
-        session,
-        line,
-        mut items,
-    } = block;
-    items.push(item)?;
-    Ok(Turn::Goes(Place::Block(Block {
-        session,
-        line,
-        items,
-    })))
+    block.items.push(item)?;
+    Ok(Turn::Goes(Place::Block(block)))
 }
 
 /// Answers an item in a block.
 pub fn answer_block<L: Ledger>(
     alloc: Global,
     line: u32,
-    block: Block,
+    block: Box<Block>,
     item: Item,
     out: &mut String,
     steps: &mut Steps<L>,
@@ -119,7 +111,7 @@ pub fn answer_block<L: Ledger>(
                 session,
                 line,
                 items,
-            } = block;
+            } = Box::into_inner(block);
             answer(alloc, session, &line, Some(items), out, steps)
         }
         Item::Document | Item::Edits | Item::End | Item::Schema(_) | Item::Command(_) => {

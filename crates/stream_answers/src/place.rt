@@ -39,7 +39,7 @@ pub struct DocumentSection {
 /// A block of an edit script, with the items that have come.
 #[derive(Drop)]
 pub struct Block {
-    pub session: PlainSession,
+    pub session: Box<PlainSession>,
     pub line: Text,
     pub items: Items,
 }
@@ -51,15 +51,15 @@ pub struct Verdict {
     pub total: u64,
 }
 
-/// Where a stream stands between two lines.
+/// Where a stream stands between two lines. What is large is boxed, since the place goes from call to call.
 #[derive(Drop)]
 pub enum Place {
     /// Before the first section.
     Fresh,
-    Schema(SchemaSection),
-    Document(DocumentSection),
-    Edits(PlainSession),
-    Block(Block),
+    Schema(Box<SchemaSection>),
+    Document(Box<DocumentSection>),
+    Edits(Box<PlainSession>),
+    Block(Box<Block>),
     /// Behind the word `end`, with the verdict on the document where one was asked for.
     Ended(Option<Verdict>),
 }

@@ -1,5 +1,6 @@
 pub mod Rules
 pub mod Nest
+pub mod Pieces
 pub mod Marks
 pub mod Building
 pub mod Steps

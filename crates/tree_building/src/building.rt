@@ -292,8 +292,8 @@ impl Building {
         requires first { holds_chars self.old.pending ≡ false }
         ensures { Steps self.old self.new result (steps.text_by text.now self.old self.old.pending) }
     {
+        let joined = Joined::new(text)?;
         let text = text.as_str();
-        let joined = Joined::new(alloc, text)?;
         self.close_tag(alloc)?;
         match self.begin_text(joined, text.is_empty(), is_white_space(text)) {
             Ok(()) => Ok(()),
@@ -302,14 +302,14 @@ impl Building {
     }
 
     /// Characters behind those of a text.
-    fn more_chars(&mut self, text: &Text) -> Result<(), Stop>
+    fn more_chars(&mut self, alloc: Global, text: &Text) -> Result<(), Stop>
         requires few { self.old.taken + 1 < 2 ^ 32 }
         requires more { holds_chars self.old.pending ≡ true }
         ensures { Steps self.old self.new result (steps.text_by text.now self.old self.old.pending) }
     {
         match &mut self.pending {
             Pending::Chars(joined) => {
-                joined.push_str(text.as_str())?;
+                joined.push_str(alloc, text.as_str())?;
                 self.taken += 1;
                 Ok(())
             }
@@ -334,7 +334,7 @@ impl Building {
     {
         after(self.taken)?;
         if self.holds_chars() {
-            self.more_chars(text)
+            self.more_chars(alloc, text)
         } else {
             self.first_chars(alloc, text)
         }
