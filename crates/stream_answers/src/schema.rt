@@ -124,11 +124,7 @@ fn begin_document(
 }
 
 /// One more item of a section's tree.
-fn grow(
-    mut section: Box<SchemaSection>,
-    item: &Item,
-    out: &mut String,
-) -> Result<Turn, AllocError>
+fn grow(mut section: Box<SchemaSection>, item: &Item, out: &mut String) -> Result<Turn, AllocError>
     ensures { IfOk result (Turns (turns.schema_grown section item.now) (string_bytes out.old) (string_bytes out.new)) }
 {
     match section.builder.item(item)? {

@@ -6,7 +6,7 @@ use Rattle.tag_names.specs.declared.fault.TagFaults.{TagFaults}
 use Rattle.tag_names.specs.declared.named.Named.{Named}
 use Rattle.tree_rows.specs.declared.row.Row.{Row}
 use Rattle.tree_rows.specs.declared.row.Content.TheVariants as contents
-use Rattle.tree_building.specs.Building.{text_row, with_element}
+use Rattle.tree_building.specs.Building.{with_element}
 use Rattle.tree_building.specs.declared.building.Building.{Building}
 use Rattle.tree_building.specs.declared.build.Built.{Built}
 use Rattle.tree_building.specs.declared.pending.Pending.{Pending}
@@ -69,12 +69,6 @@ abbrev pub holds_chars : Pending → Bool
 holds_chars pending.Nothing = false
 holds_chars (pending.Start tag item) = false
 holds_chars (pending.Chars chars) = true
-
--- the node of the characters that came last
-abbrev pub text_come : Building → Pending → Option Row
-text_come b pending.Nothing = None
-text_come b (pending.Start tag item) = None
-text_come b (pending.Chars chars) = Some (text_row b chars)
 
 -- the start tag that came last was judged: there is none, or its element can be opened
 abbrev pub GivesTag : Result (Option (List ℕ × Row)) Stop → Building → Result Building TreeFault → Type 0

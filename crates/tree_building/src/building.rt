@@ -1,6 +1,6 @@
 ghost use Rattle.std.specs.Prelude.{◌≡◌, ◌+◌, [], ◌<◌, ◌^◌, true, false, Ok, IfOk, OnOk};
 ghost use Rattle.tree_building.specs.Building as steps;
-ghost use Rattle.tree_building.specs.Steps.{Steps, Judged, Ends, Finished, GivesTag, holds_chars, reason_by, row_of, text_come};
+ghost use Rattle.tree_building.specs.Steps.{Steps, Judged, Ends, Finished, GivesTag, holds_chars, reason_by, row_of};
 ghost use Rattle.item_listing.specs.declared.item.Item.TheVariants as items;
 
 use crate::build::Built;
@@ -172,25 +172,18 @@ impl Building {
         }
     }
 
-    /// The node of the characters that came last, if there are any.
-    fn text_come(&self, alloc: Global) -> Result<Option<Row>, AllocError>
-        ensures { IfOk result (λ row. row ≡ text_come self.now self.now.pending) }
-    {
-        match &self.pending {
-            Pending::Nothing => Ok(None),
-            Pending::Start(..) => Ok(None),
-            Pending::Chars(chars) => Ok(Some(self.text_row(alloc, chars)?)),
-        }
-    }
-
     /// Makes a node of what came last.
     fn settle(&mut self, alloc: Global) -> Result<(), Stop>
         ensures step { Steps self.old self.new result (steps.settled self.old) }
         ensures taken { OnOk result (self.new.taken ≡ self.old.taken) }
     {
-        match self.text_come(alloc)? {
-            None => self.close_tag(alloc),
-            Some(row) => self.put_text(row),
+        match &self.pending {
+            Pending::Nothing => Ok(()),
+            Pending::Start(..) => self.close_tag(alloc),
+            Pending::Chars(chars) => {
+                let row = self.text_row(alloc, chars)?;
+                self.put_text(row)
+            }
         }
     }
 
@@ -216,20 +209,18 @@ impl Building {
         Ok(())
     }
 
-    /// Begins a text, where no text is begun.
-    fn begin_text(&mut self, text: Joined, is_empty: bool, is_white: bool) -> Result<(), TreeFault>
+    /// Begins a text of these characters, where no text is begun.
+    fn begin_text(&mut self, text: Joined, chars: &str) -> Result<(), TreeFault>
         requires few { self.old.taken + 1 < 2 ^ 32 }
-        requires empty { is_empty ≡ steps.is_empty text }
-        requires white { is_white ≡ steps.is_white text }
-        ensures { Ends self.old self.new result (steps.text_begun text self.old) }
+        requires same { text ≡ chars.now }
+        ensures { Ends self.old self.new result (steps.text_begun chars.now self.old) }
     {
         if self.nest.depth() == 0 {
-            if !is_white {
+            if !is_white_space(chars) {
                 return Err(self.refusal(TreeReason::TextOutside));
             }
-        } else if !is_empty {
-            let number = self.next;
-            if is_past(self.rules.nodes, number) {
+        } else if !chars.is_empty() {
+            if is_past(self.rules.nodes, self.next) {
                 return Err(self.refusal(TreeReason::TooManyNodes));
             }
             self.pending = Pending::Chars(text);
@@ -293,9 +284,8 @@ impl Building {
         ensures { Steps self.old self.new result (steps.text_by text.now self.old self.old.pending) }
     {
         let joined = Joined::new(text)?;
-        let text = text.as_str();
         self.close_tag(alloc)?;
-        match self.begin_text(joined, text.is_empty(), is_white_space(text)) {
+        match self.begin_text(joined, text.as_str()) {
             Ok(()) => Ok(()),
             Err(fault) => Err(Stop::Refused(fault)),
         }
