@@ -120,20 +120,25 @@ fn begin_edits(
         return not_yet(out);
     }
     let session = open_session(alloc, schema, tree, out)?;
-    Ok(Turn::Goes(Place::Edits(Box::new(alloc, session)?)))
+    Ok(Turn::Goes(Place::Edits(session)))
 }
 
 /// One more item of the document's tree.
-fn grow(
-    mut section: Box<DocumentSection>,
-    item: &Item,
-    out: &mut String,
-) -> Result<Turn, AllocError>
+fn grow(section: DocumentSection, item: &Item, out: &mut String) -> Result<Turn, AllocError>
     ensures { IfOk result (Turns (turns.document_grown section item.now) (string_bytes out.old) (string_bytes out.new)) }
 {
-    match section.builder.item(item)? {
-        Ok(()) => Ok(Turn::Goes(Place::Document(section))),
-        Err(fault) => refuse_tree(out, section.start, fault),
+    let DocumentSection {
+        schema,
+        mut builder,
+        start,
+    } = section;
+    match builder.item(item)? {
+        Ok(()) => Ok(Turn::Goes(Place::Document(DocumentSection {
+            schema,
+            builder,
+            start,
+        }))),
+        Err(fault) => refuse_tree(out, start, fault),
     }
 }
 
@@ -142,16 +147,16 @@ pub fn answer_document(
     alloc: Global,
     asked: Asked,
     line: u32,
-    section: Box<DocumentSection>,
+    section: DocumentSection,
     item: Item,
     out: &mut String,
 ) -> Result<Turn, AllocError>
     ensures { IfOk result (Turns (turns.in_document asked line section item) (string_bytes out.old) (string_bytes out.new)) }
 {
     match item {
-        Item::End => end_document(alloc, asked, line, Box::into_inner(section), out),
+        Item::End => end_document(alloc, asked, line, section, out),
         Item::Edits => match asked {
-            Asked::Session => begin_edits(alloc, Box::into_inner(section), out),
+            Asked::Session => begin_edits(alloc, section, out),
             Asked::Check | Asked::Assess => misplaced(out, line),
         },
         Item::Document | Item::Dot | Item::Schema(_) | Item::Command(_) => misplaced(out, line),

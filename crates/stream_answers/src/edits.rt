@@ -26,7 +26,7 @@ fn begins_block(line: &str) -> bool
 /// Answers a command, with the items of its block where it has one.
 fn answer<L: Ledger>(
     alloc: Global,
-    mut session: Box<PlainSession>,
+    mut session: PlainSession,
     line: &Text,
     block: Option<Items>,
     out: &mut String,
@@ -36,14 +36,14 @@ fn answer<L: Ledger>(
     ensures turns { IfOk result (Turns (turns.answered session line.now block) (string_bytes out.old) (string_bytes out.new)) }
     ensures steps { steps.old ≤ steps.new }
 {
-    answer_line(alloc, &mut *session, line, block, out, steps)?;
+    answer_line(alloc, &mut session, line, block, out, steps)?;
     Ok(Turn::Goes(Place::Edits(session)))
 }
 
 /// A command comes, which begins a block or is answered.
 fn take_command<L: Ledger>(
     alloc: Global,
-    session: Box<PlainSession>,
+    session: PlainSession,
     line: Text,
     out: &mut String,
     steps: &mut Steps<L>,
@@ -55,19 +55,18 @@ fn take_command<L: Ledger>(
     if !begins_block(line.as_str()) {
         return answer(alloc, session, &line, None, out, steps);
     }
-    let block = Block {
+    Ok(Turn::Goes(Place::Block(Block {
         session,
         line,
         items: Items::new(alloc),
-    };
-    Ok(Turn::Goes(Place::Block(Box::new(alloc, block)?)))
+    })))
 }
 
 /// Answers an item in the edits section.
 pub fn answer_edits<L: Ledger>(
     alloc: Global,
     line: u32,
-    session: Box<PlainSession>,
+    session: PlainSession,
     item: Item,
     out: &mut String,
     steps: &mut Steps<L>,
@@ -84,19 +83,28 @@ pub fn answer_edits<L: Ledger>(
 }
 
 /// One more item of a block.
-fn grow(mut block: Box<Block>, item: Item) -> Result<Turn, AllocError>
+fn grow(block: Block, item: Item) -> Result<Turn, AllocError>
     requires { block.session.closed ≡ false }
     ensures { (text : List ℕ) → IfOk result (Turns (turns.block_grown block item) text text) }
 {
-    block.items.push(item)?;
-    Ok(Turn::Goes(Place::Block(block)))
+    let Block {
+        session,
+        line,
+        mut items,
+    } = block;
+    items.push(item)?;
+    Ok(Turn::Goes(Place::Block(Block {
+        session,
+        line,
+        items,
+    })))
 }
 
 /// Answers an item in a block.
 pub fn answer_block<L: Ledger>(
     alloc: Global,
     line: u32,
-    block: Box<Block>,
+    block: Block,
     item: Item,
     out: &mut String,
     steps: &mut Steps<L>,
@@ -111,7 +119,7 @@ pub fn answer_block<L: Ledger>(
                 session,
                 line,
                 items,
-            } = Box::into_inner(block);
+            } = block;
             answer(alloc, session, &line, Some(items), out, steps)
         }
         Item::Document | Item::Edits | Item::End | Item::Schema(_) | Item::Command(_) => {

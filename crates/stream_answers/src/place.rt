@@ -39,7 +39,7 @@ pub struct DocumentSection {
 /// A block of an edit script, with the items that have come.
 #[derive(Drop)]
 pub struct Block {
-    pub session: Box<PlainSession>,
+    pub session: PlainSession,
     pub line: Text,
     pub items: Items,
 }
@@ -51,15 +51,15 @@ pub struct Verdict {
     pub total: u64,
 }
 
-/// Where a stream stands between two lines. What is large is boxed, since the place goes from call to call.
+/// Where a stream stands between two lines.
 #[derive(Drop)]
 pub enum Place {
     /// Before the first section.
     Fresh,
-    Schema(Box<SchemaSection>),
-    Document(Box<DocumentSection>),
-    Edits(Box<PlainSession>),
-    Block(Box<Block>),
+    Schema(SchemaSection),
+    Document(DocumentSection),
+    Edits(PlainSession),
+    Block(Block),
     /// Behind the word `end`, with the verdict on the document where one was asked for.
     Ended(Option<Verdict>),
 }

@@ -22,13 +22,12 @@ fn begin_schema(
 ) -> Result<Turn, AllocError>
     ensures { (text : List ℕ) → IfOk result (Turns (turns.goes [] (turns.schema_begun line count first)) text text) }
 {
-    let section = SchemaSection {
+    Ok(Turn::Goes(Place::Schema(SchemaSection {
         count,
         first,
         builder: Builder::new(alloc)?,
         start: line,
-    };
-    Ok(Turn::Goes(Place::Schema(Box::new(alloc, section)?)))
+    })))
 }
 
 /// Answers an item before the first section.
@@ -109,14 +108,11 @@ fn begin_document(
     } = section;
     match builder.finish()? {
         Ok(tree) => match read_first(alloc, &first.unwrap_or(tree), out)? {
-            Ok(schema) => {
-                let section = DocumentSection {
-                    schema,
-                    builder: Builder::new(alloc)?,
-                    start: line,
-                };
-                Ok(Turn::Goes(Place::Document(Box::new(alloc, section)?)))
-            }
+            Ok(schema) => Ok(Turn::Goes(Place::Document(DocumentSection {
+                schema,
+                builder: Builder::new(alloc)?,
+                start: line,
+            }))),
             Err(status) => Ok(Turn::Ends(status)),
         },
         Err(fault) => refuse_tree(out, start, fault),
@@ -124,12 +120,23 @@ fn begin_document(
 }
 
 /// One more item of a section's tree.
-fn grow(mut section: Box<SchemaSection>, item: &Item, out: &mut String) -> Result<Turn, AllocError>
+fn grow(section: SchemaSection, item: &Item, out: &mut String) -> Result<Turn, AllocError>
     ensures { IfOk result (Turns (turns.schema_grown section item.now) (string_bytes out.old) (string_bytes out.new)) }
 {
-    match section.builder.item(item)? {
-        Ok(()) => Ok(Turn::Goes(Place::Schema(section))),
-        Err(fault) => refuse_tree(out, section.start, fault),
+    let SchemaSection {
+        count,
+        first,
+        mut builder,
+        start,
+    } = section;
+    match builder.item(item)? {
+        Ok(()) => Ok(Turn::Goes(Place::Schema(SchemaSection {
+            count,
+            first,
+            builder,
+            start,
+        }))),
+        Err(fault) => refuse_tree(out, start, fault),
     }
 }
 
@@ -138,23 +145,21 @@ pub fn answer_schema(
     alloc: Global,
     asked: Asked,
     line: u32,
-    section: Box<SchemaSection>,
+    section: SchemaSection,
     item: Item,
     out: &mut String,
 ) -> Result<Turn, AllocError>
     ensures { IfOk result (Turns (turns.in_schema asked line section item) (string_bytes out.old) (string_bytes out.new)) }
 {
     match item {
-        Item::Schema(_) => next_schema(alloc, line, Box::into_inner(section), out),
+        Item::Schema(_) => next_schema(alloc, line, section, out),
         Item::End => match asked {
-            Asked::Check => end_schemas(alloc, Box::into_inner(section), out),
+            Asked::Check => end_schemas(alloc, section, out),
             Asked::Assess | Asked::Session => misplaced(out, line),
         },
         Item::Document => match asked {
             Asked::Check => misplaced(out, line),
-            Asked::Assess | Asked::Session => {
-                begin_document(alloc, line, Box::into_inner(section), out)
-            }
+            Asked::Assess | Asked::Session => begin_document(alloc, line, section, out),
         },
         Item::Edits | Item::Dot | Item::Command(_) => misplaced(out, line),
         item => grow(section, &item, out),
