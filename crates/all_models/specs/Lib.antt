@@ -1,0 +1,3 @@
+pub mod Ambiguity
+pub mod Letters
+pub mod Modelled
