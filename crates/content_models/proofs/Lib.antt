@@ -1,0 +1,4 @@
+pub mod WayLaws
+pub mod AllLaws
+pub mod TermLaws
+pub mod StateLaws
