@@ -2,3 +2,4 @@ pub mod WayLaws
 pub mod AllLaws
 pub mod TermLaws
 pub mod StateLaws
+pub mod Building

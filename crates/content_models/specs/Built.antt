@@ -62,6 +62,14 @@ module _ (names : NameTable) (t : Tables) (members : List (List ℕ)) where
           ((u : UnrolledModel) × IsUnrolled (is_inhabited members t) (model_of t p) u × IsStateCountOf (accepts names members t) (is_inhabited members t) (model_of t p) u.table count)) ⊎
       (((own : List AllMember) × (optional : Bool) × IsLimitedAll own optional (model_of t p)) × (count ≡ 1))
 
+  -- x-limit.positions: the content model of a particle has more than 2,048 positions.
+  abbrev pub HasTooManyPositions : ℕ → Type 0
+  HasTooManyPositions p = 2048 < positions_of (model_of t p)
+
+  -- x-limit.states: it has not too many positions, but more than 2,048 states.
+  abbrev pub HasTooManyStates : ℕ → Type 0
+  HasTooManyStates p = (positions_of (model_of t p) ≤ 2048) × ((count : ℕ) → IsStateTotal p count → 2048 < count)
+
   module _ (classes : List ℕ) where
     -- the automaton recognizes the words of the content model of a particle, and tells of its terms and places
     abbrev pub IsBuilt : ℕ → ContentAutomaton → Type 0
@@ -73,14 +81,17 @@ module _ (names : NameTable) (t : Tables) (members : List (List ℕ)) where
         IsAllAutomatonOf names (model_terms members t classes p) (accepts names members t) own (model_of t p) a) ×
         AreSymbolsOf (model_terms members t classes p) a.symbols
 
-    -- x-limit.positions, x-limit.states, x-limit.table: the content model of a particle has more than 2,048 positions; not these, but
-    -- more than 2,048 states; neither, but its states times its symbols are more than the cells that are left.
-    abbrev pub IsRefused : ℕ → ℕ → ModelError → Type 0
-    IsRefused p cells_left TooManyPositions = 2048 < positions_of (model_of t p)
-    IsRefused p cells_left TooManyStates = (positions_of (model_of t p) ≤ 2048) × ((count : ℕ) → IsStateTotal p count → 2048 < count)
-    IsRefused p cells_left TableTooLarge =
+    -- x-limit.table: the content model has neither too many positions nor too many states, but its states times its symbols are more
+    -- than the cells that are left.
+    abbrev pub HasTooLargeTable : ℕ → ℕ → Type 0
+    HasTooLargeTable p cells_left =
         (positions_of (model_of t p) ≤ 2048) × (count : ℕ) × (s : SymbolTable) × IsStateTotal p count × AreSymbolsOf (model_terms members t classes p) s ×
         (count ≤ 2048) × (cells_left < count * count_of s)
+
+    abbrev pub IsRefused : ℕ → ℕ → ModelError → Type 0
+    IsRefused p cells_left TooManyPositions = HasTooManyPositions p
+    IsRefused p cells_left TooManyStates = HasTooManyStates p
+    IsRefused p cells_left TableTooLarge = HasTooLargeTable p cells_left
 
     -- the first term of the content model of a particle that accepts the name, in the order of the schema; none where there is none
     abbrev pub IsFirstIn : ℕ → ExpandedName → Option ℕ → Type 0
