@@ -35,7 +35,7 @@ module _ (names : NameTable) (members : List (List ℕ)) (t : Tables) (classes :
   accepts-same : (id : ℕ) (name : ExpandedName) → forms.accepts names members t id name ≡ accepts_name names (accepts_of members t classes id) name
   accepts-same id name = of (slice_get t.particles.parts id)
     where
-      in-term : (term : Term) → forms.term_accepts names members term name ≡ accepts_name names (term_accepts members t classes term) name
+      in-term : (kind : Term) → forms.term_accepts names members kind name ≡ accepts_name names (term_accepts members t classes kind) name
       in-term (Element e) = given-same e (members_named members e) name
       in-term (Any w) = refl
       in-term (Group g) = refl
@@ -67,7 +67,7 @@ module _ (names : NameTable) (members : List (List ℕ)) (t : Tables) (classes :
       let r = in-map (accepts_of members t classes) ids a (subst (λ xs. Contains xs a) e c) in
       of (slice_get t.particles.parts r.0) (subst (λ x. Contains (names_of x) n) (sym r.2) h)
     where
-      in-term : (term : Term) → Contains (names_of (term_accepts members t classes term)) n → n < length names.names
+      in-term : (kind : Term) → Contains (names_of (term_accepts members t classes kind)) n → n < length names.names
       in-term (Element k) c =
           let a = in-map (λ (g : Given). g.name) (map (given_by t classes k) (members_named members k)) n c in
           let b = in-map (given_by t classes k) (members_named members k) a.0 a.1 in
@@ -103,8 +103,8 @@ module _ (t : Tables) (ranked : IsRanked t) where
     itself : term_of part.term x ≡ Some x → Each IsTerm (x ∷ [])
     itself e = All-cons IsTerm x [] (ap (option_and_then (λ (q : Part). term_of q.term x)) is ∙ e) (All-nil IsTerm)
 
-    in-term : (term : Term) → part.term ≡ term → Each (IsBelow t.particles (slice_index t.particles.ranks x)) (held_particles term) → IfSome (named_group term) (IsBelow t.groups (slice_index t.particles.ranks x)) →
-        Each IsTerm (terms_of (term_model t (model_of t) x term))
+    in-term : (kind : Term) → part.term ≡ kind → Each (IsBelow t.particles (slice_index t.particles.ranks x)) (held_particles kind) → IfSome (named_group kind) (IsBelow t.groups (slice_index t.particles.ranks x)) →
+        Each IsTerm (terms_of (term_model t (model_of t) x kind))
     in-term (Element k) e held to = itself (ap (λ f. term_of f x) e)
     in-term (Any w) e held to = itself (ap (λ f. term_of f x) e)
     in-term (Group g) e held to = in-group (group_particle t g) (group-lower t ranked (slice_index t.particles.ranks x) g to)

@@ -26,6 +26,15 @@ or-false false = refl
 optional-push : (ws : List (ℕ × Option ℕ)) (w : ℕ × Option ℕ) → some_optional (ws ++ w ∷ []) ≡ (some_optional ws || (w.0 == 0))
 optional-push ws w = list_any-append (λ (v : ℕ × Option ℕ). v.0 == 0) ws (w ∷ []) ∙ ap (λ b. some_optional ws || b) (or-false (w.0 == 0))
 
+-- a term that is no all
+abbrev pub IsOther : Term → Type 0
+IsOther (Element k) = ⊤
+IsOther (Any w) = ⊤
+IsOther (Group g) = ⊤
+IsOther (Sequence ms) = ⊤
+IsOther (Choice ms) = ⊤
+IsOther (All ms) = ⊥
+
 -- the way so far
 pub record IsWay (t : Tables) (p at_end : ℕ) (optional : Bool) : Type 0 where
   pub there : at_end < length t.particles.parts
@@ -95,15 +104,6 @@ module _ (t : Tables) (ranked : IsRanked t) where
         All-weaker (IsBelow t.particles (slice_index t.particles.ranks x)) (λ id. id < length t.particles.parts) (λ id low. low.there) members
             (subst (λ of. Each (IsBelow t.particles (slice_index t.particles.ranks x)) (held_particles of)) e (ranked.particles x part is)),
       )
-
-      -- a term that is no all
-      abbrev pub IsOther : Term → Type 0
-      IsOther (Element k) = ⊤
-      IsOther (Any w) = ⊤
-      IsOther (Group g) = ⊤
-      IsOther (Sequence ms) = ⊤
-      IsOther (Choice ms) = ⊤
-      IsOther (All ms) = ⊥
 
       pub way-none : group_below t x ≡ None → IsOther part.term → IsNoAll t p
       way-none e other = (

@@ -62,7 +62,8 @@ module _ (given : List TypedName) (i : ℕ) (one : TypedName) (l : i < length gi
     from = λ name of f. elim (cases_eq name one.name) [
       | inl e ↦ (
           let z : Some one.of ≡ Some of = sym own ∙ (ap new (sym e) ∙ f) in
-          let s : one ≡ record { name = name; of = of } = cc in
+          let a : one.of ≡ of = cc in
+          let s : one ≡ record { name = name; of = of } = (λ i. record { name = sym e i; of = a i }) in
           rw more-is (subst (Contains (take i given ++ one ∷ [])) s (Contains-push (take i given) one)))
       | inr d ↦ earlier (record { name = name; of = of }) (noted.from name of (sym (others name d) ∙ f))
     ];
@@ -88,15 +89,15 @@ noted_all given type noted x y h k e =
 module _ {X Y : Type 0} (f : X → List Y) where
   pub in-pieces : (xs : List X) (y : Y) → Contains (flat_map f xs) y → (x : X) × Contains xs x × Contains (f x) y
   in-pieces [] y h = absurd (none-in y h)
-  in-pieces (x ∷ xs) y h = elim (Contains-append_cases (f x) (flat_map f xs) y (rw (flat_map-cons f x xs) at h)) [
+  in-pieces (x ∷ xs) y h = elim (Contains-append_cases (f x) (flat_map f xs) y (subst (λ (ys : List Y). Contains ys y) (flat_map-cons f x xs) h)) [
     | inl own ↦ (x, here x xs, own)
     | inr rest ↦ (let r = in-pieces xs y rest in (r.0, behind x xs r.0 r.1, r.2))
   ]
 
   pub pieces-in : (xs : List X) (x : X) (y : Y) → Contains xs x → Contains (f x) y → Contains (flat_map f xs) y
   pieces-in [] x y c h = absurd (none-in x c)
-  pieces-in (z ∷ xs) x y (zero, l, e) h = rw (flat_map-cons f z xs) (Contains-append_left (f z) (flat_map f xs) y (rw e h))
-  pieces-in (z ∷ xs) x y (suc k, l, e) h = rw (flat_map-cons f z xs) (Contains-append_right (f z) (flat_map f xs) y (pieces-in xs x y (k, omega arith, e) h))
+  pieces-in (z ∷ xs) x y (zero, l, e) h = subst (λ (ys : List Y). Contains ys y) (sym (flat_map-cons f z xs)) (Contains-append_left (f z) (flat_map f xs) y (subst (λ (k : X). Contains (f k) y) (sym e) h))
+  pieces-in (z ∷ xs) x y (suc k, l, e) h = subst (λ (ys : List Y). Contains ys y) (sym (flat_map-cons f z xs)) (Contains-append_right (f z) (flat_map f xs) y (pieces-in xs x y (k, omega arith, e) h))
 
   pub pieces-more : (xs : List X) (i : ℕ) (x : X) → i < length xs → x ≡ get_or xs i x → (old new : List Y) → old ≡ flat_map f (take i xs) → new ≡ old ++ f x → new ≡ flat_map f (take (i + 1) xs)
   pieces-more xs i x l is old new e g =
@@ -115,7 +116,7 @@ module _ (members : List (List ℕ)) (t : Tables) (ranked : IsRanked t) where
     where
       of : (o : Option Part) → IsTermOf (part_model t (model_of t) id o) id → Contains (part_types members t o) x → Contains (live_part_types members t o) x
       of None k c = c
-      of (Some part) k c = rw k.0 c
+      of (Some part) k c = subst (λ (never : Bool). Contains (if never then [] else term_types members t part.term) x) (sym k.0) c
 
   term-here : (id : ℕ) (of : Term) (x : TypedName) → Contains (term_types members t of) x → IsTermOf (term_model t (model_of t) id of) id
   term-here id (Element e) x c = refl
@@ -139,7 +140,7 @@ module _ (members : List (List ℕ)) (t : Tables) (ranked : IsRanked t) where
           by false e j = ((e, term-here id part.term x j), j)
 
   pub agree-consistent : (root : ℕ) (found : List ℕ) (given : List TypedName) → AreModelParts t root found → given ≡ flat_map (live_types members t) found → Agree given ↔ IsConsistent members t root
-  agree-consistent root found given parts e = rw e (
+  agree-consistent root found given parts e = subst (λ (g : List TypedName). Agree g ↔ IsConsistent members t root) (sym e) (
     (λ agree i j x y hi hj cx cy.
         let a = parts.every i hi in let b = parts.every j hj in
         agree x y (pieces-in (live_types members t) found i x a.0 (live-at i x a.1 cx)) (pieces-in (live_types members t) found j y b.0 (live-at j y b.1 cy))),

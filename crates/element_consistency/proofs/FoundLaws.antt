@@ -92,16 +92,16 @@ module _ (t : Tables) where
 
     in-part : (x : ℕ) (o : Option Part) → IsTermOf (part_model t (model_of t) x o) id → (x ≡ id) ⊎ InOneOf (live_part_parts t o)
     in-part x None h = absurd h
-    in-part x (Some part) h = rw h.0 (in-term x part.term h.1)
+    in-part x (Some part) h = subst (λ (never : Bool). (x ≡ id) ⊎ InOneOf (if never then [] else term_parts t part.term)) (sym h.0) (in-term x part.term h.1)
 
     to-group : (o : Option ℕ) (y : ℕ) → Contains (listed o) y → IsTermOf (model_of t y) id → IsTermOf (group_model t (model_of t) o) id
     to-group None y c h = absurd (none-in y c)
-    to-group (Some q) y (zero, l, e) h = rw e h
+    to-group (Some q) y (zero, l, e) h = subst (λ k. IsTermOf (model_of t k) id) (sym e) h
     to-group (Some q) y (suc k, l, e) h = absurd (omega arith)
 
     to-members : (ms : List ℕ) (y : ℕ) → Contains ms y → IsTermOf (model_of t y) id → IsTermIn (members_of (map (model_of t) ms)) id
     to-members [] y c h = absurd (none-in y c)
-    to-members (m ∷ ms) y (zero, l, e) h = inl (rw e h)
+    to-members (m ∷ ms) y (zero, l, e) h = inl (subst (λ k. IsTermOf (model_of t k) id) (sym e) h)
     to-members (m ∷ ms) y (suc k, l, e) h = inr (to-members ms y (k, omega arith, e) h)
 
     to-term : (x : ℕ) (of : Term) (y : ℕ) → Contains (term_parts t of) y → IsTermOf (model_of t y) id → IsTermOf (term_model t (model_of t) x of) id
@@ -137,6 +137,12 @@ module _ (t : Tables) (ranked : IsRanked t) where
   term-above : (x y id : ℕ) → Contains (live_parts t x) y → IsTermOf (model_of t y) id → IsTermOf (model_of t x) id
   term-above x y id c h = subst (λ m. IsTermOf m id) (sym (model_of_is t ranked x)) (to-part t id x (slice_get t.particles.parts x) y c h)
 
+  live-never : (id : ℕ) (part : Part) → slice_get t.particles.parts id ≡ Some part → is_never part.max ≡ true → live_parts t id ≡ []
+  live-never id part is e = ap (live_part_parts t) is ∙ ap (λ (never : Bool). if never then [] else term_parts t part.term) e
+
+  live-always : (id : ℕ) (part : Part) → slice_get t.particles.parts id ≡ Some part → is_never part.max ≡ false → live_parts t id ≡ parts_of t id
+  live-always id part is e = ap (live_part_parts t) is ∙ (ap (λ (never : Bool). if never then [] else term_parts t part.term) e ∙ sym (ap (part_parts t) is))
+
   -- ---- one particle more
   module _ (id : ℕ) (old waiting : List ℕ) where
     -- it was met before
@@ -154,7 +160,7 @@ module _ (t : Tables) (ranked : IsRanked t) where
         }
 
     -- it is new
-    pub visit-new : (new after : List ℕ) → new ≡ old ++ id ∷ [] → after ≡ waiting ++ live_parts t id → IsVisit t id old new waiting after
+    visit-new : (new after : List ℕ) → new ≡ old ++ id ∷ [] → after ≡ waiting ++ live_parts t id → IsVisit t id old new waiting after
     visit-new new after e f = record {
       kept = λ y h. rw e (Contains-append_left old (id ∷ []) y h);
       itself = rw e (Contains-push old id);
@@ -164,6 +170,17 @@ module _ (t : Tables) (ranked : IsRanked t) where
       below = inr (rw f (All-weaker (Contains (live_parts t id)) (Contains (waiting ++ live_parts t id)) (λ y h. Contains-append_right waiting (live_parts t id) y h) (live_parts t id) (All-contains_itself (live_parts t id))));
       less = rw f (let s = size-parts id in let a = work-append t waiting (live_parts t id) in omega arith);
     }
+
+    module _ (part : Part) (is : slice_get t.particles.parts id ≡ Some part) (new : List ℕ) (grown : new ≡ old ++ id ∷ []) where
+      pub visit-never : is_never part.max ≡ true → IsVisit t id old new waiting waiting
+      visit-never e = visit-new new waiting grown (sym (ap (λ xs. waiting ++ xs) (live-never id part is e) ∙ no-more waiting))
+        where
+          no-more : (xs : List ℕ) → xs ++ [] ≡ xs
+          no-more [] = refl
+          no-more (x ∷ xs) = ap (λ ys. x ∷ ys) (no-more xs)
+
+      pub visit-always : is_never part.max ≡ false → (after : List ℕ) → after ≡ waiting ++ parts_of t id → IsVisit t id old new waiting after
+      visit-always e after f = visit-new new after grown (f ∙ ap (λ xs. waiting ++ xs) (sym (live-always id part is e)))
 
 -- what was met so far, and what waits
 pub record IsMeeting (t : Tables) (root : ℕ) (found todo : List ℕ) : Type 0 where
