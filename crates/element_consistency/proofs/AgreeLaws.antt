@@ -1,5 +1,5 @@
 -- Names with their types, one after another.
-use Rattle.std.proofs.Common.{◌≡◌, ◌≢◌, ℕ, zero, suc, ◌+◌, ◌<◌, ◌↔◌, ◌⊎◌, inl, inr, List, [], ◌∷◌, ◌++◌, Option, None, Some, Bool, true, false, IsTrue, cond, if◌then◌else◌, length, take, get_or, slice_get, refl, sym, ap, subst, ◌∙◌, arith, eqb-true}
+use Rattle.std.proofs.Common.{◌≡◌, ◌≢◌, ℕ, zero, suc, ◌+◌, ◌<◌, ◌≤◌, ◌↔◌, ◌⊎◌, inl, inr, List, [], ◌∷◌, ◌++◌, Option, None, Some, Bool, true, false, IsTrue, cond, if◌then◌else◌, length, take, get_or, slice_get, refl, sym, ap, subst, ◌∙◌, arith, eqb-true}
 use Rattle.std.specs.Prelude.{All as Each, Contains, nat_eq}
 use Rattle.std.specs.List.{flat_map}
 use Rattle.std.proofs.lemmas.Bool.{cases_eq, false≢true}
@@ -79,11 +79,17 @@ module _ (given : List TypedName) (i : ℕ) (one : TypedName) (l : i < length gi
       within : {x : TypedName} → Contains (take i given) x → Contains given x
       within {x} h = All-contains (Contains given) (take i given) x (All-take (Contains given) i given (All-contains_itself given)) h
 
+  pub disagree : (of : TypeId) → type one.name ≡ Some of → of ≢ one.of → IsTrue false ↔ Agree given
+  disagree of e d = ((λ h. absurd (false≢true h)), (λ agree. absurd (noted_other of e d agree)))
+
 -- all are noted
-pub noted_all : (given : List TypedName) (type : ℕ → Option TypeId) → AreNoted given type → Agree given
+noted_all : (given : List TypedName) (type : ℕ → Option TypeId) → AreNoted given type → Agree given
 noted_all given type noted x y h k e =
     let z : Some x.of ≡ Some y.of = sym (noted.known x h) ∙ (ap type e ∙ noted.known y k) in
     cc
+
+pub agree_all : (given : List TypedName) (i : ℕ) (type : ℕ → Option TypeId) → length given ≤ i → AreNoted (take i given) type → IsTrue true ↔ Agree given
+agree_all given i type l noted = ((λ h. noted_all given type (subst (λ (xs : List TypedName). AreNoted xs type) (take_all i given l) noted)), (λ agree. refl))
 
 -- ---- pieces of a list
 module _ {X Y : Type 0} (f : X → List Y) where
