@@ -14,7 +14,7 @@ use Rattle.model_symbols.specs.Symbols.{symbol_of}
 use Rattle.model_symbols.specs.Attribution.{IsStranger, IsFirstTerm, IsAmbivalent, IsAttributed}
 use Rattle.all_states.specs.declared.member.AllMember.{AllMember}
 use Rattle.all_states.specs.Shape.{no_member}
-use Rattle.all_models.specs.Temp.{IsUnambiguous, IsAmbiguousBy}
+use Rattle.all_models.specs.Ambiguity.{IsUnambiguous, IsAmbiguousBy}
 use Rattle.all_models.specs.Modelled.{AllModel, IsAllAutomatonOf, IsMemberFor, IsFirstMember, letter_of, pair_of, terms_at, first_of, is_ambivalent}
 
 module _ (t : NameTable) (terms : List Accepts) (accepts : ℕ → ExpandedName → Bool) (members : List AllMember) (model : Particle) (a : AllModel) (is : IsAllAutomatonOf t terms accepts members model a) where

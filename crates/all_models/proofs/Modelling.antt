@@ -18,8 +18,7 @@ use Rattle.model_symbols.specs.Terms.{ExpandedName}
 use Rattle.model_symbols.specs.Symbols.{SymbolTable, AreNamesOf, symbol_of, count_of}
 use Rattle.model_symbols.specs.Listed.{IsListing}
 use Rattle.model_symbols.proofs.Symboling.{symbol_below}
-use Rattle.all_models.specs.Temp.{IsUnambiguous}
-use Rattle.all_models.specs.Temp.{IsAmbiguousBy}
+use Rattle.all_models.specs.Ambiguity.{IsUnambiguous, IsAmbiguousBy}
 use Rattle.all_states.specs.declared.member.AllMember.{AllMember}
 use Rattle.all_states.specs.declared.machine.AllMachine.{AllMachine}
 use Rattle.all_states.specs.Shape.{no_member, particles_of, IsOnce, IsAllOf, HaveNames, AreLetters}
@@ -27,6 +26,7 @@ use Rattle.all_states.specs.States.{IsMachineOf, Recognizes}
 use Rattle.all_states.proofs.Counting.{place_at, index, count_of as marks_of_member, count_same, count_other, IsOf, Fits, all_counts}
 use Rattle.all_states.proofs.Filling.{at, Fit, NoneTwice, mark_at, fits_at, begins, word_has}
 use Rattle.all_states.proofs.Recognizing.{model_words, words_model, recognizes_words, recognizes_empty}
+use Rattle.all_models.proofs.Noting.{has_below}
 use Rattle.all_models.specs.Letters.{has, has_at, is_filled, IsLetterOf, AreApart, Meet, AreLettersOf}
 use Rattle.all_models.specs.Modelled.{AllModel, letter_of, IsAllModel, IsMemberFor, IsAllAutomatonOf, terms_at}
 
@@ -113,15 +113,7 @@ module _ (t : NameTable) (s : SymbolTable) (terms : List Accepts) (members : Lis
   filled_at k l = get_or-map is_filled accepted k [] false (let c = many in omega arith)
 
   below_at : (k n : ℕ) → k < length members → has_at accepted k n ≡ true → n < count_of s
-  below_at k n l h = below_in (get_or accepted k []) (built.listing.below k [] (let c = many in omega arith)) n h
-    where
-      below_in : (row : List ℕ) → All (λ n. n < count_of s) row → (n : ℕ) → has row n ≡ true → n < count_of s
-      below_in [] b n h = absurd (false≢true h)
-      below_in (x ∷ row) b n h = by (x == n) refl (below_in row (All-tail (λ n. n < count_of s) x row b) n)
-        where
-          by : (c : Bool) → (x == n) ≡ c → (has row n ≡ true → n < count_of s) → n < count_of s
-          by true e rec = subst (λ (k : ℕ). k < count_of s) (eqb-true x n e) (All-head (λ n. n < count_of s) x row b)
-          by false e rec = rec (rw e at h)
+  below_at k n l h = has_below (count_of s) (get_or accepted k []) (built.listing.below k [] (let c = many in omega arith)) n h
 
   -- ---- members that have to come accept names, or no word of the all is there
   has_name : (k : ℕ) → k < length members → is_filled (get_or accepted k []) ≡ true → (name : ExpandedName) × IsTrue (accepts (at accepts members k).term name)

@@ -6,6 +6,7 @@ use Rattle.std.specs.Option.{option_or}
 use Rattle.std.proofs.lemmas.Bool.{cases_eq, cases_lt, false≢true}
 use Rattle.std.proofs.lemmas.List.{take_more, length-set, get_or-set_same, get_or-set_other, get_or-replicate, length-replicate, get_or_past}
 use Rattle.std.proofs.lemmas.List.Folds.{list_any-append}
+use Rattle.std.proofs.lemmas.List.Elements.{All-head, All-tail}
 use Rattle.all_models.specs.Letters.{has, has_at, IsLetterOf, AreApart, Meet, AreLettersOf, IsNoted, AreNoted}
 
 
@@ -252,3 +253,12 @@ module _ (accepted : List (List ℕ)) (i symbols : ℕ) (letters new : List ℕ)
       each = each_more;
       pair = pair_more pair found are.pair noted.pair;
     }
+
+-- a list whose numbers are small has small ones alone
+pub has_below : (m : ℕ) (row : List ℕ) → All (λ n. n < m) row → (n : ℕ) → has row n ≡ true → n < m
+has_below m [] b n h = absurd (false≢true h)
+has_below m (x ∷ row) b n h = by (x == n) refl (has_below m row (All-tail (λ n. n < m) x row b) n)
+  where
+    by : (c : Bool) → (x == n) ≡ c → (has row n ≡ true → n < m) → n < m
+    by true e rec = subst (λ (k : ℕ). k < m) (eqb-true x n e) (All-head (λ n. n < m) x row b)
+    by false e rec = rec (rw e at h)

@@ -1,3 +1,3 @@
-pub mod Temp
+pub mod Ambiguity
 pub mod Letters
 pub mod Modelled

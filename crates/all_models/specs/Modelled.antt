@@ -14,8 +14,7 @@ use Rattle.all_states.specs.declared.machine.AllMachine.{AllMachine}
 use Rattle.all_states.specs.declared.member.AllMember.{AllMember}
 use Rattle.all_states.specs.Shape.{IsAllOf, IsOnce, no_member}
 use Rattle.all_states.specs.States.{Recognizes}
-use Rattle.all_models.specs.Temp.{IsUnambiguous}
-use Rattle.all_models.specs.Temp.{AcceptAs, IsAmbiguousBy}
+use Rattle.all_models.specs.Ambiguity.{IsUnambiguous, IsAmbiguousBy, AcceptAs}
 
 -- what the words need, the symbols, the member for the names of each symbol, the particles of the members, what is attributed to
 -- the names of each symbol, and two members that accept one name

@@ -8,8 +8,7 @@ ghost use Rattle.model_symbols.specs.declared.terms.Accepts.{Accepts as AcceptsD
 ghost use Rattle.model_symbols.specs.Terms.{ExpandedName, name_at};
 ghost use Rattle.model_symbols.specs.Symbols.{IsNamed, AreNamesOf, AreSymbolsOf, count_of, symbol_of};
 ghost use Rattle.model_symbols.specs.Attribution.{IsAmbivalent};
-ghost use Rattle.all_models.specs.Temp.{IsUnambiguous};
-ghost use Rattle.all_models.specs.Temp.{IsAmbiguousBy};
+ghost use Rattle.all_models.specs.Ambiguity.{IsUnambiguous, IsAmbiguousBy};
 ghost use Rattle.all_states.specs.declared.member.AllMember.{AllMember as AllMemberData};
 ghost use Rattle.all_states.specs.States.{start_of, next_of, accepts_at};
 ghost use Rattle.all_models.specs.Modelled.{IsAllModel, IsAllAutomatonOf, IsMemberFor, IsFirstMember, letter_of, pair_of, first_of, is_ambivalent};

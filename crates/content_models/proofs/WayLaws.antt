@@ -13,7 +13,7 @@ use Rattle.particle_models.specs.Particles.{Particle, all_of, occurs}
 use Rattle.particle_models.specs.Nodes.{members_of}
 use Rattle.particle_forms.specs.Models.{group_particle, group_model, term_model, model_of}
 use Rattle.particle_forms.proofs.ModelLaws.{group-lower, particle_model}
-use Rattle.content_models.specs.Ways.{group_below, is_optional, wrapped, some_optional, IsAllFound, IsPlain, IsNoAll}
+use Rattle.content_models.specs.Ways.{group_below, least_of, is_optional, wrapped, some_optional, IsAllFound, IsPlain, IsNoAll}
 
 wrapped-push : (ws : List (ℕ × Option ℕ)) (w : ℕ × Option ℕ) (m : Particle) → wrapped (ws ++ w ∷ []) m ≡ wrapped ws (occurs w.0 w.1 m)
 wrapped-push [] w m = refl
@@ -25,6 +25,11 @@ or-false false = refl
 
 optional-push : (ws : List (ℕ × Option ℕ)) (w : ℕ × Option ℕ) → some_optional (ws ++ w ∷ []) ≡ (some_optional ws || (w.0 == 0))
 optional-push ws w = list_any-append (λ (v : ℕ × Option ℕ). v.0 == 0) ws (w ∷ []) ∙ ap (λ b. some_optional ws || b) (or-false (w.0 == 0))
+
+-- what stands in a place that is there
+some-at : {T : Type 0} (xs : List T) (k : ℕ) → k < length xs → (x : T) × (slice_get xs k ≡ Some x)
+some-at [] k l = absurd (omega arith)
+some-at (x ∷ xs) k l = (get_or (x ∷ xs) k x, slice_get-get_or (x ∷ xs) k x l)
 
 -- a term that is no all
 abbrev pub IsOther : Term → Type 0
@@ -62,9 +67,6 @@ module _ (t : Tables) (ranked : IsRanked t) where
       of None g f = absurd (let z : None ≡ Some y = f in cc)
       of (Some part) g f = through (named_group part.term) (ranked.to_groups x part g) f
 
-  part-at : (x : ℕ) (part : Part) → x < length t.particles.parts → slice_get t.particles.parts x ≡ Some (get_or t.particles.parts x part)
-  part-at x part l = slice_get-get_or t.particles.parts x part l
-
   -- the model of a particle that refers to a group
   model-below : (x y : ℕ) (part : Part) → slice_get t.particles.parts x ≡ Some part → group_below t x ≡ Some y → model_of t x ≡ occurs part.min part.max (model_of t y)
   model-below x y part is e =
@@ -80,17 +82,19 @@ module _ (t : Tables) (ranked : IsRanked t) where
       of (All ms) f = absurd (let z : None ≡ Some y = f in cc)
 
   module _ (p x : ℕ) (optional : Bool) (way : IsWay t p x optional) where
+    may-here : (part : Part) → slice_get t.particles.parts x ≡ Some part → optional ≡ some_optional (way.bounds ++ (part.min, part.max) ∷ [])
+    may-here part is = way.may ∙ (ap (λ o. some_optional way.bounds || (least_of o == 0)) is ∙ sym (optional-push way.bounds (part.min, part.max)))
+
     -- one step more
-    pub way-more : (part : Part) → slice_get t.particles.parts x ≡ Some part → (y : ℕ) → group_below t x ≡ Some y → (more : Bool) → more ≡ (optional || is_optional t y) → IsWay t p y more
-    way-more part is y e more f = record {
-      there = (below-lower x y e).there;
-      bounds = way.bounds ++ (part.min, part.max) ∷ [];
-      way = way.way ∙ (ap (wrapped way.bounds) (model-below x y part is e) ∙ sym (wrapped-push way.bounds (part.min, part.max) (model_of t y)));
-      may = f ∙ ap (λ b. b || is_optional t y) (may-here part is);
-    }
-      where
-        may-here : (part : Part) → slice_get t.particles.parts x ≡ Some part → optional ≡ some_optional (way.bounds ++ (part.min, part.max) ∷ [])
-        may-here part is = way.may ∙ (rw is (sym (optional-push way.bounds (part.min, part.max))))
+    pub way-more : (y : ℕ) → group_below t x ≡ Some y → (more : Bool) → more ≡ (optional || is_optional t y) → IsWay t p y more
+    way-more y e more f =
+        let part : Part = (some-at t.particles.parts x way.there).0 in
+        let is : slice_get t.particles.parts x ≡ Some part = (some-at t.particles.parts x way.there).1 in record {
+          there = (below-lower x y e).there;
+          bounds = way.bounds ++ (part.min, part.max) ∷ [];
+          way = way.way ∙ (ap (wrapped way.bounds) (model-below x y part is e) ∙ sym (wrapped-push way.bounds (part.min, part.max) (model_of t y)));
+          may = f ∙ ap (λ b. b || is_optional t y) (may-here part is);
+        }
 
     module _ (part : Part) (is : slice_get t.particles.parts x ≡ Some part) where
       around : model_of t p ≡ wrapped (way.bounds ++ (part.min, part.max) ∷ []) (term_model t (model_of t) x part.term)
@@ -100,7 +104,7 @@ module _ (t : Tables) (ranked : IsRanked t) where
       way-found members e = (
         way.bounds ++ (part.min, part.max) ∷ [],
         around ∙ ap (λ of. wrapped (way.bounds ++ (part.min, part.max) ∷ []) (term_model t (model_of t) x of)) e,
-        way.may ∙ rw is (sym (optional-push way.bounds (part.min, part.max))),
+        may-here part is,
         All-weaker (IsBelow t.particles (slice_index t.particles.ranks x)) (λ id. id < length t.particles.parts) (λ id low. low.there) members
             (subst (λ of. Each (IsBelow t.particles (slice_index t.particles.ranks x)) (held_particles of)) e (ranked.particles x part is)),
       )
