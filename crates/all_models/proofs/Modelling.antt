@@ -5,7 +5,7 @@ use Rattle.std.specs.List.{list_any}
 use Rattle.std.proofs.lemmas.Bool.{cases_eq, cases_lt, false≢true}
 use Rattle.std.proofs.lemmas.List.{length-map, get_or-map, get_or_past}
 use Rattle.std.proofs.lemmas.Option.{slice_get-get_or, slice_get_past}
-use Rattle.std.proofs.lemmas.List.Elements.{All-nil, All-cons, All-head, All-tail}
+use Rattle.std.proofs.lemmas.List.Elements.{All-nil, All-cons, All-head, All-tail, Contains-get_or}
 use Rattle.xs_names.specs.Names.{NameTable}
 use Rattle.xs_names.specs.Numbering.{HasNoRepeats}
 use Rattle.xs_namespaces.specs.declared.constraint.NsConstraint.TheVariants.{Any}
@@ -15,7 +15,7 @@ use Rattle.model_symbols.specs.declared.terms.Accepts.{Accepts}
 use Rattle.model_symbols.specs.declared.terms.Accepts.TheVariants.{Wildcard}
 use Rattle.model_symbols.specs.declared.attribution.Attribution.{Attribution}
 use Rattle.model_symbols.specs.Terms.{ExpandedName}
-use Rattle.model_symbols.specs.Symbols.{SymbolTable, AreNamesOf, symbol_of, count_of}
+use Rattle.model_symbols.specs.Symbols.{SymbolTable, IsNamed, AreNamesOf, AreSymbolsOf, symbol_of, count_of}
 use Rattle.model_symbols.specs.Listed.{IsListing}
 use Rattle.model_symbols.proofs.Symboling.{symbol_below}
 use Rattle.all_models.specs.Ambiguity.{IsUnambiguous, IsAmbiguousBy}
@@ -59,6 +59,10 @@ has_filled (x ∷ row) n t = by (length (x ∷ row)) (omega arith)
 filled_has : (row : List ℕ) → is_filled row ≡ true → (n : ℕ) × (has row n ≡ true)
 filled_has [] t = absurd (false≢true t)
 filled_has (x ∷ row) t = (x, ap (λ b. b || list_any (λ m. m == x) row) (eq-eqb x x refl))
+
+-- the table has the names of the symbols
+pub within_of : (t : NameTable) (terms : List Accepts) (s : SymbolTable) → AreSymbolsOf terms s → ((n : ℕ) → IsNamed terms n → n < length t.names) → AreNamesOf t s.names
+within_of t terms s are within k d l = within (get_or s.names k d) ((are.names (get_or s.names k d)).0 (Contains-get_or s.names k d l))
 
 -- what was built, whatever the model
 pub record IsBuilt (t : NameTable) (s : SymbolTable) (terms : List Accepts) (members : List AllMember) (accepted : List (List ℕ)) (attributions : List Attribution)
@@ -191,7 +195,7 @@ module _ (t : NameTable) (s : SymbolTable) (terms : List Accepts) (members : Lis
             elim (letter_at name) [
               | inl z ↦ absurd (let g = z.0 in omega arith)
               | inr z ↦ subst (λ (x : AllMember). IsTrue (accepts x.term name)) (sym (same_at members i d no_member l))
-                (sym (accepts_at i l name) ∙ (ap (λ k. has_at accepted k (symbol_of t s name)) (sym e) ∙ z.1))
+                  (sym (accepts_at i l name) ∙ (ap (λ k. has_at accepted k (symbol_of t s name)) (sym e) ∙ z.1))
             ]),
       )
 
@@ -225,7 +229,7 @@ module _ (t : NameTable) (s : SymbolTable) (terms : List Accepts) (members : Lis
           λ names place ends. ap (λ (p : Place). p.number) (fits_place name place (ends_fits names name place ends)).1,
         )
         | inr l ↦ subst (IsMemberFor accepts model name) (sym (slice_get_past kept (letter name) (let n = kept_many in omega arith)))
-          (λ names b. let f = begins_fits names name b in let k = (fits_place name f.0 f.1).0 in omega arith)
+            (λ names b. let f = begins_fits names name b in let k = (fits_place name f.0 f.1).0 in omega arith)
       ]
         where
           kept_many : length kept ≡ length members

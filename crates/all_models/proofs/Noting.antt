@@ -9,7 +9,6 @@ use Rattle.std.proofs.lemmas.List.Folds.{list_any-append}
 use Rattle.std.proofs.lemmas.List.Elements.{All-head, All-tail}
 use Rattle.all_models.specs.Letters.{has, has_at, IsLetterOf, AreApart, Meet, AreLettersOf, IsNoted, AreNoted}
 
-
 has_more : (row : List ℕ) (i : ℕ) → i < length row → (n : ℕ) → has (take (i + 1) row) n ≡ (has (take i row) n || (get_or row i 0 == n))
 has_more row i l n = ap (list_any (λ m. m == n)) (take_more row i 0 l) ∙ (list_any-append (λ m. m == n) (take i row) (get_or row i 0 ∷ []) ∙ ap (λ b. has (take i row) n || b) (or_false (get_or row i 0 == n)))
   where
@@ -190,10 +189,13 @@ module _ (accepted : List (List ℕ)) (i symbols : ℕ) (letters new : List ℕ)
             inr (subst (λ (x : ℕ). (x < i + 1) × (has_at accepted x n ≡ true)) (sym k) (omega arith, sym (row_has n) ∙ t))
         by z false t =
             let k = noted.others n (within n l) t in
-            inl (k ∙ z.0, λ j b. elim (cases_eq j i) [
-              | inl e ↦ ap (λ x. has_at accepted x n) e ∙ (sym (row_has n) ∙ t)
-              | inr d ↦ z.1 j (omega arith)
-            ])
+            inl (
+              k ∙ z.0,
+              λ j b. elim (cases_eq j i) [
+                | inl e ↦ ap (λ x. has_at accepted x n) e ∙ (sym (row_has n) ∙ t)
+                | inr d ↦ z.1 j (omega arith)
+              ],
+            )
 
     -- no earlier member accepts a symbol whose letter is none
     no_earlier : (n : ℕ) → n < symbols → get_or letters n 64 ≡ 64 → (k : ℕ) → k < i → has_at accepted k n ≡ true → ⊥
@@ -240,8 +242,8 @@ module _ (accepted : List (List ℕ)) (i symbols : ℕ) (letters new : List ℕ)
 
     pair_more : (old met : Option (ℕ × ℕ)) → MatchOption old (AreApart accepted i) (Meet accepted i symbols) →
         MatchOption met
-            ((n : ℕ) → has row n ≡ true → get_or letters n 64 ≡ 64)
-            (λ p. (p.1 ≡ i) × (p.0 ≢ 64) × (n : ℕ) × (n < length letters) × (has row n ≡ true) × (get_or letters n 64 ≡ p.0)) →
+        ((n : ℕ) → has row n ≡ true → get_or letters n 64 ≡ 64)
+        (λ p. (p.1 ≡ i) × (p.0 ≢ 64) × (n : ℕ) × (n < length letters) × (has row n ≡ true) × (get_or letters n 64 ≡ p.0)) →
         MatchOption (option_or old met) (AreApart accepted (i + 1)) (Meet accepted (i + 1) symbols)
     pair_more None None apart free = apart_more apart free
     pair_more None (Some p) apart m = met_meet p m

@@ -168,10 +168,16 @@ module _ (names : NameTable) (t : Tables) (members : List (List ℕ)) (d : Decla
 
           module _ (cells count : ℕ) (a : AllModel) (count_is : count ≡ count_of a.symbols) where
             pub all-room : (b : Bool) → b ≡ false → IsTrue b ↔ (cells < count) → HasRoom names t members p cells (All a)
-            all-room b e h = (all-positions read optional model all-limited, 1, one-state, omega arith, elim (cases_lt cells count) [
-              | inl l ↦ absurd (false≢true (sym e ∙ h.1 l))
-              | inr l ↦ omega arith
-            ])
+            all-room b e h = (
+              all-positions read optional model all-limited,
+              1,
+              one-state,
+              omega arith,
+              elim (cases_lt cells count) [
+                | inl l ↦ absurd (false≢true (sym e ∙ h.1 l))
+                | inr l ↦ omega arith
+              ],
+            )
 
             pub all-passed : (b : Bool) → b ≡ true → IsTrue b ↔ (cells < count) → AreSymbolsOf terms a.symbols → HasTooLargeTable names t members classes p cells
             all-passed b e h symbols = (

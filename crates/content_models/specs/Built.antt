@@ -59,7 +59,7 @@ module _ (names : NameTable) (t : Tables) (members : List (List ℕ)) where
   abbrev pub IsStateTotal : ℕ → ℕ → Type 0
   IsStateTotal p count =
       (HasNoAll (model_of t p) ×
-          ((u : UnrolledModel) × IsUnrolled (is_inhabited members t) (model_of t p) u × IsStateCountOf (accepts names members t) (is_inhabited members t) (model_of t p) u.table count)) ⊎
+      ((u : UnrolledModel) × IsUnrolled (is_inhabited members t) (model_of t p) u × IsStateCountOf (accepts names members t) (is_inhabited members t) (model_of t p) u.table count)) ⊎
       (((own : List AllMember) × (optional : Bool) × IsLimitedAll own optional (model_of t p)) × (count ≡ 1))
 
   -- x-limit.positions: the content model of a particle has more than 2,048 positions.
