@@ -1,19 +1,20 @@
 -- The type of a declaration by those of lower rank, and the declarations at the top one after another.
-use Rattle.std.proofs.Common.{◌≡◌, ℕ, suc, ◌+◌, ◌<◌, List, [], ◌∷◌, ◌++◌, Option, None, Some, length, take, get_or, slice_get, slice_index, refl, sym, ap, ◌∙◌, arith}
+use Rattle.std.proofs.Common.{◌≡◌, ℕ, suc, ◌+◌, ◌<◌, ◌≤◌, inl, inr, List, [], ◌∷◌, ◌++◌, Option, None, Some, length, take, get_or, slice_get, slice_index, refl, sym, ap, subst, ◌∙◌, arith}
 use Rattle.std.specs.Prelude.{⊤, IfSome, slice_index_or}
 use Rattle.std.specs.Option.{option_or}
-use Rattle.std.proofs.lemmas.Option.{slice_get-get_or, get_or_from_slice_get}
-use Rattle.std.proofs.lemmas.List.{take_more, length-take-le}
+use Rattle.std.proofs.lemmas.Option.{slice_get-get_or, get_or_from_slice_get, slice_get_past}
+use Rattle.std.proofs.lemmas.Bool.{cases_lt}
+use Rattle.std.proofs.lemmas.List.{take_more, length-take-le, get_or_past}
 use Rattle.xs_components.specs.Tables.{Tables}
 use Rattle.xs_components.specs.declared.element.ElementDecl.{ElementDecl}
 use Rattle.xs_components.specs.declared.common.TypeId.{TypeId}
 use Rattle.xs_components.specs.declared.common.TypeId.TheVariants.{AnyType}
-use Rattle.xs_references.specs.Descent.{AsksLower}
+use Rattle.xs_references.specs.Descent.{after_turns, AsksLower}
 use Rattle.xs_references.specs.Order.{IsFilledBelow}
 use Rattle.xs_references.specs.Ranked.{IsBelow, IsRanked}
 use Rattle.xs_references.proofs.DescentLaws.{along-is}
 use Rattle.element_types.specs.Types.{head_type, own_type, declared_type, type_step, type_of, if_named, global_from, known}
-use Rattle.element_types.specs.Found.{IsAdded}
+use Rattle.element_types.specs.Found.{IsAdded, AreTypesOf}
 
 module _ (t : Tables) (ranked : IsRanked t) where
   module _ (f g : ℕ → TypeId) (rank : ℕ) (same : (y : ℕ) → IsBelow t.elements rank y → f y ≡ g y) where
@@ -74,7 +75,8 @@ pub globals-more : (parts : List ElementDecl) (number : ℕ) (part : ElementDecl
     ((name : ℕ) → slice_index_or old name None ≡ global_from (take number parts) 0 name) → IsAdded old number part new →
     (name : ℕ) → slice_index_or new name None ≡ global_from (take (number + 1) parts) 0 name
 globals-more parts number part old new l is before added name =
-    let many : length (take number parts) ≡ number = length-take-le number parts (omega arith) in
+    let long : length (take number parts) ≡ number = length-take-le number parts (omega arith) in
+    let many : 0 + length (take number parts) ≡ number = omega arith in
     added name ∙
     (ap (λ o. option_or o (if_named part number name)) (before name) ∙
     (ap (λ k. option_or (global_from (take number parts) 0 name) (if_named part k name)) (sym many) ∙
@@ -85,3 +87,20 @@ globals-more parts number part old new l is before added name =
 pub part-read : {T : Type 0} (read parts : List T) (x : ℕ) (part : T) → read ≡ parts → part ≡ get_or read x part → x < length parts → slice_get parts x ≡ Some part
 part-read read parts x part same is there =
     slice_get-get_or parts x part there ∙ ap Some (sym (is ∙ ap (λ ps. get_or ps x part) same))
+
+pub globals-read : (parts read : List ElementDecl) (number : ℕ) (part : ElementDecl) (old new : List (Option ℕ)) → read ≡ parts → number < length read → part ≡ get_or read number part →
+    ((name : ℕ) → slice_index_or old name None ≡ global_from (take number parts) 0 name) → IsAdded old number part new →
+    (name : ℕ) → slice_index_or new name None ≡ global_from (take (number + 1) parts) 0 name
+globals-read parts read number part old new same l is =
+    globals-more parts number part old new (subst (λ (xs : List ElementDecl). number < length xs) same l) (subst (λ (xs : List ElementDecl). part ≡ get_or xs number part) same is)
+
+-- past the last there is no declaration
+type-past : (t : Tables) (x : ℕ) → length t.elements.parts ≤ x → type_of t x ≡ AnyType
+unfolding type_of
+type-past t x l = ap (declared_type (after_turns (slice_index t.elements.ranks) AnyType (λ type. type_step type t) (slice_index t.elements.ranks x))) (slice_get_past t.elements.parts x l)
+
+pub types-known : (t : Tables) (types : List TypeId) → AreTypesOf t types → (element : ℕ) → known types element ≡ type_of t element
+types-known t types are element = elim (cases_lt element (length types)) [
+  | inl l ↦ are.are element l
+  | inr l ↦ get_or_past types element AnyType l ∙ sym (type-past t element (let e = are.each in omega arith))
+]

@@ -3,6 +3,7 @@
 ghost use Rattle.std.specs.Prelude.{◌≡◌, ℕ, ◌<◌, length, slice_get, IfOk, IfSome};
 ghost use Rattle.xs_components.specs.Tables.{Tables};
 ghost use Rattle.xs_references.specs.Ranked.{IsRanked};
+ghost use Rattle.element_types.specs.Found.{AreTypesOf};
 ghost use Rattle.element_types.specs.Types.{own_type, known, has_name, type_of, given_declaration, AreDeclarationsOf};
 
 use crate::globals::{find_globals, global_at};
@@ -20,6 +21,7 @@ pub struct Declarations {
 }
 
 impl Model for Declarations {
+    ghost use Rattle.element_types.specs.Found.{AreTypesOf};
     ghost use Rattle.element_types.specs.Types.{DeclarationTable};
 
     ghost Value = { DeclarationTable };
@@ -33,9 +35,7 @@ impl Declarations {
         requires ranked { IsRanked parts.now }
         ensures declarations { IfOk result (AreDeclarationsOf parts.now) }
     {
-        let order = order_of(alloc, parts.element_ranks())?;
-        let mut types = Vec::from_elem(alloc, TypeId::AnyType, parts.elements().len())?;
-        fill(&TypeRule { parts }, &order, types.as_mut_slice());
+        let types = find_types(alloc, parts)?;
         let globals = find_globals(alloc, parts)?;
         Ok(Declarations { types, globals })
     }
@@ -73,6 +73,17 @@ fn has_name(parts: &Components, element: ElementId, name: NameId) -> bool
         Some(part) => part.name == name,
         None => false,
     }
+}
+
+// The types of all declarations, each found once from those of lower rank.
+fn find_types(alloc: Global, parts: &Components) -> Result<Vec<TypeId>, AllocError>
+    requires ranked { IsRanked parts.now }
+    ensures types { IfOk result (λ types. AreTypesOf parts.now types.items) }
+{
+    let order = order_of(alloc, parts.element_ranks())?;
+    let mut types = Vec::from_elem(alloc, TypeId::AnyType, parts.elements().len())?;
+    fill(&TypeRule { parts }, &order, types.as_mut_slice());
+    Ok(types)
 }
 
 // How the type of a declaration comes from those of lower rank.

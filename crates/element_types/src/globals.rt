@@ -18,9 +18,7 @@ pub(crate) fn find_globals(
 {
     let mut globals = Vec::new(alloc);
     for (number, element) in parts.elements().iter().enumerate() {
-        if let Some(id) = parts.element_at(number as u32) {
-            add(&mut globals, id, element)?;
-        }
+        add(&mut globals, parts, number as u32, element)?;
     }
     Ok(globals)
 }
@@ -35,19 +33,25 @@ pub(crate) fn global_at(globals: &[Option<ElementId>], name: NameId) -> Option<E
     }
 }
 
-// Adds a declaration, if it stands at the top and no earlier one has its name.
+// Adds the declaration of a number, if it stands at the top and no earlier one has its name.
 fn add(
     globals: &mut Vec<Option<ElementId>>,
-    id: ElementId,
+    parts: &Components,
+    number: u32,
     element: &ElementDecl,
 ) -> Result<(), AllocError>
-    ensures { OnOk result (IsAdded globals.old.items id element.now globals.new.items) }
+    requires there { number < length parts.now.elements.parts }
+    ensures { OnOk result (IsAdded globals.old.items number element.now globals.new.items) }
 {
-    if element.global {
-        let name = element.name.number() as usize;
-        lengthen(globals, name + 1)?;
-        put(globals, id, name);
+    if !element.global {
+        return Ok(());
     }
+    let Some(id) = parts.element_at(number) else {
+        return Ok(());
+    };
+    let name = element.name.number() as usize;
+    lengthen(globals, name + 1)?;
+    put(globals, id, name);
     Ok(())
 }
 
