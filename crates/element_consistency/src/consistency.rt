@@ -1,16 +1,17 @@
 //! Whether the terms of a content model agree.
 
-ghost use Rattle.std.specs.Prelude.{◌≡◌, ◌↔◌, ◌<◌, ◌++◌, IsTrue, length, IfOk, OnOk};
+ghost use Rattle.std.specs.Prelude.{◌≡◌, ◌↔◌, ◌<◌, ◌++◌, IsTrue, All, length, IfOk, OnOk};
+ghost use Rattle.std.specs.List.{flat_map};
 ghost use Rattle.xs_references.specs.Ranked.{IsRanked};
 ghost use Rattle.element_types.specs.Types.{AreDeclarationsOf};
 ghost use Rattle.element_consistency.specs.Consistency.{IsConsistent, given_types};
-ghost use Rattle.element_consistency.specs.Found.{live_types};
+ghost use Rattle.element_consistency.specs.Found.{live_element, live_types};
 
 use crate::agreement::{TypedName, agree};
 use crate::found::{find_parts, is_never};
 use element_types::Declarations;
 use std::alloc::{AllocError, Global};
-use xs_components::{Components, ElementId, ParticleId, Term};
+use xs_components::{Components, ElementId, Particle, ParticleId, Term};
 use xs_members::Members;
 use xs_names::NameId;
 
@@ -29,11 +30,27 @@ pub fn consistent(
     ensures consistent { IfOk result (λ agrees. IsTrue agrees ↔ IsConsistent members.now parts.now p) }
 {
     let found = find_parts(alloc, parts, p)?;
+    let given = find_given(alloc, parts, members, declarations, found.as_slice())?;
+    agree(alloc, &given)
+}
+
+// What the terms of these particles give.
+fn find_given(
+    alloc: Global,
+    parts: &Components,
+    members: &Members,
+    declarations: &Declarations,
+    ids: &[u32],
+) -> Result<Vec<TypedName>, AllocError>
+    requires there { All (λ id. id < length parts.now.particles.parts) ids.now }
+    requires declarations { AreDeclarationsOf parts.now declarations.now }
+    ensures { IfOk result (λ given. given.items ≡ flat_map (live_types members.now parts.now) ids.now) }
+{
     let mut given = Vec::new(alloc);
-    for id in found.as_slice() {
+    for id in ids {
         add_part(parts, members, declarations, *id, &mut given)?;
     }
-    agree(alloc, &given)
+    Ok(given)
 }
 
 // Adds what the term of a particle gives.
@@ -48,15 +65,22 @@ fn add_part(
     requires declarations { AreDeclarationsOf parts.now declarations.now }
     ensures { OnOk result (given.new.items ≡ given.old.items ++ live_types members.now parts.now id) }
 {
-    let part = &parts.particles()[id as usize];
+    match element_in(&parts.particles()[id as usize]) {
+        Some(element) => add_element(parts, members, declarations, element, given),
+        None => Ok(()),
+    }
+}
+
+// The element that a particle is, where it comes at all.
+fn element_in(part: &Particle) -> Option<ElementId>
+    ensures { result ≡ live_element part.now }
+{
     if is_never(part.max) {
-        return Ok(());
+        return None;
     }
     match &part.term {
-        Term::Element(element) => add_element(parts, members, declarations, *element, given),
-        Term::Any(_) | Term::Group(_) | Term::Sequence(_) | Term::Choice(_) | Term::All(_) => {
-            Ok(())
-        }
+        Term::Element(element) => Some(*element),
+        Term::Any(_) | Term::Group(_) | Term::Sequence(_) | Term::Choice(_) | Term::All(_) => None,
     }
 }
 
