@@ -1,0 +1,5 @@
+pub mod Check
+pub mod List
+pub mod Order
+pub mod Patterns
+pub mod inside

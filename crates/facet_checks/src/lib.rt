@@ -1,0 +1,11 @@
+//! The facets in force for a simple type, and the tests by which they judge a value (Datatypes 4.1.4 and 4.3).
+#![tactic(auto)]
+
+mod check;
+mod list;
+mod order;
+mod pattern;
+
+pub use list::{Alternatives, Bound, Count, FacetList, Handling, ValueList};
+pub use order::{is_at_most, is_below};
+pub use pattern::PatternText;

@@ -1,0 +1,174 @@
+//! The facets in force for a type.
+ghost use Rattle.std.specs.Prelude.{◌≡◌, IfOk};
+ghost use Rattle.std.specs.Option.{option_copied};
+ghost use Rattle.facet_checks.specs.List.{no_facets};
+
+use crate::PatternText;
+use simple_values::Value;
+use std::alloc::{AllocError, Global};
+use white_space::WhiteSpace;
+use xs_lists::Listed;
+
+/// A number that limits a length or a count of digits, and whether the types derived from this one have to keep it
+/// (Datatypes 4.3.1 to 4.3.3, 4.3.11 and 4.3.12).
+#[derive(Debug, Clone, Copy, PartialEq, Eq)]
+pub struct Count {
+    pub value: u32,
+    pub fixed: bool,
+}
+
+/// What is done with white space, and whether the types derived from this one have to keep it (Datatypes 4.3.6).
+#[derive(Debug, Clone, Copy, PartialEq, Eq)]
+pub struct Handling {
+    pub value: WhiteSpace,
+    pub fixed: bool,
+}
+
+/// The value of a bound, and whether the types derived from this one have to keep it (Datatypes 4.3.7 to 4.3.10).
+#[derive(Debug, Drop)]
+pub struct Bound {
+    pub value: Value,
+    pub fixed: bool,
+}
+
+/// A clone is the same bound.
+impl Clone for Bound {
+    ghost is_clone = { λ bound made. made ≡ bound };
+
+    fn clone(&self) -> Result<Self, AllocError> {
+        Ok(Bound {
+            value: self.value.clone()?,
+            fixed: self.fixed,
+        })
+    }
+}
+
+/// The patterns of one step of restriction, of which a text matches one at least.
+pub type Alternatives = Listed<PatternText>;
+
+/// Values, in the order of the document.
+pub type ValueList = Listed<Value>;
+
+/// The facets in force for a simple type, those of its steps of restriction merged (Structures 3.14.6). What is absent
+/// restricts nothing. A type whose steps have no fault has one upper and one lower bound at most.
+#[derive(Debug, Drop)]
+pub struct FacetList {
+    /// Absent for unions, which leave white space to their members.
+    pub white_space: Option<Handling>,
+    /// Those of each step that has some, the last step last.
+    pub patterns: Listed<Alternatives>,
+    pub length: Option<Count>,
+    pub min_length: Option<Count>,
+    pub max_length: Option<Count>,
+    pub enumeration: Option<ValueList>,
+    pub max_inclusive: Option<Bound>,
+    pub max_exclusive: Option<Bound>,
+    pub min_inclusive: Option<Bound>,
+    pub min_exclusive: Option<Bound>,
+    pub total_digits: Option<Count>,
+    pub fraction_digits: Option<Count>,
+}
+
+impl FacetList {
+    /// No facets.
+    pub fn new(alloc: Global) -> FacetList
+        ensures { result ≡ no_facets }
+    {
+        FacetList {
+            white_space: None,
+            patterns: Listed::new(alloc),
+            length: None,
+            min_length: None,
+            max_length: None,
+            enumeration: None,
+            max_inclusive: None,
+            max_exclusive: None,
+            min_inclusive: None,
+            min_exclusive: None,
+            total_digits: None,
+            fraction_digits: None,
+        }
+    }
+
+    /// The same facets, with memory of their own.
+    pub fn try_clone(&self, alloc: Global) -> Result<FacetList, AllocError>
+        ensures { IfOk result (λ copy. copy ≡ self.now) }
+    {
+        let (max_inclusive, max_exclusive) = copied_side(
+            self.max_inclusive.as_ref(),
+            self.max_exclusive.as_ref(),
+        )?;
+        let (min_inclusive, min_exclusive) = copied_side(
+            self.min_inclusive.as_ref(),
+            self.min_exclusive.as_ref(),
+        )?;
+        Ok(FacetList {
+            white_space: self.white_space,
+            patterns: copied_steps(alloc, self.patterns.as_slice())?,
+            length: self.length,
+            min_length: self.min_length,
+            max_length: self.max_length,
+            enumeration: copied_values(self.enumeration.as_ref())?,
+            max_inclusive,
+            max_exclusive,
+            min_inclusive,
+            min_exclusive,
+            total_digits: self.total_digits,
+            fraction_digits: self.fraction_digits,
+        })
+    }
+}
+
+// The bounds of a side, copied.
+fn copied_side(
+    inclusive: Option<&Bound>,
+    exclusive: Option<&Bound>,
+) -> Result<(Option<Bound>, Option<Bound>), AllocError>
+    ensures { IfOk result (λ copies. copies ≡ (option_copied inclusive.entry, option_copied exclusive.entry)) }
+{
+    Ok((copied_bound(inclusive)?, copied_bound(exclusive)?))
+}
+
+fn copied_bound(bound: Option<&Bound>) -> Result<Option<Bound>, AllocError>
+    ensures { IfOk result (λ copy. copy ≡ option_copied bound.entry) }
+{
+    match bound {
+        Some(bound) => Ok(Some(bound.clone()?)),
+        None => Ok(None),
+    }
+}
+
+fn copied_values(values: Option<&ValueList>) -> Result<Option<ValueList>, AllocError>
+    ensures { IfOk result (λ copy. copy ≡ option_copied values.entry) }
+{
+    match values {
+        Some(values) => Ok(Some(cloned_values(values)?)),
+        None => Ok(None),
+    }
+}
+
+fn cloned_values(values: &ValueList) -> Result<ValueList, AllocError>
+    ensures { IfOk result (λ copy. copy ≡ values.now) }
+{
+    values.clone()
+}
+
+fn copied_steps(alloc: Global, steps: &[Alternatives]) -> Result<Listed<Alternatives>, AllocError>
+    ensures { IfOk result (λ copies. copies ≡ steps.now) }
+{
+    let mut copies = Listed::new(alloc);
+    for patterns in steps {
+        copies.push(copied_patterns(alloc, patterns.as_slice())?)?;
+    }
+    Ok(copies)
+}
+
+fn copied_patterns(alloc: Global, patterns: &[PatternText]) -> Result<Alternatives, AllocError>
+    ensures { IfOk result (λ copies. copies ≡ patterns.now) }
+{
+    let mut copies = Alternatives::new(alloc);
+    for pattern in patterns {
+        copies.push(pattern.try_clone(alloc)?)?;
+    }
+    Ok(copies)
+}

@@ -1,0 +1,3 @@
+pub mod Applicable
+pub mod Read
+pub mod Texts

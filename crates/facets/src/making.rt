@@ -1,0 +1,168 @@
+//! Lists of a type, and unions of types.
+ghost use Rattle.std.specs.Prelude.{◌≡◌, [], IfOk};
+ghost use Rattle.facets.specs.Making as spec;
+
+use crate::Facets;
+use crate::members::{
+    Choices, Gate, Literals, Member, Members, Plain, Source, copied_gates, copied_literals,
+    copied_members,
+};
+use facet_checks::{FacetList, Handling};
+use simple_values::item_type;
+use std::alloc::{AllocError, Global};
+use white_space::WhiteSpace;
+use xs_codes::Builtin;
+use xs_lists::Listed;
+
+impl Members {
+    /// No members.
+    pub fn new(alloc: Global) -> Members
+        ensures { result ≡ spec.no_members }
+    {
+        Members {
+            members: Listed::new(alloc),
+            gates: Listed::new(alloc),
+        }
+    }
+
+    /// These members, and a type behind them; of a union, its members, which stay one union among them.
+    pub fn with(self, alloc: Global, member: &Facets) -> Result<Members, AllocError>
+        ensures { IfOk result (λ all. all ≡ spec.with_member self member.now) }
+    {
+        match &member.source {
+            Source::Literals(literals) => {
+                let mut members = self.members;
+                members.push(Member {
+                    literals: copied_literals(alloc, literals)?,
+                    list: member.list.try_clone(alloc)?,
+                })?;
+                Ok(Members {
+                    members,
+                    gates: self.gates,
+                })
+            }
+            Source::Union(others) => with_union(alloc, self, others, &member.list),
+        }
+    }
+}
+
+fn with_union(
+    alloc: Global,
+    all: Members,
+    others: &Members,
+    list: &FacetList,
+) -> Result<Members, AllocError>
+    ensures { IfOk result (λ made. made ≡ spec.with_union all others.now list.now) }
+{
+    let from = all.members.len();
+    let members = copied_members(alloc, all.members, others.members.as_slice())?;
+    let mut gates = copied_gates(alloc, all.gates, from, others.gates.as_slice())?;
+    gates.push(Gate {
+        from,
+        to: members.len(),
+        list: list.try_clone(alloc)?,
+    })?;
+    Ok(Members { members, gates })
+}
+
+/// The facets of a list, which collapses white space.
+pub(crate) fn list_facets(alloc: Global) -> FacetList
+    ensures { result ≡ spec.list_facets }
+{
+    FacetList {
+        white_space: Some(Handling {
+            value: WhiteSpace::Collapse,
+            fixed: false,
+        }),
+        ..FacetList::new(alloc)
+    }
+}
+
+/// What the items of a list of a type are; `None` where the type is a list, or a union that holds one.
+pub(crate) fn choices_of(alloc: Global, item: &Facets) -> Result<Option<Choices>, AllocError>
+    ensures { IfOk result (λ choices. choices ≡ spec.choices_of item.now) }
+{
+    match &item.source {
+        Source::Literals(literals) => choice_of_one(alloc, literals, &item.list),
+        Source::Union(members) => choice_of_union(alloc, members, &item.list),
+    }
+}
+
+fn choice_of_one(
+    alloc: Global,
+    literals: &Literals,
+    list: &FacetList,
+) -> Result<Option<Choices>, AllocError>
+    ensures { IfOk result (λ choices. choices ≡ spec.choice_of_one literals.now list.now) }
+{
+    let Some(kind) = atomic_kind(literals) else {
+        return Ok(None);
+    };
+    let mut members = Listed::new(alloc);
+    members.push(Plain {
+        kind,
+        list: list.try_clone(alloc)?,
+    })?;
+    Ok(Some(Choices {
+        members,
+        gates: Listed::new(alloc),
+    }))
+}
+
+fn choice_of_union(
+    alloc: Global,
+    members: &Members,
+    list: &FacetList,
+) -> Result<Option<Choices>, AllocError>
+    ensures { IfOk result (λ choices. choices ≡ spec.choice_of_union members.now list.now) }
+{
+    let Some(plains) = plains_of(alloc, members.members.as_slice())? else {
+        return Ok(None);
+    };
+    let mut gates = copied_gates(alloc, Listed::new(alloc), 0, members.gates.as_slice())?;
+    gates.push(Gate {
+        from: 0,
+        to: plains.len(),
+        list: list.try_clone(alloc)?,
+    })?;
+    Ok(Some(Choices {
+        members: plains,
+        gates,
+    }))
+}
+
+// The members as types that are derived from built-in atomic ones, if they all are.
+fn plains_of(alloc: Global, members: &[Member]) -> Result<Option<Listed<Plain>>, AllocError>
+    ensures { IfOk result (λ plains. plains ≡ spec.plains_behind [] members.now) }
+{
+    let mut plains = Listed::new(alloc);
+    for member in members {
+        let Some(kind) = atomic_kind(&member.literals) else {
+            return Ok(None);
+        };
+        plains.push(Plain {
+            kind,
+            list: member.list.try_clone(alloc)?,
+        })?;
+    }
+    Ok(Some(plains))
+}
+
+// The built-in type that an atomic type is derived from.
+fn atomic_kind(literals: &Literals) -> Option<Builtin>
+    ensures { result ≡ spec.atomic_kind literals.now }
+{
+    match literals {
+        Literals::OfBuiltin(kind) => atomic(*kind),
+        Literals::OfList(_) => None,
+    }
+}
+
+fn atomic(kind: Builtin) -> Option<Builtin>
+    ensures { result ≡ spec.atomic kind }
+{
+    match item_type(kind) {
+        Some(_) => None,
+        None => Some(kind),
+    }
+}
