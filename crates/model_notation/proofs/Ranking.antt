@@ -1,5 +1,5 @@
 -- Parts of a table by number.
-use Rattle.std.proofs.Common.{◌≡◌, ℕ, ◌<◌, ◌≤◌, ◌+◌, List, None, length, Some, slice_get, slice_index, tt, arith}
+use Rattle.std.proofs.Common.{◌≡◌, ℕ, ◌<◌, ◌≤◌, ◌+◌, List, None, length, Some, slice_get, slice_index, arith, subst}
 use Rattle.std.specs.Prelude.{All, IfSome, slice_index_or}
 use Rattle.std.proofs.lemmas.Option.{slice_get_within, get_or_from_slice_get}
 use Rattle.xs_components.specs.Table.{TableOf}
@@ -14,7 +14,7 @@ use Rattle.xs_references.specs.Heights.{first_height, IsLower}
 pub each_part : {T : Type 0} (table : TableOf T) (P : ℕ → T → Type 0) →
     ((n : ℕ) (part : T) → n < length table.parts → P (slice_index table.ranks n) (slice_index_or table.parts n part)) → EachPart table P
 each_part table P below n part is =
-    rw (get_or_from_slice_get table.parts n part part is) at below n part (slice_get_within table.parts n part is)
+    subst (λ x. P (slice_index table.ranks n) x) (get_or_from_slice_get table.parts n part part is) (below n part (slice_get_within table.parts n part is))
 
 -- of no parts all is true
 pub no_part : {T : Type 0} (table : TableOf T) (P : ℕ → T → Type 0) → length table.parts ≤ 0 → EachPart table P

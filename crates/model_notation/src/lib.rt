@@ -6,6 +6,7 @@ mod notation;
 mod ranked;
 mod schema;
 mod spaces;
+mod stack;
 mod symbols;
 mod terms;
 

@@ -1,8 +1,5 @@
 //! The words of the notation.
 
-use std::alloc::{AllocError, Global};
-use xs_components::{ParticleIdList, Term};
-
 /// How often a particle may come.
 #[derive(Clone, Copy, Debug)]
 pub(crate) struct Bounds {
@@ -16,31 +13,6 @@ pub(crate) enum Kind {
     Sequence,
     Choice,
     All,
-}
-
-/// A group that is not closed yet, with the members so far.
-#[derive(Drop)]
-pub(crate) struct Open {
-    pub(crate) kind: Kind,
-    pub(crate) members: ParticleIdList,
-}
-
-impl Open {
-    pub(crate) fn new(alloc: Global, kind: Kind) -> Self {
-        Open {
-            kind,
-            members: ParticleIdList::new(alloc),
-        }
-    }
-
-    pub(crate) fn into_term(self) -> Term {
-        let Open { kind, members } = self;
-        match kind {
-            Kind::Sequence => Term::Sequence(members),
-            Kind::Choice => Term::Choice(members),
-            Kind::All => Term::All(members),
-        }
-    }
 }
 
 /// A number; 0 where the text is none.

@@ -4,8 +4,9 @@ ghost use Rattle.std.specs.Prelude.{◌≡◌, ◌<◌, All, length, IfOk, IfSom
 ghost use Rattle.model_symbols.specs.declared.terms.Given.{Given as GivenData};
 ghost use Rattle.model_symbols.specs.Terms.{names_of};
 
-use crate::notation::{Bounds, Kind, Open, bounds_of, head_of, name_and_class, number, opened};
+use crate::notation::{Bounds, bounds_of, head_of, name_and_class, number, opened};
 use crate::spaces::{Spaces, intern_word};
+use crate::stack::Stack;
 use model_symbols::{Accepts, Given};
 use std::alloc::{AllocError, Global};
 use xs_components::{
@@ -47,21 +48,31 @@ const NONE: Methods = Methods {
 impl Schema {
     /// Reads a model: `seq( a b? )`. Before it, each followed by `;`, may stand groups, as `G = or( a b )`, and `cells 20`.
     pub fn read(alloc: Global, text: &str) -> Result<Self, AllocError> {
+        let mut schema = Schema::new(alloc)?;
+        schema.read_pieces(alloc, text)?;
+        Ok(schema)
+    }
+
+    fn new(alloc: Global) -> Result<Self, AllocError> {
         let mut names = Names::new(alloc)?;
         let spaces = Spaces::new(&mut names)?;
-        let mut schema = Schema {
+        let parts = Components::new(alloc)?;
+        Ok(Schema {
             names,
-            parts: Components::new(alloc)?,
+            parts,
             root: None,
             cells: 2_000_000,
             spaces,
             elements: Vec::new(alloc),
             groups: Vec::new(alloc),
-        };
+        })
+    }
+
+    fn read_pieces(&mut self, alloc: Global, text: &str) -> Result<(), AllocError> {
         for piece in text.split(';') {
-            schema.read_piece(alloc, piece.trim())?;
+            self.read_piece(alloc, piece.trim())?;
         }
-        Ok(schema)
+        Ok(())
     }
 
     fn read_piece(&mut self, alloc: Global, text: &str) -> Result<(), AllocError> {
@@ -79,45 +90,45 @@ impl Schema {
 
     // The particle of a text; `None` where there is none.
     fn read_model(&mut self, alloc: Global, text: &str) -> Result<Option<ParticleId>, AllocError> {
-        let mut open = Vec::new(alloc);
-        open.push(Open::new(alloc, Kind::Sequence))?;
+        let mut stack = Stack::new(alloc);
         for word in text.split(' ') {
-            self.read_word(alloc, word, &mut open)?;
+            self.read_word(alloc, word, &mut stack)?;
         }
-        match open.pop() {
-            Some(last) => Ok(last.members.get(0).copied()),
-            None => Ok(None),
-        }
+        Ok(stack.first())
     }
 
     fn read_word(
         &mut self,
         alloc: Global,
         word: &str,
-        open: &mut Vec<Open>,
+        stack: &mut Stack,
     ) -> Result<(), AllocError> {
         if word.is_empty() {
             return Ok(());
         }
         if let Some(kind) = opened(word) {
-            open.push(Open::new(alloc, kind))?;
-            return Ok(());
+            return stack.begin(kind);
         }
-        let head = head_of(word);
-        let term = if head == ")" {
-            match open.pop() {
-                Some(closed) => closed.into_term(),
-                None => return Ok(()),
+        match self.term_of(alloc, head_of(word), stack)? {
+            Some(term) => {
+                let id = self.add_particle(term, bounds_of(word))?;
+                stack.add(id)
             }
-        } else {
-            self.leaf(alloc, head)?
-        };
-        let id = self.add_particle(term, bounds_of(word))?;
-        if let Some(mut holder) = open.pop() {
-            holder.members.push(id)?;
-            open.push(holder)?;
+            None => Ok(()),
         }
-        Ok(())
+    }
+
+    // The group that ends here, or else a term that is no group.
+    fn term_of(
+        &mut self,
+        alloc: Global,
+        head: &str,
+        stack: &mut Stack,
+    ) -> Result<Option<Term>, AllocError> {
+        if head == ")" {
+            return stack.end(alloc);
+        }
+        Ok(Some(self.leaf(alloc, head)?))
     }
 
     // A wildcard, a reference to a group, or an element.
@@ -161,7 +172,7 @@ impl Schema {
     fn group(&self, name: &str) -> Option<GroupId> {
         for (number, group) in self.groups.iter().enumerate() {
             if group.as_str() == name {
-                return self.parts.group_at(number as u32);
+                return self.parts.group_at(u32::try_from(number).ok()?);
             }
         }
         None
