@@ -7,20 +7,38 @@ use upa::ambiguous;
 
 /// The answer to a line: a model, and words with `/` before each. Behind `pair` the two terms are shown at which it is ambiguous.
 pub fn answer(alloc: Global, line: &str) -> Result<String, AllocError> {
-    let (pair, line) = match line.strip_prefix("pair ") {
-        Some(rest) => (true, rest),
-        None => (false, line),
-    };
-    let (model, words) = match line.split_once('/') {
-        Some((model, words)) => (model, Some(words)),
-        None => (line, None),
-    };
-    let mut schema = Schema::read(alloc, model)?;
-    if let Some(words) = words {
-        intern_words(&mut schema, words)?;
+    match line.strip_prefix("pair ") {
+        Some(rest) => answer_line(alloc, rest, true),
+        None => answer_line(alloc, line, false),
     }
+}
+
+fn answer_line(alloc: Global, line: &str, pair: bool) -> Result<String, AllocError> {
+    match line.split_once('/') {
+        Some((model, words)) => answer_model(alloc, model, Some(words), pair),
+        None => answer_model(alloc, line, None, pair),
+    }
+}
+
+fn answer_model(
+    alloc: Global,
+    model: &str,
+    words: Option<&str>,
+    pair: bool,
+) -> Result<String, AllocError> {
+    let mut schema = Schema::read(alloc, model)?;
+    intern_words(&mut schema, words.unwrap_or(""))?;
+    answer_of(alloc, &schema, words, pair)
+}
+
+fn answer_of(
+    alloc: Global,
+    schema: &Schema,
+    words: Option<&str>,
+    pair: bool,
+) -> Result<String, AllocError> {
     match schema.compile(alloc)? {
-        Ok(compiled) => shown(alloc, &schema, &compiled, words, pair),
+        Ok(compiled) => shown(alloc, schema, &compiled, words, pair),
         Err(refused) => String::from_str(alloc, reason(refused)),
     }
 }

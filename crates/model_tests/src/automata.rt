@@ -1,48 +1,55 @@
 //! Automata over names.
 
+ghost use Rattle.std.specs.Prelude.{◌<◌};
+ghost use Rattle.model_symbols.specs.Symbols.{AreNamesOf, count_of};
+
+use content_automaton::Automaton;
 use model_notation::Schema;
+use std::process::Abort;
 use std::test::Fail;
 use upa::ambiguous;
 use xsv_steps::{Steps, Tally};
 
-#[test]
-fn runs_along_names(rt: HostRuntime) -> Result<(), Fail> {
-    let schema = Schema::read(rt.alloc(), "seq( a#1 b? a#2 )")?;
-    let Ok(compiled) = schema.compile(rt.alloc())? else {
-        panic!(rt; "there is an automaton");
-    };
-    let automaton = &compiled.automaton;
-    let Some(name) = schema.name("a") else {
+fn symbol_of(rt: &impl Abort, schema: &Schema, automaton: &Automaton, word: &str) -> u32
+    requires names { AreNamesOf schema.now.names automaton.now.symbols.names }
+    ensures { result < count_of automaton.now.symbols }
+{
+    let Some(name) = schema.name(word) else {
         panic!(rt; "the name has a number");
     };
-    let symbol = automaton.symbol(&schema.names, name);
+    automaton.symbol(&schema.names, name)
+}
+
+fn check_run(rt: &impl Abort, automaton: &Automaton, symbol: u32)
+    requires { symbol < count_of automaton.now.symbols }
+{
     let mut steps = Steps::new(Tally { count: 0 });
     let first = automaton.step(automaton.start(), symbol, &mut steps);
     let second = automaton.step(first, symbol, &mut steps);
     let dead = automaton.step(second, symbol, &mut steps);
     assert!(rt; automaton.width() == 5 && dead == 4 && steps.ledger().count == 3);
     assert!(rt; !automaton.accepting(first) && automaton.accepting(second));
-    Ok(())
 }
 
-#[test]
-fn attributes_by_place(rt: HostRuntime) -> Result<(), Fail> {
-    let schema = Schema::read(rt.alloc(), "seq( a#1 b? a#2 )")?;
-    let Ok(compiled) = schema.compile(rt.alloc())? else {
-        panic!(rt; "there is an automaton");
-    };
-    let automaton = &compiled.automaton;
-    let Some(name) = schema.name("a") else {
-        panic!(rt; "the name has a number");
-    };
-    let symbol = automaton.symbol(&schema.names, name);
+fn check_terms(rt: &impl Abort, automaton: &Automaton, terms: &[u32], symbol: u32)
+    requires { symbol < count_of automaton.now.symbols }
+{
     let mut steps = Steps::new(Tally { count: 0 });
     let after_one = automaton.step(automaton.start(), symbol, &mut steps);
     let second = automaton.term_at(after_one, symbol).map(|id| id.number());
     let first = automaton.first_term(symbol).map(|id| id.number());
-    let terms = compiled.form.terms();
     assert!(rt; first == terms.first().copied() && second == terms.get(2).copied());
-    assert!(rt; automaton.ambivalent(symbol));
-    assert!(rt; automaton.ambiguous().is_none() && ambiguous(automaton).is_none());
+    assert!(rt; automaton.ambivalent(symbol) && ambiguous(automaton).is_none());
+}
+
+#[test]
+fn runs_and_attributes(rt: HostRuntime) -> Result<(), Fail> {
+    let schema = Schema::read(rt.alloc(), "seq( a#1 b? a#2 )")?;
+    let Ok(compiled) = schema.compile(rt.alloc())? else {
+        panic!(rt; "there is an automaton");
+    };
+    let symbol = symbol_of(&rt, &schema, &compiled.automaton, "a");
+    check_run(&rt, &compiled.automaton, symbol);
+    check_terms(&rt, &compiled.automaton, compiled.form.terms(), symbol);
     Ok(())
 }

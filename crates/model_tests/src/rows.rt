@@ -1,8 +1,9 @@
 //! Models at the limits and past them, and models that are ambiguous or seem so.
 
 use Expected::{Ambiguous, Clear, Not};
-use model_notation::{Refused, Schema};
-use std::alloc::Global;
+use content_automaton::Automaton;
+use model_notation::{Compiled, Refused, Schema};
+use std::alloc::{AllocError, Global};
 use std::process::Abort;
 use std::test::Fail;
 use upa::ambiguous;
@@ -31,18 +32,30 @@ const ROWS: [(&str, Expected); 7] = [
     ("seq( or( a b )* a or( a b ){2} )", Ambiguous(9)),
 ];
 
+fn answer_of(alloc: Global, model: &str) -> Result<Result<Compiled, Refused>, AllocError> {
+    let schema = Schema::read(alloc, model)?;
+    schema.compile(alloc)
+}
+
+fn check_automaton(rt: &impl Abort, model: &str, automaton: &Automaton, expected: Expected) {
+    let (states, is_clear) = match expected {
+        Clear(states) => (states, true),
+        Ambiguous(states) => (states, false),
+        Not(_) => panic!(rt; "{model}"),
+    };
+    assert!(rt; automaton.width() - 1 == states, "{model}");
+    assert!(rt; ambiguous(automaton).is_none() == is_clear, "{model}");
+}
+
 fn check_row(rt: &impl Abort, alloc: Global, model: &str, expected: Expected) -> Result<(), Fail> {
-    match (Schema::read(alloc, model)?.compile(alloc)?, expected) {
-        (Ok(compiled), Clear(states)) => {
-            assert!(rt; compiled.automaton.width() - 1 == states, "{model}");
-            assert!(rt; ambiguous(&compiled.automaton).is_none(), "{model}");
+    match answer_of(alloc, model)? {
+        Ok(compiled) => check_automaton(rt, model, &compiled.automaton, expected),
+        Err(refused) => {
+            assert!(rt;
+                matches!(expected, Not(reason) if reason == refused),
+                "{model}"
+            );
         }
-        (Ok(compiled), Ambiguous(states)) => {
-            assert!(rt; compiled.automaton.width() - 1 == states, "{model}");
-            assert!(rt; ambiguous(&compiled.automaton).is_some(), "{model}");
-        }
-        (Err(refused), Not(reason)) => assert!(rt; refused == reason, "{model}"),
-        _ => panic!(rt; "{model}"),
     }
     Ok(())
 }

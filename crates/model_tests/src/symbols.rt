@@ -1,15 +1,15 @@
 //! Symbols of names, and what terms accept by them.
 
-use model_notation::Schema;
-use model_symbols::Attribution;
+ghost use Rattle.model_symbols.specs.Symbols.{AreNamesOf};
+
+use model_notation::{Accepted, Schema};
+use model_symbols::{Attribution, Listing};
+use std::process::Abort;
 use std::test::Fail;
 
-#[test]
-fn symbols_of_two_elements_and_a_wildcard(rt: HostRuntime) -> Result<(), Fail> {
-    let schema = Schema::read(rt.alloc(), "seq( a#1 ##other a#2+p:b )")?;
-    let Some(found) = schema.accepted(rt.alloc(), &[0, 1, 2])? else {
-        panic!(rt; "the three particles are terms");
-    };
+fn check_symbols(rt: &impl Abort, schema: &Schema, found: &Accepted)
+    requires { AreNamesOf schema.now.names found.now.symbols.names }
+{
     let (Some(a), Some(b)) = (schema.name("a"), schema.name("p:b")) else {
         panic!(rt; "the names have numbers");
     };
@@ -17,13 +17,25 @@ fn symbols_of_two_elements_and_a_wildcard(rt: HostRuntime) -> Result<(), Fail> {
     assert!(rt; symbols.count() == 5);
     assert!(rt; symbols.symbol(&schema.names, a) == 0);
     assert!(rt; symbols.symbol(&schema.names, b) == 1);
-    let rows = found.listing.accepted.as_slice();
-    let Some(wildcard) = rows.get(1) else {
+}
+
+fn check_listing(rt: &impl Abort, listing: &Listing) {
+    let Some(wildcard) = listing.accepted.get(1) else {
         panic!(rt; "there are three rows");
     };
     assert!(rt; wildcard.as_slice() == [1, 4].as_slice());
-    let given = found.listing.attributions.as_slice();
+    let given = listing.attributions.as_slice();
     assert!(rt; matches!(given.first(), Some(Attribution::Ambivalent(0))));
     assert!(rt; matches!(given.get(4), Some(Attribution::OneClass(1, 1_000))));
+}
+
+#[test]
+fn symbols_of_two_elements_and_a_wildcard(rt: HostRuntime) -> Result<(), Fail> {
+    let schema = Schema::read(rt.alloc(), "seq( a#1 ##other a#2+p:b )")?;
+    let Some(found) = schema.accepted(rt.alloc(), &[0, 1, 2])? else {
+        panic!(rt; "the three particles are terms");
+    };
+    check_symbols(&rt, &schema, &found);
+    check_listing(&rt, &found.listing);
     Ok(())
 }
