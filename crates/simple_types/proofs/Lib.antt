@@ -1,0 +1,6 @@
+pub mod Built
+pub mod Defined
+pub mod FilledLaws
+pub mod InForce
+pub mod Stable
+pub mod Whole

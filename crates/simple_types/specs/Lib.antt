@@ -1,0 +1,6 @@
+pub mod Forms
+pub mod Judging
+pub mod Lookup
+pub mod SimpleTypes
+pub mod TypeRules
+pub mod inside
