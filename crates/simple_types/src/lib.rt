@@ -7,9 +7,11 @@ mod content;
 mod filling;
 mod forms;
 mod judged;
+mod laws;
 mod lookup;
 mod rules;
 mod types;
 
 pub use judged::{JudgedType, TypeFacets};
+pub use laws::first_is_least;
 pub use types::{Built, SimpleTypes};
