@@ -1,6 +1,7 @@
 -- A fold that keeps the sooner of two faults comes to the least.
 use Rattle.std.proofs.Common.{◌≡◌, ℕ, ◌==◌, inl, inr, Bool, true, false, if◌then◌else◌, List, [], ◌∷◌, ◌++◌, Option, None, Some, refl, sym, ap, subst, ◌∙◌, arith}
 use Rattle.std.specs.Prelude.{nat_lt}
+use Rattle.std.proofs.lemmas.Bool.{false≢true}
 use Rattle.std.proofs.lemmas.Bool.Decides.{nat_tests}
 use Rattle.xs_codes.specs.declared.fault.Fault.{Fault}
 use Rattle.facet_rules.specs.First.{Rule, fault_at, code_place, is_before, sooner, noted, first_from, first_fault}
@@ -9,15 +10,30 @@ use Rattle.simple_types.specs.declared.types.SimpleTypes.{SimpleTypes}
 use Rattle.simple_types.specs.SimpleTypes.{sooner_if, first_of, first_fault_of}
 use Rattle.simple_types.specs.Least.{faults_of_rules, with_fault, faults_in, faults_of_types, IsAmong, IsBehindNone, IsLeast}
 
+-- by a number, and then otherwise
+abbrev first_by : ℕ → ℕ → Bool → Bool
+first_by a x then' = if a == x then then' else nat_lt a x
+
 -- by three numbers in turn
 abbrev before : ℕ → ℕ → ℕ → ℕ → ℕ → ℕ → Bool
-before a b c x y z = if a == x then (if b == y then nat_lt c z else nat_lt b y) else nat_lt a x
+before a b c x y z = first_by a x (first_by b y (nat_lt c z))
 
 not_itself : (a b c : ℕ) → before a b c a b c ≡ false
 not_itself a b c = grind (arith, nat_tests)
 
+not_past_first : (a x p : ℕ) (t u v : Bool) → (t ≡ true → u ≡ false → v ≡ false) → first_by a x t ≡ true → first_by a p u ≡ false → first_by x p v ≡ false
+not_past_first a x p t u false h first second = grind (arith, nat_tests)
+not_past_first a x p false u true h first second = grind (arith, nat_tests)
+not_past_first a x p true true true h first second = grind (arith, nat_tests)
+not_past_first a x p true false true h first second = absurd (false≢true (sym (h refl refl)))
+
+not_past_last : (c z r : ℕ) → nat_lt c z ≡ true → nat_lt c r ≡ false → nat_lt z r ≡ false
+not_past_last c z r first second = grind (arith, nat_tests)
+
 not_past : (a b c x y z p q r : ℕ) → before a b c x y z ≡ true → before a b c p q r ≡ false → before x y z p q r ≡ false
-not_past a b c x y z p q r first second = grind (arith, nat_tests)
+not_past a b c x y z p q r =
+    not_past_first a x p (first_by b y (nat_lt c z)) (first_by b q (nat_lt c r)) (first_by y q (nat_lt z r))
+    (not_past_first b y q (nat_lt c z) (nat_lt c r) (nat_lt z r) (not_past_last c z r))
 
 not_trans : (a b c x y z p q r : ℕ) → before a b c x y z ≡ false → before x y z p q r ≡ false → before a b c p q r ≡ false
 not_trans a b c x y z p q r first second = grind (arith, nat_tests)
@@ -36,13 +52,17 @@ abbrev least : Option Fault → List Fault → Option Fault
 least best [] = best
 least best (fault ∷ faults) = least (sooner best fault) faults
 
--- a fault that is not before the least of some is behind none of them
+abbrev IsEmpty : List Fault → Type 0
+IsEmpty [] = Unit {0}
+IsEmpty (fault ∷ faults) = ⊥
+
+-- the least of some faults is the least of one more that it is not behind
 among_more : (b f : Fault) (fs : List Fault) (r : Option Fault) → is_before f b ≡ true → IsLeast (f ∷ fs) r → IsLeast (b ∷ f ∷ fs) r
-among_more b f fs None e ()
+among_more b f fs None e is = absurd (subst IsEmpty (sym is) tt)
 among_more b f fs (Some m) e is = (inr is.0, (fault_not_past f b m e is.1.0, is.1))
 
 among_behind : (b f : Fault) (fs : List Fault) (r : Option Fault) → is_before f b ≡ false → IsLeast (b ∷ fs) r → IsLeast (b ∷ f ∷ fs) r
-among_behind b f fs None e ()
+among_behind b f fs None e is = absurd (subst IsEmpty (sym is) tt)
 among_behind b f fs (Some m) e is = (among is.0, (is.1.0, (fault_not_trans f b m e is.1.0, is.1.1)))
   where
     among : IsAmong m (b ∷ fs) → IsAmong m (b ∷ f ∷ fs)

@@ -6,7 +6,9 @@ use Rattle.simple_types.proofs.Stable.{content-stable}
 use Rattle.simple_types.proofs.content.fill_contents.Goals as goal
 
 pub judged_content-requires : goal.judged_content-requires
-judged_content-requires c = All-get_or (λ y. y < length c.args.parts.now.complexes.parts) c.args.order.now c.loop-x.x-index 0 c.loop-x-test.true c.requires.order.there
+judged_content-requires c = record {
+  there = All-get_or (λ y. y < length c.args.parts.now.complexes.parts) c.args.order.now c.loop-x.x-index 0 c.loop-x-test.true c.requires.order.there;
+}
 
 pub loop-x-preserved : goal.loop-x-preserved
 loop-x-preserved c =

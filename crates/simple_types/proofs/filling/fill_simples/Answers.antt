@@ -6,7 +6,9 @@ use Rattle.simple_types.proofs.Stable.{simple-stable}
 use Rattle.simple_types.proofs.filling.fill_simples.Goals as goal
 
 pub judged_number-requires : goal.judged_number-requires
-judged_number-requires c = All-get_or (λ y. y < length c.args.parts.now.simples.parts) c.args.order.now c.loop-x.x-index 0 c.loop-x-test.true c.requires.order.there
+judged_number-requires c = record {
+  there = All-get_or (λ y. y < length c.args.parts.now.simples.parts) c.args.order.now c.loop-x.x-index 0 c.loop-x-test.true c.requires.order.there;
+}
 
 pub loop-x-preserved : goal.loop-x-preserved
 loop-x-preserved c =
