@@ -1,11 +1,11 @@
 -- Parts of tables, ranked one after another.
 use Rattle.std.proofs.Common.{◌≡◌, ℕ, ◌+◌, ◌<◌, ◌≤◌, inl, inr, List, Option, Some, None, length, slice_get, slice_index, sym, subst, arith, ◌∙◌}
-use Rattle.std.specs.Prelude.{All}
+use Rattle.std.specs.Prelude.{All, IfSome}
 use Rattle.std.proofs.lemmas.Bool.{cases_eq, cases_lt}
 use Rattle.std.proofs.lemmas.Option.{none-some, same_Some, slice_get_past}
 use Rattle.xs_components.specs.Table.{TableOf}
 use Rattle.xs_components.specs.Tables.{Tables}
-use Rattle.xs_references.specs.Ranked.{EachPart, IsRanked}
+use Rattle.xs_references.specs.Ranked.{EachPart, IsRanked, IsBelow, held_particles, named_group}
 use Rattle.type_table.specs.Ranked.{HasTypesAlone, AreSimplesRanked, AreComplexesRanked}
 
 module _ {T : Type 0} (table : TableOf T) (P : ℕ → T → Type 0) where
@@ -34,9 +34,9 @@ pub types_ranked : (t : Tables) → HasTypesAlone t → AreSimplesRanked t → A
 types_ranked t alone simples complexes = record {
   simples = simples;
   complexes = complexes;
-  elements = each-none t.elements _ alone.elements;
-  groups = each-none t.groups _ alone.groups;
-  attr_groups = each-none t.attr_groups _ alone.attr_groups;
-  particles = each-none t.particles _ alone.particles;
-  to_groups = each-none t.particles _ alone.particles;
+  elements = each-none t.elements (λ rank part. IfSome part.head (IsBelow t.elements rank)) alone.elements;
+  groups = each-none t.groups (λ rank part. IfSome part.particle (IsBelow t.particles rank)) alone.groups;
+  attr_groups = each-none t.attr_groups (λ rank part. All (IsBelow t.attr_groups rank) part.groups) alone.attr_groups;
+  particles = each-none t.particles (λ rank part. All (IsBelow t.particles rank) (held_particles part.term)) alone.particles;
+  to_groups = each-none t.particles (λ rank part. IfSome (named_group part.term) (IsBelow t.groups rank)) alone.particles;
 }

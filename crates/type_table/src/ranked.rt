@@ -1,5 +1,5 @@
 //! Whether each type refers to lower ranks alone.
-ghost use Rattle.std.specs.Prelude.{◌≡◌, ◌+◌, ◌<◌, ◌×◌, All, IsTrue, length, slice_index};
+ghost use Rattle.std.specs.Prelude.{◌≡◌, ◌+◌, ◌<◌, All, IsTrue, length, slice_index};
 ghost use Rattle.xs_references.specs.Heights.{first_height, IsLower};
 ghost use Rattle.xs_references.specs.Ranked.{IsRanked, named_types};
 ghost use Rattle.type_table.specs.Ranked as spec;
