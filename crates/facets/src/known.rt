@@ -53,14 +53,15 @@ fn judged_whole(base: Facets, step: ReadStep) -> Result<Judged, AllocError>
     ensures { IfOk result (λ judged. judged ≡ spec.judged_whole base step) }
 {
     let Facets { source, list } = base;
-    let made = judge(list, step)?;
-    match made.list {
+    let step_judged = judge(list, step)?;
+    let (fault, made) = (step_judged.fault, step_judged.list);
+    match made {
         Some(list) => Ok(Judged {
-            fault: made.fault,
+            fault,
             facets: Some(Facets { source, list }),
         }),
         None => Ok(Judged {
-            fault: made.fault,
+            fault,
             facets: None,
         }),
     }

@@ -1,10 +1,11 @@
 use Rattle.std.proofs.Common.{◌≡◌, drop}
 use Rattle.facet_rules.specs.declared.step.ReadStep.{ReadStep}
-use Rattle.facets.specs.Reading.{IsReadBehind, no_step}
+use Rattle.facet_texts.specs.Read.{no_step}
+use Rattle.facets.specs.Reading.{IsReadBehind}
 use Rattle.facets.proofs.reading.read_step.Given as goal
 
 abbrev pub invariant-loop-item : goal.invariant-loop-item
 invariant-loop-item l = record {
   same : l.base ≡ l.initial.base;
-  read : (last : ReadStep) → IsReadBehind l.initial.base l.step (drop l.item-index l.items) last → IsReadBehind l.initial.base no_step l.items last;
+  read : (last : ReadStep) → IsReadBehind l.initial.base l.known l.step (drop l.item-index l.items) last → IsReadBehind l.initial.base l.known no_step l.items last;
 }
