@@ -10,5 +10,4 @@ ghost use Rattle.simple_types.specs.declared.types.SimpleTypes.{SimpleTypes as A
 pub fn first_is_least()
     ensures rules { (rules : List Rule) → spec.IsLeast (spec.faults_of_rules rules) (first_fault rules) }
     ensures types { (types : AnyTypes) → spec.IsLeast (spec.faults_of_types types) (first_fault_of types) }
-{
-}
+{}

@@ -66,12 +66,7 @@ impl Making {
         }
     }
 
-    fn simple(
-        &mut self,
-        at: Place,
-        finals: Methods,
-        form: SimpleForm,
-    ) -> Result<bool, AllocError> {
+    fn simple(&mut self, at: Place, finals: Methods, form: SimpleForm) -> Result<bool, AllocError> {
         let id = self.parts.add_simple(simple_type(at, finals, form))?;
         self.parts.rank_simple(id, self.rank);
         self.rank = next(self.rank);
@@ -140,7 +135,14 @@ impl Making {
             facets,
         } = step;
         match word {
-            "" | "restrict" => self.simple(at, finals, SimpleForm::Restrict { base: of, step: facets }),
+            "" | "restrict" => self.simple(
+                at,
+                finals,
+                SimpleForm::Restrict {
+                    base: of,
+                    step: facets,
+                },
+            ),
             "[]" => self.simple(at, finals, SimpleForm::ListOf { item: of }),
             "extend" => self.with_content(alloc, at, of, true, facets),
             "content" => self.with_content(alloc, at, of, false, facets),
