@@ -1,0 +1,39 @@
+use Rattle.std.proofs.Common.{◌≡◌, ℕ, List, sym, ap, subst, ◌∙◌}
+use Rattle.xs_components.specs.declared.common.TypeId.{TypeId}
+use Rattle.xs_components.specs.declared.common.TypeId.TheVariants as types
+use Rattle.facets.specs.declared.facets.Facets.{Facets}
+use Rattle.simple_validity.specs.Trees.{type_tree}
+use Rattle.simple_validity.specs.SimpleValidity.{IsMade}
+use Rattle.simple_types.specs.declared.judged.JudgedType.{JudgedType}
+use Rattle.simple_types.specs.Lookup.{content_of}
+use Rattle.simple_types.specs.SimpleTypes.{IsWhole}
+use Rattle.simple_types.specs.inside.Numbers.{IsMadeAt}
+use Rattle.simple_types.proofs.InForce.{type_is_made, simple_is_made, content_is_made}
+use Rattle.simple_types.proofs.types.SimpleTypes.validate.Goals as goal
+
+pub returns-in-Builtin-clause-value : goal.returns-in-Builtin-clause-value
+returns-in-Builtin-clause-value c = λ t ranked are whole.
+    let types_of = c.args.self.now in
+    let by_kind : (content_of types_of.simples types_of.complexes c.args.of).facets ≡ c.of_builtin-facets.result =
+    ap (λ of. (content_of types_of.simples types_of.complexes of).facets) c.in-Builtin.is ∙ sym c.of_builtin-facets.ensures in
+    c.value_by.ensures.value (type_tree t c.args.of) (subst (λ (f : Facets). IsMade (type_tree t c.args.of) f) by_kind (type_is_made t ranked types_of are c.args.of whole))
+
+pub returns-in-Simple-clause-value : goal.returns-in-Simple-clause-value
+returns-in-Simple-clause-value c = λ t ranked are whole.
+    let types_of = c.args.self.now in
+    let made : IsMadeAt (type_tree t (types.Simple c.in-Simple.id)) types_of.simples c.in-Simple.id =
+    simple_is_made t ranked types_of are c.in-Simple.id (subst (IsWhole types_of) c.in-Simple.is whole) in
+    let tree = subst (λ of. IsMadeAt (type_tree t of) types_of.simples c.in-Simple.id) (sym c.in-Simple.is) made in
+    c.value_in.ensures.value (type_tree t c.args.of)
+    (subst (λ n. IsMadeAt (type_tree t c.args.of) c.as_mut_slice.result.now n) (sym c.number.ensures)
+    (subst (λ (table : List JudgedType). IsMadeAt (type_tree t c.args.of) table c.in-Simple.id) (sym c.as_mut_slice.ensures.value) tree))
+
+pub returns-in-Complex-clause-value : goal.returns-in-Complex-clause-value
+returns-in-Complex-clause-value c = λ t ranked are whole.
+    let types_of = c.args.self.now in
+    let made : IsMadeAt (type_tree t (types.Complex c.in-Complex.id)) types_of.complexes c.in-Complex.id =
+    content_is_made t ranked types_of are c.in-Complex.id (subst (IsWhole types_of) c.in-Complex.is whole) in
+    let tree = subst (λ of. IsMadeAt (type_tree t of) types_of.complexes c.in-Complex.id) (sym c.in-Complex.is) made in
+    c.value_in-in-Complex.ensures.value (type_tree t c.args.of)
+    (subst (λ n. IsMadeAt (type_tree t c.args.of) c.as_mut_slice-in-Complex.result.now n) (sym c.number-in-Complex.ensures)
+    (subst (λ (table : List JudgedType). IsMadeAt (type_tree t c.args.of) table c.in-Complex.id) (sym c.as_mut_slice-in-Complex.ensures.value) tree))

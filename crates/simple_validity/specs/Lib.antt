@@ -1,0 +1,3 @@
+pub mod SimpleValidity
+pub mod Trees
+pub mod TypeTree
