@@ -36,6 +36,7 @@ abbrev pub has_union : Option Methods → Bool
 has_union None = false
 has_union (Some finals) = finals.by_union
 
+-- st-props-correct.3 (Structures 3.14.6): the base is final for restriction
 abbrev pub is_final_for_restriction : Tables → TypeId → Bool
 is_final_for_restriction t of = has_restriction (finals_of t of)
 
@@ -53,12 +54,11 @@ abbrev pub is_any_simple_type : TypeId → Bool
 is_any_simple_type (types.Builtin kind) = is_any kind
 is_any_simple_type _ = false
 
--- x-simple.base: the base of a restriction is anySimpleType. st-props-correct.3 (Structures 3.14.6): the base is final for
--- restriction.
+-- x-simple.base (own): the base of a restriction is anySimpleType. Behind it the base may be final for restriction.
 abbrev pub base_rules : Tables → Place → TypeId → List Rule
 base_rules t at base = rule (is_any_simple_type base) at XSimpleBase ∷ rule (is_final_for_restriction t base) at StPropsCorrect3 ∷ []
 
--- x-simple.final: the item type is final for lists. cos-list-of-atomic (Structures 3.14.6): it is a list, or a union that holds
+-- x-simple.final (own): the item type is final for lists. cos-list-of-atomic (Structures 3.14.6): it is a list, or a union that holds
 -- one.
 abbrev pub item_rules : Tables → Place → TypeId → Bool → List Rule
 item_rules t at item is_atomic = rule (is_final_for_lists t item) at XSimpleFinal ∷ rule (not is_atomic) at CosListOfAtomic ∷ []
