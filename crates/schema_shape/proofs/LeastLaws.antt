@@ -1,5 +1,6 @@
 -- The least fault of some elements and others, and what they declare.
-use Rattle.std.proofs.Common.{◌≡◌, ℕ, Bool, true, false, nat_lt, arith, List, [], ◌∷◌, ◌++◌, Option, None, Some, refl, sym, append_assoc, append-nil}
+use Rattle.std.proofs.Common.{◌≡◌, ℕ, Bool, true, false, nat_lt, arith, List, [], ◌∷◌, ◌++◌, Option, None, Some, refl, sym, append_assoc}
+use Rattle.std.proofs.lemmas.Bool.{ltb-true, ltb-false}
 use Rattle.schema_faults.specs.Constructs.{Construct}
 use Rattle.schema_faults.specs.Faults.{least_fault, lesser, fault_of}
 use Rattle.schema_shape.specs.Shapes.{shapes, shapes_of}
@@ -7,7 +8,7 @@ use Rattle.schema_faults.specs.declared.broken.Broken.{Broken}
 use Rattle.schema_shape.specs.declared.walk.Findings.{Findings}
 use Rattle.schema_shape.specs.inside.Walks.{with_construct, with_constructs}
 
-pub lesser_none : (f : Option Broken) → lesser f None ≡ f
+lesser_none : (f : Option Broken) → lesser f None ≡ f
 lesser_none None = refl
 lesser_none (Some fault) = refl
 
@@ -15,11 +16,11 @@ module _ (a b c : Broken) where
   three : (p q r : Bool) → nat_lt b.item a.item ≡ p → nat_lt c.item b.item ≡ q → nat_lt c.item a.item ≡ r
       → lesser (lesser (Some a) (Some b)) (Some c) ≡ lesser (Some a) (lesser (Some b) (Some c))
   three true true true e f g = rw (e, f, g) refl
-  three true true false e f g = absurd (omega (arith, e, f, g))
-  three true false r e f g = rw (e, f) (rw (e, f) refl)
+  three true true false e f g = absurd (omega (arith, ltb-true b.item a.item e, ltb-true c.item b.item f, ltb-false c.item a.item g))
+  three true false r e f g = rw (e, f) (rw e refl)
   three false true r e f g = rw (e, f) refl
-  three false false true e f g = absurd (omega (arith, e, f, g))
-  three false false false e f g = rw (e, f, g) refl
+  three false false true e f g = absurd (omega (arith, ltb-false b.item a.item e, ltb-false c.item b.item f, ltb-true c.item a.item g))
+  three false false false e f g = rw (e, f, g) (rw e refl)
 
 lesser_assoc : (f g h : Option Broken) → lesser (lesser f g) h ≡ lesser f (lesser g h)
 lesser_assoc None g h = refl
@@ -43,9 +44,6 @@ found_append found es more =
       lesser_assoc found.fault (least_fault es) (least_fault more),
       append_assoc found.shapes (shapes es) (shapes more),
     ) refl
-
-pub found_none : (found : Findings) → with_constructs found [] ≡ found
-found_none found = rw (lesser_none found.fault, append-nil found.shapes) refl
 
 -- an element, and then those behind it
 pub found_first : (found : Findings) (e : Construct) (es : List Construct) → with_constructs (with_construct found e) es ≡ with_constructs found (e ∷ es)

@@ -1,6 +1,6 @@
--- One element further among siblings, and their end.
-use Rattle.std.proofs.Common.{◌≡◌, ℕ, ◌<◌, ◌≤◌, arith, List, ◌∷◌, ◌++◌, refl, ◌∙◌, sym, ap}
-use Rattle.tree_rows.specs.Forest.{Forest, none, count}
+-- One element further among siblings, and an element with those below it.
+use Rattle.std.proofs.Common.{◌≡◌, ℕ, ◌<◌, ◌≤◌, arith, List, ◌++◌, refl, ◌∙◌, sym, ap}
+use Rattle.tree_rows.specs.Forest.{Forest, count}
 use Rattle.tree_rows.specs.Rows.{node}
 use Rattle.tree_rows.specs.declared.name.Expanded.{Expanded}
 use Rattle.tree_rows.specs.declared.row.Binding.{Binding}
@@ -14,7 +14,7 @@ use Rattle.schema_grammar.specs.declared.kinds.Kind.{Kind}
 use Rattle.schema_faults.specs.Constructs.{Construct, constructs, nearest}
 use Rattle.schema_shape.specs.declared.walk.Findings.{Findings}
 use Rattle.schema_shape.specs.inside.Walks.{with_construct, with_constructs, element_constructs}
-use Rattle.schema_shape.proofs.LeastLaws.{found_append, found_first, found_none}
+use Rattle.schema_shape.proofs.LeastLaws.{found_append, found_first}
 
 constructs_at : (parent : Kind) (above : ℕ) (scope : List Binding) (row : Row) (name : Expanded) (children next left : Forest)
     → left ≡ node row.number row.content row.bindings row.attributes children next → row.content ≡ contents.Element name
@@ -35,10 +35,6 @@ module _ (parent kind : Kind) (above : ℕ) (scope : List Binding) (left childre
       rw (same, more) (found_append found (element_constructs kind above scope row children) (constructs parent above scope next)
       ∙ ap (with_constructs found) (sym begins) ∙ so_far)
 
-pub ended : (parent : Kind) (above : ℕ) (scope : List Binding) (left : Forest) (found all : Findings) → left ≡ none
-    → with_constructs found (constructs parent above scope left) ≡ all → found ≡ all
-ended parent above scope left found all e so_far = sym (found_none found) ∙ (rw e at so_far)
-
 node-count : (number : ℕ) (content : Content) (bindings : List Binding) (attributes : List Attribute) (children next : Forest)
     → count next < count (node number content bindings attributes children next)
 node-count number (contents.Element name) bindings attributes children next = omega arith
@@ -50,20 +46,21 @@ fewer_behind siblings left children next row e few =
     let less : count next < count left = rw e (node-count row.number row.content row.bindings row.attributes children next) in omega arith
 
 -- an element, and then what is below it
-pub with_below : (kind : Kind) (above within : ℕ) (scope scope' : List Binding) (row : Row) (children : Forest) (found found' found'' : Findings)
-    → scope' ≡ row.bindings ++ scope
+pub with_below : (kind : Kind) (above within : ℕ) (scope scope' bindings : List Binding) (row : Row) (attributes : List Attribute)
+    (children children' : Forest) (found found' found'' : Findings)
+    → bindings ≡ row.bindings → attributes ≡ row.attributes → children' ≡ children → scope' ≡ bindings ++ scope
     → found' ≡ with_construct found (record {
       item = row.number;
       kind = kind;
       above = above;
-      bindings = row.bindings;
+      bindings = bindings;
       scope = scope';
-      attributes = row.attributes;
-      children = children;
+      attributes = attributes;
+      children = children';
     })
-    → within ≡ nearest above row.number row.bindings → found'' ≡ with_constructs found' (constructs kind within scope' children)
+    → within ≡ nearest above row.number bindings → found'' ≡ with_constructs found' (constructs kind within scope' children)
     → found'' ≡ with_constructs found (element_constructs kind above scope row children)
-with_below kind above within scope scope' row children found found' found'' s e w b =
+with_below kind above within scope scope' bindings row attributes children children' found found' found'' bs ats cs s e w b =
     let es = constructs kind (nearest above row.number row.bindings) (row.bindings ++ scope) children in
     let it : Construct = record {
       item = row.number;
@@ -74,4 +71,4 @@ with_below kind above within scope scope' row children found found' found'' s e 
       attributes = row.attributes;
       children = children;
     } in
-    b ∙ rw (e, w, s) (found_first found it es)
+    b ∙ rw (e, w, s, bs, ats, cs) (found_first found it es)
