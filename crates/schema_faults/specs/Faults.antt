@@ -1,7 +1,7 @@
 -- The constraints on the shape of a schema document. Each is on one element: on what it is, its attributes, the bindings in
 -- scope, and the names and texts of its children. Where a part is left undefined by a broken constraint, that constraint is
 -- on the same element and comes before.
-use Rattle.std.specs.Prelude.{ℕ, Bool, true, false, nat_lt, List, [], ◌∷◌, Option, Some, None, if◌then◌else◌, codes}
+use Rattle.std.specs.Prelude.{ℕ, Bool, true, false, nat_lt, List, [], ◌∷◌, Option, Some, None, if◌then◌else◌}
 use Rattle.std.specs.Option.{option_map, option_or}
 use Rattle.tree_rows.specs.Forest.{Forest}
 use Rattle.tree_rows.specs.declared.row.Attribute.{Attribute}
@@ -17,7 +17,7 @@ use Rattle.schema_faults.specs.Constructs.{Construct}
 use Rattle.schema_faults.specs.Limits.{has_many_fields, has_large_number}
 use Rattle.schema_faults.specs.Representation as r
 use Rattle.schema_faults.specs.ShapeFaults.{is_no_schema, has_wrong_children, has_text, has_wrong_attribute, has_wrong_value}
-use Rattle.schema_faults.specs.Unsupported.{type_names, names_builtin, is_notation, has_schema_target}
+use Rattle.schema_faults.specs.Unsupported as u
 use Rattle.schema_faults.specs.declared.broken.Broken.{Broken}
 use Rattle.schema_faults.specs.declared.unsupported.TypeNames.{TypeNames}
 
@@ -46,16 +46,16 @@ shape_tests e =
 
 unfoldable pub unsupported_tests : TypeNames → List Test
 unsupported_tests types =
-    test code.XUnsupportedFloat (names_builtin (codes "float") types)
-    ∷ test code.XUnsupportedDouble (names_builtin (codes "double") types)
-    ∷ test code.XUnsupportedEntity (names_builtin (codes "ENTITY") types)
-    ∷ test code.XUnsupportedEntities (names_builtin (codes "ENTITIES") types)
-    ∷ test code.XUnsupportedNotationType (names_builtin (codes "NOTATION") types)
+    test code.XUnsupportedFloat (u.names_float types)
+    ∷ test code.XUnsupportedDouble (u.names_double types)
+    ∷ test code.XUnsupportedEntity (u.names_entity types)
+    ∷ test code.XUnsupportedEntities (u.names_entities types)
+    ∷ test code.XUnsupportedNotationType (u.names_notation_type types)
     ∷ []
 
 unfoldable pub limit_tests : Kind → List Attribute → List Tag → List Test
 limit_tests kind attributes tags =
-    test code.XUnsupportedTarget (has_schema_target kind attributes)
+    test code.XUnsupportedTarget (u.has_schema_target kind attributes)
     ∷ test code.XLimitOccurs (is_past_limit attributes)
     ∷ test code.XLimitFields (has_many_fields kind tags)
     ∷ test code.XLimitValue (has_large_number kind attributes)
@@ -91,7 +91,7 @@ unfoldable pub first_code : Construct → Option Code
 first_code e =
     let tags = child_tags e.children in
     option_or (first_broken (shape_tests e))
-    (option_or (first_broken (unsupported_tests (type_names e.scope e.attributes)))
+    (option_or (first_broken (unsupported_tests (u.type_names e.scope e.attributes)))
     (option_or (first_broken (limit_tests e.kind e.attributes tags))
     (option_or (first_broken (element_tests e.kind e.attributes tags))
     (option_or (first_broken (attribute_tests e.kind e.attributes tags))
@@ -105,7 +105,7 @@ is_ignored _ = false
 unfoldable pub code_of : Construct → Option Code
 code_of e =
     if is_ignored e.kind then None
-    else (if is_notation e.kind then Some code.XUnsupportedNotationElement else first_code e)
+    else (if u.is_notation e.kind then Some code.XUnsupportedNotationElement else first_code e)
 
 -- the fault of an element, by its number
 abbrev pub fault_of : Construct → Option Broken

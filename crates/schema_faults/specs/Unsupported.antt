@@ -1,5 +1,5 @@
 -- What this project does not support in a schema document.
-use Rattle.std.specs.Prelude.{ℕ, Bool, true, false, ◌&&◌, ◌||◌, List, [], Option, Some, None}
+use Rattle.std.specs.Prelude.{ℕ, Bool, true, false, ◌&&◌, ◌||◌, List, [], Option, Some, None, codes}
 use Rattle.std.specs.List.{list_any}
 use Rattle.std.specs.Option.{unwrap_or}
 use Rattle.std.specs.Str.{bytes_eq}
@@ -31,10 +31,30 @@ abbrev pub names_this : List ℕ → Option Expanded → Bool
 names_this local None = false
 names_this local (Some name) = is_builtin local name
 
--- x-unsupported.float, .double, .ENTITY, .ENTITIES, .NOTATION: a type reference names this built-in type
+-- a type reference names this built-in type
 abbrev pub names_builtin : List ℕ → TypeNames → Bool
 names_builtin local names =
     names_this local names.of || (names_this local names.base || (names_this local names.item || list_any (is_builtin local) names.members))
+
+-- x-unsupported.float (own): a type reference names xs:float
+abbrev pub names_float : TypeNames → Bool
+names_float names = names_builtin (codes "float") names
+
+-- x-unsupported.double (own): a type reference names xs:double
+abbrev pub names_double : TypeNames → Bool
+names_double names = names_builtin (codes "double") names
+
+-- x-unsupported.ENTITY (own): a type reference names xs:ENTITY
+abbrev pub names_entity : TypeNames → Bool
+names_entity names = names_builtin (codes "ENTITY") names
+
+-- x-unsupported.ENTITIES (own): a type reference names xs:ENTITIES
+abbrev pub names_entities : TypeNames → Bool
+names_entities names = names_builtin (codes "ENTITIES") names
+
+-- x-unsupported.NOTATION (own): a type reference names xs:NOTATION
+abbrev pub names_notation_type : TypeNames → Bool
+names_notation_type names = names_builtin (codes "NOTATION") names
 
 -- x-unsupported.notation (own): the element is `notation`
 abbrev pub is_notation : Kind → Bool

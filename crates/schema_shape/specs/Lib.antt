@@ -1,0 +1,4 @@
+pub mod Shapes
+pub mod Shaped
+pub mod inside
+pub mod Examples

@@ -1,0 +1,16 @@
+//! The shape of schema documents: what each declares, or the first constraint on its shape that it breaks.
+#![tactic(auto)]
+
+mod component_shapes;
+mod content_shapes;
+mod forms;
+mod shaped;
+mod simple_shapes;
+mod walk;
+
+pub use forms::{
+    AttributeForm, ComplexTypeForm, Compositor, ElementForm, Form, IdentityKind, SchemaForm, Shape,
+    ShapeList, ShapedSchema, Use, ValueForm, WildcardForm,
+};
+pub use schema_values::{Occurs, SpaceToken, Spaces};
+pub use walk::shape;
