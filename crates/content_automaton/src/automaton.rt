@@ -102,6 +102,13 @@ impl Automaton {
         self.machine.dead() + 1
     }
 
+    /// How many symbols there are.
+    pub fn symbol_count(&self) -> u32
+        ensures { result ≡ count_of self.now.symbols }
+    {
+        self.symbols.count()
+    }
+
     /// The symbol of a name. Names that the automaton was built over, or that have grown from those, are meant.
     pub fn symbol(&self, names: &Names, name: NameId) -> u32
         requires name { name < length names.now.names }
