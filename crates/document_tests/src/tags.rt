@@ -260,9 +260,9 @@ fn resolves_a_name_by_itself(rt: HostRuntime) -> Result<(), Fail> {
     scope.bind(binding(alloc, "", "d")?)?;
     let mut pool = TextPool::new(alloc);
     for (name, element, attribute) in QNAMES {
-        let end = scope.element_name(alloc, &mut pool, name)?;
+        let end = scope.element_name(&mut pool, name)?;
         assert!(rt; shown(alloc, end)?.as_str() == *element, "{name}");
-        let end = scope.attribute_name(alloc, &mut pool, name)?;
+        let end = scope.attribute_name(&mut pool, name)?;
         assert!(rt; shown(alloc, end)?.as_str() == *attribute, "{name}");
     }
     Ok(())

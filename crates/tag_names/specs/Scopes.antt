@@ -17,6 +17,11 @@ abbrev pub of_prefix : List Binding → List ℕ → Option (List ℕ)
 of_prefix [] prefix = None
 of_prefix (b ∷ scope) prefix = if bytes_eq b.prefix prefix then Some b.namespace else of_prefix scope prefix
 
+-- the bindings that come before a scope, if there are any
+abbrev pub own_of : Option (List Binding) → List Binding
+own_of None = []
+own_of (Some own) = own
+
 -- a namespace by its name; the empty name is that of the absent one (Namespaces in XML 1.0, 6.2)
 abbrev pub namespace_named : List ℕ → Option (List ℕ)
 namespace_named name = if length name == 0 then None else Some name

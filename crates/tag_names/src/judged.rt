@@ -49,11 +49,21 @@ impl JudgedName {
     }
 }
 
-/// The name of the namespace that a prefix is bound to, where these bindings come before a scope.
-fn of_prefix<'a>(own: &'a Prefixes, scope: &'a Prefixes, prefix: &str) -> Option<&'a Text>
-    ensures { option_copied result ≡ scopes.of_prefix (own.now ++ scope.now) prefix.now }
+/// The name of the namespace that these bindings, if there are any, give a prefix.
+fn own_prefix<'a>(own: Option<&'a Prefixes>, prefix: &str) -> Option<&'a Text>
+    ensures { option_copied result ≡ scopes.of_prefix (scopes.own_of (option_copied own.entry)) prefix.now }
 {
-    match own.of_prefix(prefix) {
+    match own {
+        None => None,
+        Some(own) => own.of_prefix(prefix),
+    }
+}
+
+/// The name of the namespace that a prefix is bound to, where these bindings come before a scope.
+fn of_prefix<'a>(own: Option<&'a Prefixes>, scope: &'a Prefixes, prefix: &str) -> Option<&'a Text>
+    ensures { option_copied result ≡ scopes.of_prefix (scopes.own_of (option_copied own.entry) ++ scope.now) prefix.now }
+{
+    match own_prefix(own, prefix) {
         Some(namespace) => Some(namespace),
         None => scope.of_prefix(prefix),
     }
@@ -71,8 +81,8 @@ fn namespace_by(name: Option<&Text>) -> Result<Option<Text>, AllocError>
 }
 
 /// What a prefix stands for.
-fn prefixed(own: &Prefixes, scope: &Prefixes, prefix: &str) -> Result<Space, AllocError>
-    ensures { IfOk result (λ space. space ≡ resolving.prefixed (own.now ++ scope.now) prefix.now) }
+fn prefixed(own: Option<&Prefixes>, scope: &Prefixes, prefix: &str) -> Result<Space, AllocError>
+    ensures { IfOk result (λ space. space ≡ resolving.prefixed (scopes.own_of (option_copied own.entry) ++ scope.now) prefix.now) }
 {
     let bound = of_prefix(own, scope, prefix);
     let unbound = prefix != "xmlns" && bound.is_none();
@@ -84,11 +94,11 @@ fn prefixed(own: &Prefixes, scope: &Prefixes, prefix: &str) -> Result<Space, All
 
 /// What the prefix of an element's name stands for: without one it is the default namespace.
 fn element_space(
-    own: &Prefixes,
+    own: Option<&Prefixes>,
     scope: &Prefixes,
     prefix: Option<&str>,
 ) -> Result<Space, AllocError>
-    ensures { IfOk result (λ space. space ≡ resolving.element_place (own.now ++ scope.now) (option_copied prefix.entry)) }
+    ensures { IfOk result (λ space. space ≡ resolving.element_place (scopes.own_of (option_copied own.entry) ++ scope.now) (option_copied prefix.entry)) }
 {
     match prefix {
         None => Ok(Space {
@@ -101,11 +111,11 @@ fn element_space(
 
 /// What the prefix of an attribute's name stands for: without one the name is in no namespace.
 fn attribute_space(
-    own: &Prefixes,
+    own: Option<&Prefixes>,
     scope: &Prefixes,
     prefix: Option<&str>,
 ) -> Result<Space, AllocError>
-    ensures { IfOk result (λ space. space ≡ resolving.attribute_place (own.now ++ scope.now) (option_copied prefix.entry)) }
+    ensures { IfOk result (λ space. space ≡ resolving.attribute_place (scopes.own_of (option_copied own.entry) ++ scope.now) (option_copied prefix.entry)) }
 {
     match prefix {
         None => Ok(Space {
@@ -128,12 +138,12 @@ fn is_xmlns(prefix: Option<&str>) -> bool
 
 /// The name of an element in a scope, where these bindings come before it.
 pub(crate) fn judged_element(
-    own: &Prefixes,
+    own: Option<&Prefixes>,
     scope: &Prefixes,
     pool: &mut TextPool,
     name: &str,
 ) -> Result<JudgedName, AllocError>
-    ensures { IfOk result (λ judged. judged ≡ resolving.judged_element (own.now ++ scope.now) name.now) }
+    ensures { IfOk result (λ judged. judged ≡ resolving.judged_element (scopes.own_of (option_copied own.entry) ++ scope.now) name.now) }
 {
     let parts = parts_of(name);
     let space = element_space(own, scope, parts.prefix)?;
@@ -151,12 +161,12 @@ pub(crate) fn judged_element(
 
 /// The name of an attribute in a scope, where these bindings come before it.
 pub(crate) fn judged_attribute(
-    own: &Prefixes,
+    own: Option<&Prefixes>,
     scope: &Prefixes,
     pool: &mut TextPool,
     name: &str,
 ) -> Result<JudgedName, AllocError>
-    ensures { IfOk result (λ judged. judged ≡ resolving.judged_attribute (own.now ++ scope.now) name.now) }
+    ensures { IfOk result (λ judged. judged ≡ resolving.judged_attribute (scopes.own_of (option_copied own.entry) ++ scope.now) name.now) }
 {
     let parts = parts_of(name);
     let space = attribute_space(own, scope, parts.prefix)?;

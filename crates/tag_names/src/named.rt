@@ -1,5 +1,7 @@
 ghost use Rattle.std.specs.Prelude.{◌≡◌, ◌∷◌, ◌++◌, List, IfOk, OnOk};
 ghost use Rattle.tag_names.specs.Resolving as resolving;
+ghost use Rattle.std.specs.Option.{option_copied};
+ghost use Rattle.tag_names.specs.Scopes as scopes;
 ghost use Rattle.tag_names.specs.Tags as tags;
 ghost use Rattle.tag_names.specs.declared.lines.AttributeLine.{AttributeLine};
 
@@ -93,13 +95,13 @@ impl JudgedLines {
     /// Puts a line behind the others.
     fn put(
         &mut self,
-        own: &Prefixes,
+        own: Option<&Prefixes>,
         scope: &Prefixes,
         pool: &mut TextPool,
         line: &AttributeLine,
     ) -> Result<(), AllocError>
-        ensures { OnOk result ((more : List AttributeLine) → resolving.lines_with (own.now ++ scope.now) self.new more
-            ≡ resolving.lines_with (own.now ++ scope.now) self.old (line.now ∷ more)) }
+        ensures { OnOk result ((more : List AttributeLine) → resolving.lines_with (scopes.own_of (option_copied own.entry) ++ scope.now) self.new more
+            ≡ resolving.lines_with (scopes.own_of (option_copied own.entry) ++ scope.now) self.old (line.now ∷ more)) }
     {
         let name = line.name.as_str();
         match bound_prefix(line) {
@@ -119,12 +121,12 @@ impl JudgedLines {
 /// The attributes among the lines of a tag, and what stands against the names of the lines.
 pub(crate) fn judged_lines(
     alloc: Global,
-    own: &Prefixes,
+    own: Option<&Prefixes>,
     scope: &Prefixes,
     pool: &mut TextPool,
     lines: &[AttributeLine],
 ) -> Result<JudgedLines, AllocError>
-    ensures { IfOk result (λ judged. judged ≡ resolving.judged_lines (own.now ++ scope.now) lines.now) }
+    ensures { IfOk result (λ judged. judged ≡ resolving.judged_lines (scopes.own_of (option_copied own.entry) ++ scope.now) lines.now) }
 {
     let mut judged = JudgedLines {
         attributes: Attributes::new(alloc),

@@ -2,6 +2,7 @@ ghost use Rattle.std.specs.Prelude.{◌≡◌, ◌||◌, IfOk};
 ghost use Rattle.std.specs.List.{list_any};
 ghost use Rattle.tag_names.specs.Faults as faults;
 ghost use Rattle.tag_names.specs.Resolving as resolving;
+ghost use Rattle.tag_names.specs.Scopes as scopes;
 
 use crate::doubles::{repeats_name, repeats_prefix};
 use crate::judged::{judged_attribute, judged_element};
@@ -60,6 +61,16 @@ fn has_double(
     repeats_name(alloc, attributes)
 }
 
+/// The bindings of a tag as a scope, if it has any.
+fn own_scope(alloc: Global, bindings: &[Binding]) -> Result<Option<Prefixes>, AllocError>
+    ensures { IfOk result (λ own. scopes.own_of own ≡ bindings.now) }
+{
+    if bindings.is_empty() {
+        return Ok(None);
+    }
+    Ok(Some(Prefixes::of_bindings(alloc, bindings)?))
+}
+
 impl Tag {
     /// What the tag says of its element, where it stands in this scope, and what stands against its names. Each name is
     /// read once. Namespaces are shared with their bindings, values with the lines, and other texts come from the pool.
@@ -73,9 +84,10 @@ impl Tag {
     {
         let lines = self.attributes.as_slice();
         let bindings = bindings_in(alloc, pool, lines)?;
-        let own = Prefixes::of_bindings(alloc, bindings.as_slice())?;
-        let element = judged_element(&own, scope, pool, self.name.as_str())?;
-        let judged = judged_lines(alloc, &own, scope, pool, lines)?;
+        let own = own_scope(alloc, bindings.as_slice())?;
+        let own = own.as_ref();
+        let element = judged_element(own, scope, pool, self.name.as_str())?;
+        let judged = judged_lines(alloc, own, scope, pool, lines)?;
         let double = has_double(alloc, bindings.as_slice(), judged.attributes.as_slice())?;
         let faults = TagFaults {
             bad: element.bad || judged.bad,
@@ -125,14 +137,12 @@ impl Prefixes {
     /// is `xmlns`, in this order.
     pub fn element_name(
         &self,
-        alloc: Global,
         pool: &mut TextPool,
         name: &str,
     ) -> Result<Result<Expanded, NameReason>, AllocError>
         ensures { IfOk result (λ end. end ≡ resolving.element_resolved self.now name.now) }
     {
-        let own = Prefixes::empty(alloc);
-        let judged = judged_element(&own, self, pool, name)?;
+        let judged = judged_element(None, self, pool, name)?;
         Ok(judged.end())
     }
 
@@ -145,14 +155,12 @@ impl Prefixes {
     /// of this name is a binding, in this order.
     pub fn attribute_name(
         &self,
-        alloc: Global,
         pool: &mut TextPool,
         name: &str,
     ) -> Result<Result<Expanded, NameReason>, AllocError>
         ensures { IfOk result (λ end. end ≡ resolving.attribute_resolved self.now name.now) }
     {
-        let own = Prefixes::empty(alloc);
-        let judged = judged_attribute(&own, self, pool, name)?;
+        let judged = judged_attribute(None, self, pool, name)?;
         Ok(judged.end())
     }
 }

@@ -1,15 +1,14 @@
 -- What a refused start tag answers.
-use Rattle.std.proofs.Common.{◌≡◌, ℕ, List, Result, Ok, Err, Option, Some, None, sym, ap, ◌∙◌, subst}
+use Rattle.std.proofs.Common.{◌≡◌, ℕ, List, Result, Ok, Err, Option, Some, None, refl, sym, ap, ◌∙◌, subst}
 use Rattle.std.specs.Result.{IsErrAnd}
 use Rattle.tag_names.specs.declared.fault.NameReason.{NameReason}
 use Rattle.tag_names.specs.Resolving.{judged}
 use Rattle.tag_names.specs.declared.lines.Tag.{Tag}
 use Rattle.tag_names.specs.declared.resolve.JudgedTag.{JudgedTag}
 use Rattle.tree_rows.specs.declared.row.Binding.{Binding}
-use Rattle.tree_rows.specs.declared.row.Row.{Row}
 use Rattle.tree_building.specs.Building.{fault_of, tag_by, tag_closed_by, tag_closed}
 use Rattle.tree_building.specs.Nest.{scope_in}
-use Rattle.tree_building.specs.Steps.{JudgedStop, GivesTag, reason_by}
+use Rattle.tree_building.specs.Steps.{JudgedStop, Steps, Stops, reason_by}
 use Rattle.tree_building.specs.declared.building.Building.{Building}
 use Rattle.tree_building.specs.declared.fault.Stop.{Stop}
 use Rattle.tree_building.specs.declared.fault.Stop.TheVariants.{Memory, Refused}
@@ -21,16 +20,17 @@ judged_fault : (b : Building) (tag : Tag) (item : ℕ) (fault : TreeFault) (foun
 judged_fault b tag item fault None j = absurd j
 judged_fault b tag item fault (Some reason) j = ap Err (sym j)
 
-stop_gives : (x : Stop) (b : Building) (tag : Tag) (item : ℕ) → b.pending ≡ pending.Start tag item → JudgedStop item x (fault_of b.rules (scope_in b.nest) tag)
-    → GivesTag (Err x) b (tag_closed b)
-stop_gives Memory b tag item e j = tt
-stop_gives (Refused fault) b tag item e j =
+stop_steps : (x : Stop) (b : Building) (tag : Tag) (item : ℕ) → b.pending ≡ pending.Start tag item → JudgedStop item x (fault_of b.rules (scope_in b.nest) tag)
+    → Stops b b x (tag_closed b)
+stop_steps Memory b tag item e j = refl
+stop_steps (Refused fault) b tag item e j =
     ap (tag_closed_by b) e ∙ judged_fault b tag item fault (fault_of b.rules (scope_in b.nest) tag) j
 
-pub tag_stops : (r : Result (Option (List ℕ × Row)) Stop) (x : Stop) (b : Building) (tag : Tag) (item : ℕ) → b.pending ≡ pending.Start tag item → IsErrAnd r (λ e. e ≡ x)
-    → JudgedStop item x (fault_of b.rules (scope_in b.nest) tag) → GivesTag r b (tag_closed b)
-tag_stops (Ok y) x b tag item e q j = absurd q
-tag_stops (Err y) x b tag item e q j = subst (λ z. GivesTag (Err z) b (tag_closed b)) (sym q) (stop_gives x b tag item e j)
+pub tag_stops : {X : Type 0} (r : Result X Stop) (x : Stop) (b new : Building) (tag : Tag) (item : ℕ) → new ≡ b → b.pending ≡ pending.Start tag item → IsErrAnd r (λ e. e ≡ x)
+    → JudgedStop item x (fault_of b.rules (scope_in b.nest) tag) → Steps b new r (tag_closed b)
+tag_stops (Ok y) x b new tag item same e q j = absurd q
+tag_stops (Err y) x b new tag item same e q j =
+    subst (λ n. Stops b n y (tag_closed b)) (sym same) (subst (λ z. Stops b b z (tag_closed b)) (sym q) (stop_steps x b tag item e j))
 
 -- the reason against a tag that was judged in its scope
 pub judged_stop : (item : ℕ) (x : Stop) (rules : Rules) (scope : List Binding) (tag : Tag) (says : JudgedTag) → says ≡ judged scope tag

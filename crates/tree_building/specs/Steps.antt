@@ -6,7 +6,6 @@ use Rattle.tag_names.specs.declared.fault.TagFaults.{TagFaults}
 use Rattle.tag_names.specs.declared.named.Named.{Named}
 use Rattle.tree_rows.specs.declared.row.Row.{Row}
 use Rattle.tree_rows.specs.declared.row.Content.TheVariants as contents
-use Rattle.tree_building.specs.Building.{with_element}
 use Rattle.tree_building.specs.declared.building.Building.{Building}
 use Rattle.tree_building.specs.declared.build.Built.{Built}
 use Rattle.tree_building.specs.declared.pending.Pending.{Pending}
@@ -69,10 +68,3 @@ abbrev pub holds_chars : Pending → Bool
 holds_chars pending.Nothing = false
 holds_chars (pending.Start tag item) = false
 holds_chars (pending.Chars chars) = true
-
--- the start tag that came last was judged: there is none, or its element can be opened
-abbrev pub GivesTag : Result (Option (List ℕ × Row)) Stop → Building → Result Building TreeFault → Type 0
-GivesTag (Ok None) b end = end ≡ Ok b
-GivesTag (Ok (Some found)) b end = end ≡ Ok (with_element b found.0 found.1)
-GivesTag (Err Memory) b end = Unit {0}
-GivesTag (Err (Refused fault)) b end = end ≡ Err fault

@@ -1,6 +1,6 @@
 ghost use Rattle.std.specs.Prelude.{◌≡◌, ◌+◌, [], ◌<◌, ◌^◌, true, false, Ok, IfOk, OnOk};
 ghost use Rattle.tree_building.specs.Building as steps;
-ghost use Rattle.tree_building.specs.Steps.{Steps, Judged, Ends, Finished, GivesTag, holds_chars, reason_by, row_of};
+ghost use Rattle.tree_building.specs.Steps.{Steps, Judged, Ends, Finished, holds_chars, reason_by, row_of};
 ghost use Rattle.item_listing.specs.declared.item.Item.TheVariants as items;
 
 use crate::build::Built;
@@ -102,19 +102,6 @@ impl Building {
         })
     }
 
-    /// The node of an element of which its tag says this.
-    fn element_row(&self, named: Named) -> Result<Row, AllocError>
-        ensures { IfOk result (λ row. row ≡ row_of self.now named) }
-    {
-        Ok(Row {
-            number: self.next,
-            depth: depth_below(self.nest.depth())?,
-            content: Content::Element(named.name),
-            bindings: named.bindings,
-            attributes: named.attributes,
-        })
-    }
-
     /// Puts the node of a text behind the others.
     fn put_text(&mut self, row: Row) -> Result<(), Stop>
         ensures step { Steps self.old self.new result (Ok (steps.with_row self.old row)) }
@@ -127,13 +114,21 @@ impl Building {
         Ok(())
     }
 
-    /// Puts the node of an element behind the others, and opens it under this name.
-    fn put_element(&mut self, name: Text, row: Row) -> Result<(), Stop>
-        ensures step { Steps self.old self.new result (Ok (steps.with_element self.old name row)) }
+    /// Puts the node of an element of which its tag says this behind the others, and opens it under this name.
+    fn put_element(&mut self, name: Text, named: Named) -> Result<(), Stop>
+        ensures step { Steps self.old self.new result (Ok (steps.with_element self.old name (row_of self.old named))) }
         ensures taken { OnOk result (self.new.taken ≡ self.old.taken) }
     {
         let next = after(self.next)?;
-        self.nest.open(name, row.bindings.as_slice())?;
+        let depth = depth_below(self.nest.depth())?;
+        self.nest.open(name, named.bindings.as_slice())?;
+        let row = Row {
+            number: self.next,
+            depth,
+            content: Content::Element(named.name),
+            bindings: named.bindings,
+            attributes: named.attributes,
+        };
         if self.rows.push(row).is_err() {
             self.nest.close();
             return Err(Stop::Memory);
@@ -143,32 +138,20 @@ impl Building {
         Ok(())
     }
 
-    /// The name and the node of the start tag whose attribute lines have all come, if there is one and its names are well.
-    fn judged(&mut self, alloc: Global) -> Result<Option<(Text, Row)>, Stop>
-        ensures gives { GivesTag result self.old (steps.tag_closed self.old) }
-        ensures same { self.new ≡ self.old }
-    {
-        match &self.pending {
-            Pending::Nothing => Ok(None),
-            Pending::Chars(_) => Ok(None),
-            Pending::Start(tag, item) => {
-                let JudgedTag { named, faults } = self.nest.judge(alloc, tag)?;
-                refuse_names(self.rules, faults, *item)?;
-                let name = tag.name.try_clone()?;
-                let row = self.element_row(named)?;
-                Ok(Some((name, row)))
-            }
-        }
-    }
-
     /// Judges the start tag whose attribute lines have all come, if there is one, and opens its element.
     fn close_tag(&mut self, alloc: Global) -> Result<(), Stop>
         ensures step { Steps self.old self.new result (steps.tag_closed self.old) }
         ensures taken { OnOk result (self.new.taken ≡ self.old.taken) }
     {
-        match self.judged(alloc)? {
-            None => Ok(()),
-            Some((name, row)) => self.put_element(name, row),
+        match &self.pending {
+            Pending::Nothing => Ok(()),
+            Pending::Chars(_) => Ok(()),
+            Pending::Start(tag, item) => {
+                let JudgedTag { named, faults } = self.nest.judge(alloc, tag)?;
+                refuse_names(self.rules, faults, *item)?;
+                let name = tag.name.try_clone()?;
+                self.put_element(name, named)
+            }
         }
     }
 

@@ -1,6 +1,6 @@
-use Rattle.std.proofs.Common.{◌∙◌}
+use Rattle.std.proofs.Common.{[], refl, ◌∙◌}
 use Rattle.tag_names.proofs.TagLaws.{attribute-end}
 use Rattle.tag_names.proofs.prefixes.Prefixes.attribute_name.Goals as goal
 
 pub returns : goal.returns
-returns c = c.end.ensures ∙ attribute-end c.empty-own.result c.args.self.now c.args.name.now c.in_ok-judged.judged c.empty-own.ensures c.in_ok-judged.ensures
+returns c = c.end.ensures ∙ attribute-end [] c.args.self.now c.args.name.now c.in_ok-judged.judged refl c.in_ok-judged.ensures

@@ -1,6 +1,6 @@
-use Rattle.std.proofs.Common.{◌∙◌}
+use Rattle.std.proofs.Common.{[], refl, ◌∙◌}
 use Rattle.tag_names.proofs.TagLaws.{element-end}
 use Rattle.tag_names.proofs.prefixes.Prefixes.element_name.Goals as goal
 
 pub returns : goal.returns
-returns c = c.end.ensures ∙ element-end c.empty-own.result c.args.self.now c.args.name.now c.in_ok-judged.judged c.empty-own.ensures c.in_ok-judged.ensures
+returns c = c.end.ensures ∙ element-end [] c.args.self.now c.args.name.now c.in_ok-judged.judged refl c.in_ok-judged.ensures
