@@ -7,6 +7,7 @@ use Rattle.std.proofs.lemmas.List.{length-map, get_or-map}
 use Rattle.std.proofs.lemmas.List.Elements.{All-weaker}
 use Rattle.std.proofs.lemmas.Option.{slice_get_past}
 use Rattle.xs_names.specs.Names.{NameTable}
+use Rattle.xs_names.specs.Numbering.{HasNoRepeats}
 use Rattle.xs_positions.specs.Tree.{Tree}
 use Rattle.xs_positions.specs.Positions.{Table, ArePositionsOf}
 use Rattle.xs_components.specs.Tables.{Tables}
@@ -59,6 +60,10 @@ module _ (names : NameTable) (t : Tables) (members : List (List ℕ)) (d : Decla
   terms-there = All-weaker (λ k. term_number t k ≡ Some k) (λ k. k < length t.particles.parts) (term-there t) (terms_of model) (terms-are t source.ranked p)
 
   -- ---- without an all
+  pub unrolled-is : {E : Type 0} (answer : Result UnrolledModel E) (u : UnrolledModel) → answer ≡ Ok u →
+      ((inhabited : ℕ → Bool) → ((id : ℕ) → slice_index_or flags id false ≡ inhabited id) → IfOk answer (IsUnrolled inhabited model)) → IsUnrolled (is_inhabited members t) model u
+  unrolled-is {E} answer u e h = subst (λ (r : Result UnrolledModel E). IfOk r (IsUnrolled (is_inhabited members t) model)) e (h (is_inhabited members t) source.inhabits)
+
   module _ (no_all : HasNoAll model) (u : UnrolledModel) (is : IsUnrolled (is_inhabited members t) model u) where
     pub unrolled-terms : u.terms ≡ terms_of model
     unrolled-terms = is.terms ∙ places-terms model no_all
@@ -92,10 +97,18 @@ module _ (names : NameTable) (t : Tables) (members : List (List ℕ)) (d : Decla
               (accept-as names members t classes ids terms terms_are);
         }
 
-        pub states-built : (a : ModelAutomaton) → IsAutomatonOf names terms (accepts names members t) model a → AreSymbolsOf terms a.symbols → IsBuilt names t members classes p (States a)
+        -- what is known of each model of these terms
+        abbrev OfModels : ((ℕ → ExpandedName → Bool) → (ℕ → Bool) → Particle → Type 0) → Type 0
+        OfModels P =
+            HasNoRepeats names.names → (f : ℕ → ExpandedName → Bool) (g : ℕ → Bool) (m : Particle) → IsModelOf names terms u f g m → P f g m
+
+        of-model : (P : (ℕ → ExpandedName → Bool) → (ℕ → Bool) → Particle → Type 0) → OfModels P → P (accepts names members t) (is_inhabited members t) model
+        of-model P h = h source.once (accepts names members t) (is_inhabited members t) model model-is
+
+        pub states-built : (a : ModelAutomaton) → OfModels (λ f g m. IsAutomatonOf names terms f m a) → AreSymbolsOf terms a.symbols → IsBuilt names t members classes p (States a)
         states-built a automaton symbols = (
           no_all,
-          subst (λ xs. IsAutomatonOf names xs (accepts names members t) model a) terms-model automaton,
+          subst (λ xs. IsAutomatonOf names xs (accepts names members t) model a) terms-model (of-model (λ f g m. IsAutomatonOf names terms f m a) automaton),
           subst (λ xs. AreSymbolsOf xs a.symbols) terms-model symbols,
         )
 
@@ -103,19 +116,24 @@ module _ (names : NameTable) (t : Tables) (members : List (List ℕ)) (d : Decla
           total : (count : ℕ) → IsStateCountOf (accepts names members t) (is_inhabited members t) model u.table count → IsStateTotal names t members p count
           total count h = inl (no_all, u, is, h)
 
-          pub states-room : (a : ModelAutomaton) → HasRoomFor a.symbols cells (accepts names members t) (is_inhabited members t) model u.table a.machine.count → HasRoom names t members p cells (States a)
-          states-room a h = (few, a.machine.count, total a.machine.count h.0, h.1, h.2)
+          pub states-room : (a : ModelAutomaton) → OfModels (λ f g m. HasRoomFor a.symbols cells f g m u.table a.machine.count) → HasRoom names t members p cells (States a)
+          states-room a room =
+              let h = of-model (λ f g m. HasRoomFor a.symbols cells f g m u.table a.machine.count) room in
+              (few, a.machine.count, total a.machine.count h.0, h.1, h.2)
 
-          pub states-passed : PassesStates (accepts names members t) (is_inhabited members t) model u.table → HasTooManyStates names t members p
-          states-passed h = (few, passed)
+          pub states-passed : OfModels (λ f g m. PassesStates f g m u.table) → HasTooManyStates names t members p
+          states-passed passes = (few, passed)
             where
               passed : (count : ℕ) → IsStateTotal names t members p count → 2048 < count
               passed count (inl (none, v, other, c)) =
-                  h count (count-moved (accepts names members t) (is_inhabited members t) model v.table u.table (other.positions.symbols ∙ sym is.positions.symbols) count c)
+                  of-model (λ f g m. PassesStates f g m u.table) passes count
+                  (count-moved (accepts names members t) (is_inhabited members t) model v.table u.table (other.positions.symbols ∙ sym is.positions.symbols) count c)
               passed count (inr ((own, optional, all), e)) = absurd (not-both own optional model no_all all)
 
-          pub cells-passed : PassesCells terms cells (accepts names members t) (is_inhabited members t) model u.table → HasTooLargeTable names t members classes p cells
-          cells-passed (count, s, c, symbols, small, large) = (few, count, s, total count c, subst (λ xs. AreSymbolsOf xs s) terms-model symbols, small, large)
+          pub cells-passed : OfModels (λ f g m. PassesCells terms cells f g m u.table) → HasTooLargeTable names t members classes p cells
+          cells-passed passes =
+              let h = of-model (λ f g m. PassesCells terms cells f g m u.table) passes in
+              (few, h.0, h.1, total h.0 h.2, subst (λ xs. AreSymbolsOf xs h.1) terms-model h.3, h.4, h.5)
 
   -- ---- an all
   module _ (held : List ℕ) (optional : Bool) (found : IsAllFound t p held optional) (limited : IsLimited model) where
@@ -157,9 +175,9 @@ module _ (names : NameTable) (t : Tables) (members : List (List ℕ)) (d : Decla
                 (accept-as names members t classes ids terms terms_are);
           }
 
-          pub all-built : (a : AllModel) → IsAllAutomatonOf names terms (accepts names members t) read model a → AreSymbolsOf terms a.symbols → IsBuilt names t members classes p (All a)
+          pub all-built : (a : AllModel) → (HasNoRepeats names.names → (f : ℕ → ExpandedName → Bool) (m : Particle) → IsAllModel names terms read optional f m → IsAllAutomatonOf names terms f read m a) → AreSymbolsOf terms a.symbols → IsBuilt names t members classes p (All a)
           all-built a automaton symbols = (
-            (read, optional, all-limited, subst (λ xs. IsAllAutomatonOf names xs (accepts names members t) read model a) terms-all automaton),
+            (read, optional, all-limited, subst (λ xs. IsAllAutomatonOf names xs (accepts names members t) read model a) terms-all (automaton source.once (accepts names members t) model all-model)),
             subst (λ xs. AreSymbolsOf xs a.symbols) terms-all symbols,
           )
 
@@ -167,27 +185,18 @@ module _ (names : NameTable) (t : Tables) (members : List (List ℕ)) (d : Decla
           one-state = inr ((read, optional, all-limited), refl)
 
           module _ (cells count : ℕ) (a : AllModel) (count_is : count ≡ count_of a.symbols) where
-            pub all-room : (b : Bool) → b ≡ false → IsTrue b ↔ (cells < count) → HasRoom names t members p cells (All a)
-            all-room b e h = (
-              all-positions read optional model all-limited,
-              1,
-              one-state,
-              omega arith,
-              elim (cases_lt cells count) [
-                | inl l ↦ absurd (false≢true (sym e ∙ h.1 l))
-                | inr l ↦ omega arith
-              ],
-            )
+            pub all-room : count ≤ cells → HasRoom names t members p cells (All a)
+            all-room l = (all-positions read optional model all-limited, 1, one-state, omega arith, omega arith)
 
-            pub all-passed : (b : Bool) → b ≡ true → IsTrue b ↔ (cells < count) → AreSymbolsOf terms a.symbols → HasTooLargeTable names t members classes p cells
-            all-passed b e h symbols = (
+            pub all-passed : cells < count → AreSymbolsOf terms a.symbols → HasTooLargeTable names t members classes p cells
+            all-passed l symbols = (
               all-positions read optional model all-limited,
               1,
               a.symbols,
               one-state,
               subst (λ xs. AreSymbolsOf xs a.symbols) terms-all symbols,
               omega arith,
-              let l = h.0 e in omega arith,
+              omega arith,
             )
 
 -- ---- the first term

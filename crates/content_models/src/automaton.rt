@@ -50,9 +50,9 @@ impl ContentAutomaton {
         requires source { IsSource source.names.now source.parts.now source.members.now source.declarations.now source.inhabited.now }
         requires there { p < length source.parts.now.particles.parts }
         requires limited { IsLimited (model_of source.parts.now p) }
-        ensures automaton { IfOk result (λ answer. IfOk answer (IsBuilt source.names.now source.parts.now source.members.now source.classes.now p)) }
-        ensures room { IfOk result (λ answer. IfOk answer (HasRoom source.names.now source.parts.now source.members.now p cells_left)) }
-        ensures refused { IfOk result (λ answer. IfErr answer (IsRefused source.names.now source.parts.now source.members.now source.classes.now p cells_left)) }
+        ensures automaton { IfOk result (λ answer. IfOk answer (IsBuilt source.entry.names.now source.entry.parts.now source.entry.members.now source.entry.classes.now p)) }
+        ensures room { IfOk result (λ answer. IfOk answer (HasRoom source.entry.names.now source.entry.parts.now source.entry.members.now p cells_left)) }
+        ensures refused { IfOk result (λ answer. IfErr answer (IsRefused source.entry.names.now source.entry.parts.now source.entry.members.now source.entry.classes.now p cells_left)) }
     {
         match find_all(source.parts, p) {
             Some(found) => build_all(alloc, source, found, p, cells_left),
@@ -129,9 +129,9 @@ fn build_states(
     requires source { IsSource source.names.now source.parts.now source.members.now source.declarations.now source.inhabited.now }
     requires there { p < length source.parts.now.particles.parts }
     requires no_all { HasNoAll (model_of source.parts.now p) }
-    ensures automaton { IfOk result (λ answer. IfOk answer (IsBuilt source.names.now source.parts.now source.members.now source.classes.now p)) }
-    ensures room { IfOk result (λ answer. IfOk answer (HasRoom source.names.now source.parts.now source.members.now p cells_left)) }
-    ensures refused { IfOk result (λ answer. IfErr answer (IsRefused source.names.now source.parts.now source.members.now source.classes.now p cells_left)) }
+    ensures automaton { IfOk result (λ answer. IfOk answer (IsBuilt source.entry.names.now source.entry.parts.now source.entry.members.now source.entry.classes.now p)) }
+    ensures room { IfOk result (λ answer. IfOk answer (HasRoom source.entry.names.now source.entry.parts.now source.entry.members.now p cells_left)) }
+    ensures refused { IfOk result (λ answer. IfErr answer (IsRefused source.entry.names.now source.entry.parts.now source.entry.members.now source.entry.classes.now p cells_left)) }
 {
     let form = match unroll_by(alloc, source.parts, source.inhabited, p)? {
         Ok(form) => form,
@@ -157,9 +157,9 @@ fn build_all(
     requires source { IsSource source.names.now source.parts.now source.members.now source.declarations.now source.inhabited.now }
     requires found { IsAllFound source.parts.now p found.members.now found.optional }
     requires limited { IsLimited (model_of source.parts.now p) }
-    ensures automaton { IfOk result (λ answer. IfOk answer (IsBuilt source.names.now source.parts.now source.members.now source.classes.now p)) }
-    ensures room { IfOk result (λ answer. IfOk answer (HasRoom source.names.now source.parts.now source.members.now p cells_left)) }
-    ensures refused { IfOk result (λ answer. IfErr answer (IsRefused source.names.now source.parts.now source.members.now source.classes.now p cells_left)) }
+    ensures automaton { IfOk result (λ answer. IfOk answer (IsBuilt source.entry.names.now source.entry.parts.now source.entry.members.now source.entry.classes.now p)) }
+    ensures room { IfOk result (λ answer. IfOk answer (HasRoom source.entry.names.now source.entry.parts.now source.entry.members.now p cells_left)) }
+    ensures refused { IfOk result (λ answer. IfErr answer (IsRefused source.entry.names.now source.entry.parts.now source.entry.members.now source.entry.classes.now p cells_left)) }
 {
     let read = read_members(alloc, source.parts, found.members)?;
     let terms = read_terms(alloc, source, &read.ids)?;

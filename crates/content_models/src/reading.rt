@@ -47,7 +47,7 @@ pub(crate) fn read_terms(
 ) -> Result<Vec<Accepts>, AllocError>
     requires there { All (λ id. id < length source.parts.now.particles.parts) ids.now }
     requires declarations { AreDeclarationsOf source.parts.now source.declarations.now }
-    ensures { IfOk result (λ terms. terms.items ≡ map (accepts_of source.members.now source.parts.now source.classes.now) ids.now) }
+    ensures { IfOk result (λ terms. terms.items ≡ map (accepts_of source.entry.members.now source.entry.parts.now source.entry.classes.now) ids.now) }
 {
     let mut terms = Vec::new(alloc);
     for id in ids {
@@ -60,7 +60,7 @@ pub(crate) fn read_terms(
 fn read_term(alloc: Global, source: ModelSource, id: TermId) -> Result<Accepts, AllocError>
     requires there { id < length source.parts.now.particles.parts }
     requires declarations { AreDeclarationsOf source.parts.now source.declarations.now }
-    ensures { IfOk result (λ accepts. accepts ≡ accepts_of source.members.now source.parts.now source.classes.now id) }
+    ensures { IfOk result (λ accepts. accepts ≡ accepts_of source.entry.members.now source.entry.parts.now source.entry.classes.now id) }
 {
     match &source.parts.particle(id.particle()).term {
         Term::Element(element) => Ok(Accepts::Element(read_names(alloc, source, *element)?)),
@@ -81,7 +81,7 @@ fn read_names(
     element: ElementId,
 ) -> Result<Listed<Given>, AllocError>
     requires declarations { AreDeclarationsOf source.parts.now source.declarations.now }
-    ensures { IfOk result (λ given. given ≡ map (given_by source.parts.now source.classes.now element) (names_of source.members.now element)) }
+    ensures { IfOk result (λ given. given ≡ map (given_by source.entry.parts.now source.entry.classes.now element) (names_of source.entry.members.now element)) }
 {
     let mut given = Listed::new(alloc);
     for name in source.members.names_of(element) {
