@@ -48,13 +48,13 @@ plain-wraps (w ∷ ws) inner plain (l ∷ outer) own e = let b : wrapped ws inne
 -- what a limited model is, by what was found
 pub limited-all : (ws : List (ℕ × Option ℕ)) (ps : Particles) (model : Particle) → model ≡ wrapped ws (all_of ps) → IsLimited model →
     (own : List AllMember) × (optional : Bool) × IsLimitedAll own optional model × (ps ≡ particles_of own) × (optional ≡ some_optional ws)
-limited-all ws ps model e (inl none) = absurd (no-all-wrapped ws ps (subst HasNoAll e none))
+limited-all ws ps model e (inl without) = absurd (no-all-wrapped ws ps (subst HasNoAll e without))
 limited-all ws ps model e (inr (own, optional, is)) =
     let r = same-wraps ws is.is_all.outer ps own (sym e ∙ is.is_all.model_is) in
     (own, optional, is, r.0, is.is_all.optional_is ∙ sym r.1)
 
 pub limited-none : (t : Tables) (p : ℕ) → IsNoAll t p → IsLimited (model_of t p) → HasNoAll (model_of t p)
-limited-none t p way (inl none) = none
+limited-none t p way (inl without) = without
 limited-none t p (ws, inner, e, plain) (inr (own, optional, is)) = absurd (plain-wraps ws inner plain is.is_all.outer own (sym e ∙ is.is_all.model_is))
 
 -- ---- the members

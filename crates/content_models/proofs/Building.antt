@@ -114,7 +114,7 @@ module _ (names : NameTable) (t : Tables) (members : List (List ℕ)) (d : Decla
 
         module _ (few : positions_of model ≤ 2048) (cells : ℕ) where
           total : (count : ℕ) → IsStateCountOf (accepts names members t) (is_inhabited members t) model u.table count → IsStateTotal names t members p count
-          total count h = inl (no_all, u, is, h)
+          total count h = inl (no_all, (u, is, h))
 
           pub states-room : (a : ModelAutomaton) → OfModels (λ f g m. HasRoomFor a.symbols cells f g m u.table a.machine.count) → HasRoom names t members p cells (States a)
           states-room a room =
@@ -125,7 +125,7 @@ module _ (names : NameTable) (t : Tables) (members : List (List ℕ)) (d : Decla
           states-passed passes = (few, passed)
             where
               passed : (count : ℕ) → IsStateTotal names t members p count → 2048 < count
-              passed count (inl (none, v, other, c)) =
+              passed count (inl (without, (v, other, c))) =
                   of-model (λ f g m. PassesStates f g m u.table) passes count
                   (count-moved (accepts names members t) (is_inhabited members t) model v.table u.table (other.positions.symbols ∙ sym is.positions.symbols) count c)
               passed count (inr ((own, optional, all), e)) = absurd (not-both own optional model no_all all)

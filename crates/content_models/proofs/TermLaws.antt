@@ -54,7 +54,7 @@ module _ (names : NameTable) (members : List (List ℕ)) (t : Tables) (classes :
 
   -- ---- which names are named
   in-map : {X Y : Type 0} (f : X → Y) (xs : List X) (y : Y) → Contains (map f xs) y → (x : X) × Contains xs x × (f x ≡ y)
-  in-map f [] y h = omega (arith, h.1)
+  in-map f [] y h = absurd (omega (arith, h.1))
   in-map f (x ∷ xs) y (zero, l, e) = (x, (0, omega arith, refl), e)
   in-map f (x ∷ xs) y (suc k, l, e) = let r = in-map f xs y (k, omega arith, e) in let c = r.1 in let m = c.1 in (r.0, (suc c.0, omega arith, c.2), r.2)
 
@@ -121,11 +121,13 @@ module _ (t : Tables) (ranked : IsRanked t) where
 
   terms-lower : (n x : ℕ) → slice_index t.particles.ranks x < n → Each IsTerm (terms_of (model_of t x))
   terms-lower zero x l = absurd (omega arith)
-  terms-lower (suc n) x l = subst (λ m. Each IsTerm (terms_of m)) (sym (model_of_is t ranked x)) (of (slice_get t.particles.parts x) refl)
+  terms-lower (suc n) x l =
+      subst (λ m. Each IsTerm (terms_of m)) (sym (model_of_is t ranked x)) (of (slice_get t.particles.parts x) refl (λ y less. terms-lower n y less))
     where
-      of : (o : Option Part) → slice_get t.particles.parts x ≡ o → Each IsTerm (terms_of (part_model t (model_of t) x o))
-      of None e = All-nil IsTerm
-      of (Some part) e = in-part x part e (λ y low. let r = low.lower in terms-lower n y (omega arith))
+      of : (o : Option Part) → slice_get t.particles.parts x ≡ o → ((y : ℕ) → slice_index t.particles.ranks y < n → Each IsTerm (terms_of (model_of t y))) →
+          Each IsTerm (terms_of (part_model t (model_of t) x o))
+      of None e lower = All-nil IsTerm
+      of (Some part) e lower = in-part x part e (λ y low. let r = low.lower in lower y (omega arith))
 
   pub terms-are : (x : ℕ) → Each (λ k. term_number t k ≡ Some k) (terms_of (model_of t x))
   terms-are x = terms-lower (suc (slice_index t.particles.ranks x)) x (omega arith)
@@ -133,6 +135,11 @@ module _ (t : Tables) (ranked : IsRanked t) where
 -- ---- the terms in order are those of the places
 abbrev number_of : Place → ℕ
 number_of place = place.number
+
+never-places : (never : Bool) (part : Particle) (path : Path) → terms_of part ≡ map number_of (places part path) →
+    (if never then [] else terms_of part) ≡ map number_of (if never then [] else places part path)
+never-places true part path e = refl
+never-places false part path e = e
 
 mutual
   terms-places : (model : Particle) → HasNoAll model → (path : Path) → terms_of model ≡ map number_of (places model path)
@@ -149,11 +156,6 @@ mutual
       let b = terms-places_in rest h.1 path (suc i) in
       ap (λ xs. xs ++ terms_in rest) a ∙ (ap (λ xs. map number_of (places first (path ++ i ∷ [])) ++ xs) b ∙
       sym (map-append number_of (places first (path ++ i ∷ [])) (places_in rest path (suc i))))
-
-  never-places : (never : Bool) (part : Particle) (path : Path) → terms_of part ≡ map number_of (places part path) →
-      (if never then [] else terms_of part) ≡ map number_of (if never then [] else places part path)
-  never-places true part path e = refl
-  never-places false part path e = e
 
 pub places-terms : (model : Particle) → HasNoAll model → map (λ (place : Place). place.number) (places model []) ≡ terms_of model
 places-terms model h = sym (terms-places model h [])
