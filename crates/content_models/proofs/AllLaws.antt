@@ -1,5 +1,5 @@
 -- A model that is an all, and its members.
-use Rattle.std.proofs.Common.{◌≡◌, ℕ, suc, ◌+◌, ◌*◌, ◌<◌, ◌≤◌, ◌==◌, ◌||◌, ◌⊎◌, inl, inr, Bool, true, false, List, [], ◌∷◌, ◌++◌, Option, None, Some, if◌then◌else◌, map, length, slice_get, refl, sym, ap, subst, ◌∙◌, arith}
+use Rattle.std.proofs.Common.{◌≡◌, ℕ, ◌*◌, ◌≤◌, ◌==◌, ◌||◌, inl, inr, Bool, List, [], ◌∷◌, ◌++◌, Option, None, Some, if◌then◌else◌, map, slice_get, refl, sym, ap, subst, ◌∙◌, arith}
 use Rattle.std.specs.Prelude.{All as Each}
 use Rattle.std.specs.List.{list_any, flat_map}
 use Rattle.std.proofs.Math.Nat.{mul-zero}
@@ -12,15 +12,15 @@ use Rattle.xs_components.specs.declared.particle.Particle.{Particle as Part}
 use Rattle.xs_components.specs.declared.particle.Term.{Term}
 use Rattle.xs_components.specs.declared.particle.Term.TheVariants.{Element, Any, Group, Sequence, Choice, All}
 use Rattle.xs_references.specs.Ranked.{IsRanked}
-use Rattle.particle_models.specs.Particles.{Particle, Particles, term, sequence, choice, all_of, occurs, none, member}
+use Rattle.particle_models.specs.Particles.{Particle, Particles, term, choice, all_of, occurs, none}
 use Rattle.particle_models.specs.Nodes.{members_of}
 use Rattle.particle_models.specs.Unrolled.{is_never, HasNoAll, positions_of}
 use Rattle.particle_forms.specs.Models.{group_particle, group_model, term_model, part_model, model_of}
 use Rattle.particle_forms.proofs.ModelLaws.{model_of_is}
 use Rattle.all_states.specs.declared.member.AllMember.{AllMember}
-use Rattle.all_states.specs.Shape.{particles_of, all_within, IsOnce, IsAllOf}
+use Rattle.all_states.specs.Shape.{particles_of, all_within, IsOnce}
 use Rattle.content_models.specs.Terms.{terms_of, terms_in}
-use Rattle.content_models.specs.Ways.{wrapped, some_optional, IsPlain, IsNoAll, member_with, part_member, member_at}
+use Rattle.content_models.specs.Ways.{wrapped, some_optional, IsPlain, IsNoAll, part_member, member_at}
 use Rattle.content_models.specs.Built.{IsLimitedAll, IsLimited}
 
 -- ---- the bounds around an all

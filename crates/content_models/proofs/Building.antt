@@ -1,19 +1,19 @@
 -- The automaton of a content model, of what was read.
-use Rattle.std.proofs.Common.{◌≡◌, ℕ, ◌*◌, ◌<◌, ◌≤◌, ◌↔◌, ◌⊎◌, inl, inr, Bool, true, false, IsTrue, List, [], ◌∷◌, Option, None, Some, map, length, get_or, slice_get, slice_index, refl, sym, ap, subst, ◌∙◌, arith}
-use Rattle.std.specs.Prelude.{All as Each, Contains, MatchOption, Result, Ok, Err, IsErr, IfOk, IfErr, slice_index_or, option_and_then}
+use Rattle.std.proofs.Common.{◌≡◌, ℕ, ◌<◌, ◌≤◌, inl, inr, Bool, false, List, [], ◌∷◌, Option, None, Some, map, length, get_or, slice_index, refl, sym, ap, subst, ◌∙◌, arith}
+use Rattle.std.specs.Prelude.{All as Each, Result, Ok, IfOk, slice_index_or, option_and_then}
 use Rattle.std.specs.List.{flat_map}
-use Rattle.std.proofs.lemmas.Bool.{cases_lt, false≢true}
+use Rattle.std.proofs.lemmas.Bool.{cases_lt}
 use Rattle.std.proofs.lemmas.List.{length-map, get_or-map}
 use Rattle.std.proofs.lemmas.List.Elements.{All-weaker}
 use Rattle.std.proofs.lemmas.Option.{slice_get_past}
 use Rattle.xs_names.specs.Names.{NameTable}
 use Rattle.xs_names.specs.Numbering.{HasNoRepeats}
 use Rattle.xs_positions.specs.Tree.{Tree}
-use Rattle.xs_positions.specs.Positions.{Table, ArePositionsOf}
+use Rattle.xs_positions.specs.Positions.{ArePositionsOf}
 use Rattle.xs_components.specs.Tables.{Tables}
 use Rattle.xs_components.specs.Terms.{term_of}
 use Rattle.xs_components.specs.declared.particle.Particle.{Particle as Part}
-use Rattle.particle_models.specs.Particles.{Particle, Place, all_of}
+use Rattle.particle_models.specs.Particles.{Particle, Place}
 use Rattle.particle_models.specs.Nodes.{members_of}
 use Rattle.particle_models.specs.Unrolled.{unrolled, places, positions_of, HasNoAll}
 use Rattle.particle_models.specs.Model.{UnrolledModel, IsUnrolled, blank}
@@ -23,17 +23,16 @@ use Rattle.particle_forms.proofs.AcceptedLaws.{inhabited-by}
 use Rattle.element_types.specs.Types.{DeclarationTable}
 use Rattle.model_symbols.specs.declared.terms.Accepts.{Accepts}
 use Rattle.model_symbols.specs.Terms.{ExpandedName, accepts_name}
-use Rattle.model_symbols.specs.Symbols.{SymbolTable, IsNamed, AreSymbolsOf, count_of}
-use Rattle.model_symbols.specs.Attribution.{IsStranger, IsFirstTerm}
+use Rattle.model_symbols.specs.Symbols.{IsNamed, AreSymbolsOf, count_of}
+use Rattle.model_symbols.specs.Attribution.{IsFirstTerm}
 use Rattle.content_automaton.specs.Counted.{IsStateCountOf}
-use Rattle.content_automaton.specs.Recognized.{nth_place}
 use Rattle.content_automaton.specs.Modelled.{IsModelOf, ModelAutomaton, IsAutomatonOf, IsFirstTermOf, HasRoom as HasRoomFor, HasTooManyStates as PassesStates, HasTooLargeTable as PassesCells}
 use Rattle.all_states.specs.declared.member.AllMember.{AllMember}
-use Rattle.all_states.specs.Shape.{no_member, particles_of, all_within, IsAllOf, IsOnce}
+use Rattle.all_states.specs.Shape.{no_member, particles_of, all_within}
 use Rattle.all_models.specs.Modelled.{AllModel, IsAllModel, IsAllAutomatonOf, IsFirstMember}
 use Rattle.content_models.specs.Terms.{terms_of, accepts_of, model_terms, term_number}
 use Rattle.content_models.specs.Ways.{some_optional, member_at, IsAllFound}
-use Rattle.content_models.specs.Built.{IsSource, IsLimitedAll, IsLimited, IsStateTotal, HasTooManyPositions, HasTooManyStates, HasTooLargeTable, IsBuilt, HasRoom, IsFirstIn}
+use Rattle.content_models.specs.Built.{IsSource, IsLimitedAll, IsLimited, IsStateTotal, HasTooManyStates, HasTooLargeTable, IsBuilt, HasRoom, IsFirstIn}
 use Rattle.content_models.specs.declared.automaton.ContentAutomaton.TheVariants.{States, All}
 use Rattle.content_models.proofs.AllLaws.{limited-all, own-members, all-terms, all-positions}
 use Rattle.content_models.proofs.TermLaws.{accept-as, named-in, terms-are, places-terms}

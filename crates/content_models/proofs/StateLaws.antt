@@ -1,5 +1,5 @@
 -- States of a model are counted alike on each table of its positions.
-use Rattle.std.proofs.Common.{◌≡◌, ℕ, ◌↔◌, Bool, IsTrue, List, [], slice_index, refl, sym, subst, ◌∙◌}
+use Rattle.std.proofs.Common.{◌≡◌, ℕ, ◌↔◌, Bool, IsTrue, List, [], slice_index, sym, subst}
 use Rattle.std.specs.Prelude.{Contains, slice_index_or}
 use Rattle.xs_positions.specs.Positions.{Table}
 use Rattle.xs_positions.specs.Words.{IsWord}

@@ -1,5 +1,5 @@
 -- The way along references to groups.
-use Rattle.std.proofs.Common.{◌≡◌, ℕ, ◌+◌, ◌<◌, ◌==◌, ◌||◌, Bool, true, false, List, [], ◌∷◌, ◌++◌, Option, None, Some, map, length, get_or, slice_get, slice_index, refl, sym, ap, subst, ◌∙◌, arith}
+use Rattle.std.proofs.Common.{◌≡◌, ℕ, ◌<◌, ◌==◌, ◌||◌, Bool, true, false, List, [], ◌∷◌, ◌++◌, Option, None, Some, length, get_or, slice_get, slice_index, refl, sym, ap, subst, ◌∙◌, arith}
 use Rattle.std.specs.Prelude.{⊤, All as Each, IfSome, option_and_then}
 use Rattle.std.proofs.lemmas.Option.{slice_get-get_or}
 use Rattle.std.proofs.lemmas.List.Elements.{All-weaker}
@@ -9,8 +9,7 @@ use Rattle.xs_components.specs.declared.particle.Particle.{Particle as Part}
 use Rattle.xs_components.specs.declared.particle.Term.{Term}
 use Rattle.xs_components.specs.declared.particle.Term.TheVariants.{Element, Any, Group, Sequence, Choice, All}
 use Rattle.xs_references.specs.Ranked.{held_particles, named_group, IsBelow, IsRanked}
-use Rattle.particle_models.specs.Particles.{Particle, all_of, occurs}
-use Rattle.particle_models.specs.Nodes.{members_of}
+use Rattle.particle_models.specs.Particles.{Particle, occurs}
 use Rattle.particle_forms.specs.Models.{group_particle, group_model, term_model, model_of}
 use Rattle.particle_forms.proofs.ModelLaws.{group-lower, particle_model}
 use Rattle.content_models.specs.Ways.{group_below, least_of, is_optional, wrapped, some_optional, IsAllFound, IsPlain, IsNoAll}

@@ -1,4 +1,4 @@
-use Rattle.std.proofs.Common.{◌≡◌, ◌<◌, ◌≤◌, ℕ, map, arith, sym, ap, ◌∙◌}
+use Rattle.std.proofs.Common.{map, arith, sym, ap, ◌∙◌}
 use Rattle.all_states.specs.declared.member.AllMember.{AllMember}
 use Rattle.content_models.proofs.Building.{all-there, all-few, all-within, all-built, all-room, all-passed}
 use Rattle.content_models.proofs.automaton.build_all.Goals as goal

@@ -11,7 +11,7 @@ pub term_ids-requires : goal.term_ids-requires
 term_ids-requires c = record {
   terms = subst (λ (xs : List ℕ). All (λ n. term_number c.args.source.parts.now n ≡ Some n) xs) (sym c.terms.ensures)
       (numbers-are c.args.source.names.now c.args.source.parts.now c.args.source.members.now c.args.source.declarations.now c.args.source.inhabited.now c.args.source.classes.now c.args.p c.requires.source c.requires.no_all c.in-Ok.form
-    (unrolled-is c.args.source.names.now c.args.source.parts.now c.args.source.members.now c.args.source.declarations.now c.args.source.inhabited.now c.args.source.classes.now c.args.p c.requires.source c.in_ok-form.field-0 c.in-Ok.form c.in-Ok.is c.in_ok-form.ensures.unrolled));
+      (unrolled-is c.args.source.names.now c.args.source.parts.now c.args.source.members.now c.args.source.declarations.now c.args.source.inhabited.now c.args.source.classes.now c.args.p c.requires.source c.in_ok-form.field-0 c.in-Ok.form c.in-Ok.is c.in_ok-form.ensures.unrolled));
 }
 
 pub read_terms-requires-clause-there : goal.read_terms-requires-clause-there
