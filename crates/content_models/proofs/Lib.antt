@@ -1,0 +1,5 @@
+pub mod WayLaws
+pub mod AllLaws
+pub mod TermLaws
+pub mod StateLaws
+pub mod Building
