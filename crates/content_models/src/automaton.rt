@@ -35,12 +35,13 @@ pub enum ContentAutomaton {
 }
 
 impl ContentAutomaton {
-    /// The automaton of the content model of a particle. Its states times its symbols may be at most `cells_left`. Where an `all`
-    /// stands in the model, the model is that `all`, with at most 64 members that come at most once each.
+    /// The automaton of the content model of a particle (Structures 3.8.4). Its states times its symbols may be at most
+    /// `cells_left`. Where an `all` stands in the model, the model is that `all`, with at most 64 members that come at most
+    /// once each.
     ///
     /// # Errors
-    /// `TooManyPositions` where there are more than 2,048 positions; else `TooManyStates` where there are more than 2,048 states,
-    /// of which an `all` counts one; else `TableTooLarge`.
+    /// `TooManyPositions` where there are more than 2,048 positions; else `TooManyStates` where there are more than 2,048
+    /// states, of which an `all` counts one; else `TableTooLarge`.
     pub fn build(
         alloc: Global,
         source: ModelSource,
@@ -84,7 +85,8 @@ impl ContentAutomaton {
         }
     }
 
-    /// The first term of the model that accepts the names with the symbol, in the order of the schema. `None` where none does.
+    /// The first term of the model that accepts the names with the symbol, in the order of the schema. `None` where none
+    /// does.
     pub fn first_term(&self, symbol: u32) -> Option<TermId>
         ensures { (names : NameTable) (t : Tables) (members : List (List ℕ)) (classes : List ℕ) (p : ℕ) → IsBuilt names t members classes p self.now →
             (name : ExpandedName) → symbol ≡ symbol_of names (symbols_of self.now) name → IsFirstIn names t members classes p name result }
@@ -106,8 +108,8 @@ impl ContentAutomaton {
         }
     }
 
-    /// Two terms at different places in which prefixes of words with the same names end (cos-nonambig). `None` where there are
-    /// none.
+    /// Two terms at different places in which prefixes of words with the same names end (cos-nonambig, Structures 3.8.6).
+    /// `None` where there are none.
     pub fn ambiguous(&self) -> Option<(TermId, TermId)>
         ensures { (names : NameTable) (t : Tables) (members : List (List ℕ)) (classes : List ℕ) (p : ℕ) → IsBuilt names t members classes p self.now →
             IsAmbiguousBy (accepts names members t) (model_of t p) result }

@@ -6,9 +6,9 @@ use xs_components::Components;
 use xs_members::Members;
 use xs_names::Names;
 
-/// What content models are read off: the components of a schema set with what was found of them, and the classes of its element
-/// declarations by their numbers. Declarations with the same properties have one class; the three greatest numbers are the
-/// classes of wildcards.
+/// What content models are read off: the components of a schema set with what was found of them, and the classes of its
+/// element declarations by their numbers. Declarations with the same properties have one class; the three greatest numbers
+/// are the classes of wildcards.
 #[derive(Clone, Copy)]
 pub struct ModelSource<'a> {
     pub names: &'a Names,
