@@ -1,6 +1,6 @@
 //! The automaton of a model that is an `all`.
 
-ghost use Rattle.std.specs.Prelude.{◌≡◌, ◌<◌, ◌≤◌, length, map, IfOk, IfSome};
+ghost use Rattle.std.specs.Prelude.{◌≡◌, ◌<◌, length, map, IfOk};
 ghost use Rattle.xs_references.specs.Ranked.{IsRanked};
 ghost use Rattle.model_symbols.specs.Symbols.{AreNamesOf};
 ghost use Rattle.all_states.specs.declared.member.AllMember.{AllMember as AllMemberData};
@@ -81,7 +81,6 @@ impl Schema {
         }))
     }
 
-    #[tactic(auto, using(crate::proofs::Named::names_below))]
     fn all_automaton(
         &self,
         alloc: Global,

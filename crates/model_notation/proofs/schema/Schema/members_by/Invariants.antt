@@ -1,6 +1,6 @@
 use Rattle.std.proofs.Common.{◌≡◌, length, map, take}
 use Rattle.all_states.specs.declared.member.AllMember.{AllMember}
-use Rattle.model_notation.proofs.alls.Schema.members_by.Given as goal
+use Rattle.model_notation.proofs.schema.Schema.members_by.Given as goal
 
 abbrev pub invariant-loop-id : goal.invariant-loop-id
 invariant-loop-id l = record {
