@@ -31,6 +31,8 @@ pub enum Refused {
     TooManyPositions,
     TooManyStates,
     TableTooLarge,
+    /// An `all` has more than 64 members.
+    TooManyMembers,
 }
 
 impl Schema {

@@ -1,6 +1,7 @@
 //! Content models in a small notation, read into tables of components, and their automata.
 #![tactic(auto)]
 
+mod alls;
 mod compiled;
 mod notation;
 mod ranked;
@@ -10,6 +11,7 @@ mod stack;
 mod symbols;
 mod terms;
 
+pub use alls::CompiledAll;
 pub use compiled::{Compiled, Refused};
 pub use ranked::is_ranked;
 pub use schema::Schema;

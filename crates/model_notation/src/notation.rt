@@ -69,3 +69,11 @@ pub(crate) fn name_and_class(text: &str) -> (&str, u32) {
         None => (text, 0),
     }
 }
+
+/// The element's own name, which is the first that it accepts, and the class of its declaration.
+pub(crate) fn own_name(text: &str) -> (&str, u32) {
+    match text.split_once('+') {
+        Some((first, _)) => name_and_class(first),
+        None => name_and_class(text),
+    }
+}

@@ -4,14 +4,14 @@ ghost use Rattle.std.specs.Prelude.{◌≡◌, ◌<◌, All, length, IfOk, IfSom
 ghost use Rattle.model_symbols.specs.declared.terms.Given.{Given as GivenData};
 ghost use Rattle.model_symbols.specs.Terms.{names_of};
 
-use crate::notation::{Bounds, bounds_of, head_of, name_and_class, number, opened};
+use crate::notation::{Bounds, bounds_of, head_of, name_and_class, number, opened, own_name};
 use crate::spaces::{Spaces, intern_word};
 use crate::stack::Stack;
 use model_symbols::{Accepts, Given};
 use std::alloc::{AllocError, Global};
 use xs_components::{
-    Components, ConstraintIdList, ElementDecl, ElementId, GroupDef, GroupId, Methods, NameIdList,
-    Particle, ParticleId, Place, Process, Term, TermId, Wildcard,
+    Builtin, Components, ConstraintIdList, ElementDecl, ElementId, GroupDef, GroupId, Methods,
+    NameIdList, Particle, ParticleId, Place, Process, Term, TermId, TypeId, Wildcard,
 };
 use xs_lists::Listed;
 use xs_members::Members;
@@ -139,10 +139,13 @@ impl Schema {
         if let Some(group) = self.group(head) {
             return Ok(Term::Group(group));
         }
-        let name = intern_word(&mut self.names, head)?;
+        let (own, class) = own_name(head);
+        let name = intern_word(&mut self.names, own)?;
         self.intern_names(head)?;
         self.elements.push(String::from_str(alloc, head)?)?;
-        let element = self.parts.add_element(declaration(alloc, name))?;
+        let element = self
+            .parts
+            .add_element(declaration(alloc, name, type_of(class)))?;
         Ok(Term::Element(element))
     }
 
@@ -295,12 +298,22 @@ fn class_of(process: Process) -> u32 {
     }
 }
 
-fn declaration(alloc: Global, name: NameId) -> ElementDecl {
+// The type of a declaration by its class.
+fn type_of(class: u32) -> Option<TypeId> {
+    match class {
+        0 => None,
+        1 => Some(TypeId::Builtin(Builtin::String)),
+        2 => Some(TypeId::Builtin(Builtin::Decimal)),
+        _ => Some(TypeId::AnyType),
+    }
+}
+
+fn declaration(alloc: Global, name: NameId, of: Option<TypeId>) -> ElementDecl {
     ElementDecl {
         name,
         at: PLACE,
         global: true,
-        of: None,
+        of,
         head: None,
         value: None,
         nillable: false,

@@ -1,12 +1,19 @@
 ghost use Rattle.model_symbols.specs.Symbols.{AreNamesOf};
 
-use crate::runs::{Run, children, place_of};
+use crate::alls::answer_all;
+use crate::children::{children, place_of, push_stuck};
+use crate::runs::Run;
+use crate::types::answer_types;
 use model_notation::{Compiled, Refused, Schema};
 use std::alloc::{AllocError, Global};
 use upa::ambiguous;
 
-/// The answer to a line: a model, and words with `/` before each. Behind `pair` the two terms are shown at which it is ambiguous.
+/// The answer to a line: a model, and words with `/` before each. Behind `pair` the two terms are shown at which it is ambiguous;
+/// behind `types` stands a model alone.
 pub fn answer(alloc: Global, line: &str) -> Result<String, AllocError> {
+    if let Some(model) = line.strip_prefix("types ") {
+        return answer_types(alloc, model);
+    }
     match line.strip_prefix("pair ") {
         Some(rest) => answer_line(alloc, rest, true),
         None => answer_line(alloc, line, false),
@@ -39,6 +46,9 @@ fn answer_read(
     pair: bool,
 ) -> Result<String, AllocError> {
     intern_words(schema, words.unwrap_or(""))?;
+    if schema.is_all() {
+        return answer_all(alloc, schema, words, pair);
+    }
     answer_of(alloc, schema, words, pair)
 }
 
@@ -54,12 +64,14 @@ fn answer_of(
     }
 }
 
-fn reason(refused: Refused) -> &'static str {
+/// Why a model has no automaton.
+pub fn reason(refused: Refused) -> &'static str {
     match refused {
         Refused::NoModel => "no model",
         Refused::TooManyPositions => "too many positions",
         Refused::TooManyStates => "too many states",
         Refused::TableTooLarge => "table too large",
+        Refused::TooManyMembers => "too many members",
     }
 }
 
@@ -92,40 +104,53 @@ fn shown(
     requires names { AreNamesOf schema.now.names compiled.now.automaton.symbols.names }
 {
     let mut out = String::new(alloc);
-    push_range(alloc, &mut out, compiled)?;
+    push_range(alloc, &mut out, compiled.range, compiled.emptiable)?;
     let states = compiled.automaton.width() - 1;
     out.push_str(&format!(in alloc; "; {states}")?)?;
-    push_ambiguity(alloc, &mut out, compiled, pair)?;
+    push_pair(alloc, &mut out, pair_of(compiled), pair)?;
     if let Some(words) = words {
         push_words(alloc, &mut out, schema, compiled, words)?;
     }
     Ok(out)
 }
 
-fn push_range(alloc: Global, out: &mut String, compiled: &Compiled) -> Result<(), AllocError> {
-    let (least, most) = compiled.range;
+/// Writes how many elements words have at least and at most.
+pub fn push_range(
+    alloc: Global,
+    out: &mut String,
+    range: (u64, Option<u64>),
+    emptiable: bool,
+) -> Result<(), AllocError> {
+    let (least, most) = range;
     match most {
         Some(most) => out.push_str(&format!(in alloc; "{least}..{most}")?)?,
         None => out.push_str(&format!(in alloc; "{least}..*")?)?,
     }
-    if compiled.emptiable {
+    if emptiable {
         out.push_str(" emptiable")?;
     }
     Ok(())
 }
 
-fn push_ambiguity(
+// Two terms at which the model is ambiguous, counted from 1.
+fn pair_of(compiled: &Compiled) -> Option<(usize, usize)> {
+    let (one, other) = ambiguous(&compiled.automaton)?;
+    let one = place_of(compiled.form.terms(), one);
+    let other = place_of(compiled.form.terms(), other);
+    Some((one, other))
+}
+
+/// Writes whether a model is ambiguous, and where it is at these two terms.
+pub fn push_pair(
     alloc: Global,
     out: &mut String,
-    compiled: &Compiled,
+    found: Option<(usize, usize)>,
     pair: bool,
 ) -> Result<(), AllocError> {
-    match ambiguous(&compiled.automaton) {
+    match found {
         None => out.push_str(" clear"),
         Some(_) if !pair => out.push_str(" ambiguous"),
         Some((one, other)) => {
-            let one = place_of(compiled, one);
-            let other = place_of(compiled, other);
             let first = one.min(other);
             let second = one.max(other);
             out.push_str(&format!(in alloc; " ambiguous {first} {second}")?)
@@ -163,8 +188,5 @@ fn push_word(
         run = run.after(schema, compiled, child);
         run.push_last(alloc, out, compiled)?;
     }
-    match run.stuck(compiled) {
-        Some(place) => out.push_str(&format!(in alloc; "stuck {place}")?),
-        None => out.push_str("word"),
-    }
+    push_stuck(alloc, out, run.stuck(compiled))
 }

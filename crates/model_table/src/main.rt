@@ -1,8 +1,11 @@
 //! Answers a table of content models, a line each: the automaton of the model, and what becomes of words.
 #![tactic(auto)]
 
+mod alls;
 mod answers;
+mod children;
 mod runs;
+mod types;
 
 use std::io;
 

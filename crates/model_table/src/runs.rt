@@ -1,55 +1,38 @@
+//! Runs along names, by the states of a model.
+
 ghost use Rattle.model_symbols.specs.Symbols.{AreNamesOf, count_of};
 ghost use Rattle.std.specs.Prelude.{◌<◌};
 
+use crate::children::{Child, Progress, children};
 use model_notation::{Compiled, Schema};
 use std::alloc::{AllocError, Global};
 use upa::ambiguous;
-use xs_components::{ParticleId, TermId};
 use xsv_steps::{Silent, Steps};
 
-// A name, and how many children have it: `a`, or `a*5`.
-pub fn children(child: &str) -> (&str, u32) {
-    match child.split_once('*') {
-        Some((name, times)) => (name, u32::from_str_radix(times, 10).unwrap_or(0)),
-        None => (child, 1),
-    }
-}
-
-// What is attributed to a child.
-#[derive(Clone, Copy, Debug)]
-struct Given {
-    term: Option<TermId>,
-    ambivalent: bool,
-}
-
-// How far names have come, and what is attributed to the last of them.
+/// The state after some names, and how far they have come.
 #[derive(Clone, Copy, Debug)]
 pub struct Run {
     state: u16,
-    count: usize,
-    stuck: Option<usize>,
-    last: Option<Given>,
+    progress: Progress,
 }
 
 impl Run {
     pub fn new(compiled: &Compiled) -> Self {
         Run {
             state: compiled.automaton.start(),
-            count: 0,
-            stuck: None,
-            last: None,
+            progress: Progress::new(),
         }
     }
 
-    // With the next children, which have one name.
+    /// With the next children, which have one name.
     pub fn after(self, schema: &Schema, compiled: &Compiled, child: &str) -> Self
         requires names { AreNamesOf schema.now.names compiled.now.automaton.symbols.names }
     {
         let (word, times) = children(child);
-        let mut run = Run { last: None, ..self };
-        if word.is_empty() {
-            return run;
-        }
+        let mut run = Run {
+            progress: self.progress.forgetting(),
+            ..self
+        };
         let Some(name) = schema.name(word) else {
             return run;
         };
@@ -66,61 +49,37 @@ impl Run {
     {
         let automaton = &compiled.automaton;
         let state = automaton.step(self.state, symbol, &mut Steps::new(Silent));
-        let mut stuck = self.stuck;
-        if stuck.is_none() && state == automaton.width() - 1 {
-            stuck = Some(self.count);
-        }
-        let term = if stuck.is_none() && ambiguous(automaton).is_none() {
+        let first = automaton.first_term(symbol);
+        let at = if ambiguous(automaton).is_none() {
             automaton.term_at(self.state, symbol)
         } else {
-            automaton.first_term(symbol)
+            first
         };
-        let ambivalent = automaton.ambivalent(symbol);
+        let child = Child {
+            alive: state != automaton.width() - 1,
+            at,
+            first,
+            ambivalent: automaton.ambivalent(symbol),
+        };
         Run {
             state,
-            count: self.count.saturating_add(1),
-            stuck,
-            last: Some(Given { term, ambivalent }),
+            progress: self.progress.with(child),
         }
     }
 
-    // The place at which the names are stuck; `None` where they are a word.
+    /// The place at which the names are stuck; `None` where they are a word.
     pub fn stuck(&self, compiled: &Compiled) -> Option<usize> {
-        if self.stuck.is_some() || compiled.automaton.accepting(self.state) {
-            return self.stuck;
-        }
-        Some(self.count)
+        self.progress
+            .stuck(compiled.automaton.accepting(self.state))
     }
 
-    // Writes the term of the last child, behind a `~` where its name is ambivalent.
+    /// Writes the term of the last child.
     pub fn push_last(
         &self,
         alloc: Global,
         out: &mut String,
         compiled: &Compiled,
     ) -> Result<(), AllocError> {
-        let Some(last) = self.last else {
-            return Ok(());
-        };
-        if last.ambivalent {
-            out.push('~')?;
-        }
-        match last.term {
-            Some(term) => {
-                let place = place_of(compiled, term.particle());
-                out.push_str(&format!(in alloc; "{place} ")?)
-            }
-            None => out.push_str("- "),
-        }
+        self.progress.push_last(alloc, out, compiled.form.terms())
     }
-}
-
-// Which term of the model a particle is, counted from 1.
-pub fn place_of(compiled: &Compiled, particle: ParticleId) -> usize {
-    for (place, number) in compiled.form.terms().iter().enumerate() {
-        if *number == particle.number() {
-            return place.saturating_add(1);
-        }
-    }
-    0
 }
