@@ -30,18 +30,20 @@ module _ (ss : List (Option Slot)) (v : Orders) (p place c : ℕ) (old : Slot) (
 pub hung_place : (ss : List (Option Slot)) (v : Orders) (c : ℕ) (s : Slot) (h : Hook) (i : IsLinked ss v) → slot ss c ≡ Some s → s.hook ≡ Some h → (place : ℕ) × IsPlaced ss v h.parent place c
 hung_place ss v c s h i there is =
     let u = i.up c s h there is in
-    let z = has-place u.entry (entries v u.parent.list) u.has in
-    (z.0, record {
-      parent = u.parent;
-      parent_is = u.is;
-      child = s;
-      child_is = there;
-      entry = u.entry;
-      at = z.1;
-      number = u.child;
-      hook = is ∙ ap (λ j. Some (record { parent = h.parent; item = j })) (sym u.item);
-      list = live_list ss v h.parent u.parent i u.is;
-    })
+    let z = has-place u.entry (entries v u.parent.list) u.has in (
+      z.0,
+      record {
+        parent = u.parent;
+        parent_is = u.is;
+        child = s;
+        child_is = there;
+        entry = u.entry;
+        at = z.1;
+        number = u.child;
+        hook = is ∙ ap (λ j. Some (record { parent = h.parent; item = j })) (sym u.item);
+        list = live_list ss v h.parent u.parent i u.is;
+      },
+    )
 
 -- the item of a node lies at its place, also once another list is gone
 pub item_stays : (ss : List (Option Slot)) (v w : Orders) (p place c : ℕ) (old : Slot) (h : Hook) (i : IsLinked ss v) (u : IsPlaced ss v p place c)

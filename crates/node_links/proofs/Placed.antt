@@ -48,9 +48,13 @@ live_list ss v n s i h = let o = i.owner n s h in o.is ∙ ap Some (sym (ap list
 pub hooked_item : (ss : List (Option Slot)) (v : Orders) (m : ℕ) (c : Slot) (h : Hook) → IsLinked ss v → slot ss m ≡ Some c → c.hook ≡ Some h → HasItem v h.item
 hooked_item ss v m c h i there is =
     let u = i.up m c h there is in
-    let z = has-place u.entry (entries v u.parent.list) u.has in
-    (u.parent.list, z.0, entries v u.parent.list, subst (λ k. IsAt v k u.parent.list z.0 (entries v u.parent.list)) u.item
-    (item-at v u.parent.list z.0 (entries v u.parent.list) u.entry (live_list ss v h.parent u.parent i u.is) z.1))
+    let z = has-place u.entry (entries v u.parent.list) u.has in (
+      u.parent.list,
+      z.0,
+      entries v u.parent.list,
+      subst (λ k. IsAt v k u.parent.list z.0 (entries v u.parent.list)) u.item
+          (item-at v u.parent.list z.0 (entries v u.parent.list) u.entry (live_list ss v h.parent u.parent i u.is) z.1),
+    )
 
 -- a child of a place, by its slot, its parent's and its entry
 pub record IsPlaced (ss : List (Option Slot)) (v : Orders) (p place c : ℕ) : Type 0 where

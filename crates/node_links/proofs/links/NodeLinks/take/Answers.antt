@@ -42,9 +42,12 @@ drop_child-requires c =
     let leaf = leaf_of ss v n q.0 old q.1 q.2 was in
     let u = hung_place ss v n old h c.self.invariant was c.in-Some.is in
     let some = counted_place ss v h.parent u.0 n old c.self.invariant u.1 was in
-    let one : 1 ≤ u.1.parent.count = omega (arith, some) in
-    (u.1.parent, c.take-hook.ensures.change.others h.parent (taken_apart ss v h.parent u.0 n old c.self.invariant u.1 was leaf) ∙ u.1.parent_is,
-    c.self.invariant.own h.parent u.1.parent u.1.parent_is, one)
+    let one : 1 ≤ u.1.parent.count = omega (arith, some) in (
+      u.1.parent,
+      c.take-hook.ensures.change.others h.parent (taken_apart ss v h.parent u.0 n old c.self.invariant u.1 was leaf) ∙ u.1.parent_is,
+      c.self.invariant.own h.parent u.1.parent u.1.parent_is,
+      one,
+    )
 
 pub invariant_of-self : goal.invariant_of-self
 invariant_of-self c =
