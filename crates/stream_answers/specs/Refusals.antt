@@ -9,8 +9,8 @@ use Rattle.tree_building.specs.declared.fault.TreeReason.{TreeReason}
 use Rattle.tree_building.specs.declared.fault.TreeReason.TheVariants as trees
 use Rattle.stream_answers.specs.declared.refusal.Refusal.{Refusal}
 use Rattle.stream_answers.specs.declared.refusal.Refusal.TheVariants as refusals
-use Rattle.stream_answers.specs.declared.status.Status.{Status}
-use Rattle.stream_answers.specs.declared.status.Status.TheVariants.{ListingRefused, Limit}
+use Rattle.stream_answers.specs.declared.ending.Ending.{Ending}
+use Rattle.stream_answers.specs.declared.ending.Ending.TheVariants.{ListingRefused, Limit}
 
 abbrev pub line_name : Reason → List ℕ
 line_name lines.NotUtf8 = codes "NotUtf8"
@@ -75,5 +75,5 @@ abbrev pub refusal_line : ℕ → Refusal → List ℕ
 refusal_line line refusal =
     (if is_limit refusal then codes "limit " else codes "listing ") ++ decimal line ++ codes " " ++ name_of refusal ++ 10 ∷ []
 
-abbrev pub refusal_status : Refusal → Status
-refusal_status refusal = if is_limit refusal then Limit else ListingRefused
+abbrev pub refusal_ending : Refusal → Ending
+refusal_ending refusal = if is_limit refusal then Limit else ListingRefused
