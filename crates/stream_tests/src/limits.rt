@@ -4,10 +4,9 @@ use std::alloc::{AllocError, Global};
 use std::fmt::Write;
 use std::process::Abort;
 use std::test::Fail;
-use stream_answers::Status;
 use xs_names::Text;
 use xsv_io::{Failed, MemSink, Source};
-use xsv_run::run;
+use xsv_run::{Status, run};
 use xsv_steps::{Silent, Steps};
 
 /// The lines of a schema section of one global element of type `xs:string`: eight lines of 122 bytes.

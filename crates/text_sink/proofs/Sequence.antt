@@ -37,7 +37,7 @@ module _ {W : Type 0} (taken : W → Option (List ℕ)) (faults : W → ℕ) (bo
     kept = w.kept ∙ kept;
   }
   written_then old between new (Err e) text rest whole same h later kept w =
-      failed taken faults bound old new (Err e) whole tt
+      failed taken faults bound old new (Err e) whole refl
       (subst (AppendsFront (taken old) (taken new)) same (front_behind (taken old) (taken between) (taken new) text rest h w.front))
       (omega (arith, later, w.cause.later)) (rose-later later w.cause.failed) (w.kept ∙ kept)
 
