@@ -341,3 +341,25 @@ fn keeps_the_limit_of_bytes(rt: HostRuntime) -> Result<(), Fail> {
     }
     Ok(())
 }
+
+/// A report on a document with the most nodes, which the sink has no room for.
+#[test]
+fn breaks_off_in_the_middle_of_a_report(rt: HostRuntime) -> Result<(), Fail> {
+    let alloc = rt.alloc();
+    let mut words = Vec::new(alloc);
+    words.push(Text::new(alloc, "assess")?)?;
+    let head = before(alloc, b"(r\n")?;
+    let mut source = Repeated {
+        now: &head,
+        middle: b"(q\n)q\n",
+        left: 131_071,
+        tail: b")r\nend\n",
+    };
+    let mut sink = MemSink::new(alloc, 4096, Vec::new(alloc))?;
+    let mut steps = Steps::new(Silent);
+    let status = run(alloc, &words, &mut source, &mut sink, &mut steps);
+    assert!(rt; status == Status::WriteFault);
+    assert!(rt; sink.taken().starts_with(b"schema ok\ne 1 r xs:string invalid "));
+    assert!(rt; sink.taken().len() > 4000);
+    Ok(())
+}

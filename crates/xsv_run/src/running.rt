@@ -1,4 +1,4 @@
-ghost use Rattle.std.specs.Prelude.{◌≡◌, ◌+◌, ◌≤◌, ◌×◌, None, Err, IfOk, IfSome};
+ghost use Rattle.std.specs.Prelude.{◌≡◌, ◌+◌, ◌≤◌, None, Err, IfOk, IfSome};
 ghost use Rattle.item_listing.specs.declared.limits.TheConstants.{MOST_BYTES};
 ghost use Rattle.xsv_io.specs.Causes.{KeepsCount};
 ghost use Rattle.xsv_run.specs.Taking.{TakesAtMost};
