@@ -7,4 +7,4 @@ mod reply;
 
 pub use break_off::BreakOff;
 pub use line::answer_line;
-pub use reply::{write_made, write_total};
+pub use reply::{write_answer, write_made, write_total};

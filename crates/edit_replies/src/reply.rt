@@ -18,12 +18,18 @@ use tree_rows::NodeKind;
 use xsv_io::Sink;
 use xsv_steps::{Ledger, Steps};
 
-/// Writes parts.
-fn tell<W: Sink>(sink: &mut W, parts: &[Part]) -> Result<(), BreakOff>
+/// Writes the parts of an answer.
+///
+/// # Errors
+///
+/// `WriteFault` where the sink failed; a front was then written.
+pub fn write_answer<W: Sink>(sink: &mut W, parts: &[Part]) -> Result<(), BreakOff>
     ensures tells { Tells W.taken W.faults W.fault_bound sink.old sink.new result (parts_text parts.now) }
 {
-    write_parts(sink, parts)?;
-    Ok(())
+    match write_parts(sink, parts) {
+        Ok(()) => Ok(()),
+        Err(_) => Err(BreakOff::WriteFault),
+    }
 }
 
 /// Writes that an edit was made: the revision and the number of codes.
@@ -34,7 +40,7 @@ fn tell<W: Sink>(sink: &mut W, parts: &[Part]) -> Result<(), BreakOff>
 pub fn write_made<W: Sink>(sink: &mut W, revision: u64, total: u64) -> Result<(), BreakOff>
     ensures tells { Tells W.taken W.faults W.fault_bound sink.old sink.new result (made revision total) }
 {
-    tell(
+    write_answer(
         sink,
         &[
             Part::Text("ok "),
@@ -54,7 +60,7 @@ pub fn write_made<W: Sink>(sink: &mut W, revision: u64, total: u64) -> Result<()
 pub fn write_total<W: Sink>(sink: &mut W, total: u64) -> Result<(), BreakOff>
     ensures tells { Tells W.taken W.faults W.fault_bound sink.old sink.new result (total_line total) }
 {
-    tell(
+    write_answer(
         sink,
         &[Part::Text("total "), Part::Number(total), Part::Text("\n")],
     )
@@ -64,7 +70,7 @@ pub fn write_total<W: Sink>(sink: &mut W, total: u64) -> Result<(), BreakOff>
 pub fn write_refusal<W: Sink>(sink: &mut W, number: u8, name: &str) -> Result<(), BreakOff>
     ensures tells { Tells W.taken W.faults W.fault_bound sink.old sink.new result (refusal number name.now) }
 {
-    tell(
+    write_answer(
         sink,
         &[
             Part::Text("no "),
@@ -85,8 +91,10 @@ fn write_record<W: Sink>(
 ) -> Result<(), BreakOff>
     ensures tells { Tells W.taken W.faults W.fault_bound sink.old sink.new result (record_line node name.now record.now) }
 {
-    report_text::write_record(sink, node, name, record)?;
-    Ok(())
+    match report_text::write_record(sink, node, name, record) {
+        Ok(()) => Ok(()),
+        Err(_) => Err(BreakOff::WriteFault),
+    }
 }
 
 /// Makes an edit, and writes the reply.

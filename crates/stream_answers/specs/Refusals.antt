@@ -70,10 +70,12 @@ is_limit refusals.BadSection = false
 is_limit refusals.TooManySchemas = true
 is_limit (refusals.Tree reason) = is_tree_limit reason
 
+abbrev pub reason_line : List ℕ → ℕ → List ℕ → List ℕ
+reason_line word line reason = word ++ decimal line ++ codes " " ++ reason ++ 10 ∷ []
+
 -- the line that tells of a refused line, by its number from 1
 abbrev pub refusal_line : ℕ → Refusal → List ℕ
-refusal_line line refusal =
-    (if is_limit refusal then codes "limit " else codes "listing ") ++ decimal line ++ codes " " ++ name_of refusal ++ 10 ∷ []
+refusal_line line refusal = reason_line (if is_limit refusal then codes "limit " else codes "listing ") line (name_of refusal)
 
 abbrev pub refusal_ending : Refusal → Ending
 refusal_ending refusal = if is_limit refusal then Limit else ListingRefused

@@ -5,10 +5,10 @@ ghost use Rattle.stream_answers.specs.Turning.{Turning};
 ghost use Rattle.edit_replies.specs.Tells.{Tells};
 
 use crate::{Ending, Turn};
-use edit_replies::BreakOff;
+use edit_replies::{BreakOff, write_answer};
 use item_listing::Reason;
 use tag_names::NameReason;
-use text_sink::{Part, write_parts, write_text};
+use text_sink::Part;
 use tree_building::{TreeFault, TreeReason};
 use xsv_io::Sink;
 
@@ -102,6 +102,27 @@ impl Refusal {
     }
 }
 
+/// Writes a word, a line's number and a reason.
+fn write_reason<W: Sink>(
+    sink: &mut W,
+    word: &str,
+    line: u64,
+    reason: &str,
+) -> Result<(), BreakOff>
+    ensures tells { Tells W.taken W.faults W.fault_bound sink.old sink.new result (refusals.reason_line word.now line reason.now) }
+{
+    write_answer(
+        sink,
+        &[
+            Part::Text(word),
+            Part::Number(line),
+            Part::Text(" "),
+            Part::Text(reason),
+            Part::Text("\n"),
+        ],
+    )
+}
+
 /// Writes that a line is refused, and answers how the stream ended.
 ///
 /// # Errors
@@ -115,22 +136,14 @@ pub fn write_refusal<W: Sink>(
     ensures tells { Tells W.taken W.faults W.fault_bound sink.old sink.new result (refusals.refusal_line line refusal) }
     ensures ending { IfOk result (λ ending. ending ≡ refusals.refusal_ending refusal) }
 {
-    let (word, ending) = if refusal.is_limit() {
-        ("limit ", Ending::Limit)
+    let name = refusal.name();
+    if refusal.is_limit() {
+        write_reason(sink, "limit ", line, name)?;
+        Ok(Ending::Limit)
     } else {
-        ("listing ", Ending::ListingRefused)
-    };
-    write_parts(
-        sink,
-        &[
-            Part::Text(word),
-            Part::Number(line),
-            Part::Text(" "),
-            Part::Text(refusal.name()),
-            Part::Text("\n"),
-        ],
-    )?;
-    Ok(ending)
+        write_reason(sink, "listing ", line, name)?;
+        Ok(Ending::ListingRefused)
+    }
 }
 
 /// A line that is refused ends the stream.
@@ -164,6 +177,6 @@ pub fn refuse_tree<W: Sink>(
 pub fn not_yet<W: Sink>(sink: &mut W) -> Result<Turn, BreakOff>
     ensures { Turning W.taken W.faults W.fault_bound sink.old sink.new result turns.not_yet }
 {
-    write_text(sink, "unsupported NotYet\n")?;
+    write_answer(sink, &[Part::Text("unsupported NotYet\n")])?;
     Ok(Turn::Ends(Ending::Unsupported))
 }

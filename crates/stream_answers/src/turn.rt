@@ -11,11 +11,11 @@ use crate::place::Verdict;
 use crate::refusal::{Refusal, misplaced, write_refusal};
 use crate::schema::{answer_schema, begin_schemas};
 use crate::{Asked, Ending, Place};
-use edit_replies::BreakOff;
+use edit_replies::{BreakOff, write_answer};
 use item_listing::{Item, Reason};
 use report_text::validity_word;
 use std::alloc::Global;
-use text_sink::{Part, write_parts};
+use text_sink::Part;
 use xsv_io::Sink;
 use xsv_steps::{Ledger, Steps};
 
@@ -61,7 +61,7 @@ pub fn answer_item<W: Sink, L: Ledger>(
 fn write_end<W: Sink>(sink: &mut W, verdict: &Verdict) -> Result<(), BreakOff>
     ensures tells { Tells W.taken W.faults W.fault_bound sink.old sink.new result (turns.end_line verdict.now) }
 {
-    write_parts(
+    write_answer(
         sink,
         &[
             Part::Text("end "),
@@ -70,8 +70,7 @@ fn write_end<W: Sink>(sink: &mut W, verdict: &Verdict) -> Result<(), BreakOff>
             Part::Number(verdict.total),
             Part::Text("\n"),
         ],
-    )?;
-    Ok(())
+    )
 }
 
 /// Writes the last line, where the source has ended behind so many lines, and answers how the stream ended. Where the word
