@@ -50,12 +50,16 @@ change_reply t s (Ok d) = record {
 }
 change_reply t s (Err e) = record { text = refusal (refusals.number_of e) (refusals.name_of e); next = s }
 
--- the record line of an element; a text has none, and no other number is of a node
+-- why a number is of no element: it is of a text, or of no node
+abbrev pub no_element : Option NodeKind → List ℕ
+no_element (Some Chars) = refusal 2 (codes "NotElement")
+no_element (Some Element) = refusal 1 (codes "UnknownNode")
+no_element None = refusal 1 (codes "UnknownNode")
+
+-- the record line of an element
 abbrev pub assess_reply : Option NodeKind → Option Entry → List ℕ
 assess_reply kind (Some e) = entry_line e
-assess_reply (Some Chars) None = refusal 2 (codes "NotElement")
-assess_reply (Some Element) None = refusal 1 (codes "UnknownNode")
-assess_reply None None = refusal 1 (codes "UnknownNode")
+assess_reply kind None = no_element kind
 
 abbrev pub reply : Tables → Standing → Result Command ScriptFault → Reply
 reply t s (Ok (commands.Change edit)) = change_reply t s (edited s.document edit)

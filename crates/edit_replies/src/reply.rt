@@ -6,7 +6,7 @@ ghost use Rattle.session_model.specs.Asking.{entry_of};
 ghost use Rattle.tree_rows.specs.Kinds.{kind_of};
 ghost use Rattle.text_sink.specs.Parts.{parts_text};
 ghost use Rattle.report_text.specs.Report.{record_line};
-ghost use Rattle.edit_replies.specs.Replies.{made, total_line, refusal, assess_reply, change_reply, standing_of, Stands};
+ghost use Rattle.edit_replies.specs.Replies.{made, total_line, refusal, no_element, assess_reply, change_reply, standing_of, Stands};
 ghost use Rattle.edit_replies.specs.Tells.{Tells};
 
 use crate::BreakOff;
@@ -120,6 +120,17 @@ pub fn answer_change<S: Session, W: Sink, L: Ledger>(
     }
 }
 
+/// Writes why a number is of no element.
+fn refuse_element<W: Sink>(kind: Option<NodeKind>, sink: &mut W) -> Result<(), BreakOff>
+    ensures tells { Tells W.taken W.faults W.fault_bound sink.old sink.new result (no_element kind) }
+{
+    match kind {
+        Some(NodeKind::Chars) => write_refusal(sink, 2, "NotElement"),
+        Some(NodeKind::Element) => write_refusal(sink, 1, "UnknownNode"),
+        None => write_refusal(sink, 1, "UnknownNode"),
+    }
+}
+
 /// Writes the record line of an element, or why there is none.
 pub fn answer_assess<S: Session, W: Sink>(session: &S, node: u32, sink: &mut W) -> Result<(), BreakOff>
     requires { (S.state session.now).closed ≡ false }
@@ -131,10 +142,6 @@ pub fn answer_assess<S: Session, W: Sink>(session: &S, node: u32, sink: &mut W) 
             Some(record) => write_record(sink, node, name.as_str(), record),
             None => unreachable!(),
         },
-        None => match session.live(node) {
-            Some(NodeKind::Chars) => write_refusal(sink, 2, "NotElement"),
-            Some(NodeKind::Element) => write_refusal(sink, 1, "UnknownNode"),
-            None => write_refusal(sink, 1, "UnknownNode"),
-        },
+        None => refuse_element(session.live(node), sink),
     }
 }

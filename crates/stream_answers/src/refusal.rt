@@ -105,9 +105,9 @@ impl Refusal {
 /// Writes a word, a line's number and a reason.
 fn write_reason<W: Sink>(
     sink: &mut W,
-    word: &str,
+    word: &'static str,
     line: u64,
-    reason: &str,
+    reason: &'static str,
 ) -> Result<(), BreakOff>
     ensures tells { Tells W.taken W.faults W.fault_bound sink.old sink.new result (refusals.reason_line word.now line reason.now) }
 {
