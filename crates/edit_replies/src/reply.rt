@@ -1,4 +1,4 @@
-ghost use Rattle.std.specs.Prelude.{◌≡◌, ◌≤◌, true, false, OnOk};
+ghost use Rattle.std.specs.Prelude.{◌≡◌, ◌≤◌, Some, true, false, OnOk};
 ghost use Rattle.tree_edits.specs.Edits.{can_be_made};
 ghost use Rattle.tree_edits.specs.Tests.{edited};
 ghost use Rattle.session_model.specs.State.{known};
@@ -120,13 +120,22 @@ pub fn answer_change<S: Session, W: Sink, L: Ledger>(
     }
 }
 
+/// Writes why a number of this kind of node is of no element.
+fn refuse_kind<W: Sink>(kind: NodeKind, sink: &mut W) -> Result<(), BreakOff>
+    ensures tells { Tells W.taken W.faults W.fault_bound sink.old sink.new result (no_element (Some kind)) }
+{
+    match kind {
+        NodeKind::Chars => write_refusal(sink, 2, "NotElement"),
+        NodeKind::Element => write_refusal(sink, 1, "UnknownNode"),
+    }
+}
+
 /// Writes why a number is of no element.
 fn refuse_element<W: Sink>(kind: Option<NodeKind>, sink: &mut W) -> Result<(), BreakOff>
     ensures tells { Tells W.taken W.faults W.fault_bound sink.old sink.new result (no_element kind) }
 {
     match kind {
-        Some(NodeKind::Chars) => write_refusal(sink, 2, "NotElement"),
-        Some(NodeKind::Element) => write_refusal(sink, 1, "UnknownNode"),
+        Some(kind) => refuse_kind(kind, sink),
         None => write_refusal(sink, 1, "UnknownNode"),
     }
 }
