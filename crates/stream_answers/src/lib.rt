@@ -14,4 +14,4 @@ mod turn;
 pub use ending::Ending;
 pub use place::{Asked, Place};
 pub use refusal::{Refusal, write_refusal};
-pub use turn::{Turn, answer_item, finish};
+pub use turn::{Turn, answer_item, write_end};

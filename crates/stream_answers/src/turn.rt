@@ -58,7 +58,7 @@ pub fn answer_item<W: Sink, L: Ledger>(
 }
 
 /// Writes the last line.
-fn write_end<W: Sink>(sink: &mut W, verdict: &Verdict) -> Result<(), BreakOff>
+fn write_verdict<W: Sink>(sink: &mut W, verdict: &Verdict) -> Result<(), BreakOff>
     ensures tells { Tells W.taken W.faults W.fault_bound sink.old sink.new result (turns.end_line verdict.now) }
 {
     write_answer(
@@ -79,14 +79,14 @@ fn write_end<W: Sink>(sink: &mut W, verdict: &Verdict) -> Result<(), BreakOff>
 /// # Errors
 ///
 /// `WriteFault` where the sink failed; a front was then written.
-pub fn finish<W: Sink>(sink: &mut W, lines: u32, place: &Place) -> Result<Ending, BreakOff>
+pub fn write_end<W: Sink>(sink: &mut W, lines: u32, place: &Place) -> Result<Ending, BreakOff>
     ensures tells { Tells W.taken W.faults W.fault_bound sink.old sink.new result (output.finished lines place.now).text }
     ensures ending { IfOk result (λ ending. (output.finished lines place.now).ending ≡ Some ending) }
 {
     match place {
         Place::Ended(None) => Ok(Ending::Valid),
         Place::Ended(Some(verdict)) => {
-            write_end(sink, verdict)?;
+            write_verdict(sink, verdict)?;
             Ok(ending_of(verdict.validity))
         }
         _ => write_refusal(sink, lines as u64 + 1, Refusal::Line(Reason::EndMissing)),

@@ -13,7 +13,7 @@ use crate::piece::{ENOUGH, Piece, take_piece};
 use edit_replies::BreakOff;
 use item_listing::Listing;
 use std::alloc::Global;
-use stream_answers::{Asked, Ending, Place, finish};
+use stream_answers::{Asked, Ending, Place, write_end};
 use xsv_io::{Sink, Source};
 use xsv_steps::{Ledger, Steps};
 
@@ -33,7 +33,7 @@ fn end_stream<W: Sink, L: Ledger>(
 {
     listing.finish();
     match take_lines(alloc, asked, &mut listing, place, sink, steps) {
-        Ok(Progress::Waits(place)) => finish(sink, listing.line_count(), &place),
+        Ok(Progress::Waits(place)) => write_end(sink, listing.line_count(), &place),
         Ok(Progress::Ends(ending)) => Ok(ending),
         Err(why) => Err(why),
     }

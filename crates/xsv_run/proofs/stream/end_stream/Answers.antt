@@ -7,9 +7,9 @@ use Rattle.xsv_run.proofs.stream.end_stream.Goals as goal
 pub returns-in-Ok-Waits-clause-answers : goal.returns-in-Ok-Waits-clause-answers
 returns-in-Ok-Waits-clause-answers g c =
     finished_last c.args.asked c.args.place c.args.listing c.finish.new.self (ap (λ (r : Reading). r.past) c.finish.ensures.finished) c.finish.ensures.listed
-    c.in-Ok-Waits.place c.take_lines.new.listing _ _ _ c.finish-2.result c.in-Ok-Waits.ensures.progress.0 c.in-Ok-Waits.ensures.progress.1
+    c.in-Ok-Waits.place c.take_lines.new.listing _ _ _ c.write_end.result c.in-Ok-Waits.ensures.progress.0 c.in-Ok-Waits.ensures.progress.1
     (c.take_lines.ensures.finished ∙ ap (λ (r : Reading). r.finished) c.finish.ensures.finished)
-    (ends_as _ _ _ _ c.finish-2.ensures.tells.wrote c.finish-2.ensures.ending)
+    (ends_as _ _ _ _ c.write_end.ensures.tells.wrote c.write_end.ensures.ending)
 
 pub returns-in-Ok-Ends-clause-answers : goal.returns-in-Ok-Ends-clause-answers
 returns-in-Ok-Ends-clause-answers g c =
