@@ -4,7 +4,7 @@ ghost use Rattle.edit_replies.specs.Replies.{reply, standing_of, Stands};
 ghost use Rattle.edit_replies.specs.Tells.{Tells};
 
 use crate::BreakOff;
-use crate::reply::{answer_assess, answer_change, write_refusal, write_total};
+use crate::reply::{answer_assess, answer_change, answer_total, write_refusal};
 use edit_script::{Command, read_command};
 use item_listing::Items;
 use session_model::Session;
@@ -37,7 +37,7 @@ pub fn answer_line<S: Session, W: Sink, L: Ledger>(
     match read_command(alloc, line, block)? {
         Ok(Command::Change(edit)) => answer_change(session, &edit, sink, steps),
         Ok(Command::Assess(node)) => answer_assess(session, node, sink),
-        Ok(Command::Total) => write_total(sink, session.code_total()),
+        Ok(Command::Total) => answer_total(sink, session.code_total()),
         Err(fault) => write_refusal(sink, fault.number(), fault.name()),
     }
 }

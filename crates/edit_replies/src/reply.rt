@@ -5,6 +5,7 @@ ghost use Rattle.session_model.specs.State.{known};
 ghost use Rattle.session_model.specs.Asking.{entry_of};
 ghost use Rattle.tree_rows.specs.Kinds.{kind_of};
 ghost use Rattle.text_sink.specs.Parts.{parts_text};
+ghost use Rattle.text_sink.specs.Written.{Written};
 ghost use Rattle.report_text.specs.Report.{record_line};
 ghost use Rattle.edit_replies.specs.Replies.{made, total_line, refusal, no_element, assess_reply, change_reply, standing_of, Stands};
 ghost use Rattle.edit_replies.specs.Tells.{Tells};
@@ -15,7 +16,7 @@ use session_model::{Session, SessionError};
 use text_sink::{Part, write_parts};
 use tree_edits::Edit;
 use tree_rows::NodeKind;
-use xsv_io::Sink;
+use xsv_io::{Failed, Sink};
 use xsv_steps::{Ledger, Steps};
 
 /// Writes the parts of an answer.
@@ -56,14 +57,24 @@ pub fn write_made<W: Sink>(sink: &mut W, revision: u64, total: u64) -> Result<()
 ///
 /// # Errors
 ///
-/// `WriteFault` where the sink failed.
-pub fn write_total<W: Sink>(sink: &mut W, total: u64) -> Result<(), BreakOff>
-    ensures tells { Tells W.taken W.faults W.fault_bound sink.old sink.new result (total_line total) }
+/// `Failed` where the sink failed; a front was then written.
+pub fn write_total<W: Sink>(sink: &mut W, total: u64) -> Result<(), Failed>
+    ensures written { Written W.taken W.faults W.fault_bound sink.old sink.new result (total_line total) }
 {
-    write_answer(
+    write_parts(
         sink,
         &[Part::Text("total "), Part::Number(total), Part::Text("\n")],
     )
+}
+
+/// Answers with the number of codes.
+pub fn answer_total<W: Sink>(sink: &mut W, total: u64) -> Result<(), BreakOff>
+    ensures tells { Tells W.taken W.faults W.fault_bound sink.old sink.new result (total_line total) }
+{
+    match write_total(sink, total) {
+        Ok(()) => Ok(()),
+        Err(_) => Err(BreakOff::WriteFault),
+    }
 }
 
 /// Writes a refusal.

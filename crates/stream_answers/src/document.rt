@@ -2,7 +2,7 @@ ghost use Rattle.std.specs.Prelude.{◌≡◌, false, IfOk};
 ghost use Rattle.session_model.specs.State.{known};
 ghost use Rattle.stream_answers.specs.Turns as turns;
 ghost use Rattle.stream_answers.specs.Turning.{Turning};
-ghost use Rattle.edit_replies.specs.Tells.{Tells};
+ghost use Rattle.text_sink.specs.Written.{Written};
 
 use crate::place::{DocumentSection, Verdict};
 use crate::refusal::{misplaced, not_yet, refuse_tree};
@@ -13,7 +13,7 @@ use plain_session::PlainSession;
 use session_model::Session;
 use std::alloc::Global;
 use tree_rows::Row;
-use xsv_io::Sink;
+use xsv_io::{Failed, Sink};
 
 /// Whether some element has an attribute that is no binding.
 fn have_attributes(rows: &[Row]) -> bool
@@ -34,9 +34,9 @@ pub fn verdict_of(session: &PlainSession) -> Verdict
 }
 
 /// Writes the report on the document of a session.
-fn write_report<W: Sink>(session: &PlainSession, sink: &mut W) -> Result<(), BreakOff>
+fn write_report<W: Sink>(session: &PlainSession, sink: &mut W) -> Result<(), Failed>
     requires { session.now.closed ≡ false }
-    ensures tells { Tells W.taken W.faults W.fault_bound sink.old sink.new result (turns.report (known session.now)) }
+    ensures written { Written W.taken W.faults W.fault_bound sink.old sink.new result (turns.report (known session.now)) }
 {
     session.write_report(sink)?;
     write_total(sink, session.code_total())
@@ -47,8 +47,10 @@ fn end_with_report<W: Sink>(session: &PlainSession, sink: &mut W) -> Result<Turn
     requires { session.now.closed ≡ false }
     ensures { Turning W.taken W.faults W.fault_bound sink.old sink.new result (turns.reported session.now) }
 {
-    write_report(session, sink)?;
-    Ok(Turn::Goes(Place::Ended(Some(verdict_of(session)))))
+    match write_report(session, sink) {
+        Ok(()) => Ok(Turn::Goes(Place::Ended(Some(verdict_of(session))))),
+        Err(_) => Err(BreakOff::WriteFault),
+    }
 }
 
 /// The stream ends with a session that has no edits.

@@ -1,5 +1,5 @@
 -- Lines and pieces, one after another.
-use Rattle.std.proofs.Common.{◌≡◌, ℕ, ◌+◌, ◌≤◌, List, [], ◌++◌, length, Bool, true, false, Option, Result, Ok, refl, sym, ap, ◌∙◌, subst, append_assoc}
+use Rattle.std.proofs.Common.{◌≡◌, ℕ, ◌+◌, ◌≤◌, List, [], ◌++◌, length, Bool, true, false, Option, Result, Ok, Err, refl, sym, ap, ◌∙◌, subst, append_assoc}
 use Rattle.std.proofs.KnownBytes.{Appends-nil, Appends-trans}
 use Rattle.item_listing.specs.State.{Reading}
 use Rattle.item_listing.specs.declared.past.Past.{Past}
@@ -12,8 +12,9 @@ use Rattle.stream_answers.specs.declared.place.Asked.{Asked}
 use Rattle.stream_answers.specs.declared.place.Place.{Place}
 use Rattle.edit_replies.specs.declared.break_off.BreakOff.{BreakOff}
 use Rattle.stream_answers.specs.declared.ending.Ending.{Ending}
-use Rattle.xsv_run.specs.Progress.{EndsAs, GoesOn, HasEnded, TakesNext, Progresses, Feeds, to_tell}
+use Rattle.xsv_run.specs.Progress.{EndsAs, GoesOn, HasEnded, TakesNext, Progresses, Feeds, FeedsOn, to_tell}
 use Rattle.xsv_run.specs.declared.next.Next.TheVariants as nexts
+use Rattle.xsv_run.specs.declared.lines.Progress.{Progress}
 use Rattle.xsv_run.specs.declared.lines.Progress.TheVariants as progresses
 use Rattle.xsv_run.proofs.Telling.{ends_behind}
 
@@ -60,6 +61,12 @@ module _ (a : Asked) (p : Place) (r f : Reading) (bytes : List ℕ) (past : f.pa
   pub ends_fed : (o n : Option (List ℕ)) (e : Result Ending BreakOff) → HasEnded a p f o n e
       → (more : List ℕ) (closed : Bool) → EndsAs e o n (to_tell a p r (bytes ++ more) closed)
   ends_fed o n e ended = λ more closed. subst (EndsAs e o n) (sym (same_told more closed)) (ended more closed)
+
+  pub fed_on : (s : Reading) (o n : Option (List ℕ)) (x : Result Progress BreakOff) → Progresses a p f o s n x → bytes_taken s ≡ bytes_taken r + length bytes → s.finished ≡ false
+      → FeedsOn a p r o bytes s n x
+  fed_on s o n (Ok (progresses.Waits q)) h counted going = feeds q s o n h.0 h.1 counted h.2 going
+  fed_on s o n (Ok (progresses.Ends ending)) h counted going = ends_fed o n (Ok ending) h
+  fed_on s o n (Err why) h counted going = ends_fed o n (Err why) h
 
 -- no whole line is left
 pub waits_now : (a : Asked) (p q x : Place) (r s t : Reading) (o m n : Option (List ℕ)) → GoesOn a p r o q s m → TakesNext a q s m t n (Ok (nexts.Waits x)) → bytes_taken t ≤ MOST_BYTES
