@@ -125,7 +125,11 @@ pub fn answer_change<S: Session, W: Sink, L: Ledger>(
 {
     match session.apply(edit, steps) {
         Ok(()) => write_made(sink, session.revision(), session.code_total()),
-        Err(SessionError::Refused(refused)) => write_refusal(sink, refused.number(), refused.name()),
+        Err(SessionError::Refused(refused)) => write_refusal(
+            sink,
+            refused.number(),
+            refused.name(),
+        ),
         Err(SessionError::Memory) => Err(BreakOff::Memory),
         Err(SessionError::Closed) => unreachable!(),
     }
@@ -152,7 +156,11 @@ fn refuse_element<W: Sink>(kind: Option<NodeKind>, sink: &mut W) -> Result<(), B
 }
 
 /// Writes the record line of an element, or why there is none.
-pub fn answer_assess<S: Session, W: Sink>(session: &S, node: u32, sink: &mut W) -> Result<(), BreakOff>
+pub fn answer_assess<S: Session, W: Sink>(
+    session: &S,
+    node: u32,
+    sink: &mut W,
+) -> Result<(), BreakOff>
     requires { (S.state session.now).closed ≡ false }
     ensures tells { Tells W.taken W.faults W.fault_bound sink.old sink.new result
         (assess_reply (kind_of node (S.state session.now).document.forest) (entry_of node (known (S.state session.now)))) }

@@ -15,7 +15,13 @@ fn write_code<W: Sink>(sink: &mut W, code: Code) -> Result<(), Failed>
         Code::HasElements => write_text(sink, "cvc-type.3.1.2"),
         Code::HasCharacters => write_text(sink, "cvc-complex-type.2.3"),
         Code::Stuck(place) => {
-            write_parts(sink, &[Part::Text("cvc-complex-type.2.4@"), Part::Number(place as u64)])
+            write_parts(
+                sink,
+                &[
+                    Part::Text("cvc-complex-type.2.4@"),
+                    Part::Number(place as u64),
+                ],
+            )
         }
     }
 }

@@ -13,7 +13,7 @@ use xsv_io::{Failed, Sink};
 fn write_known<W: Sink>(sink: &mut W, known: &ElementRecord) -> Result<(), Failed>
     ensures written { Written W.taken W.faults W.fault_bound sink.old sink.new result
         (codes " " ++ words.validity_word known.now.validity ++ codes " " ++ words.attempted_word known.now.attempted ++ codes " given "
-            ++ words.codes_text known.now.codes ++ 10 ∷ []) }
+        ++ words.codes_text known.now.codes ++ 10 ∷ []) }
 {
     let validity = validity_word(known.validity);
     let attempted = attempted_word(known.attempted);
@@ -34,7 +34,7 @@ fn write_known<W: Sink>(sink: &mut W, known: &ElementRecord) -> Result<(), Faile
 fn write_typed<W: Sink>(sink: &mut W, known: &ElementRecord) -> Result<(), Failed>
     ensures written { Written W.taken W.faults W.fault_bound sink.old sink.new result
         (words.type_text known.now.of ++ codes " " ++ words.validity_word known.now.validity ++ codes " " ++ words.attempted_word known.now.attempted
-            ++ codes " given " ++ words.codes_text known.now.codes ++ 10 ∷ []) }
+        ++ codes " given " ++ words.codes_text known.now.codes ++ 10 ∷ []) }
 {
     write_type(sink, known.of)?;
     write_known(sink, known)

@@ -127,11 +127,7 @@ fn begin_edits<W: Sink>(
 }
 
 /// One more item of the document's tree.
-fn grow<W: Sink>(
-    section: DocumentSection,
-    item: &Item,
-    sink: &mut W,
-) -> Result<Turn, BreakOff>
+fn grow<W: Sink>(section: DocumentSection, item: &Item, sink: &mut W) -> Result<Turn, BreakOff>
     ensures { Turning W.taken W.faults W.fault_bound sink.old sink.new result (turns.document_grown section item.now) }
 {
     let DocumentSection {

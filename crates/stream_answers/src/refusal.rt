@@ -128,11 +128,7 @@ fn write_reason<W: Sink>(
 /// # Errors
 ///
 /// `WriteFault` where the sink failed; a front was then written.
-pub fn write_refusal<W: Sink>(
-    sink: &mut W,
-    line: u64,
-    refusal: Refusal,
-) -> Result<Ending, BreakOff>
+pub fn write_refusal<W: Sink>(sink: &mut W, line: u64, refusal: Refusal) -> Result<Ending, BreakOff>
     ensures tells { Tells W.taken W.faults W.fault_bound sink.old sink.new result (refusals.refusal_line line refusal) }
     ensures ending { IfOk result (λ ending. ending ≡ refusals.refusal_ending refusal) }
 {
@@ -162,11 +158,7 @@ pub fn misplaced<W: Sink>(sink: &mut W, line: u32) -> Result<Turn, BreakOff>
 }
 
 /// A fault of the tree of a section that began at line `start`.
-pub fn refuse_tree<W: Sink>(
-    sink: &mut W,
-    start: u32,
-    fault: TreeFault,
-) -> Result<Turn, BreakOff>
+pub fn refuse_tree<W: Sink>(sink: &mut W, start: u32, fault: TreeFault) -> Result<Turn, BreakOff>
     ensures { Turning W.taken W.faults W.fault_bound sink.old sink.new result (turns.bad_tree start fault) }
 {
     let line = start as u64 + 1 + fault.item as u64;

@@ -96,7 +96,11 @@ fn document_place(alloc: Global, line: u32, schema: Schema) -> Result<Place, All
 }
 
 /// The last schema section ends, for `check`.
-fn end_schemas<W: Sink>(alloc: Global, section: SchemaSection, sink: &mut W) -> Result<Turn, BreakOff>
+fn end_schemas<W: Sink>(
+    alloc: Global,
+    section: SchemaSection,
+    sink: &mut W,
+) -> Result<Turn, BreakOff>
     ensures { Turning W.taken W.faults W.fault_bound sink.old sink.new result (turns.schemas_end section (λ t. Place.Ended None)) }
 {
     let SchemaSection {

@@ -359,7 +359,10 @@ fn breaks_off_in_the_middle_of_a_report(rt: HostRuntime) -> Result<(), Fail> {
     let mut steps = Steps::new(Silent);
     let status = run(alloc, &words, &mut source, &mut sink, &mut steps);
     assert!(rt; status == Status::WriteFault);
-    assert!(rt; sink.taken().starts_with(b"schema ok\ne 1 r xs:string invalid "));
+    assert!(rt;
+        sink.taken()
+            .starts_with(b"schema ok\ne 1 r xs:string invalid ")
+    );
     assert!(rt; sink.taken().len() > 4000);
     Ok(())
 }
