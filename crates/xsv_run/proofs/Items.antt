@@ -20,7 +20,7 @@ use Rattle.stream_answers.specs.declared.place.Place.{Place}
 use Rattle.stream_answers.specs.declared.refusal.Refusal.TheVariants as refusals
 use Rattle.stream_answers.specs.declared.turn.Turn.{Turn}
 use Rattle.stream_answers.specs.declared.turn.Turn.TheVariants as turns
-use Rattle.xsv_run.specs.Progress.{EndsAs, TakesItem, TakesNext, HasEnded, to_tell}
+use Rattle.xsv_run.specs.Progress.{EndsAs, TakesItem, TakesNext, HasEnded, Holds, to_tell}
 use Rattle.xsv_run.specs.declared.next.Next.{Next}
 use Rattle.xsv_run.specs.declared.next.Next.TheVariants as nexts
 use Rattle.xsv_run.proofs.Telling.{front_none, front_broken}
@@ -34,7 +34,7 @@ pub item_ends : (t : Turned) (a b : Option (List ℕ)) (ending : Ending) → App
 item_ends (goes said next) a b ending h is = absurd is
 item_ends (ends said was) a b ending h is = (h, is)
 
-pub item_broken : (t : Turned) (a b : Option (List ℕ)) (why : BreakOff) → Wrote {Turn} (Err why) a b (said_of t) → TakesItem t a b (Err why)
+pub item_broken : (t : Turned) (a b : Option (List ℕ)) (why : BreakOff) → Wrote {T = Turn} (Err why) a b (said_of t) → TakesItem t a b (Err why)
 item_broken (goes said next) a b why h = front_broken why a b said h
 item_broken (ends said ending) a b why h = front_broken why a b said h
 
@@ -100,7 +100,12 @@ pub fault_read : (a : Asked) (place : Place) (r s : Reading) (read : Result (Opt
     → read ≡ Err fault → ReadsOn r read s → Leaves r read s
     → Wrote n old new (stopped fault.line (refusals.Line fault.reason)).text
     → IfOk n (λ next. next ≡ nexts.Ends (refusal_ending (refusals.Line fault.reason))) → TakesNext a place r old s new n
-fault_read a place r s read fault old new n is reads leaves h ends =
+fault_read a place r s read fault old new n is reads leaves h ended =
     let on = subst (λ q. ReadsOn r q s) is reads in
     let left : s ≡ r = subst (λ q. Leaves r q s) is leaves in
-    subst (λ q. TakesNext a place r old q new n) (sym left) (refused_by a place r fault old new n on h ends)
+    subst (λ q. TakesNext a place r old q new n) (sym left) (refused_by a place r fault old new n on h ended)
+
+-- a line that is refused ends the stream
+pub holds_ended : (n : Result Next BreakOff) (r s : Reading) (ending : Ending) → IfOk n (λ next. next ≡ nexts.Ends ending) → IfOk n (Holds r s)
+holds_ended (Ok next) r s ending is = subst (Holds r s) (sym is) tt
+holds_ended (Err why) r s ending is = tt

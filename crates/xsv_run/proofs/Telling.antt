@@ -27,7 +27,7 @@ pub front_all : (a b : Option (List ℕ)) (text : List ℕ) → Appends a b text
 front_all a b text h = (length text, subst (Appends a b) (sym (take_all (length text) text (omega arith))) h)
 
 -- a call that broke off has written a front
-pub front_broken : {T : Type 0} (why : BreakOff) (a b : Option (List ℕ)) (text : List ℕ) → Wrote {T} (Err why) a b text → AppendsFront a b text
+pub front_broken : {T : Type 0} (why : BreakOff) (a b : Option (List ℕ)) (text : List ℕ) → Wrote {T = T} (Err why) a b text → AppendsFront a b text
 front_broken breaks.Memory a b text same = subst (λ o. AppendsFront a o text) (sym same) (front_none a text)
 front_broken breaks.WriteFault a b text front = front
 

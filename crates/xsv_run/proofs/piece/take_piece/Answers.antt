@@ -5,7 +5,7 @@ use Rattle.xsv_run.proofs.piece.take_piece.Goals as goal
 
 pub returns-in-Ok-Ends-clause-takes : goal.returns-in-Ok-Ends-clause-takes
 returns-in-Ok-Ends-clause-takes g c =
-    ends_piece _ _ _ (take c.in-Ok.count c.read.new.into) _ _ _ _ _ (Ok c.in-Ok-Ends.ending) c.in-Ok.ensures.bytes.0 (take-append-le c.in-Ok.count c.read.new.into _ c.in-Ok.ensures.bound.0) c.in-Ok-Ends.ensures.takes
+    ends_piece _ _ _ (take c.in-Ok.count c.read.new.into) _ _ _ _ _ (Ok c.in-Ok-Ends.ending) c.in-Ok.ensures.bytes.0 (take-append-le c.in-Ok.count c.read.new.into _ c.in-Ok.ensures.bound.0) (rw c.in-Ok-Ends.field-0-is at c.in-Ok-Ends.ensures.takes)
     (omega (arith, length-take c.in-Ok.count c.read.new.into, length-take c.min-most.result c.args.buf.now, c.min-most.ensures, c.in-Ok.ensures.bound, c.read.auto.into, c.requires.room))
 
 pub returns-in-Ok-Err-clause-takes : goal.returns-in-Ok-Err-clause-takes
