@@ -1,0 +1,5 @@
+pub mod WriteLaws
+pub mod RowLaws
+pub mod GraphLaws
+pub mod CircleLaws
+pub mod RankLaws
