@@ -1,0 +1,13 @@
+pub mod Among
+pub mod Seen
+pub mod Putting
+pub mod Taking
+pub mod Keyed
+pub mod Leading
+pub mod Writing
+pub mod Changing
+pub mod Making
+pub mod Placed
+pub mod Cutting
+pub mod Rooted
+pub mod Found

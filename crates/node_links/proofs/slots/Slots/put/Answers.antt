@@ -1,0 +1,19 @@
+use Rattle.std.proofs.Common.{◌<◌, length, subst, refl}
+use Rattle.std.proofs.lemmas.List.{length-map}
+use Rattle.node_links.specs.Slots.{slot_by}
+use Rattle.node_links.proofs.Keyed.{kept_put, writes_put}
+use Rattle.node_links.proofs.slots.Slots.put.Goals as goal
+
+pub invariant_of-self : goal.invariant_of-self
+invariant_of-self c =
+    let s = c.self.inside in
+    let within = rw (← c.self.view_is) at c.requires.within in
+    let lt = subst (λ n. c.args.slot.number < n) (length-map s.keys.items (slot_by s.slab)) within in
+    kept_put s.keys.items s.slab c.insert_reserved-key.new.self c.args.slot.number c.insert_reserved-key.result c.self.invariant c.args.slot lt refl c.insert_reserved-key.ensures.was_vacant c.insert_reserved-key.ensures.updates
+
+pub returns : goal.returns
+returns c =
+    let s = c.self.inside in
+    let within = rw (← c.self.view_is) at c.requires.within in
+    let lt = subst (λ n. c.args.slot.number < n) (length-map s.keys.items (slot_by s.slab)) within in
+    rw (← c.self.view_is) (writes_put s.keys.items s.slab c.insert_reserved-key.new.self c.args.slot.number c.insert_reserved-key.result c.self.invariant c.args.slot lt c.insert_reserved-key.ensures.was_vacant c.insert_reserved-key.ensures.updates)

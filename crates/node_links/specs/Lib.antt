@@ -1,0 +1,5 @@
+pub mod Nodes
+pub mod Firsts
+pub mod FirstLaws
+pub mod Slots
+pub mod Linked
