@@ -1,6 +1,5 @@
 use Rattle.std.proofs.Common.{◌≡◌, ◌<◌, length, take}
 use Rattle.std.specs.Prelude.{All}
-use Rattle.model_symbols.specs.declared.terms.Accepts.{Accepts}
 use Rattle.model_symbols.specs.Terms.{names_of}
 use Rattle.model_notation.proofs.schema.Schema.terms.Given as goal
 
