@@ -23,6 +23,13 @@ pub struct Child {
     pub ambivalent: bool,
 }
 
+impl Child {
+    // The term that is attributed to it.
+    fn term(&self, is_stuck: bool) -> Option<TermId> {
+        if is_stuck { self.first } else { self.at }
+    }
+}
+
 /// How far names have come, and what is attributed to the last of them.
 #[derive(Clone, Copy, Debug)]
 pub struct Progress {
@@ -55,26 +62,21 @@ impl Progress {
 
     /// With one child more.
     pub fn with(self, child: Child) -> Self {
-        let mut stuck = self.stuck;
-        if stuck.is_none() && !child.alive {
-            stuck = Some(self.count);
-        }
-        let term = if stuck.is_none() {
-            child.at
-        } else {
-            child.first
+        let stuck = self.stuck(child.alive);
+        let last = Given {
+            term: child.term(stuck.is_some()),
+            ambivalent: child.ambivalent,
         };
-        let ambivalent = child.ambivalent;
         Progress {
             count: self.count.saturating_add(1),
             stuck,
-            last: Some(Given { term, ambivalent }),
+            last: Some(last),
         }
     }
 
-    /// The place at which the names are stuck, where they end in a state that accepts or not; `None` where they are a word.
-    pub fn stuck(&self, accepting: bool) -> Option<usize> {
-        if self.stuck.is_some() || accepting {
+    /// The place at which the names are stuck: an earlier one, or else this one, unless what stands here, a child or the end, fits.
+    pub fn stuck(&self, fits: bool) -> Option<usize> {
+        if self.stuck.is_some() || fits {
             return self.stuck;
         }
         Some(self.count)
