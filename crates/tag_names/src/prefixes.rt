@@ -23,6 +23,9 @@ fn copy_of(binding: &Binding) -> Result<Binding, AllocError>
     })
 }
 
+/// So many bindings are gone through for a prefix, since that takes less time than hashing it.
+const FEW: usize = 4;
+
 /// Gives the prefix the place of the binding that was hidden, or none.
 fn restore(latest: &mut IndexMap<String, usize>, prefix: &str, hidden: Option<usize>)
     requires { IsSome (get_by_text latest.old prefix.now) }
@@ -45,6 +48,20 @@ fn restore(latest: &mut IndexMap<String, usize>, prefix: &str, hidden: Option<us
 struct Entry {
     binding: Binding,
     hidden: Option<usize>,
+}
+
+/// The name of the namespace that the last of these bindings of the prefix gives.
+fn latest_among<'a>(entries: &'a [Entry], prefix: &str) -> Option<&'a Text>
+    ensures { option_copied result ≡ scopes.of_prefix (bindings_of (reverse entries.now)) prefix.now }
+{
+    let mut left = entries;
+    'left: while let Some((last, before)) = left.split_last() {
+        if last.binding.prefix.as_str() == prefix {
+            return Some(&last.binding.namespace);
+        }
+        left = before;
+    }
+    None
 }
 
 /// The prefixes in scope. Contracts see the bindings, the latest first.
@@ -213,6 +230,9 @@ impl Prefixes {
     pub fn of_prefix(&self, prefix: &str) -> Option<&Text>
         ensures { option_copied result ≡ scopes.of_prefix self.now prefix.now }
     {
+        if self.entries.len() <= FEW {
+            return latest_among(self.entries.as_slice(), prefix);
+        }
         match self.latest.get(prefix) {
             None => None,
             Some(place) => Some(&self.entries[*place].binding.namespace),
