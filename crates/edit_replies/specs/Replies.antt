@@ -50,12 +50,16 @@ change_reply t s (Ok d) = record {
 }
 change_reply t s (Err e) = record { text = refusal (refusals.number_of e) (refusals.name_of e); next = s }
 
+-- why a number is of no element: it is of a text, or of no node
+abbrev pub no_element : Option NodeKind → List ℕ
+no_element (Some Chars) = refusal 2 (codes "NotElement")
+no_element (Some Element) = refusal 1 (codes "UnknownNode")
+no_element None = refusal 1 (codes "UnknownNode")
+
 -- the record line of an element
 abbrev pub assess_reply : Option NodeKind → Option Entry → List ℕ
-assess_reply None found = refusal 1 (codes "UnknownNode")
-assess_reply (Some Chars) found = refusal 2 (codes "NotElement")
-assess_reply (Some Element) None = []
-assess_reply (Some Element) (Some e) = entry_line e
+assess_reply kind (Some e) = entry_line e
+assess_reply kind None = no_element kind
 
 abbrev pub reply : Tables → Standing → Result Command ScriptFault → Reply
 reply t s (Ok (commands.Change edit)) = change_reply t s (edited s.document edit)
@@ -67,9 +71,8 @@ reply t s (Err fault) = record { text = refusal (faults.number_of fault) (faults
 abbrev pub standing_of : State → Standing
 standing_of s = record { document = s.document; revision = s.revision }
 
--- the reply was written, and the session stands as it says
-pub record AnswersBy (old new : State) (before now : List ℕ) (said : Reply) : Type 0 where
-  pub text : now ≡ before ++ said.text
+-- the session stands as the reply says
+pub record Stands (old new : State) (said : Reply) : Type 0 where
   pub stands : standing_of new ≡ said.next
   pub open_still : new.closed ≡ false
   pub tables : new.tables ≡ old.tables

@@ -1,80 +1,175 @@
-ghost use Rattle.std.specs.Prelude.{◌≡◌, ◌++◌, ◌≤◌, true, false, OnOk, string_bytes};
+ghost use Rattle.std.specs.Prelude.{◌≡◌, ◌≤◌, Some, true, false, OnOk};
 ghost use Rattle.tree_edits.specs.Edits.{can_be_made};
 ghost use Rattle.tree_edits.specs.Tests.{edited};
 ghost use Rattle.session_model.specs.State.{known};
 ghost use Rattle.session_model.specs.Asking.{entry_of};
 ghost use Rattle.tree_rows.specs.Kinds.{kind_of};
-ghost use Rattle.assess_model.specs.Assessment.{code_total};
-ghost use Rattle.edit_replies.specs.Replies.{made, total_line, refusal, assess_reply, change_reply, standing_of, AnswersBy};
+ghost use Rattle.text_sink.specs.Parts.{parts_text};
+ghost use Rattle.text_sink.specs.Written.{Written};
+ghost use Rattle.report_text.specs.Report.{record_line};
+ghost use Rattle.edit_replies.specs.Replies.{made, total_line, refusal, no_element, assess_reply, change_reply, standing_of, Stands};
+ghost use Rattle.edit_replies.specs.Tells.{Tells};
 
-use report_text::write_record;
+use crate::BreakOff;
+use assess_model::ElementRecord;
 use session_model::{Session, SessionError};
-use std::alloc::AllocError;
-use std::fmt::Write;
+use text_sink::{Part, write_parts};
 use tree_edits::Edit;
 use tree_rows::NodeKind;
+use xsv_io::{Failed, Sink};
 use xsv_steps::{Ledger, Steps};
 
-/// Writes that an edit was made: the revision and the number of codes.
-pub fn write_made(out: &mut String, revision: u64, total: u64) -> Result<(), AllocError>
-    ensures { OnOk result (string_bytes out.new ≡ string_bytes out.old ++ made revision total) }
+/// Writes the parts of an answer.
+///
+/// # Errors
+///
+/// `WriteFault` where the sink failed; a front was then written.
+pub fn write_answer<W: Sink>(sink: &mut W, parts: &[Part]) -> Result<(), BreakOff>
+    ensures tells { Tells W.taken W.faults W.fault_bound sink.old sink.new result (parts_text parts.now) }
 {
-    writeln!(out, "ok {revision} {total}")?;
-    Ok(())
+    match write_parts(sink, parts) {
+        Ok(()) => Ok(()),
+        Err(_) => Err(BreakOff::WriteFault),
+    }
+}
+
+/// Writes that an edit was made: the revision and the number of codes.
+///
+/// # Errors
+///
+/// `WriteFault` where the sink failed.
+pub fn write_made<W: Sink>(sink: &mut W, revision: u64, total: u64) -> Result<(), BreakOff>
+    ensures tells { Tells W.taken W.faults W.fault_bound sink.old sink.new result (made revision total) }
+{
+    write_answer(
+        sink,
+        &[
+            Part::Text("ok "),
+            Part::Number(revision),
+            Part::Text(" "),
+            Part::Number(total),
+            Part::Text("\n"),
+        ],
+    )
 }
 
 /// Writes the number of codes.
-pub fn write_total(out: &mut String, total: u64) -> Result<(), AllocError>
-    ensures { OnOk result (string_bytes out.new ≡ string_bytes out.old ++ total_line total) }
+///
+/// # Errors
+///
+/// `Failed` where the sink failed; a front was then written.
+pub fn write_total<W: Sink>(sink: &mut W, total: u64) -> Result<(), Failed>
+    ensures written { Written W.taken W.faults W.fault_bound sink.old sink.new result (total_line total) }
 {
-    writeln!(out, "total {total}")?;
-    Ok(())
+    write_parts(
+        sink,
+        &[Part::Text("total "), Part::Number(total), Part::Text("\n")],
+    )
+}
+
+/// Answers with the number of codes.
+pub fn answer_total<W: Sink>(sink: &mut W, total: u64) -> Result<(), BreakOff>
+    ensures tells { Tells W.taken W.faults W.fault_bound sink.old sink.new result (total_line total) }
+{
+    match write_total(sink, total) {
+        Ok(()) => Ok(()),
+        Err(_) => Err(BreakOff::WriteFault),
+    }
 }
 
 /// Writes a refusal.
-pub fn write_refusal(out: &mut String, number: u8, name: &str) -> Result<(), AllocError>
-    ensures { OnOk result (string_bytes out.new ≡ string_bytes out.old ++ refusal number name.now) }
+pub fn write_refusal<W: Sink>(sink: &mut W, number: u8, name: &str) -> Result<(), BreakOff>
+    ensures tells { Tells W.taken W.faults W.fault_bound sink.old sink.new result (refusal number name.now) }
 {
-    writeln!(out, "no {number} {name}")?;
-    Ok(())
+    write_answer(
+        sink,
+        &[
+            Part::Text("no "),
+            Part::Number(number as u64),
+            Part::Text(" "),
+            Part::Text(name),
+            Part::Text("\n"),
+        ],
+    )
+}
+
+/// Writes the record line of an element.
+fn write_record<W: Sink>(
+    sink: &mut W,
+    node: u32,
+    name: &str,
+    record: &ElementRecord,
+) -> Result<(), BreakOff>
+    ensures tells { Tells W.taken W.faults W.fault_bound sink.old sink.new result (record_line node name.now record.now) }
+{
+    match report_text::write_record(sink, node, name, record) {
+        Ok(()) => Ok(()),
+        Err(_) => Err(BreakOff::WriteFault),
+    }
 }
 
 /// Makes an edit, and writes the reply.
-pub fn answer_change<S: Session, L: Ledger>(
+pub fn answer_change<S: Session, W: Sink, L: Ledger>(
     session: &mut S,
     edit: &Edit,
-    out: &mut String,
+    sink: &mut W,
     steps: &mut Steps<L>,
-) -> Result<(), AllocError>
+) -> Result<(), BreakOff>
     requires made { can_be_made edit.now ≡ true }
     requires live { (S.state session.old).closed ≡ false }
-    ensures answers { OnOk result (AnswersBy (S.state session.old) (S.state session.new) (string_bytes out.old) (string_bytes out.new)
+    ensures tells { Tells W.taken W.faults W.fault_bound sink.old sink.new result
+        (change_reply (S.state session.old).tables (standing_of (S.state session.old)) (edited (S.state session.old).document edit.now)).text }
+    ensures stands { OnOk result (Stands (S.state session.old) (S.state session.new)
         (change_reply (S.state session.old).tables (standing_of (S.state session.old)) (edited (S.state session.old).document edit.now))) }
     ensures steps { steps.old ≤ steps.new }
 {
     match session.apply(edit, steps) {
-        Ok(()) => write_made(out, session.revision(), session.code_total()),
-        Err(SessionError::Refused(refused)) => write_refusal(out, refused.number(), refused.name()),
-        Err(SessionError::Memory) => Err(AllocError),
-        Err(SessionError::Closed) => Err(AllocError),
+        Ok(()) => write_made(sink, session.revision(), session.code_total()),
+        Err(SessionError::Refused(refused)) => write_refusal(
+            sink,
+            refused.number(),
+            refused.name(),
+        ),
+        Err(SessionError::Memory) => Err(BreakOff::Memory),
+        Err(SessionError::Closed) => unreachable!(),
+    }
+}
+
+/// Writes why a number of this kind of node is of no element.
+fn refuse_kind<W: Sink>(kind: NodeKind, sink: &mut W) -> Result<(), BreakOff>
+    ensures tells { Tells W.taken W.faults W.fault_bound sink.old sink.new result (no_element (Some kind)) }
+{
+    match kind {
+        NodeKind::Chars => write_refusal(sink, 2, "NotElement"),
+        NodeKind::Element => write_refusal(sink, 1, "UnknownNode"),
+    }
+}
+
+/// Writes why a number is of no element.
+fn refuse_element<W: Sink>(kind: Option<NodeKind>, sink: &mut W) -> Result<(), BreakOff>
+    ensures tells { Tells W.taken W.faults W.fault_bound sink.old sink.new result (no_element kind) }
+{
+    match kind {
+        Some(kind) => refuse_kind(kind, sink),
+        None => write_refusal(sink, 1, "UnknownNode"),
     }
 }
 
 /// Writes the record line of an element, or why there is none.
-pub fn answer_assess<S: Session>(session: &S, node: u32, out: &mut String) -> Result<(), AllocError>
+pub fn answer_assess<S: Session, W: Sink>(
+    session: &S,
+    node: u32,
+    sink: &mut W,
+) -> Result<(), BreakOff>
     requires { (S.state session.now).closed ≡ false }
-    ensures { OnOk result (string_bytes out.new ≡ string_bytes out.old
-        ++ assess_reply (kind_of node (S.state session.now).document.forest) (entry_of node (known (S.state session.now)))) }
+    ensures tells { Tells W.taken W.faults W.fault_bound sink.old sink.new result
+        (assess_reply (kind_of node (S.state session.now).document.forest) (entry_of node (known (S.state session.now)))) }
 {
-    match session.live(node) {
-        None => write_refusal(out, 1, "UnknownNode"),
-        Some(NodeKind::Chars) => write_refusal(out, 2, "NotElement"),
-        Some(NodeKind::Element) => match session.element_name(node) {
-            None => Ok(()),
-            Some(name) => match session.element_record(node) {
-                None => Ok(()),
-                Some(record) => write_record(out, node, name.as_str(), record),
-            },
+    match session.element_name(node) {
+        Some(name) => match session.element_record(node) {
+            Some(record) => write_record(sink, node, name.as_str(), record),
+            None => unreachable!(),
         },
+        None => refuse_element(session.live(node), sink),
     }
 }

@@ -1,16 +1,20 @@
 ghost use Rattle.std.specs.Prelude.{◌≡◌, false, IfOk};
+ghost use Rattle.text_sink.specs.Written.{Written};
+ghost use Rattle.report_text.specs.Report.{record_lines};
+ghost use Rattle.session_model.specs.State.{known};
 
 use crate::find::{find_element, find_kind};
 use crate::stock::{Stock, take_stock};
 use assess_model::{ElementRecord, Schema, Validity};
 use plain_tree::Tree;
-use report_text::find_root_validity;
+use report_text::{find_root_validity, write_report};
 use session_model::{Session, SessionError};
 use std::alloc::{AllocError, Global};
 use std::marker::Model;
 use tree_edits::{Edit, EditError};
 use tree_rows::NodeKind;
 use xs_names::Text;
+use xsv_io::{Failed, Sink};
 use xsv_steps::{Ledger, Steps};
 
 /// A session that assesses the whole tree again after each edit.
@@ -57,6 +61,23 @@ impl PlainSession {
             revision: 0,
             closed: false,
         })
+    }
+
+    /// Writes the record line of each element, in document order.
+    ///
+    /// # Errors
+    ///
+    /// `Failed` where the sink failed; a front was then written.
+    pub fn write_report<W: Sink>(&self, sink: &mut W) -> Result<(), Failed>
+        requires { self.now.closed ≡ false }
+        ensures written { Written W.taken W.faults W.fault_bound sink.old sink.new result (record_lines (known self.now)) }
+    {
+        write_report(
+            sink,
+            self.tree.rows(),
+            &self.stock.names,
+            self.stock.records.as_slice(),
+        )
     }
 }
 

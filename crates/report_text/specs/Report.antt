@@ -3,7 +3,7 @@ use Rattle.std.specs.Prelude.{ℕ, List, [], ◌∷◌, ◌++◌, codes}
 use Rattle.std.specs.Fmt.{decimal}
 use Rattle.assess_model.specs.Assessment.{Entry}
 use Rattle.assess_model.specs.declared.record.ElementRecord.{ElementRecord}
-use Rattle.report_text.specs.Escaping.{escaped}
+use Rattle.text_sink.specs.Escaping.{escaped}
 use Rattle.report_text.specs.Words.{validity_word, attempted_word, codes_text, type_text}
 
 -- number, name with escapes, type, validity, how far assessed, where the value comes from, codes

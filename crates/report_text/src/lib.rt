@@ -1,8 +1,7 @@
-//! The lines that tell what is known of the elements of a document.
+//! The lines that tell what is known of the elements of a document, written to a sink.
 #![tactic(auto)]
 
 mod codes;
-mod escape;
 mod record;
 mod report;
 mod words;

@@ -1,58 +1,48 @@
-ghost use Rattle.std.specs.Prelude.{◌≡◌, ◌++◌, ◌*◌, ◌≤◌, length, OnOk, IfOk, string_bytes};
-ghost use Rattle.first_assess.specs.Rows.{row_entries, entry_of};
-ghost use Rattle.assess_model.specs.Assessment.{code_total, root_validity};
-ghost use Rattle.report_text.specs.Report.{entry_line, record_lines};
+ghost use Rattle.std.specs.Prelude.{◌≡◌, map};
+ghost use Rattle.first_assess.specs.Rows.{row_entries, row_name};
+ghost use Rattle.assess_model.specs.Assessment.{root_validity};
+ghost use Rattle.text_sink.specs.Written.{Written};
+ghost use Rattle.report_text.specs.Report.{record_lines};
 
 use crate::record::write_record;
 use assess_model::{ElementRecord, Validity};
-use std::alloc::{AllocError, Global};
-use tree_rows::{Content, Row};
+use tree_rows::Row;
+use xs_names::Text;
+use xsv_io::{Failed, Sink};
 
-/// Writes the line of a row with its record.
-fn write_row(
-    alloc: Global,
-    out: &mut String,
-    row: &Row,
-    known: &ElementRecord,
-) -> Result<(), AllocError>
-    ensures { OnOk result (string_bytes out.new ≡ string_bytes out.old ++ entry_line (entry_of row.now.number row.now.content known.now)) }
-{
-    match &row.content {
-        Content::Element(name) => {
-            let name = name.clark_name(alloc)?;
-            write_record(out, row.number, name.as_str(), known)
-        }
-        Content::Chars(_) => write_record(out, row.number, "", known),
-    }
-}
-
-/// Writes the record lines of all rows that have a record, and answers how many codes they have.
-pub fn write_report(
-    alloc: Global,
-    out: &mut String,
+/// Writes the record lines of all rows that have a record, by their names as one text each.
+///
+/// # Errors
+///
+/// `Failed` where the sink failed; a front was then written.
+pub fn write_report<W: Sink>(
+    sink: &mut W,
     rows: &[Row],
+    names: &[Text],
     records: &[Option<ElementRecord>],
-) -> Result<u64, AllocError>
-    requires few { code_total (row_entries rows.now records.now) ≤ 2 * length rows.now }
-    ensures lines { OnOk result (string_bytes out.new ≡ string_bytes out.old ++ record_lines (row_entries rows.now records.now)) }
-    ensures total { IfOk result (λ total. total ≡ code_total (row_entries rows.now records.now)) }
+) -> Result<(), Failed>
+    requires { names.now ≡ map (λ row. row_name row.content) rows.now }
+    ensures written { Written W.taken W.faults W.fault_bound sink.old sink.new result (record_lines (row_entries rows.now records.now)) }
 {
     let mut rest = rows;
+    let mut called = names;
     let mut left = records;
-    let mut total: u64 = 0;
     'rows: while let Some((row, later)) = rest.split_first() {
+        let Some((name, more_names)) = called.split_first() else {
+            return Ok(());
+        };
         match left.split_first() {
             Some((Some(known), more)) => {
-                write_row(alloc, out, row, known)?;
-                total += known.codes.as_slice().len() as u64;
+                write_record(sink, row.number, name.as_str(), known)?;
                 left = more;
             }
             Some((None, more)) => left = more,
-            None => return Ok(total),
+            None => return Ok(()),
         }
         rest = later;
+        called = more_names;
     }
-    Ok(total)
+    Ok(())
 }
 
 /// The validity of the first element.

@@ -9,8 +9,8 @@ use Rattle.tree_building.specs.declared.fault.TreeReason.{TreeReason}
 use Rattle.tree_building.specs.declared.fault.TreeReason.TheVariants as trees
 use Rattle.stream_answers.specs.declared.refusal.Refusal.{Refusal}
 use Rattle.stream_answers.specs.declared.refusal.Refusal.TheVariants as refusals
-use Rattle.stream_answers.specs.declared.status.Status.{Status}
-use Rattle.stream_answers.specs.declared.status.Status.TheVariants.{ListingRefused, Limit}
+use Rattle.stream_answers.specs.declared.ending.Ending.{Ending}
+use Rattle.stream_answers.specs.declared.ending.Ending.TheVariants.{ListingRefused, Limit}
 
 abbrev pub line_name : Reason → List ℕ
 line_name lines.NotUtf8 = codes "NotUtf8"
@@ -70,10 +70,12 @@ is_limit refusals.BadSection = false
 is_limit refusals.TooManySchemas = true
 is_limit (refusals.Tree reason) = is_tree_limit reason
 
+abbrev pub reason_line : List ℕ → ℕ → List ℕ → List ℕ
+reason_line word line reason = word ++ decimal line ++ codes " " ++ reason ++ 10 ∷ []
+
 -- the line that tells of a refused line, by its number from 1
 abbrev pub refusal_line : ℕ → Refusal → List ℕ
-refusal_line line refusal =
-    (if is_limit refusal then codes "limit " else codes "listing ") ++ decimal line ++ codes " " ++ name_of refusal ++ 10 ∷ []
+refusal_line line refusal = reason_line (if is_limit refusal then codes "limit " else codes "listing ") line (name_of refusal)
 
-abbrev pub refusal_status : Refusal → Status
-refusal_status refusal = if is_limit refusal then Limit else ListingRefused
+abbrev pub refusal_ending : Refusal → Ending
+refusal_ending refusal = if is_limit refusal then Limit else ListingRefused

@@ -1,13 +1,9 @@
 -- What a turn of the code has done.
-use Rattle.std.specs.Prelude.{◌≡◌, ℕ, List, ◌++◌, false, Some, None, Result, Ok, Err}
-use Rattle.tree_rows.specs.Forest.{Document}
-use Rattle.tree_rows.specs.Rows.{rows_of}
-use Rattle.assess_model.specs.Tables.{Tables}
-use Rattle.first_form.specs.SchemaForm.{schema_tables}
-use Rattle.stream_answers.specs.Numbers.{IsFinal}
-use Rattle.stream_answers.specs.Turns.{Turned, goes, ends, schema_ok, unsupported}
-use Rattle.stream_answers.specs.declared.status.Status.{Status}
-use Rattle.stream_answers.specs.declared.status.Status.TheVariants.{Unsupported}
+use Rattle.std.specs.Prelude.{◌≡◌, ℕ, List, false, Option, Result, IfOk}
+use Rattle.xsv_io.specs.Causes.{KeepsCount}
+use Rattle.edit_replies.specs.declared.break_off.BreakOff.{BreakOff}
+use Rattle.edit_replies.specs.Tells.{Wrote, IsWriteFault}
+use Rattle.stream_answers.specs.Turns.{Turned, goes, ends}
 use Rattle.stream_answers.specs.declared.place.Place.{Place}
 use Rattle.stream_answers.specs.declared.place.Place.TheVariants as places
 use Rattle.stream_answers.specs.declared.turn.Turn.{Turn}
@@ -22,14 +18,20 @@ IsOpen (places.Edits s) = s.closed ≡ false
 IsOpen (places.Block b) = b.session.closed ≡ false
 IsOpen (places.Ended verdict) = Unit {0}
 
--- what is to be written was written, and the stream stands where it is to, or the run has ended so
-abbrev pub Turns : Turned → List ℕ → List ℕ → Turn → Type 0
-Turns (goes said next) old new (turns.Goes place) = (new ≡ old ++ said) × (place ≡ next) × IsOpen place
-Turns (goes said next) old new (turns.Ends status) = ⊥
-Turns (ends said status) old new (turns.Goes place) = ⊥
-Turns (ends said status) old new (turns.Ends given) = (new ≡ old ++ said) × (given ≡ status) × IsFinal given
+-- the text that is to be written
+abbrev pub said_of : Turned → List ℕ
+said_of (goes said next) = said
+said_of (ends said ending) = said
 
--- the schema was read, or the run has ended
-abbrev pub Compiles : Document → List ℕ → List ℕ → Result Tables Status → Type 0
-Compiles d old new (Ok t) = (schema_tables (rows_of 1 d.forest) ≡ Some t) × (new ≡ old ++ schema_ok)
-Compiles d old new (Err status) = (schema_tables (rows_of 1 d.forest) ≡ None) × (new ≡ old ++ unsupported) × (status ≡ Unsupported)
+-- the stream stands where it is to, or has ended so
+abbrev pub TurnsTo : Turned → Turn → Type 0
+TurnsTo (goes said next) (turns.Goes place) = (place ≡ next) × IsOpen place
+TurnsTo (goes said next) (turns.Ends ending) = ⊥
+TurnsTo (ends said ending) (turns.Goes place) = ⊥
+TurnsTo (ends said ending) (turns.Ends given) = given ≡ ending
+
+-- what is to be written was written, and the stream stands where it is to; or the turn broke off
+pub record Turning {W : Type 0} (taken : W → Option (List ℕ)) (faults : W → ℕ) (bound : W → Option ℕ) (old new : W) (result : Result Turn BreakOff) (turned : Turned) : Type 0 where
+  pub wrote : Wrote result (taken old) (taken new) (said_of turned)
+  pub counts : KeepsCount faults bound old new (IsWriteFault result)
+  pub turns : IfOk result (TurnsTo turned)

@@ -21,10 +21,10 @@ use Rattle.assess_model.specs.declared.record.Validity.TheVariants as validities
 use Rattle.first_form.specs.SchemaForm.{schema_tables}
 use Rattle.report_text.specs.Report.{record_lines}
 use Rattle.report_text.specs.Words.{validity_word}
-use Rattle.session_model.specs.State.{State}
+use Rattle.session_model.specs.State.{State, known}
 use Rattle.edit_script.specs.Commands.{command}
 use Rattle.edit_replies.specs.Replies.{Standing, Reply, made, reply, total_line}
-use Rattle.stream_answers.specs.Refusals.{refusal_line, refusal_status}
+use Rattle.stream_answers.specs.Refusals.{refusal_line, refusal_ending}
 use Rattle.stream_answers.specs.declared.schema.TheConstants.{MOST_SCHEMAS}
 use Rattle.stream_answers.specs.declared.place.Asked.{Asked}
 use Rattle.stream_answers.specs.declared.place.Asked.TheVariants.{Check, Assess, Session}
@@ -36,17 +36,17 @@ use Rattle.stream_answers.specs.declared.place.SchemaSection.{SchemaSection}
 use Rattle.stream_answers.specs.declared.place.Verdict.{Verdict}
 use Rattle.stream_answers.specs.declared.refusal.Refusal.{Refusal}
 use Rattle.stream_answers.specs.declared.refusal.Refusal.TheVariants as refusals
-use Rattle.stream_answers.specs.declared.status.Status.{Status}
-use Rattle.stream_answers.specs.declared.status.Status.TheVariants.{Valid, NotValid, Unsupported}
+use Rattle.stream_answers.specs.declared.ending.Ending.{Ending}
+use Rattle.stream_answers.specs.declared.ending.Ending.TheVariants.{Valid, NotValid, Unsupported}
 
--- what a line makes of a place: something is written, and the stream stands elsewhere, or the run ends
+-- what a line makes of a place: something is written, and the stream stands elsewhere, or it ends
 pub data Turned : Type 0 where
   goes : (said : List ℕ) (next : Place) → Turned
-  ends : (said : List ℕ) (status : Status) → Turned
+  ends : (said : List ℕ) (ending : Ending) → Turned
 
 -- the line of this number is refused
 abbrev pub refused : ℕ → Refusal → Turned
-refused line refusal = ends (refusal_line line refusal) (refusal_status refusal)
+refused line refusal = ends (refusal_line line refusal) (refusal_ending refusal)
 
 -- the item cannot stand where it does
 abbrev pub misplaced : ℕ → Turned
@@ -157,9 +157,6 @@ verdict_of known = record { validity = root_validity known; total = code_total k
 abbrev pub report : List Entry → List ℕ
 report known = record_lines known ++ total_line (code_total known)
 
-abbrev pub reported : Tables → Document → Turned
-reported t d = goes (report (assessment t d.forest)) (places.Ended (Some (verdict_of (assessment t d.forest))))
-
 -- a session over the document, open
 abbrev pub session_on : Tables → Standing → State
 session_on t s = record { tables = t; document = s.document; revision = s.revision; closed = false }
@@ -167,19 +164,20 @@ session_on t s = record { tables = t; document = s.document; revision = s.revisi
 abbrev pub opened : Document → Standing
 opened d = record { document = d; revision = 0 }
 
-abbrev pub first_reply : Tables → Document → List ℕ
-first_reply t d = made 0 (code_total (assessment t d.forest))
-
--- a session opens, and its first reply is written; edits follow, or the end
-abbrev pub session_opened : Tables → Document → (State → Place) → Turned
-session_opened t d place = goes (first_reply t d) (place (session_on t (opened d)))
-
 abbrev pub session_verdict : State → Verdict
-session_verdict s = verdict_of (assessment s.tables s.document.forest)
+session_verdict s = verdict_of (known s)
 
 -- the stream has ended with this session
 abbrev pub session_ended : State → Place
 session_ended s = places.Ended (Some (session_verdict s))
+
+-- the report on the document of a session is written
+abbrev pub reported : State → Turned
+reported s = goes (report (known s)) (session_ended s)
+
+-- the first reply of a session is written; edits follow, or the end
+abbrev pub answered_first : State → (State → Place) → Turned
+answered_first s place = goes (made s.revision (code_total (known s))) (place s)
 
 -- the document section ends, and its document is taken where no element has an attribute
 abbrev pub document_ends : DocumentSection → (Document → Turned) → Turned
@@ -187,11 +185,11 @@ document_ends p next = with_tree p.start (tree_of p.builder) (λ d. accepted d (
 
 abbrev pub end_in_document : Asked → ℕ → DocumentSection → Turned
 end_in_document Check line p = misplaced line
-end_in_document Assess line p = document_ends p (reported p.schema)
-end_in_document Session line p = document_ends p (λ d. session_opened p.schema d session_ended)
+end_in_document Assess line p = document_ends p (λ d. reported (session_on p.schema (opened d)))
+end_in_document Session line p = document_ends p (λ d. answered_first (session_on p.schema (opened d)) session_ended)
 
 abbrev pub edits_begin : DocumentSection → Turned
-edits_begin p = document_ends p (λ d. session_opened p.schema d (λ s. places.Edits s))
+edits_begin p = document_ends p (λ d. answered_first (session_on p.schema (opened d)) (λ s. places.Edits s))
 
 -- a session may have edits
 abbrev pub edits_in_document : Asked → ℕ → DocumentSection → Turned
@@ -259,11 +257,11 @@ turned a line (places.Edits s) it = in_edits line s it
 turned a line (places.Block b) it = in_block line b it
 turned a line (places.Ended verdict) it = misplaced line
 
--- the status of a run to its end, by the root's validity
-abbrev pub status_of : Validity → Status
-status_of validities.Valid = Valid
-status_of validities.Invalid = NotValid
-status_of validities.NotKnown = NotValid
+-- how a stream ends, by the root's validity
+abbrev pub ending_of : Validity → Ending
+ending_of validities.Valid = Valid
+ending_of validities.Invalid = NotValid
+ending_of validities.NotKnown = NotValid
 
 -- the last line
 abbrev pub end_line : Verdict → List ℕ

@@ -1,44 +1,25 @@
-ghost use Rattle.std.specs.Prelude.{◌≡◌, ◌++◌, false, IfOk, string_bytes};
-ghost use Rattle.tree_rows.specs.Forest.{Document};
+ghost use Rattle.std.specs.Prelude.{◌≡◌, false, IfOk};
+ghost use Rattle.session_model.specs.State.{known};
 ghost use Rattle.stream_answers.specs.Turns as turns;
-ghost use Rattle.stream_answers.specs.Turning.{Turns};
+ghost use Rattle.stream_answers.specs.Turning.{Turning};
+ghost use Rattle.text_sink.specs.Written.{Written};
 
 use crate::place::{DocumentSection, Verdict};
 use crate::refusal::{misplaced, not_yet, refuse_tree};
 use crate::{Asked, Place, Turn};
-use assess_model::Schema;
-use edit_replies::{write_made, write_total};
-use first_assess::assess;
+use edit_replies::{BreakOff, write_made, write_total};
 use item_listing::Item;
 use plain_session::PlainSession;
-use plain_tree::Tree;
-use report_text::{find_root_validity, write_report};
 use session_model::Session;
-use std::alloc::{AllocError, Global};
+use std::alloc::Global;
 use tree_rows::Row;
+use xsv_io::{Failed, Sink};
 
 /// Whether some element has an attribute that is no binding.
 fn have_attributes(rows: &[Row]) -> bool
     ensures { result ≡ turns.has_attributes rows.now }
 {
     rows.iter().any(|row| !row.attributes.as_slice().is_empty())
-}
-
-/// Writes the report on a document.
-fn report_on(
-    alloc: Global,
-    schema: &Schema,
-    tree: &Tree,
-    out: &mut String,
-) -> Result<Turn, AllocError>
-    ensures { IfOk result (Turns (turns.reported schema.now tree.now) (string_bytes out.old) (string_bytes out.new)) }
-{
-    let rows = tree.rows();
-    let records = assess(alloc, schema, rows)?;
-    let total = write_report(alloc, out, rows, records.as_slice())?;
-    write_total(out, total)?;
-    let validity = find_root_validity(rows, records.as_slice());
-    Ok(Turn::Goes(Place::Ended(Some(Verdict { validity, total }))))
 }
 
 /// The verdict on the document of a session.
@@ -52,30 +33,53 @@ pub fn verdict_of(session: &PlainSession) -> Verdict
     }
 }
 
-/// Opens a session over a document, and writes its first reply.
-fn open_session(
-    alloc: Global,
-    schema: Schema,
-    tree: Tree,
-    out: &mut String,
-) -> Result<PlainSession, AllocError>
-    ensures session { IfOk result (λ s. s ≡ turns.session_on schema (turns.opened tree)) }
-    ensures text { IfOk result (λ s. string_bytes out.new ≡ string_bytes out.old ++ turns.first_reply schema tree) }
+/// Writes the report on the document of a session.
+fn write_report<W: Sink>(session: &PlainSession, sink: &mut W) -> Result<(), Failed>
+    requires { session.now.closed ≡ false }
+    ensures written { Written W.taken W.faults W.fault_bound sink.old sink.new result (turns.report (known session.now)) }
 {
-    let session = PlainSession::open(alloc, schema, tree)?;
-    write_made(out, 0, session.code_total())?;
-    Ok(session)
+    session.write_report(sink)?;
+    write_total(sink, session.code_total())
+}
+
+/// The stream ends with a report on the document of a session.
+fn end_with_report<W: Sink>(session: &PlainSession, sink: &mut W) -> Result<Turn, BreakOff>
+    requires { session.now.closed ≡ false }
+    ensures { Turning W.taken W.faults W.fault_bound sink.old sink.new result (turns.reported session.now) }
+{
+    match write_report(session, sink) {
+        Ok(()) => Ok(Turn::Goes(Place::Ended(Some(verdict_of(session))))),
+        Err(_) => Err(BreakOff::WriteFault),
+    }
+}
+
+/// The stream ends with a session that has no edits.
+fn end_without_edits<W: Sink>(session: &PlainSession, sink: &mut W) -> Result<Turn, BreakOff>
+    requires { session.now.closed ≡ false }
+    ensures { Turning W.taken W.faults W.fault_bound sink.old sink.new result (turns.answered_first session.now turns.session_ended) }
+{
+    write_made(sink, session.revision(), session.code_total())?;
+    Ok(Turn::Goes(Place::Ended(Some(verdict_of(session)))))
+}
+
+/// The edits of a session begin.
+fn begin_session<W: Sink>(session: PlainSession, sink: &mut W) -> Result<Turn, BreakOff>
+    requires { session.closed ≡ false }
+    ensures { Turning W.taken W.faults W.fault_bound sink.old sink.new result (turns.answered_first session (λ s. Place.Edits s)) }
+{
+    write_made(sink, session.revision(), session.code_total())?;
+    Ok(Turn::Goes(Place::Edits(session)))
 }
 
 /// The document section ends, and so does the stream.
-fn end_document(
+fn end_document<W: Sink>(
     alloc: Global,
     asked: Asked,
     line: u32,
     section: DocumentSection,
-    out: &mut String,
-) -> Result<Turn, AllocError>
-    ensures { IfOk result (Turns (turns.end_in_document asked line section) (string_bytes out.old) (string_bytes out.new)) }
+    sink: &mut W,
+) -> Result<Turn, BreakOff>
+    ensures { Turning W.taken W.faults W.fault_bound sink.old sink.new result (turns.end_in_document asked line section) }
 {
     let DocumentSection {
         schema,
@@ -83,29 +87,29 @@ fn end_document(
         start,
     } = section;
     if matches!(asked, Asked::Check) {
-        return misplaced(out, line);
+        return misplaced(sink, line);
     }
     let tree = match builder.finish()? {
         Ok(tree) => tree,
-        Err(fault) => return refuse_tree(out, start, fault),
+        Err(fault) => return refuse_tree(sink, start, fault),
     };
     if have_attributes(tree.rows()) {
-        return not_yet(out);
+        return not_yet(sink);
     }
+    let session = PlainSession::open(alloc, schema, tree)?;
     if matches!(asked, Asked::Assess) {
-        return report_on(alloc, &schema, &tree, out);
+        return end_with_report(&session, sink);
     }
-    let session = open_session(alloc, schema, tree, out)?;
-    Ok(Turn::Goes(Place::Ended(Some(verdict_of(&session)))))
+    end_without_edits(&session, sink)
 }
 
 /// The document section ends, and edits come.
-fn begin_edits(
+fn begin_edits<W: Sink>(
     alloc: Global,
     section: DocumentSection,
-    out: &mut String,
-) -> Result<Turn, AllocError>
-    ensures { IfOk result (Turns (turns.edits_begin section) (string_bytes out.old) (string_bytes out.new)) }
+    sink: &mut W,
+) -> Result<Turn, BreakOff>
+    ensures { Turning W.taken W.faults W.fault_bound sink.old sink.new result (turns.edits_begin section) }
 {
     let DocumentSection {
         schema,
@@ -114,18 +118,17 @@ fn begin_edits(
     } = section;
     let tree = match builder.finish()? {
         Ok(tree) => tree,
-        Err(fault) => return refuse_tree(out, start, fault),
+        Err(fault) => return refuse_tree(sink, start, fault),
     };
     if have_attributes(tree.rows()) {
-        return not_yet(out);
+        return not_yet(sink);
     }
-    let session = open_session(alloc, schema, tree, out)?;
-    Ok(Turn::Goes(Place::Edits(session)))
+    begin_session(PlainSession::open(alloc, schema, tree)?, sink)
 }
 
 /// One more item of the document's tree.
-fn grow(section: DocumentSection, item: &Item, out: &mut String) -> Result<Turn, AllocError>
-    ensures { IfOk result (Turns (turns.document_grown section item.now) (string_bytes out.old) (string_bytes out.new)) }
+fn grow<W: Sink>(section: DocumentSection, item: &Item, sink: &mut W) -> Result<Turn, BreakOff>
+    ensures { Turning W.taken W.faults W.fault_bound sink.old sink.new result (turns.document_grown section item.now) }
 {
     let DocumentSection {
         schema,
@@ -138,28 +141,28 @@ fn grow(section: DocumentSection, item: &Item, out: &mut String) -> Result<Turn,
             builder,
             start,
         }))),
-        Err(fault) => refuse_tree(out, start, fault),
+        Err(fault) => refuse_tree(sink, start, fault),
     }
 }
 
 /// Answers an item in the document section.
-pub fn answer_document(
+pub fn answer_document<W: Sink>(
     alloc: Global,
     asked: Asked,
     line: u32,
     section: DocumentSection,
     item: Item,
-    out: &mut String,
-) -> Result<Turn, AllocError>
-    ensures { IfOk result (Turns (turns.in_document asked line section item) (string_bytes out.old) (string_bytes out.new)) }
+    sink: &mut W,
+) -> Result<Turn, BreakOff>
+    ensures { Turning W.taken W.faults W.fault_bound sink.old sink.new result (turns.in_document asked line section item) }
 {
     match item {
-        Item::End => end_document(alloc, asked, line, section, out),
+        Item::End => end_document(alloc, asked, line, section, sink),
         Item::Edits => match asked {
-            Asked::Session => begin_edits(alloc, section, out),
-            Asked::Check | Asked::Assess => misplaced(out, line),
+            Asked::Session => begin_edits(alloc, section, sink),
+            Asked::Check | Asked::Assess => misplaced(sink, line),
         },
-        Item::Document | Item::Dot | Item::Schema(_) | Item::Command(_) => misplaced(out, line),
-        item => grow(section, &item, out),
+        Item::Document | Item::Dot | Item::Schema(_) | Item::Command(_) => misplaced(sink, line),
+        item => grow(section, &item, sink),
     }
 }

@@ -1,16 +1,17 @@
-ghost use Rattle.std.specs.Prelude.{◌≡◌, ◌≤◌, ℕ, List, false, IfOk, string_bytes};
+ghost use Rattle.std.specs.Prelude.{◌≡◌, ◌≤◌, false, IfOk};
 ghost use Rattle.stream_answers.specs.Turns as turns;
-ghost use Rattle.stream_answers.specs.Turning.{Turns};
+ghost use Rattle.stream_answers.specs.Turning.{TurnsTo, Turning};
 
 use crate::document::verdict_of;
 use crate::place::Block;
 use crate::refusal::misplaced;
 use crate::{Place, Turn};
-use edit_replies::answer_line;
+use edit_replies::{BreakOff, answer_line};
 use item_listing::{Item, Items};
 use plain_session::PlainSession;
 use std::alloc::{AllocError, Global};
 use xs_names::Text;
+use xsv_io::Sink;
 use xsv_steps::{Ledger, Steps};
 
 /// Whether a command's first word is `insert`, so that a block follows.
@@ -24,36 +25,36 @@ fn begins_block(line: &str) -> bool
 }
 
 /// Answers a command, with the items of its block where it has one.
-fn answer<L: Ledger>(
+fn answer<W: Sink, L: Ledger>(
     alloc: Global,
     mut session: PlainSession,
     line: &Text,
     block: Option<Items>,
-    out: &mut String,
+    sink: &mut W,
     steps: &mut Steps<L>,
-) -> Result<Turn, AllocError>
+) -> Result<Turn, BreakOff>
     requires { session.closed ≡ false }
-    ensures turns { IfOk result (Turns (turns.answered session line.now block) (string_bytes out.old) (string_bytes out.new)) }
+    ensures turns { Turning W.taken W.faults W.fault_bound sink.old sink.new result (turns.answered session line.now block) }
     ensures steps { steps.old ≤ steps.new }
 {
-    answer_line(alloc, &mut session, line, block, out, steps)?;
+    answer_line(alloc, &mut session, line, block, sink, steps)?;
     Ok(Turn::Goes(Place::Edits(session)))
 }
 
 /// A command comes, which begins a block or is answered.
-fn take_command<L: Ledger>(
+fn take_command<W: Sink, L: Ledger>(
     alloc: Global,
     session: PlainSession,
     line: Text,
-    out: &mut String,
+    sink: &mut W,
     steps: &mut Steps<L>,
-) -> Result<Turn, AllocError>
+) -> Result<Turn, BreakOff>
     requires { session.closed ≡ false }
-    ensures turns { IfOk result (Turns (turns.commanded session line) (string_bytes out.old) (string_bytes out.new)) }
+    ensures turns { Turning W.taken W.faults W.fault_bound sink.old sink.new result (turns.commanded session line) }
     ensures steps { steps.old ≤ steps.new }
 {
     if !begins_block(line.as_str()) {
-        return answer(alloc, session, &line, None, out, steps);
+        return answer(alloc, session, &line, None, sink, steps);
     }
     Ok(Turn::Goes(Place::Block(Block {
         session,
@@ -63,29 +64,29 @@ fn take_command<L: Ledger>(
 }
 
 /// Answers an item in the edits section.
-pub fn answer_edits<L: Ledger>(
+pub fn answer_edits<W: Sink, L: Ledger>(
     alloc: Global,
     line: u32,
     session: PlainSession,
     item: Item,
-    out: &mut String,
+    sink: &mut W,
     steps: &mut Steps<L>,
-) -> Result<Turn, AllocError>
+) -> Result<Turn, BreakOff>
     requires { session.closed ≡ false }
-    ensures turns { IfOk result (Turns (turns.in_edits line session item) (string_bytes out.old) (string_bytes out.new)) }
+    ensures turns { Turning W.taken W.faults W.fault_bound sink.old sink.new result (turns.in_edits line session item) }
     ensures steps { steps.old ≤ steps.new }
 {
     match item {
-        Item::Command(text) => take_command(alloc, session, text, out, steps),
+        Item::Command(text) => take_command(alloc, session, text, sink, steps),
         Item::End => Ok(Turn::Goes(Place::Ended(Some(verdict_of(&session))))),
-        _ => misplaced(out, line),
+        _ => misplaced(sink, line),
     }
 }
 
 /// One more item of a block.
 fn grow(block: Block, item: Item) -> Result<Turn, AllocError>
     requires { block.session.closed ≡ false }
-    ensures { (text : List ℕ) → IfOk result (Turns (turns.block_grown block item) text text) }
+    ensures { IfOk result (TurnsTo (turns.block_grown block item)) }
 {
     let Block {
         session,
@@ -101,16 +102,16 @@ fn grow(block: Block, item: Item) -> Result<Turn, AllocError>
 }
 
 /// Answers an item in a block.
-pub fn answer_block<L: Ledger>(
+pub fn answer_block<W: Sink, L: Ledger>(
     alloc: Global,
     line: u32,
     block: Block,
     item: Item,
-    out: &mut String,
+    sink: &mut W,
     steps: &mut Steps<L>,
-) -> Result<Turn, AllocError>
+) -> Result<Turn, BreakOff>
     requires { block.session.closed ≡ false }
-    ensures turns { IfOk result (Turns (turns.in_block line block item) (string_bytes out.old) (string_bytes out.new)) }
+    ensures turns { Turning W.taken W.faults W.fault_bound sink.old sink.new result (turns.in_block line block item) }
     ensures steps { steps.old ≤ steps.new }
 {
     match item {
@@ -120,11 +121,11 @@ pub fn answer_block<L: Ledger>(
                 line,
                 items,
             } = block;
-            answer(alloc, session, &line, Some(items), out, steps)
+            answer(alloc, session, &line, Some(items), sink, steps)
         }
         Item::Document | Item::Edits | Item::End | Item::Schema(_) | Item::Command(_) => {
-            misplaced(out, line)
+            misplaced(sink, line)
         }
-        item => grow(block, item),
+        item => Ok(grow(block, item)?),
     }
 }

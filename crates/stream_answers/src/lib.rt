@@ -5,13 +5,13 @@
 mod compile;
 mod document;
 mod edits;
+mod ending;
 mod place;
 mod refusal;
 mod schema;
-mod status;
 mod turn;
 
+pub use ending::Ending;
 pub use place::{Asked, Place};
 pub use refusal::{Refusal, write_refusal};
-pub use status::Status;
-pub use turn::{Turn, answer_item, finish};
+pub use turn::{Turn, answer_item, write_end};

@@ -1,15 +1,16 @@
-ghost use Rattle.std.specs.Prelude.{◌≡◌, ◌++◌, IfOk, OnOk, string_bytes};
-ghost use Rattle.stream_answers.specs.Numbers.{IsFinal};
+ghost use Rattle.std.specs.Prelude.{◌≡◌, IfOk};
 ghost use Rattle.stream_answers.specs.Refusals as refusals;
 ghost use Rattle.stream_answers.specs.Turns as turns;
-ghost use Rattle.stream_answers.specs.Turning.{Turns};
+ghost use Rattle.stream_answers.specs.Turning.{Turning};
+ghost use Rattle.edit_replies.specs.Tells.{Tells};
 
-use crate::{Status, Turn};
+use crate::{Ending, Turn};
+use edit_replies::{BreakOff, write_answer};
 use item_listing::Reason;
-use std::alloc::AllocError;
-use std::fmt::Write;
 use tag_names::NameReason;
+use text_sink::Part;
 use tree_building::{TreeFault, TreeReason};
+use xsv_io::Sink;
 
 /// Why a line of a stream is refused.
 #[derive(Clone, Copy, Debug, PartialEq, Eq)]
@@ -101,49 +102,73 @@ impl Refusal {
     }
 }
 
-/// Writes that a line is refused, and answers the status.
-pub fn write_refusal(out: &mut String, line: u64, refusal: Refusal) -> Result<Status, AllocError>
-    ensures text { OnOk result (string_bytes out.new ≡ string_bytes out.old ++ refusals.refusal_line line refusal) }
-    ensures status { IfOk result (λ status. status ≡ refusals.refusal_status refusal) }
-    ensures complete { IfOk result IsFinal }
+/// Writes a word, a line's number and a reason.
+fn write_reason<W: Sink>(
+    sink: &mut W,
+    word: &'static str,
+    line: u64,
+    reason: &'static str,
+) -> Result<(), BreakOff>
+    ensures tells { Tells W.taken W.faults W.fault_bound sink.old sink.new result (refusals.reason_line word.now line reason.now) }
+{
+    write_answer(
+        sink,
+        &[
+            Part::Text(word),
+            Part::Number(line),
+            Part::Text(" "),
+            Part::Text(reason),
+            Part::Text("\n"),
+        ],
+    )
+}
+
+/// Writes that a line is refused, and answers how the stream ended.
+///
+/// # Errors
+///
+/// `WriteFault` where the sink failed; a front was then written.
+pub fn write_refusal<W: Sink>(sink: &mut W, line: u64, refusal: Refusal) -> Result<Ending, BreakOff>
+    ensures tells { Tells W.taken W.faults W.fault_bound sink.old sink.new result (refusals.refusal_line line refusal) }
+    ensures ending { IfOk result (λ ending. ending ≡ refusals.refusal_ending refusal) }
 {
     let name = refusal.name();
     if refusal.is_limit() {
-        writeln!(out, "limit {line} {name}")?;
-        Ok(Status::Limit)
+        write_reason(sink, "limit ", line, name)?;
+        Ok(Ending::Limit)
     } else {
-        writeln!(out, "listing {line} {name}")?;
-        Ok(Status::ListingRefused)
+        write_reason(sink, "listing ", line, name)?;
+        Ok(Ending::ListingRefused)
     }
 }
 
-/// A line that is refused ends the run.
-pub fn refuse(out: &mut String, line: u64, refusal: Refusal) -> Result<Turn, AllocError>
-    ensures { IfOk result (Turns (turns.refused line refusal) (string_bytes out.old) (string_bytes out.new)) }
+/// A line that is refused ends the stream.
+pub fn refuse<W: Sink>(sink: &mut W, line: u64, refusal: Refusal) -> Result<Turn, BreakOff>
+    ensures { Turning W.taken W.faults W.fault_bound sink.old sink.new result (turns.refused line refusal) }
 {
-    let status = write_refusal(out, line, refusal)?;
-    Ok(Turn::Ends(status))
+    let ending = write_refusal(sink, line, refusal)?;
+    Ok(Turn::Ends(ending))
 }
 
 /// The item cannot stand where it does.
-pub fn misplaced(out: &mut String, line: u32) -> Result<Turn, AllocError>
-    ensures { IfOk result (Turns (turns.misplaced line) (string_bytes out.old) (string_bytes out.new)) }
+pub fn misplaced<W: Sink>(sink: &mut W, line: u32) -> Result<Turn, BreakOff>
+    ensures { Turning W.taken W.faults W.fault_bound sink.old sink.new result (turns.misplaced line) }
 {
-    refuse(out, line as u64, Refusal::BadSection)
+    refuse(sink, line as u64, Refusal::BadSection)
 }
 
 /// A fault of the tree of a section that began at line `start`.
-pub fn refuse_tree(out: &mut String, start: u32, fault: TreeFault) -> Result<Turn, AllocError>
-    ensures { IfOk result (Turns (turns.bad_tree start fault) (string_bytes out.old) (string_bytes out.new)) }
+pub fn refuse_tree<W: Sink>(sink: &mut W, start: u32, fault: TreeFault) -> Result<Turn, BreakOff>
+    ensures { Turning W.taken W.faults W.fault_bound sink.old sink.new result (turns.bad_tree start fault) }
 {
     let line = start as u64 + 1 + fault.item as u64;
-    refuse(out, line, Refusal::Tree(fault.reason))
+    refuse(sink, line, Refusal::Tree(fault.reason))
 }
 
 /// The stream is not of the form that is accepted so far.
-pub fn not_yet(out: &mut String) -> Result<Turn, AllocError>
-    ensures { IfOk result (Turns turns.not_yet (string_bytes out.old) (string_bytes out.new)) }
+pub fn not_yet<W: Sink>(sink: &mut W) -> Result<Turn, BreakOff>
+    ensures { Turning W.taken W.faults W.fault_bound sink.old sink.new result turns.not_yet }
 {
-    out.push_str("unsupported NotYet\n")?;
-    Ok(Turn::Ends(Status::Unsupported))
+    write_answer(sink, &[Part::Text("unsupported NotYet\n")])?;
+    Ok(Turn::Ends(Ending::Unsupported))
 }

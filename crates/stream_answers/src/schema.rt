@@ -1,58 +1,61 @@
-ghost use Rattle.std.specs.Prelude.{◌≡◌, ℕ, List, [], None, IfOk, string_bytes};
+ghost use Rattle.std.specs.Prelude.{◌≡◌, None, IfOk};
 ghost use Rattle.stream_answers.specs.Turns as turns;
-ghost use Rattle.stream_answers.specs.Turning.{Turns};
+ghost use Rattle.stream_answers.specs.Turning.{IsOpen, Turning};
 
-use crate::compile::read_first;
+use crate::compile::{read_first, write_accepted};
 use crate::place::{DocumentSection, SchemaSection};
-use crate::refusal::{Refusal, misplaced, refuse, refuse_tree};
+use crate::refusal::{Refusal, misplaced, not_yet, refuse, refuse_tree};
 use crate::{Asked, Place, Turn};
+use assess_model::Schema;
+use edit_replies::BreakOff;
 use item_listing::Item;
 use plain_tree::{Builder, Tree};
 use std::alloc::{AllocError, Global};
+use xsv_io::Sink;
 
 /// The most schema sections that a stream has.
 const MOST_SCHEMAS: u32 = 256;
 
-/// Another schema section begins.
+/// A schema section begins.
 fn begin_schema(
     alloc: Global,
     line: u32,
     count: u32,
     first: Option<Tree>,
-) -> Result<Turn, AllocError>
-    ensures { (text : List ℕ) → IfOk result (Turns (turns.goes [] (turns.schema_begun line count first)) text text) }
+) -> Result<Place, AllocError>
+    ensures { IfOk result (λ place. place ≡ turns.schema_begun line count first) }
 {
-    Ok(Turn::Goes(Place::Schema(SchemaSection {
+    Ok(Place::Schema(SchemaSection {
         count,
         first,
         builder: Builder::new(alloc)?,
         start: line,
-    })))
+    }))
 }
 
 /// Answers an item before the first section.
-pub fn begin_schemas(
+pub fn begin_schemas<W: Sink>(
     alloc: Global,
     line: u32,
     item: Item,
-    out: &mut String,
-) -> Result<Turn, AllocError>
-    ensures { IfOk result (Turns (turns.in_fresh line item) (string_bytes out.old) (string_bytes out.new)) }
+    sink: &mut W,
+) -> Result<Turn, BreakOff>
+    ensures { Turning W.taken W.faults W.fault_bound sink.old sink.new result (turns.in_fresh line item) }
 {
     match item {
-        Item::Schema(_) => begin_schema(alloc, line, 1, None),
-        _ => misplaced(out, line),
+        Item::Schema(_) => Ok(Turn::Goes(begin_schema(alloc, line, 1, None)?)),
+        _ => misplaced(sink, line),
     }
 }
 
 /// A schema section ends, and another one begins.
-fn next_schema(
+fn next_schema<W: Sink>(
     alloc: Global,
     line: u32,
     section: SchemaSection,
-    out: &mut String,
-) -> Result<Turn, AllocError>
-    ensures { IfOk result (Turns (turns.next_schema line section) (string_bytes out.old) (string_bytes out.new)) }
+    sink: &mut W,
+) -> Result<Turn, BreakOff>
+    ensures { Turning W.taken W.faults W.fault_bound sink.old sink.new result (turns.next_schema line section) }
 {
     let SchemaSection {
         count,
@@ -61,20 +64,44 @@ fn next_schema(
         start,
     } = section;
     if count >= MOST_SCHEMAS {
-        return refuse(out, line as u64, Refusal::TooManySchemas);
+        return refuse(sink, line as u64, Refusal::TooManySchemas);
     }
     match builder.finish()? {
         Ok(tree) => {
             let first = Some(first.unwrap_or(tree));
-            begin_schema(alloc, line, count + 1, first)
+            Ok(Turn::Goes(begin_schema(alloc, line, count + 1, first)?))
         }
-        Err(fault) => refuse_tree(out, start, fault),
+        Err(fault) => refuse_tree(sink, start, fault),
     }
 }
 
+/// The schema is accepted, and the stream then stands here.
+fn accept<W: Sink>(place: Place, sink: &mut W) -> Result<Turn, BreakOff>
+    requires { IsOpen place }
+    ensures { Turning W.taken W.faults W.fault_bound sink.old sink.new result (turns.goes turns.schema_ok place) }
+{
+    write_accepted(sink)?;
+    Ok(Turn::Goes(place))
+}
+
+/// A document section begins, with the schema that was accepted.
+fn document_place(alloc: Global, line: u32, schema: Schema) -> Result<Place, AllocError>
+    ensures { IfOk result (λ place. place ≡ turns.document_begun line schema) }
+{
+    Ok(Place::Document(DocumentSection {
+        schema,
+        builder: Builder::new(alloc)?,
+        start: line,
+    }))
+}
+
 /// The last schema section ends, for `check`.
-fn end_schemas(alloc: Global, section: SchemaSection, out: &mut String) -> Result<Turn, AllocError>
-    ensures { IfOk result (Turns (turns.schemas_end section (λ t. Place.Ended None)) (string_bytes out.old) (string_bytes out.new)) }
+fn end_schemas<W: Sink>(
+    alloc: Global,
+    section: SchemaSection,
+    sink: &mut W,
+) -> Result<Turn, BreakOff>
+    ensures { Turning W.taken W.faults W.fault_bound sink.old sink.new result (turns.schemas_end section (λ t. Place.Ended None)) }
 {
     let SchemaSection {
         first,
@@ -83,22 +110,22 @@ fn end_schemas(alloc: Global, section: SchemaSection, out: &mut String) -> Resul
         ..
     } = section;
     match builder.finish()? {
-        Ok(tree) => match read_first(alloc, &first.unwrap_or(tree), out)? {
-            Ok(_) => Ok(Turn::Goes(Place::Ended(None))),
-            Err(status) => Ok(Turn::Ends(status)),
+        Ok(tree) => match read_first(alloc, &first.unwrap_or(tree))? {
+            Some(_) => accept(Place::Ended(None), sink),
+            None => not_yet(sink),
         },
-        Err(fault) => refuse_tree(out, start, fault),
+        Err(fault) => refuse_tree(sink, start, fault),
     }
 }
 
 /// The last schema section ends, and the document section begins.
-fn begin_document(
+fn begin_document<W: Sink>(
     alloc: Global,
     line: u32,
     section: SchemaSection,
-    out: &mut String,
-) -> Result<Turn, AllocError>
-    ensures { IfOk result (Turns (turns.schemas_end section (turns.document_begun line)) (string_bytes out.old) (string_bytes out.new)) }
+    sink: &mut W,
+) -> Result<Turn, BreakOff>
+    ensures { Turning W.taken W.faults W.fault_bound sink.old sink.new result (turns.schemas_end section (turns.document_begun line)) }
 {
     let SchemaSection {
         first,
@@ -107,21 +134,17 @@ fn begin_document(
         ..
     } = section;
     match builder.finish()? {
-        Ok(tree) => match read_first(alloc, &first.unwrap_or(tree), out)? {
-            Ok(schema) => Ok(Turn::Goes(Place::Document(DocumentSection {
-                schema,
-                builder: Builder::new(alloc)?,
-                start: line,
-            }))),
-            Err(status) => Ok(Turn::Ends(status)),
+        Ok(tree) => match read_first(alloc, &first.unwrap_or(tree))? {
+            Some(schema) => accept(document_place(alloc, line, schema)?, sink),
+            None => not_yet(sink),
         },
-        Err(fault) => refuse_tree(out, start, fault),
+        Err(fault) => refuse_tree(sink, start, fault),
     }
 }
 
 /// One more item of a section's tree.
-fn grow(section: SchemaSection, item: &Item, out: &mut String) -> Result<Turn, AllocError>
-    ensures { IfOk result (Turns (turns.schema_grown section item.now) (string_bytes out.old) (string_bytes out.new)) }
+fn grow<W: Sink>(section: SchemaSection, item: &Item, sink: &mut W) -> Result<Turn, BreakOff>
+    ensures { Turning W.taken W.faults W.fault_bound sink.old sink.new result (turns.schema_grown section item.now) }
 {
     let SchemaSection {
         count,
@@ -136,32 +159,32 @@ fn grow(section: SchemaSection, item: &Item, out: &mut String) -> Result<Turn, A
             builder,
             start,
         }))),
-        Err(fault) => refuse_tree(out, start, fault),
+        Err(fault) => refuse_tree(sink, start, fault),
     }
 }
 
 /// Answers an item in a schema section.
-pub fn answer_schema(
+pub fn answer_schema<W: Sink>(
     alloc: Global,
     asked: Asked,
     line: u32,
     section: SchemaSection,
     item: Item,
-    out: &mut String,
-) -> Result<Turn, AllocError>
-    ensures { IfOk result (Turns (turns.in_schema asked line section item) (string_bytes out.old) (string_bytes out.new)) }
+    sink: &mut W,
+) -> Result<Turn, BreakOff>
+    ensures { Turning W.taken W.faults W.fault_bound sink.old sink.new result (turns.in_schema asked line section item) }
 {
     match item {
-        Item::Schema(_) => next_schema(alloc, line, section, out),
+        Item::Schema(_) => next_schema(alloc, line, section, sink),
         Item::End => match asked {
-            Asked::Check => end_schemas(alloc, section, out),
-            Asked::Assess | Asked::Session => misplaced(out, line),
+            Asked::Check => end_schemas(alloc, section, sink),
+            Asked::Assess | Asked::Session => misplaced(sink, line),
         },
         Item::Document => match asked {
-            Asked::Check => misplaced(out, line),
-            Asked::Assess | Asked::Session => begin_document(alloc, line, section, out),
+            Asked::Check => misplaced(sink, line),
+            Asked::Assess | Asked::Session => begin_document(alloc, line, section, sink),
         },
-        Item::Edits | Item::Dot | Item::Command(_) => misplaced(out, line),
-        item => grow(section, &item, out),
+        Item::Edits | Item::Dot | Item::Command(_) => misplaced(sink, line),
+        item => grow(section, &item, sink),
     }
 }

@@ -1,18 +1,22 @@
-ghost use Rattle.std.specs.Prelude.{◌≡◌, ◌++◌, ◌+◌, ◌<◌, ◌≤◌, ◌^◌, Some, IfOk, OnOk, string_bytes};
-ghost use Rattle.stream_answers.specs.Numbers.{IsFinal};
+ghost use Rattle.std.specs.Prelude.{◌≡◌, ◌≤◌, Some, IfOk};
 ghost use Rattle.stream_answers.specs.Output as output;
 ghost use Rattle.stream_answers.specs.Turns as turns;
-ghost use Rattle.stream_answers.specs.Turning.{IsOpen, Turns};
+ghost use Rattle.stream_answers.specs.Turning.{IsOpen, Turning};
+ghost use Rattle.edit_replies.specs.Tells.{Tells};
 
 use crate::document::answer_document;
 use crate::edits::{answer_block, answer_edits};
-use crate::refusal::misplaced;
+use crate::ending::ending_of;
+use crate::place::Verdict;
+use crate::refusal::{Refusal, misplaced, write_refusal};
 use crate::schema::{answer_schema, begin_schemas};
-use crate::{Asked, Place, Status};
-use item_listing::Item;
+use crate::{Asked, Ending, Place};
+use edit_replies::{BreakOff, write_answer};
+use item_listing::{Item, Reason};
 use report_text::validity_word;
-use std::alloc::{AllocError, Global};
-use std::fmt::Write;
+use std::alloc::Global;
+use text_sink::Part;
+use xsv_io::Sink;
 use xsv_steps::{Ledger, Steps};
 
 /// What a line has done.
@@ -20,55 +24,71 @@ use xsv_steps::{Ledger, Steps};
 pub enum Turn {
     /// The stream stands here.
     Goes(Place),
-    /// The run has ended.
-    Ends(Status),
+    /// The stream has ended.
+    Ends(Ending),
 }
 
 /// Answers the item of a line, by its number from 1, where the stream stands at `place`.
 ///
 /// # Errors
 ///
-/// `AllocError` is want of memory.
-pub fn answer_item<L: Ledger>(
+/// `Memory` is want of memory, and nothing was written. `WriteFault` where the sink failed; a front of the answer was then
+/// written.
+pub fn answer_item<W: Sink, L: Ledger>(
     alloc: Global,
     asked: Asked,
     line: u32,
     place: Place,
     item: Item,
-    out: &mut String,
+    sink: &mut W,
     steps: &mut Steps<L>,
-) -> Result<Turn, AllocError>
+) -> Result<Turn, BreakOff>
     requires { IsOpen place }
-    ensures turns { IfOk result (Turns (turns.turned asked line place item) (string_bytes out.old) (string_bytes out.new)) }
+    ensures turns { Turning W.taken W.faults W.fault_bound sink.old sink.new result (turns.turned asked line place item) }
     ensures steps { steps.old ≤ steps.new }
 {
     match place {
-        Place::Fresh => begin_schemas(alloc, line, item, out),
-        Place::Schema(section) => answer_schema(alloc, asked, line, section, item, out),
-        Place::Document(section) => answer_document(alloc, asked, line, section, item, out),
-        Place::Edits(session) => answer_edits(alloc, line, session, item, out, steps),
-        Place::Block(block) => answer_block(alloc, line, block, item, out, steps),
-        Place::Ended(_) => misplaced(out, line),
+        Place::Fresh => begin_schemas(alloc, line, item, sink),
+        Place::Schema(section) => answer_schema(alloc, asked, line, section, item, sink),
+        Place::Document(section) => answer_document(alloc, asked, line, section, item, sink),
+        Place::Edits(session) => answer_edits(alloc, line, session, item, sink, steps),
+        Place::Block(block) => answer_block(alloc, line, block, item, sink, steps),
+        Place::Ended(_) => misplaced(sink, line),
     }
 }
 
-/// Writes the last line, where the source has ended, and answers the status.
+/// Writes the last line.
+fn write_verdict<W: Sink>(sink: &mut W, verdict: &Verdict) -> Result<(), BreakOff>
+    ensures tells { Tells W.taken W.faults W.fault_bound sink.old sink.new result (turns.end_line verdict.now) }
+{
+    write_answer(
+        sink,
+        &[
+            Part::Text("end "),
+            Part::Text(validity_word(verdict.validity)),
+            Part::Text(" "),
+            Part::Number(verdict.total),
+            Part::Text("\n"),
+        ],
+    )
+}
+
+/// Writes the last line, where the source has ended behind so many lines, and answers how the stream ended. Where the word
+/// `end` has not come, the line that would be next is refused.
 ///
 /// # Errors
 ///
-/// `AllocError` is want of memory.
-pub fn finish(place: &Place, out: &mut String) -> Result<Status, AllocError>
-    ensures text { OnOk result (string_bytes out.new ≡ string_bytes out.old ++ (output.finished place.now).text) }
-    ensures status { IfOk result (λ status. (output.finished place.now).status ≡ Some status) }
-    ensures complete { IfOk result IsFinal }
+/// `WriteFault` where the sink failed; a front was then written.
+pub fn write_end<W: Sink>(sink: &mut W, lines: u32, place: &Place) -> Result<Ending, BreakOff>
+    ensures tells { Tells W.taken W.faults W.fault_bound sink.old sink.new result (output.finished lines place.now).text }
+    ensures ending { IfOk result (λ ending. (output.finished lines place.now).ending ≡ Some ending) }
 {
     match place {
-        Place::Ended(None) => Ok(Status::Valid),
+        Place::Ended(None) => Ok(Ending::Valid),
         Place::Ended(Some(verdict)) => {
-            let word = validity_word(verdict.validity);
-            writeln!(out, "end {word} {}", verdict.total)?;
-            Ok(Status::of_validity(verdict.validity))
+            write_verdict(sink, verdict)?;
+            Ok(ending_of(verdict.validity))
         }
-        _ => Ok(Status::Words),
+        _ => write_refusal(sink, lines as u64 + 1, Refusal::Line(Reason::EndMissing)),
     }
 }

@@ -3,10 +3,9 @@ ghost use Rattle.std.specs.Prelude.{◌≤◌};
 use std::alloc::{AllocError, Global};
 use std::process::Abort;
 use std::test::Fail;
-use stream_answers::Status;
 use xs_names::Text;
 use xsv_io::{MemSink, MemSource};
-use xsv_run::run;
+use xsv_run::{Status, run};
 use xsv_steps::{Silent, Steps};
 
 /// The lines of a schema of one global element of type `xs:string`, and the word `document`: nine lines.

@@ -4,10 +4,9 @@ use std::alloc::{AllocError, Global};
 use std::fmt::Write;
 use std::process::Abort;
 use std::test::Fail;
-use stream_answers::Status;
 use xs_names::Text;
 use xsv_io::{Failed, MemSink, Source};
-use xsv_run::run;
+use xsv_run::{Status, run};
 use xsv_steps::{Silent, Steps};
 
 /// The lines of a schema section of one global element of type `xs:string`: eight lines of 122 bytes.
@@ -340,5 +339,30 @@ fn keeps_the_limit_of_bytes(rt: HostRuntime) -> Result<(), Fail> {
         let tail = ending(alloc, first, second, lines)?;
         check_long(&rt, alloc, times, &tail, text, status)?;
     }
+    Ok(())
+}
+
+/// A report on a document with the most nodes, which the sink has no room for.
+#[test]
+fn breaks_off_in_the_middle_of_a_report(rt: HostRuntime) -> Result<(), Fail> {
+    let alloc = rt.alloc();
+    let mut words = Vec::new(alloc);
+    words.push(Text::new(alloc, "assess")?)?;
+    let head = before(alloc, b"(r\n")?;
+    let mut source = Repeated {
+        now: &head,
+        middle: b"(q\n)q\n",
+        left: 131_071,
+        tail: b")r\nend\n",
+    };
+    let mut sink = MemSink::new(alloc, 4096, Vec::new(alloc))?;
+    let mut steps = Steps::new(Silent);
+    let status = run(alloc, &words, &mut source, &mut sink, &mut steps);
+    assert!(rt; status == Status::WriteFault);
+    assert!(rt;
+        sink.taken()
+            .starts_with(b"schema ok\ne 1 r xs:string invalid ")
+    );
+    assert!(rt; sink.taken().len() > 4000);
     Ok(())
 }

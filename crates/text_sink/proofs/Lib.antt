@@ -1,3 +1,4 @@
 pub mod EscapeLaws
 pub mod Failing
 pub mod Fronts
+pub mod Sequence

@@ -1,5 +1,5 @@
 -- Lines and pieces, one after another.
-use Rattle.std.proofs.Common.{◌≡◌, ℕ, ◌+◌, ◌≤◌, List, [], ◌++◌, length, Bool, true, false, Option, refl, sym, ap, ◌∙◌, subst, append_assoc}
+use Rattle.std.proofs.Common.{◌≡◌, ℕ, ◌+◌, ◌≤◌, List, [], ◌++◌, length, Bool, true, false, Option, Result, Ok, Err, refl, sym, ap, ◌∙◌, subst, append_assoc}
 use Rattle.std.proofs.KnownBytes.{Appends-nil, Appends-trans}
 use Rattle.item_listing.specs.State.{Reading}
 use Rattle.item_listing.specs.declared.past.Past.{Past}
@@ -10,18 +10,19 @@ use Rattle.stream_answers.specs.Output.{Told, told, before, finished}
 use Rattle.stream_answers.specs.Turning.{IsOpen}
 use Rattle.stream_answers.specs.declared.place.Asked.{Asked}
 use Rattle.stream_answers.specs.declared.place.Place.{Place}
-use Rattle.stream_answers.specs.declared.status.Status.{Status}
-use Rattle.xsv_run.specs.Output.{Answers}
-use Rattle.xsv_run.specs.Progress.{GoesOn, HasEnded, TakesNext, Progresses, Feeds, to_tell}
+use Rattle.edit_replies.specs.declared.break_off.BreakOff.{BreakOff}
+use Rattle.stream_answers.specs.declared.ending.Ending.{Ending}
+use Rattle.xsv_run.specs.Progress.{EndsAs, GoesOn, HasEnded, TakesNext, Progresses, Feeds, FeedsOn, to_tell}
 use Rattle.xsv_run.specs.declared.next.Next.TheVariants as nexts
+use Rattle.xsv_run.specs.declared.lines.Progress.{Progress}
 use Rattle.xsv_run.specs.declared.lines.Progress.TheVariants as progresses
-use Rattle.xsv_run.proofs.Telling.{answers_behind}
+use Rattle.xsv_run.proofs.Telling.{ends_behind}
 
 before-nil : (t : Told) → t ≡ before [] t
 before-nil t = refl
 
 pub before-before : (said more : List ℕ) (t : Told) → before said (before more t) ≡ before (said ++ more) t
-before-before said more t = ap (λ l. record { text = l; status = t.status }) (sym (append_assoc said more t.text))
+before-before said more t = ap (λ l. record { text = l; ending = t.ending }) (sym (append_assoc said more t.text))
 
 pub goes_nowhere : (a : Asked) (p : Place) (r : Reading) (o : Option (List ℕ)) → IsOpen p → GoesOn a p r o p r o
 goes_nowhere a p r o opened = record { said = []; written = Appends-nil o; told_on = λ more closed. before-nil (to_tell a p r more closed); is_open = opened }
@@ -34,10 +35,10 @@ goes_further a p q x r s t o m n one two = record {
   is_open = two.is_open;
 }
 
-pub ends_further : (a : Asked) (p q : Place) (r s : Reading) (o m n : Option (List ℕ)) (status : Status) → GoesOn a p r o q s m → HasEnded a q s m n status
-    → HasEnded a p r o n status
-ends_further a p q r s o m n status one two = λ more closed.
-    subst (Answers status o n) (sym (one.told_on more closed)) (answers_behind status o m n one.said (to_tell a q s more closed) one.written (two more closed))
+pub ends_further : (a : Asked) (p q : Place) (r s : Reading) (o m n : Option (List ℕ)) (e : Result Ending BreakOff) → GoesOn a p r o q s m → HasEnded a q s m n e
+    → HasEnded a p r o n e
+ends_further a p q r s o m n e one two = λ more closed.
+    subst (EndsAs e o n) (sym (one.told_on more closed)) (ends_behind e o m n one.said (to_tell a q s more closed) one.written (two more closed))
 
 module _ (a : Asked) (p : Place) (r f : Reading) (bytes : List ℕ) (past : f.past ≡ r.past)
     (fed : (more : List ℕ) (closed : Bool) → listed f more closed ≡ listed r (bytes ++ more) closed) where
@@ -57,13 +58,19 @@ module _ (a : Asked) (p : Place) (r f : Reading) (bytes : List ℕ) (past : f.pa
     going = going;
   }
 
-  pub ends_fed : (o n : Option (List ℕ)) (status : Status) → HasEnded a p f o n status
-      → (more : List ℕ) (closed : Bool) → Answers status o n (to_tell a p r (bytes ++ more) closed)
-  ends_fed o n status ended = λ more closed. subst (Answers status o n) (sym (same_told more closed)) (ended more closed)
+  pub ends_fed : (o n : Option (List ℕ)) (e : Result Ending BreakOff) → HasEnded a p f o n e
+      → (more : List ℕ) (closed : Bool) → EndsAs e o n (to_tell a p r (bytes ++ more) closed)
+  ends_fed o n e ended = λ more closed. subst (EndsAs e o n) (sym (same_told more closed)) (ended more closed)
+
+  pub fed_on : (s : Reading) (o n : Option (List ℕ)) (x : Result Progress BreakOff) → Progresses a p f o s n x → bytes_taken s ≡ bytes_taken r + length bytes → s.finished ≡ false
+      → FeedsOn a p r o bytes s n x
+  fed_on s o n (Ok (progresses.Waits q)) h counted going = feeds q s o n h.0 h.1 counted h.2 going
+  fed_on s o n (Ok (progresses.Ends ending)) h counted going = ends_fed o n (Ok ending) h
+  fed_on s o n (Err why) h counted going = ends_fed o n (Err why) h
 
 -- no whole line is left
-pub waits_now : (a : Asked) (p q x : Place) (r s t : Reading) (o m n : Option (List ℕ)) → GoesOn a p r o q s m → TakesNext a q s m t n (nexts.Waits x) → bytes_taken t ≤ MOST_BYTES
-    → Progresses a p r o t n (progresses.Waits x)
+pub waits_now : (a : Asked) (p q x : Place) (r s t : Reading) (o m n : Option (List ℕ)) → GoesOn a p r o q s m → TakesNext a q s m t n (Ok (nexts.Waits x)) → bytes_taken t ≤ MOST_BYTES
+    → Progresses a p r o t n (Ok (progresses.Waits x))
 waits_now a p q x r s t o m n one two few =
     let on : GoesOn a p r o x t n =
     subst (λ v. GoesOn a p r o x t v) (sym two.2) (subst (λ v. GoesOn a p r o x v m) (sym two.1) (subst (λ v. GoesOn a p r o v s m) (sym two.0) one)) in
@@ -75,12 +82,12 @@ module _ (a : Asked) (p : Place) (r f : Reading) (past : f.past ≡ r.past)
   told_last : to_tell a p r [] true ≡ to_tell a p f [] true
   told_last = ap (told a r.past.lines p) (sym (finish [] true)) ∙ ap (λ (q : Past). told a q.lines p (listed f [] true)) (sym past)
 
-  pub ends_last : (o n : Option (List ℕ)) (status : Status) → HasEnded a p f o n status → Answers status o n (to_tell a p r [] true)
-  ends_last o n status ended = subst (Answers status o n) (sym told_last) (ended [] true)
+  pub ends_last : (o n : Option (List ℕ)) (e : Result Ending BreakOff) → HasEnded a p f o n e → EndsAs e o n (to_tell a p r [] true)
+  ends_last o n e ended = subst (EndsAs e o n) (sym told_last) (ended [] true)
 
-  pub finished_last : (q : Place) (s : Reading) (o m n : Option (List ℕ)) (status : Status) → GoesOn a p f o q s m → Waits s → s.finished ≡ true
-      → Answers status m n (finished q) → Answers status o n (to_tell a p r [] true)
-  finished_last q s o m n status on waits done_now answers =
-      let last : to_tell a p f [] true ≡ before on.said (finished q) =
+  pub finished_last : (q : Place) (s : Reading) (o m n : Option (List ℕ)) (e : Result Ending BreakOff) → GoesOn a p f o q s m → Waits s → s.finished ≡ true
+      → EndsAs e m n (finished s.past.lines q) → EndsAs e o n (to_tell a p r [] true)
+  finished_last q s o m n e on waits done_now answers =
+      let last : to_tell a p f [] true ≡ before on.said (finished s.past.lines q) =
       on.told_on [] true ∙ ap (λ l. before on.said (told a s.past.lines q l)) (waits.1 done_now [] true) in
-      subst (Answers status o n) (sym (told_last ∙ last)) (answers_behind status o m n on.said (finished q) on.written answers)
+      subst (EndsAs e o n) (sym (told_last ∙ last)) (ends_behind e o m n on.said (finished s.past.lines q) on.written answers)

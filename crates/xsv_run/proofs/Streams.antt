@@ -1,5 +1,5 @@
 -- A stream, piece by piece.
-use Rattle.std.proofs.Common.{◌≡◌, ℕ, ◌+◌, ◌-◌, ◌≤◌, ◌<◌, List, [], ◌++◌, length, Bool, true, false, Option, Some, None, IfSome, refl, sym, ap, ◌∙◌, arith, subst, append_assoc, append-nil, length-append}
+use Rattle.std.proofs.Common.{◌≡◌, ℕ, ◌+◌, ◌-◌, ◌≤◌, ◌<◌, List, [], ◌++◌, length, Bool, true, false, Option, Some, None, Result, IfSome, refl, sym, ap, ◌∙◌, arith, subst, append_assoc, append-nil, length-append}
 use Rattle.std.specs.Io.KnownBytes.{Appends, Consumes, IsAtEnd, Keeps}
 use Rattle.std.proofs.KnownBytes.{Appends-nil, Appends-trans, Consumes-nil, Consumes-trans, Consumes-kept}
 use Rattle.item_listing.specs.State.{Reading, unread}
@@ -10,12 +10,14 @@ use Rattle.stream_answers.specs.Output.{Told, told, before}
 use Rattle.stream_answers.specs.declared.place.Asked.{Asked}
 use Rattle.stream_answers.specs.declared.place.Place.{Place}
 use Rattle.stream_answers.specs.declared.place.Place.TheVariants.{Fresh}
-use Rattle.stream_answers.specs.declared.status.Status.{Status}
-use Rattle.stream_answers.specs.declared.status.Status.TheVariants.{ReadFault}
+use Rattle.edit_replies.specs.declared.break_off.BreakOff.{BreakOff}
+use Rattle.stream_answers.specs.declared.ending.Ending.{Ending}
+use Rattle.xsv_run.specs.declared.status.Status.TheVariants.{ReadFault}
 use Rattle.xsv_run.specs.Taking.{TakesAtMost}
-use Rattle.xsv_run.specs.Output.{Answers, told_of}
-use Rattle.xsv_run.specs.Progress.{TakesPiece, EndsPiece, StandsAt, StopsAt, to_tell}
-use Rattle.xsv_run.proofs.Telling.{answers_behind, front_all, front_before}
+use Rattle.xsv_run.specs.Output.{Answers, output_of, told_of}
+use Rattle.xsv_run.specs.Progress.{EndsAs, TakesPiece, EndsPiece, StandsAt, StopsAt, to_tell}
+use Rattle.xsv_run.proofs.Telling.{ends_behind, front_all}
+use Rattle.text_sink.proofs.Fronts.{front_before}
 use Rattle.xsv_run.proofs.Going.{before-before}
 
 pub unread_waits : Waits unread
@@ -55,37 +57,37 @@ module _ (a : Asked) (rest_old rest_mid rest_new o m n : Option (List ℕ)) (p :
       → told_of a whole true ≡ before said (to_tell a p r rest true)
   told_whole bytes rest whole said is on = ap (λ l. to_tell a Fresh unread l true) is ∙ on
 
-  ends_by_rest : (status : Status) → (one : StandsAt a rest_old rest_mid o m p r) → (two : EndsPiece a p r rest_mid m rest_new n status)
-      → (known last : Option (List ℕ)) → Consumes known last (one.bytes ++ two.bytes) → IfSome known (λ whole. Answers status o n (told_of a whole true))
-  ends_by_rest status one two None last h = tt
-  ends_by_rest status one two (Some whole) None h = absurd h
-  ends_by_rest status one two (Some whole) (Some rest) h =
-      subst (Answers status o n) (sym (told_whole one.bytes (two.bytes ++ rest) whole one.said (h ∙ append_assoc one.bytes two.bytes rest) (one.told_on (two.bytes ++ rest) true)))
-      (answers_behind status o m n one.said (to_tell a p r (two.bytes ++ rest) true) one.written (two.answers rest true))
+  ends_by_rest : (e : Result Ending BreakOff) → (one : StandsAt a rest_old rest_mid o m p r) → (two : EndsPiece a p r rest_mid m rest_new n e)
+      → (known last : Option (List ℕ)) → Consumes known last (one.bytes ++ two.bytes) → IfSome known (λ whole. EndsAs e o n (told_of a whole true))
+  ends_by_rest e one two None last h = tt
+  ends_by_rest e one two (Some whole) None h = absurd h
+  ends_by_rest e one two (Some whole) (Some rest) h =
+      subst (EndsAs e o n) (sym (told_whole one.bytes (two.bytes ++ rest) whole one.said (h ∙ append_assoc one.bytes two.bytes rest) (one.told_on (two.bytes ++ rest) true)))
+      (ends_behind e o m n one.said (to_tell a p r (two.bytes ++ rest) true) one.written (two.answers rest true))
 
-  pub output_ends : (status : Status) → StandsAt a rest_old rest_mid o m p r → EndsPiece a p r rest_mid m rest_new n status
-      → IfSome rest_old (λ whole. Answers status o n (told_of a whole true))
-  output_ends status one two = ends_by_rest status one two rest_old rest_new (Consumes-trans rest_old rest_mid rest_new one.bytes two.bytes one.consumed two.consumed)
+  pub output_ends : (e : Result Ending BreakOff) → StandsAt a rest_old rest_mid o m p r → EndsPiece a p r rest_mid m rest_new n e
+      → IfSome rest_old (λ whole. EndsAs e o n (told_of a whole true))
+  output_ends e one two = ends_by_rest e one two rest_old rest_new (Consumes-trans rest_old rest_mid rest_new one.bytes two.bytes one.consumed two.consumed)
 
-  pub few_ends : (status : Status) → StandsAt a rest_old rest_mid o m p r → EndsPiece a p r rest_mid m rest_new n status → TakesAtMost (MOST_BYTES + 1) rest_old rest_new
-  few_ends status one two = (
+  pub few_ends : (e : Result Ending BreakOff) → StandsAt a rest_old rest_mid o m p r → EndsPiece a p r rest_mid m rest_new n e → TakesAtMost (MOST_BYTES + 1) rest_old rest_new
+  few_ends e one two = (
     one.bytes ++ two.bytes,
     Consumes-trans rest_old rest_mid rest_new one.bytes two.bytes one.consumed two.consumed,
     omega (arith, length-append one.bytes two.bytes, one.counted, two.few),
   )
 
   -- the source has ended
-  at_end_by : (status : Status) → (one : StandsAt a rest_old rest_mid o m p r) → Answers status m n (to_tell a p r [] true)
-      → (known last : Option (List ℕ)) → Consumes known last (one.bytes ++ []) → IsAtEnd last → IfSome known (λ whole. Answers status o n (told_of a whole true))
-  at_end_by status one answers None last h e = tt
-  at_end_by status one answers (Some whole) None h e = absurd h
-  at_end_by status one answers (Some whole) (Some rest) h e =
-      subst (Answers status o n) (sym (told_whole one.bytes [] whole one.said (h ∙ ap (λ l. (one.bytes ++ []) ++ l) e ∙ append-nil (one.bytes ++ [])) (one.told_on [] true)))
-      (answers_behind status o m n one.said (to_tell a p r [] true) one.written answers)
+  at_end_by : (e : Result Ending BreakOff) → (one : StandsAt a rest_old rest_mid o m p r) → EndsAs e m n (to_tell a p r [] true)
+      → (known last : Option (List ℕ)) → Consumes known last (one.bytes ++ []) → IsAtEnd last → IfSome known (λ whole. EndsAs e o n (told_of a whole true))
+  at_end_by e one answers None last h none = tt
+  at_end_by e one answers (Some whole) None h none = absurd h
+  at_end_by e one answers (Some whole) (Some rest) h none =
+      subst (EndsAs e o n) (sym (told_whole one.bytes [] whole one.said (h ∙ ap (λ l. (one.bytes ++ []) ++ l) none ∙ append-nil (one.bytes ++ [])) (one.told_on [] true)))
+      (ends_behind e o m n one.said (to_tell a p r [] true) one.written answers)
 
-  pub output_at_end : (status : Status) → StandsAt a rest_old rest_mid o m p r → Consumes rest_mid rest_new [] → IsAtEnd rest_new
-      → Answers status m n (to_tell a p r [] true) → IfSome rest_old (λ whole. Answers status o n (told_of a whole true))
-  output_at_end status one taken e answers = at_end_by status one answers rest_old rest_new (Consumes-trans rest_old rest_mid rest_new one.bytes [] one.consumed taken) e
+  pub output_at_end : (e : Result Ending BreakOff) → StandsAt a rest_old rest_mid o m p r → Consumes rest_mid rest_new [] → IsAtEnd rest_new
+      → EndsAs e m n (to_tell a p r [] true) → IfSome rest_old (λ whole. EndsAs e o n (told_of a whole true))
+  output_at_end e one taken none answers = at_end_by e one answers rest_old rest_new (Consumes-trans rest_old rest_mid rest_new one.bytes [] one.consumed taken) none
 
   pub few_at_end : StandsAt a rest_old rest_mid o m p r → Consumes rest_mid rest_new [] → bytes_taken r ≤ MOST_BYTES + 1 → TakesAtMost (MOST_BYTES + 1) rest_old rest_new
   few_at_end one taken few =
@@ -93,25 +95,25 @@ module _ (a : Asked) (rest_old rest_mid rest_new o m n : Option (List ℕ)) (p :
 
   -- a read failed
   failed_by : (one : StandsAt a rest_old rest_mid o m p r) (known last : Option (List ℕ)) → Consumes known last one.bytes
-      → IfSome known (λ whole. Answers ReadFault o m (told_of a whole true))
+      → IfSome known (λ whole. Answers ReadFault o m (output_of (told_of a whole true)))
   failed_by one None last h = tt
   failed_by one (Some whole) None h = absurd h
   failed_by one (Some whole) (Some rest) h =
-      subst (Answers ReadFault o m) (sym (told_whole one.bytes rest whole one.said h (one.told_on rest true)))
+      subst (λ (t : Told). Answers ReadFault o m (output_of t)) (sym (told_whole one.bytes rest whole one.said h (one.told_on rest true)))
       (front_before o m one.said (to_tell a p r rest true).text (front_all o m one.said one.written))
 
-  pub output_failed : StandsAt a rest_old rest_mid o m p r → IfSome rest_old (λ whole. Answers ReadFault o m (told_of a whole true))
+  pub output_failed : StandsAt a rest_old rest_mid o m p r → IfSome rest_old (λ whole. Answers ReadFault o m (output_of (told_of a whole true)))
   output_failed one = failed_by one rest_old rest_mid one.consumed
 
   pub stops_failed : StandsAt a rest_old rest_mid o m p r → Waits r → r.finished ≡ false → Keeps rest_mid rest_new → StopsAt a rest_old rest_new o m
   stops_failed one waits going kept =
-      let told_now : told_of a one.bytes false ≡ before one.said (record { text = []; status = None }) =
+      let told_now : told_of a one.bytes false ≡ before one.said (record { text = []; ending = None }) =
       ap (λ l. to_tell a Fresh unread l false) (sym (append-nil one.bytes)) ∙ one.told_on [] false
       ∙ ap (λ l. before one.said (told a r.past.lines p l)) (waits.0 going) in (
         one.bytes,
         Consumes-kept rest_old rest_mid rest_new one.bytes one.consumed kept,
         subst (λ (t : Told). Appends o m t.text) (sym told_now) (subst (Appends o m) (sym (append-nil one.said)) one.written),
-        ap (λ (t : Told). t.status) told_now,
+        ap (λ (t : Told). (output_of t).status) told_now,
       )
 
   pub few_failed : StandsAt a rest_old rest_mid o m p r → bytes_taken r ≤ MOST_BYTES + 1 → Keeps rest_mid rest_new → TakesAtMost (MOST_BYTES + 1) rest_old rest_new
@@ -120,25 +122,25 @@ module _ (a : Asked) (rest_old rest_mid rest_new o m n : Option (List ℕ)) (p :
 -- the piece that was read is none, since the source has ended
 module _ (a : Asked) (rest_old rest_mid rest_new o m k n : Option (List ℕ)) (p x : Place) (r s : Reading) (one : StandsAt a rest_old rest_mid o m p r)
     (facts : (x ≡ p) × (s ≡ r) × (k ≡ m) × Consumes rest_mid rest_new [] × IsAtEnd rest_new) where
-  pub output_last : (status : Status) → Answers status k n (to_tell a x s [] true) → IfSome rest_old (λ whole. Answers status o n (told_of a whole true))
-  output_last status answers =
-      output_at_end a rest_old rest_mid rest_new o m n p r status one facts.3 facts.4
-      (subst (λ v. Answers status v n (to_tell a p r [] true)) facts.2 (subst (λ v. Answers status k n (to_tell a p v [] true)) facts.1 (subst (λ v. Answers status k n (to_tell a v s [] true)) facts.0 answers)))
+  pub output_last : (e : Result Ending BreakOff) → EndsAs e k n (to_tell a x s [] true) → IfSome rest_old (λ whole. EndsAs e o n (told_of a whole true))
+  output_last e answers =
+      output_at_end a rest_old rest_mid rest_new o m n p r e one facts.3 facts.4
+      (subst (λ v. EndsAs e v n (to_tell a p r [] true)) facts.2 (subst (λ v. EndsAs e k n (to_tell a p v [] true)) facts.1 (subst (λ v. EndsAs e k n (to_tell a v s [] true)) facts.0 answers)))
 
   pub few_last : (room : ℕ) → bytes_taken r + room ≡ MOST_BYTES + 1 → TakesAtMost (MOST_BYTES + 1) rest_old rest_new
   few_last room is = few_at_end a rest_old rest_mid rest_new o m n p r one facts.3 (omega (arith, is))
 
 pub output_broken : (a : Asked) (rest_old rest_mid o m k : Option (List ℕ)) (p : Place) (r : Reading) → StandsAt a rest_old rest_mid o m p r → k ≡ m
-    → IfSome rest_old (λ whole. Answers ReadFault o k (told_of a whole true))
+    → IfSome rest_old (λ whole. Answers ReadFault o k (output_of (told_of a whole true)))
 output_broken a rest_old rest_mid o m k p r one same =
-    subst (λ v. IfSome rest_old (λ whole. Answers ReadFault o v (told_of a whole true))) (sym same) (output_failed a rest_old rest_mid rest_mid o m m p r one)
+    subst (λ v. IfSome rest_old (λ whole. Answers ReadFault o v (output_of (told_of a whole true)))) (sym same) (output_failed a rest_old rest_mid rest_mid o m m p r one)
 
-pub ends_piece : (a : Asked) (p : Place) (r : Reading) (bytes read : List ℕ) (rest_old old rest_new new : Option (List ℕ)) (status : Status) → Consumes rest_old rest_new bytes
-    → read ≡ bytes → ((more : List ℕ) (closed : Bool) → Answers status old new (to_tell a p r (read ++ more) closed)) → bytes_taken r + length bytes ≤ MOST_BYTES + 1
-    → EndsPiece a p r rest_old old rest_new new status
-ends_piece a p r bytes read rest_old old rest_new new status consumed same answers few = record {
+pub ends_piece : (a : Asked) (p : Place) (r : Reading) (bytes read : List ℕ) (rest_old old rest_new new : Option (List ℕ)) (e : Result Ending BreakOff) → Consumes rest_old rest_new bytes
+    → read ≡ bytes → ((more : List ℕ) (closed : Bool) → EndsAs e old new (to_tell a p r (read ++ more) closed)) → bytes_taken r + length bytes ≤ MOST_BYTES + 1
+    → EndsPiece a p r rest_old old rest_new new e
+ends_piece a p r bytes read rest_old old rest_new new e consumed same answers few = record {
   bytes = bytes;
   consumed = consumed;
-  answers = λ more closed. subst (λ l. Answers status old new (to_tell a p r (l ++ more) closed)) same (answers more closed);
+  answers = λ more closed. subst (λ l. EndsAs e old new (to_tell a p r (l ++ more) closed)) same (answers more closed);
   few = few;
 }

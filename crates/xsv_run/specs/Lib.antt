@@ -1,3 +1,4 @@
 pub mod Taking
+pub mod Statuses
 pub mod Output
 pub mod Progress

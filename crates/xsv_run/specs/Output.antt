@@ -1,52 +1,68 @@
 -- What the program writes, and its status.
-use Rattle.std.specs.Prelude.{◌≡◌, ℕ, List, [], ◌∷◌, ◌++◌, Bool, true, false, Option, Some, None, codes, if◌then◌else◌}
-use Rattle.std.specs.Str.{bytes_eq}
+use Rattle.std.specs.Prelude.{◌≡◌, ℕ, List, [], ◌∷◌, ◌++◌, Bool, true, false, Option, Some, None, codes}
+use Rattle.std.specs.Option.{option_map}
 use Rattle.std.specs.Io.KnownBytes.{Appends, Consumes}
 use Rattle.xsv_io.specs.Writing.{AppendsFront}
 use Rattle.item_listing.specs.State.{unread}
 use Rattle.item_listing.specs.Listed.{listed}
-use Rattle.stream_answers.specs.Output.{Told, told, over}
+use Rattle.run_words.specs.Requests.{request}
+use Rattle.run_words.specs.declared.request.Request.{Request}
+use Rattle.run_words.specs.declared.request.Request.TheVariants.{Read, Generate, Trial}
+use Rattle.run_words.specs.declared.request.Task.TheVariants as tasks
+use Rattle.stream_answers.specs.Output.{Told, told}
 use Rattle.stream_answers.specs.declared.place.Asked.{Asked}
 use Rattle.stream_answers.specs.declared.place.Asked.TheVariants.{Check, Assess, Session}
 use Rattle.stream_answers.specs.declared.place.Place.TheVariants.{Fresh}
-use Rattle.stream_answers.specs.declared.status.Status.{Status}
-use Rattle.stream_answers.specs.declared.status.Status.TheVariants.{Words, ReadFault, WriteFault, Memory}
+use Rattle.xsv_run.specs.Statuses.{status_of}
+use Rattle.xsv_run.specs.declared.status.Status.{Status}
+use Rattle.xsv_run.specs.declared.status.Status.TheVariants.{Words, ReadFault, WriteFault, Memory}
+
+-- a text, and a status where the run has ended
+pub record Output : Type 0 where
+  pub text : List ℕ
+  pub status : Option Status
 
 abbrev pub usage : List ℕ
 usage = codes "usage: xsv check|assess|session [--max-errors N] | xsv generate|trial NUMBER COUNT" ++ 10 ∷ []
 
--- what one word asks for
-abbrev pub asked_by : List ℕ → Option Asked
-asked_by word =
-    if bytes_eq word (codes "check") then Some Check
-    else (if bytes_eq word (codes "assess") then Some Assess
-    else (if bytes_eq word (codes "session") then Some Session else None))
+-- words that ask for nothing
+abbrev pub refused_words : Output
+refused_words = record { text = usage; status = Some Words }
 
--- what the words ask for: one word does
+-- what is asked for of what is built: a stream is read
+abbrev pub asked_by : Option Request → Option Asked
+asked_by None = None
+asked_by (Some (Read tasks.Check most)) = Some Check
+asked_by (Some (Read tasks.Assess most)) = Some Assess
+asked_by (Some (Read tasks.Session most)) = Some Session
+asked_by (Some (Generate start items)) = None
+asked_by (Some (Trial start items)) = None
+
 abbrev pub asked : List (List ℕ) → Option Asked
-asked [] = None
-asked (word ∷ []) = asked_by word
-asked (word ∷ other ∷ more) = None
+asked words = asked_by (request words)
 
 -- what is told of a stream by these bytes, with none after them if closed
 abbrev pub told_of : Asked → List ℕ → Bool → Told
 told_of what bytes closed = told what 0 Fresh (listed unread bytes closed)
 
-abbrev pub told_by : Option Asked → List ℕ → Bool → Told
-told_by None bytes closed = over usage Words
-told_by (Some what) bytes closed = told_of what bytes closed
+abbrev pub output_of : Told → Output
+output_of t = record { text = t.text; status = option_map status_of t.ending }
+
+abbrev pub output_by : Option Asked → List ℕ → Bool → Output
+output_by None bytes closed = refused_words
+output_by (Some what) bytes closed = output_of (told_of what bytes closed)
 
 -- what is written for these words and the bytes of a source to its end, and the status
-abbrev pub output : List (List ℕ) → List ℕ → Told
-output words bytes = told_by (asked words) bytes true
+abbrev pub output : List (List ℕ) → List ℕ → Output
+output words bytes = output_by (asked words) bytes true
 
 -- what is written for these words and the first bytes of a source: by the lines that end in them, and where they tell already that
 -- the begun line is refused
-abbrev pub output_so_far : List (List ℕ) → List ℕ → Told
-output_so_far words bytes = told_by (asked words) bytes false
+abbrev pub output_so_far : List (List ℕ) → List ℕ → Output
+output_so_far words bytes = output_by (asked words) bytes false
 
 -- the status is the output's, and its text was written; or the run broke off, and a front of the text was written
-abbrev pub Answers : Status → Option (List ℕ) → Option (List ℕ) → Told → Type 0
+abbrev pub Answers : Status → Option (List ℕ) → Option (List ℕ) → Output → Type 0
 Answers ReadFault old new out = AppendsFront old new out.text
 Answers WriteFault old new out = AppendsFront old new out.text
 Answers Memory old new out = AppendsFront old new out.text

@@ -1,20 +1,21 @@
 -- What was told so far, and what is still to be told.
-use Rattle.std.specs.Prelude.{◌≡◌, ℕ, ◌+◌, ◌≤◌, ◌<◌, List, [], ◌++◌, length, Bool, false, Option, None}
+use Rattle.std.specs.Prelude.{◌≡◌, ℕ, ◌+◌, ◌≤◌, ◌<◌, List, [], ◌++◌, length, Bool, false, Option, Some, None, Result, Ok, Err}
 use Rattle.std.specs.Io.KnownBytes.{Appends, Consumes, IsAtEnd, Keeps}
 use Rattle.xsv_io.specs.Writing.{AppendsFront}
 use Rattle.item_listing.specs.State.{Reading, unread}
 use Rattle.item_listing.specs.declared.limits.TheConstants.{MOST_BYTES}
 use Rattle.item_listing.specs.Listing.{bytes_taken}
 use Rattle.item_listing.specs.Listed.{listed, Waits}
+use Rattle.edit_replies.specs.declared.break_off.BreakOff.{BreakOff}
+use Rattle.edit_replies.specs.Tells.{IsWriteFault}
 use Rattle.stream_answers.specs.Turns.{Turned, goes, ends}
-use Rattle.stream_answers.specs.Output.{Told, told, before, over}
+use Rattle.stream_answers.specs.Output.{Told, told, before}
 use Rattle.stream_answers.specs.Turning.{IsOpen}
+use Rattle.stream_answers.specs.declared.ending.Ending.{Ending}
 use Rattle.stream_answers.specs.declared.place.Asked.{Asked}
 use Rattle.stream_answers.specs.declared.place.Place.{Place}
 use Rattle.stream_answers.specs.declared.place.Place.TheVariants.{Fresh}
-use Rattle.stream_answers.specs.declared.status.Status.{Status}
-use Rattle.stream_answers.specs.declared.status.Status.TheVariants.{ReadFault, WriteFault, Memory}
-use Rattle.xsv_run.specs.Output.{Answers, told_of}
+use Rattle.xsv_run.specs.Output.{output_of, told_of}
 use Rattle.xsv_run.specs.declared.next.Next.{Next}
 use Rattle.xsv_run.specs.declared.next.Next.TheVariants as nexts
 use Rattle.xsv_run.specs.declared.lines.Progress.{Progress}
@@ -22,21 +23,21 @@ use Rattle.xsv_run.specs.declared.lines.Progress.TheVariants as progresses
 use Rattle.xsv_run.specs.declared.piece.Piece.{Piece}
 use Rattle.xsv_run.specs.declared.piece.Piece.TheVariants as pieces
 
--- the run broke off
-abbrev pub IsBroken : Status → Type 0
-IsBroken ReadFault = Unit {0}
-IsBroken WriteFault = Unit {0}
-IsBroken Memory = Unit {0}
-IsBroken status = ⊥
+-- the stream has ended as is told; or the run broke off, and a front of the text was written
+abbrev pub EndsAs : Result Ending BreakOff → Option (List ℕ) → Option (List ℕ) → Told → Type 0
+EndsAs (Ok ending) old new t = Appends old new t.text × (t.ending ≡ Some ending)
+EndsAs (Err why) old new t = AppendsFront old new t.text
 
 -- an item was answered as it turns, or the run broke off
-abbrev pub TakesItem : Turned → Option (List ℕ) → Option (List ℕ) → Next → Type 0
-TakesItem (goes said next) old new (nexts.Goes place) = Appends old new said × (place ≡ next) × IsOpen place
-TakesItem (goes said next) old new (nexts.Waits place) = ⊥
-TakesItem (goes said next) old new (nexts.Ends status) = IsBroken status × AppendsFront old new said
-TakesItem (ends said status) old new (nexts.Goes place) = ⊥
-TakesItem (ends said status) old new (nexts.Waits place) = ⊥
-TakesItem (ends said status) old new (nexts.Ends given) = Answers given old new (over said status)
+abbrev pub TakesItem : Turned → Option (List ℕ) → Option (List ℕ) → Result Next BreakOff → Type 0
+TakesItem (goes said next) old new (Ok (nexts.Goes place)) = Appends old new said × (place ≡ next) × IsOpen place
+TakesItem (goes said next) old new (Ok (nexts.Waits place)) = ⊥
+TakesItem (goes said next) old new (Ok (nexts.Ends given)) = ⊥
+TakesItem (goes said next) old new (Err why) = AppendsFront old new said
+TakesItem (ends said ending) old new (Ok (nexts.Goes place)) = ⊥
+TakesItem (ends said ending) old new (Ok (nexts.Waits place)) = ⊥
+TakesItem (ends said ending) old new (Ok (nexts.Ends given)) = Appends old new said × (given ≡ ending)
+TakesItem (ends said ending) old new (Err why) = AppendsFront old new said
 
 -- what is still to be told when these bytes come, with none after them if closed
 abbrev pub to_tell : Asked → Place → Reading → List ℕ → Bool → Told
@@ -50,25 +51,27 @@ pub record GoesOn (a : Asked) (place : Place) (r : Reading) (old : Option (List 
   pub is_open : IsOpen next
 
 -- whatever comes, the run has ended as is told
-abbrev pub HasEnded : Asked → Place → Reading → Option (List ℕ) → Option (List ℕ) → Status → Type 0
-HasEnded a place r old new status = (more : List ℕ) (closed : Bool) → Answers status old new (to_tell a place r more closed)
+abbrev pub HasEnded : Asked → Place → Reading → Option (List ℕ) → Option (List ℕ) → Result Ending BreakOff → Type 0
+HasEnded a place r old new ended = (more : List ℕ) (closed : Bool) → EndsAs ended old new (to_tell a place r more closed)
 
 -- one item was answered, or none is left, or the run has ended
-abbrev pub TakesNext : Asked → Place → Reading → Option (List ℕ) → Reading → Option (List ℕ) → Next → Type 0
-TakesNext a place r old s new (nexts.Goes next) = GoesOn a place r old next s new
-TakesNext a place r old s new (nexts.Waits next) = (next ≡ place) × (s ≡ r) × (new ≡ old) × Waits r
-TakesNext a place r old s new (nexts.Ends status) = HasEnded a place r old new status
+abbrev pub TakesNext : Asked → Place → Reading → Option (List ℕ) → Reading → Option (List ℕ) → Result Next BreakOff → Type 0
+TakesNext a place r old s new (Ok (nexts.Goes next)) = GoesOn a place r old next s new
+TakesNext a place r old s new (Ok (nexts.Waits next)) = (next ≡ place) × (s ≡ r) × (new ≡ old) × Waits r
+TakesNext a place r old s new (Ok (nexts.Ends ending)) = HasEnded a place r old new (Ok ending)
+TakesNext a place r old s new (Err why) = HasEnded a place r old new (Err why)
 
 -- fewer bytes are held where an item was answered, and no more than a stream has where none is left
 abbrev pub Holds : Reading → Reading → Next → Type 0
 Holds r s (nexts.Goes next) = length s.held < length r.held
 Holds r s (nexts.Waits next) = bytes_taken s ≤ MOST_BYTES
-Holds r s (nexts.Ends status) = Unit {0}
+Holds r s (nexts.Ends ending) = Unit {0}
 
 -- all items were answered that are there, or the run has ended
-abbrev pub Progresses : Asked → Place → Reading → Option (List ℕ) → Reading → Option (List ℕ) → Progress → Type 0
-Progresses a place r old s new (progresses.Waits next) = GoesOn a place r old next s new × Waits s × (bytes_taken s ≤ MOST_BYTES)
-Progresses a place r old s new (progresses.Ends status) = HasEnded a place r old new status
+abbrev pub Progresses : Asked → Place → Reading → Option (List ℕ) → Reading → Option (List ℕ) → Result Progress BreakOff → Type 0
+Progresses a place r old s new (Ok (progresses.Waits next)) = GoesOn a place r old next s new × Waits s × (bytes_taken s ≤ MOST_BYTES)
+Progresses a place r old s new (Ok (progresses.Ends ending)) = HasEnded a place r old new (Ok ending)
+Progresses a place r old s new (Err why) = HasEnded a place r old new (Err why)
 
 -- these bytes came and were answered, whatever comes behind them
 pub record Feeds (a : Asked) (place : Place) (r : Reading) (old : Option (List ℕ)) (bytes : List ℕ) (next : Place) (s : Reading) (new : Option (List ℕ)) : Type 0 where
@@ -82,10 +85,12 @@ pub record Feeds (a : Asked) (place : Place) (r : Reading) (old : Option (List �
   pub going : s.finished ≡ false
 
 -- these bytes came and were answered, whatever comes behind them, or the run has ended
-abbrev pub FeedsOn : Asked → Place → Reading → Option (List ℕ) → List ℕ → Reading → Option (List ℕ) → Progress → Type 0
-FeedsOn a place r old bytes s new (progresses.Waits next) = Feeds a place r old bytes next s new
-FeedsOn a place r old bytes s new (progresses.Ends status) =
-    (more : List ℕ) (closed : Bool) → Answers status old new (to_tell a place r (bytes ++ more) closed)
+abbrev pub FeedsOn : Asked → Place → Reading → Option (List ℕ) → List ℕ → Reading → Option (List ℕ) → Result Progress BreakOff → Type 0
+FeedsOn a place r old bytes s new (Ok (progresses.Waits next)) = Feeds a place r old bytes next s new
+FeedsOn a place r old bytes s new (Ok (progresses.Ends ending)) =
+    (more : List ℕ) (closed : Bool) → EndsAs (Ok ending) old new (to_tell a place r (bytes ++ more) closed)
+FeedsOn a place r old bytes s new (Err why) =
+    (more : List ℕ) (closed : Bool) → EndsAs (Err why) old new (to_tell a place r (bytes ++ more) closed)
 
 -- a piece was read and answered
 pub record TakesPiece (a : Asked) (place : Place) (r : Reading) (rest_old old : Option (List ℕ)) (next : Place) (s : Reading) (rest_new new : Option (List ℕ)) (count : ℕ) : Type 0 where
@@ -96,10 +101,10 @@ pub record TakesPiece (a : Asked) (place : Place) (r : Reading) (rest_old old : 
   pub some : 0 < length bytes
 
 -- a piece was read, or none, and whatever comes behind it, the run has ended as is told
-pub record EndsPiece (a : Asked) (place : Place) (r : Reading) (rest_old old rest_new new : Option (List ℕ)) (status : Status) : Type 0 where
+pub record EndsPiece (a : Asked) (place : Place) (r : Reading) (rest_old old rest_new new : Option (List ℕ)) (ended : Result Ending BreakOff) : Type 0 where
   pub bytes : List ℕ
   pub consumed : Consumes rest_old rest_new bytes
-  pub answers : (more : List ℕ) (closed : Bool) → Answers status old new (to_tell a place r (bytes ++ more) closed)
+  pub answers : (more : List ℕ) (closed : Bool) → EndsAs ended old new (to_tell a place r (bytes ++ more) closed)
   pub few : bytes_taken r + length bytes ≤ MOST_BYTES + 1
 
 abbrev pub Pieces : Asked → Place → Reading → Option (List ℕ) → Option (List ℕ) → Reading → Option (List ℕ) → Option (List ℕ) → Piece → Type 0
@@ -107,7 +112,21 @@ Pieces a place r rest_old old s rest_new new (pieces.Goes next count) = TakesPie
 Pieces a place r rest_old old s rest_new new (pieces.AtEnd next) =
     (next ≡ place) × (s ≡ r) × (new ≡ old) × Consumes rest_old rest_new [] × IsAtEnd rest_new
 Pieces a place r rest_old old s rest_new new pieces.Failed = (s ≡ r) × (new ≡ old) × Keeps rest_old rest_new
-Pieces a place r rest_old old s rest_new new (pieces.Ends status) = EndsPiece a place r rest_old old rest_new new status
+Pieces a place r rest_old old s rest_new new (pieces.Ends ended) = EndsPiece a place r rest_old old rest_new new ended
+
+-- a write failed
+abbrev pub FailsWrite : Piece → Type 0
+FailsWrite (pieces.Goes next count) = ⊥
+FailsWrite (pieces.AtEnd next) = ⊥
+FailsWrite pieces.Failed = ⊥
+FailsWrite (pieces.Ends ended) = IsWriteFault ended
+
+-- a read failed
+abbrev pub FailsRead : Piece → Type 0
+FailsRead (pieces.Goes next count) = ⊥
+FailsRead (pieces.AtEnd next) = ⊥
+FailsRead pieces.Failed = Unit {0}
+FailsRead (pieces.Ends ended) = ⊥
 
 -- so many bytes were taken, and a text was written that they tell; the stream stands here
 pub record StandsAt (a : Asked) (rest_old rest_new old new : Option (List ℕ)) (place : Place) (r : Reading) : Type 0 where
@@ -121,4 +140,4 @@ pub record StandsAt (a : Asked) (rest_old rest_new old new : Option (List ℕ)) 
 -- a read failed behind some bytes: what they tell was written, and it does not end the run
 abbrev pub StopsAt : Asked → Option (List ℕ) → Option (List ℕ) → Option (List ℕ) → Option (List ℕ) → Type 0
 StopsAt a rest_old rest_new old new =
-    (bytes : List ℕ) × Consumes rest_old rest_new bytes × Appends old new (told_of a bytes false).text × ((told_of a bytes false).status ≡ None)
+    (bytes : List ℕ) × Consumes rest_old rest_new bytes × Appends old new (told_of a bytes false).text × ((output_of (told_of a bytes false)).status ≡ None)

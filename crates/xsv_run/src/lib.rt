@@ -5,7 +5,10 @@ mod lines;
 mod next;
 mod piece;
 mod running;
+mod status;
 mod stream;
 mod words;
 
-pub use running::run;
+pub use running::{run, run_by};
+pub use status::Status;
+pub use words::WordsFault;

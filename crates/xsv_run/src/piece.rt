@@ -1,15 +1,15 @@
-ghost use Rattle.std.specs.Prelude.{◌≡◌, ◌≢◌, ◌<◌, ◌≤◌, ◌+◌, length, false};
-ghost use Rattle.xsv_io.specs.Causes.{Rose};
+ghost use Rattle.std.specs.Prelude.{◌≡◌, ◌<◌, ◌≤◌, ◌+◌, length, false};
+ghost use Rattle.xsv_io.specs.Causes.{KeepsCount};
 ghost use Rattle.item_listing.specs.Listing.{bytes_taken};
+ghost use Rattle.edit_replies.specs.Tells.{IsWriteFault};
 ghost use Rattle.stream_answers.specs.Turning.{IsOpen};
-ghost use Rattle.xsv_run.specs.Progress.{FeedsOn, Pieces};
-ghost use Rattle.xsv_run.specs.declared.lines.Progress.TheVariants as progresses;
-ghost use Rattle.xsv_run.specs.declared.piece.Piece.TheVariants as pieces;
+ghost use Rattle.xsv_run.specs.Progress.{FeedsOn, Pieces, FailsRead, FailsWrite};
 
 use crate::lines::{Progress, take_lines};
+use edit_replies::BreakOff;
 use item_listing::{Listing, MOST_BYTES};
 use std::alloc::Global;
-use stream_answers::{Asked, Place, Status};
+use stream_answers::{Asked, Ending, Place};
 use xsv_io::{Sink, Source};
 use xsv_steps::{Ledger, Steps};
 
@@ -25,8 +25,8 @@ pub enum Piece {
     AtEnd(Place),
     /// The read failed.
     Failed,
-    /// The run has ended.
-    Ends(Status),
+    /// The stream has ended, or the run was broken off.
+    Ends(Result<Ending, BreakOff>),
 }
 
 /// Answers the lines of a piece that was read.
@@ -38,18 +38,15 @@ fn take_bytes<W: Sink, L: Ledger>(
     bytes: &[u8],
     sink: &mut W,
     steps: &mut Steps<L>,
-) -> Progress
+) -> Result<Progress, BreakOff>
     requires open { IsOpen place }
     requires going { listing.old.finished ≡ false }
     ensures takes { FeedsOn asked place listing.old (W.taken sink.old) bytes.now listing.new (W.taken sink.new) result }
-    ensures not_read { result ≢ progresses.Ends Status.ReadFault }
-    ensures cause { result ≡ progresses.Ends Status.WriteFault → Rose (W.faults sink.old) (W.faults sink.new) }
-    ensures later { W.faults sink.old ≤ W.faults sink.new }
-    ensures kept { W.fault_bound sink.new ≡ W.fault_bound sink.old }
+    ensures writes { KeepsCount W.faults W.fault_bound sink.old sink.new (IsWriteFault result) }
     ensures steps { steps.old ≤ steps.new }
 {
     if listing.feed(bytes).is_err() {
-        return Progress::Ends(Status::Memory);
+        return Err(BreakOff::Memory);
     }
     take_lines(alloc, asked, listing, place, sink, steps)
 }
@@ -72,13 +69,8 @@ pub fn take_piece<S: Source, W: Sink, L: Ledger>(
     requires some { 0 < room }
     requires buf { 0 < length buf.old }
     ensures takes { Pieces asked place listing.old (S.rest source.old) (W.taken sink.old) listing.new (S.rest source.new) (W.taken sink.new) result }
-    ensures not_read { result ≢ pieces.Ends Status.ReadFault }
-    ensures read_cause { result ≡ pieces.Failed → Rose (S.faults source.old) (S.faults source.new) }
-    ensures write_cause { result ≡ pieces.Ends Status.WriteFault → Rose (W.faults sink.old) (W.faults sink.new) }
-    ensures reads { S.faults source.old ≤ S.faults source.new }
-    ensures writes { W.faults sink.old ≤ W.faults sink.new }
-    ensures read_bound { S.fault_bound source.new ≡ S.fault_bound source.old }
-    ensures write_bound { W.fault_bound sink.new ≡ W.fault_bound sink.old }
+    ensures reads { KeepsCount S.faults S.fault_bound source.old source.new (FailsRead result) }
+    ensures writes { KeepsCount W.faults W.fault_bound sink.old sink.new (FailsWrite result) }
     ensures steps { steps.old ≤ steps.new }
 {
     let most = room.min(buf.len());
@@ -86,8 +78,9 @@ pub fn take_piece<S: Source, W: Sink, L: Ledger>(
         Ok(0) => Piece::AtEnd(place),
         Ok(count) => {
             match take_bytes(alloc, asked, listing, place, &buf[..count], sink, steps) {
-                Progress::Waits(next) => Piece::Goes(next, count),
-                Progress::Ends(status) => Piece::Ends(status),
+                Ok(Progress::Waits(next)) => Piece::Goes(next, count),
+                Ok(Progress::Ends(ending)) => Piece::Ends(Ok(ending)),
+                Err(why) => Piece::Ends(Err(why)),
             }
         }
         Err(_) => Piece::Failed,

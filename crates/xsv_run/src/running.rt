@@ -1,20 +1,32 @@
-ghost use Rattle.std.specs.Prelude.{◌≡◌, ◌+◌, ◌≤◌, None, IfSome};
+ghost use Rattle.std.specs.Prelude.{◌≡◌, ◌+◌, ◌≤◌, None, Err, IfOk, IfSome};
 ghost use Rattle.item_listing.specs.declared.limits.TheConstants.{MOST_BYTES};
-ghost use Rattle.xsv_io.specs.Causes.{Rose};
+ghost use Rattle.xsv_io.specs.Causes.{KeepsCount};
 ghost use Rattle.xsv_run.specs.Taking.{TakesAtMost};
-ghost use Rattle.xsv_run.specs.Output.{Answers, BreaksOff, asked, output};
+ghost use Rattle.xsv_run.specs.Output.{Answers, BreaksOff, asked, output, refused_words};
 
-use crate::next::end_with;
 use crate::stream::answer_stream;
 use crate::words::read_words;
+use crate::{Status, WordsFault};
 use std::alloc::Global;
-use stream_answers::Status;
+use text_sink::write_text;
 use xs_names::Text;
 use xsv_io::{Sink, Source};
 use xsv_steps::{Ledger, Steps};
 
 const USAGE: &str =
     "usage: xsv check|assess|session [--max-errors N] | xsv generate|trial NUMBER COUNT\n";
+
+/// Writes the usage line.
+fn refuse_words<W: Sink>(sink: &mut W) -> Status
+    ensures output { Answers result (W.taken sink.old) (W.taken sink.new) refused_words }
+    ensures not_read { result ≡ Status.ReadFault → ⊥ }
+    ensures writes { KeepsCount W.faults W.fault_bound sink.old sink.new (result ≡ Status.WriteFault) }
+{
+    match write_text(sink, USAGE) {
+        Ok(()) => Status::Words,
+        Err(_) => Status::WriteFault,
+    }
+}
 
 /// Answers a stream by what the words ask for: whether its schema is accepted, a report on its document, or
 /// the replies to its edits. Each line is answered before the next is looked at.
@@ -36,23 +48,46 @@ pub fn run<S: Source, W: Sink, L: Ledger>(
     ensures broken { result ≡ Status.ReadFault
         → BreaksOff words.now (S.rest source.old) (S.rest source.new) (W.taken sink.old) (W.taken sink.new) }
 
-    // For other words nothing is read. Else at most one byte more than the longest stream is taken.
+    // Words are refused only where they ask for nothing. For them nothing is read. Else at most one byte more than the longest
+    // stream is taken.
+    ensures words { result ≡ Status.Words → asked words.now ≡ None }
     ensures unread { asked words.now ≡ None → S.rest source.new ≡ S.rest source.old }
     ensures few { TakesAtMost (MOST_BYTES + 1) (S.rest source.old) (S.rest source.new) }
 
-    // A fault is answered only where that side's count rose, or stands at its last value.
-    ensures read_cause { result ≡ Status.ReadFault → Rose (S.faults source.old) (S.faults source.new) }
-    ensures write_cause { result ≡ Status.WriteFault → Rose (W.faults sink.old) (W.faults sink.new) }
-
-    // The counts never fall, and keep their bounds.
-    ensures reads { S.faults source.old ≤ S.faults source.new }
-    ensures writes { W.faults sink.old ≤ W.faults sink.new }
-    ensures read_bound { S.fault_bound source.new ≡ S.fault_bound source.old }
-    ensures write_bound { W.fault_bound sink.new ≡ W.fault_bound sink.old }
+    // A side's count never falls and keeps its bound. A fault is answered only where that side's count rose, or stands at its
+    // last value.
+    ensures reads { KeepsCount S.faults S.fault_bound source.old source.new (result ≡ Status.ReadFault) }
+    ensures writes { KeepsCount W.faults W.fault_bound sink.old sink.new (result ≡ Status.WriteFault) }
     ensures steps { steps.old ≤ steps.new }
 {
     match read_words(words) {
         Some(asked) => answer_stream(alloc, asked, source, sink, steps),
-        None => end_with(sink, USAGE, Status::Words),
+        None => refuse_words(sink),
+    }
+}
+
+/// Runs by what came of reading the words: without memory for them the run ends at once, and a word that is not UTF-8 is none of
+/// the program's.
+pub fn run_by<S: Source, W: Sink, L: Ledger>(
+    alloc: Global,
+    words: Result<&[Text], WordsFault>,
+    source: &mut S,
+    sink: &mut W,
+    steps: &mut Steps<L>,
+) -> Status
+    ensures read { IfOk words (λ read. IfSome (S.rest source.old) (λ bytes.
+        Answers result (W.taken sink.old) (W.taken sink.new) (output read.now bytes))) }
+    ensures memory { words ≡ Err WordsFault.Memory
+        → (result ≡ Status.Memory) × (W.taken sink.new ≡ W.taken sink.old) × (S.rest source.new ≡ S.rest source.old) }
+    ensures not_text { words ≡ Err WordsFault.NotText
+        → Answers result (W.taken sink.old) (W.taken sink.new) refused_words × (S.rest source.new ≡ S.rest source.old) }
+    ensures reads { KeepsCount S.faults S.fault_bound source.old source.new (result ≡ Status.ReadFault) }
+    ensures writes { KeepsCount W.faults W.fault_bound sink.old sink.new (result ≡ Status.WriteFault) }
+    ensures steps { steps.old ≤ steps.new }
+{
+    match words {
+        Ok(words) => run(alloc, words, source, sink, steps),
+        Err(WordsFault::Memory) => Status::Memory,
+        Err(WordsFault::NotText) => refuse_words(sink),
     }
 }

@@ -1,25 +1,29 @@
 ghost use Rattle.std.specs.Prelude.{◌≡◌};
 ghost use Rattle.xsv_run.specs.Output.{asked};
 
+use run_words::{Request, Task};
 use stream_answers::Asked;
 use xs_names::Text;
 
-/// What the words ask for, `None` where they are none of the program's.
+/// Why the words of a command line were not read.
+#[derive(Clone, Copy, Debug, PartialEq, Eq)]
+pub enum WordsFault {
+    /// Memory was wanting.
+    Memory,
+    /// A word is not UTF-8.
+    NotText,
+}
+
+/// What the words ask for, `None` where they are none of the program's or ask for what is not built.
 pub fn read_words(words: &[Text]) -> Option<Asked>
     ensures { result ≡ asked words.now }
 {
-    match words {
-        [word] => {
-            if word.as_str() == "check" {
-                Some(Asked::Check)
-            } else if word.as_str() == "assess" {
-                Some(Asked::Assess)
-            } else if word.as_str() == "session" {
-                Some(Asked::Session)
-            } else {
-                None
-            }
-        }
-        _ => None,
+    match run_words::read_words(words) {
+        Some(Request::Read(Task::Check, _)) => Some(Asked::Check),
+        Some(Request::Read(Task::Assess, _)) => Some(Asked::Assess),
+        Some(Request::Read(Task::Session, _)) => Some(Asked::Session),
+        Some(Request::Generate(_, _)) => None,
+        Some(Request::Trial(_, _)) => None,
+        None => None,
     }
 }

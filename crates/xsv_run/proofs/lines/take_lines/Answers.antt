@@ -1,4 +1,4 @@
-use Rattle.std.proofs.Common.{arith, refl, ◌∙◌}
+use Rattle.std.proofs.Common.{Ok, Err, arith, refl, ◌∙◌}
 use Rattle.xsv_run.proofs.Going.{goes_nowhere, goes_further, ends_further}
 use Rattle.xsv_run.proofs.lines.take_lines.Goals as goal
 
@@ -14,14 +14,18 @@ lines-init g c = record {
 
 pub lines-preserved : goal.lines-preserved
 lines-preserved g c = record {
-  on = goes_further c.args.asked c.args.place c.lines.stands c.in-Goes.next c.args.listing.now c.lines.listing c.take_next.new.listing _ _ _ c.lines.invariant.on c.in-Goes.ensures.takes;
+  on = goes_further c.args.asked c.args.place c.lines.stands c.in-Ok-Goes.next c.args.listing.now c.lines.listing c.take_next.new.listing _ _ _ c.lines.invariant.on (rw c.in-Ok-Goes.field-0-is at c.in-Ok-Goes.ensures.takes);
   counted = c.take_next.ensures.counted ∙ c.lines.invariant.counted;
   finished = c.take_next.ensures.finished ∙ c.lines.invariant.finished;
-  later = omega (arith, c.take_next.ensures.later, c.lines.invariant.later);
-  kept = c.take_next.ensures.kept ∙ c.lines.invariant.kept;
+  later = omega (arith, c.take_next.ensures.writes.later, c.lines.invariant.later);
+  kept = c.take_next.ensures.writes.kept ∙ c.lines.invariant.kept;
   steps = omega (arith, c.take_next.ensures.steps, c.lines.invariant.steps);
 }
 
-pub returns-in-Ends-clause-progress : goal.returns-in-Ends-clause-progress
-returns-in-Ends-clause-progress g c =
-    ends_further c.args.asked c.args.place c.lines.stands c.args.listing.now c.lines.listing _ _ _ c.in-Ends.status c.lines.invariant.on c.in-Ends.ensures.takes
+pub returns-in-Ok-Ends-clause-progress : goal.returns-in-Ok-Ends-clause-progress
+returns-in-Ok-Ends-clause-progress g c =
+    ends_further c.args.asked c.args.place c.lines.stands c.args.listing.now c.lines.listing _ _ _ (Ok c.in-Ok-Ends.ending) c.lines.invariant.on (rw c.in-Ok-Ends.field-0-is at c.in-Ok-Ends.ensures.takes)
+
+pub returns-in-Err-clause-progress : goal.returns-in-Err-clause-progress
+returns-in-Err-clause-progress g c =
+    ends_further c.args.asked c.args.place c.lines.stands c.args.listing.now c.lines.listing _ _ _ (Err c.in-Err.why) c.lines.invariant.on c.in-Err.ensures.takes

@@ -1,9 +1,14 @@
-use Rattle.std.proofs.Common.{arith, take, length-take}
+use Rattle.std.proofs.Common.{Ok, Err, arith, take, length-take}
 use Rattle.std.proofs.lemmas.List.{take-append-le}
 use Rattle.xsv_run.proofs.Streams.{ends_piece}
 use Rattle.xsv_run.proofs.piece.take_piece.Goals as goal
 
-pub returns-in-Ends-clause-takes : goal.returns-in-Ends-clause-takes
-returns-in-Ends-clause-takes g c =
-    ends_piece _ _ _ (take c.in-Ok.count c.read.new.into) _ _ _ _ _ _ c.in-Ok.ensures.bytes.0 (take-append-le c.in-Ok.count c.read.new.into _ c.in-Ok.ensures.bound.0) c.in-Ends.ensures.takes
+pub returns-in-Ok-Ends-clause-takes : goal.returns-in-Ok-Ends-clause-takes
+returns-in-Ok-Ends-clause-takes g c =
+    ends_piece _ _ _ (take c.in-Ok.count c.read.new.into) _ _ _ _ _ (Ok c.in-Ok-Ends.ending) c.in-Ok.ensures.bytes.0 (take-append-le c.in-Ok.count c.read.new.into _ c.in-Ok.ensures.bound.0) (rw c.in-Ok-Ends.field-0-is at c.in-Ok-Ends.ensures.takes)
+    (omega (arith, length-take c.in-Ok.count c.read.new.into, length-take c.min-most.result c.args.buf.now, c.min-most.ensures, c.in-Ok.ensures.bound, c.read.auto.into, c.requires.room))
+
+pub returns-in-Ok-Err-clause-takes : goal.returns-in-Ok-Err-clause-takes
+returns-in-Ok-Err-clause-takes g c =
+    ends_piece _ _ _ (take c.in-Ok.count c.read.new.into) _ _ _ _ _ (Err c.in-Ok-Err.why) c.in-Ok.ensures.bytes.0 (take-append-le c.in-Ok.count c.read.new.into _ c.in-Ok.ensures.bound.0) c.in-Ok-Err.ensures.takes
     (omega (arith, length-take c.in-Ok.count c.read.new.into, length-take c.min-most.result c.args.buf.now, c.min-most.ensures, c.in-Ok.ensures.bound, c.read.auto.into, c.requires.room))

@@ -4,4 +4,4 @@ use Rattle.xsv_run.proofs.running.run.Goals as goal
 
 pub returns-in-None-clause-output : goal.returns-in-None-clause-output
 returns-in-None-clause-output g c =
-    none_asked c.args.words.now _ _ _ c.end_with.result (sym c.read_words.ensures ∙ c.in-None.is) c.end_with.ensures.answers
+    none_asked c.args.words.now _ _ _ c.refuse_words.result (sym c.read_words.ensures ∙ c.in-None.is) c.refuse_words.ensures.output

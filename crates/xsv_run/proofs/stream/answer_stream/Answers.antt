@@ -1,4 +1,6 @@
-use Rattle.std.proofs.Common.{arith, refl, ◌∙◌}
+use Rattle.std.proofs.Common.{◌≤◌, true, arith, refl, ◌∙◌}
+use Rattle.xsv_run.specs.Output.{told_of}
+use Rattle.xsv_run.proofs.Telling.{answers_by, not_words, not_read, write_failed, rose_later}
 use Rattle.xsv_run.proofs.Streams.{stands_first, unread_waits, stands_further, room_further, output_ends, few_ends, output_last, few_last, output_broken}
 use Rattle.xsv_run.proofs.stream.answer_stream.Goals as goal
 
@@ -31,26 +33,71 @@ pieces-preserved g c =
       going = two.feeds.going;
       room = room.0;
       some = room.1;
-      reads = omega (arith, old.reads, c.take_piece.ensures.reads);
-      writes = omega (arith, old.writes, c.take_piece.ensures.writes);
-      read_bound = c.take_piece.ensures.read_bound ∙ old.read_bound;
-      write_bound = c.take_piece.ensures.write_bound ∙ old.write_bound;
+      reads = omega (arith, old.reads, c.take_piece.ensures.reads.later);
+      writes = omega (arith, old.writes, c.take_piece.ensures.writes.later);
+      read_bound = c.take_piece.ensures.reads.kept ∙ old.read_bound;
+      write_bound = c.take_piece.ensures.writes.kept ∙ old.write_bound;
       steps = omega (arith, old.steps, c.take_piece.ensures.steps);
     }
 
 pub returns-in-Ends-clause-output : goal.returns-in-Ends-clause-output
-returns-in-Ends-clause-output g c = output_ends _ _ _ _ _ _ _ _ _ c.in-Ends.status c.pieces.invariant.stands c.in-Ends.ensures.takes
+returns-in-Ends-clause-output g c =
+    answers_by _ c.in-Ends.ended _ _ (λ whole. told_of c.args.asked whole true) c.of_stream.result c.of_stream.ensures
+    (output_ends _ _ _ _ _ _ _ _ _ c.in-Ends.ended c.pieces.invariant.stands c.in-Ends.ensures.takes)
 
 pub returns-in-Ends-clause-few : goal.returns-in-Ends-clause-few
-returns-in-Ends-clause-few g c = few_ends _ _ _ _ _ _ _ _ _ c.in-Ends.status c.pieces.invariant.stands c.in-Ends.ensures.takes
+returns-in-Ends-clause-few g c = few_ends _ _ _ _ _ _ _ _ _ c.in-Ends.ended c.pieces.invariant.stands c.in-Ends.ensures.takes
+
+pub returns-in-Ends-clause-broken : goal.returns-in-Ends-clause-broken
+returns-in-Ends-clause-broken g c = λ is. absurd (not_read c.in-Ends.ended c.of_stream.result c.of_stream.ensures is)
+
+pub returns-in-Ends-clause-answered : goal.returns-in-Ends-clause-answered
+returns-in-Ends-clause-answered g c = not_words c.in-Ends.ended c.of_stream.result c.of_stream.ensures
+
+pub returns-in-Ends-clause-reads : goal.returns-in-Ends-clause-reads
+returns-in-Ends-clause-reads g c = record {
+  later = omega (arith, c.pieces.invariant.reads, c.take_piece.ensures.reads.later);
+  kept = c.take_piece.ensures.reads.kept ∙ c.pieces.invariant.read_bound;
+  rose = λ is. absurd (not_read c.in-Ends.ended c.of_stream.result c.of_stream.ensures is);
+}
+
+pub returns-in-Ends-clause-writes : goal.returns-in-Ends-clause-writes
+returns-in-Ends-clause-writes g c = record {
+  later = omega (arith, c.pieces.invariant.writes, c.take_piece.ensures.writes.later);
+  kept = c.take_piece.ensures.writes.kept ∙ c.pieces.invariant.write_bound;
+  rose = λ is. rose_later c.pieces.invariant.writes (c.in-Ends.ensures.writes.rose (write_failed c.in-Ends.ended c.of_stream.result c.of_stream.ensures is));
+}
 
 pub returns-in-AtEnd-clause-output : goal.returns-in-AtEnd-clause-output
 returns-in-AtEnd-clause-output g c =
-    output_last _ _ _ _ _ _ _ _ _ _ _ _ c.pieces.invariant.stands c.in-AtEnd.ensures.takes c.end_stream.result c.end_stream.ensures.answers
+    answers_by _ c.end_stream.result _ _ (λ whole. told_of c.args.asked whole true) c.of_stream.result c.of_stream.ensures
+    (output_last _ _ _ _ _ _ _ _ _ _ _ _ c.pieces.invariant.stands c.in-AtEnd.ensures.takes c.end_stream.result c.end_stream.ensures.answers)
 
 pub returns-in-AtEnd-clause-few : goal.returns-in-AtEnd-clause-few
 returns-in-AtEnd-clause-few g c =
     few_last c.args.asked _ _ _ _ _ _ (g.W.Sink.taken c.take_piece.new.sink) _ _ _ _ c.pieces.invariant.stands c.in-AtEnd.ensures.takes c.pieces.room c.pieces.invariant.room
+
+pub returns-in-AtEnd-clause-broken : goal.returns-in-AtEnd-clause-broken
+returns-in-AtEnd-clause-broken g c = λ is. absurd (not_read c.end_stream.result c.of_stream.result c.of_stream.ensures is)
+
+pub returns-in-AtEnd-clause-answered : goal.returns-in-AtEnd-clause-answered
+returns-in-AtEnd-clause-answered g c = not_words c.end_stream.result c.of_stream.result c.of_stream.ensures
+
+pub returns-in-AtEnd-clause-reads : goal.returns-in-AtEnd-clause-reads
+returns-in-AtEnd-clause-reads g c = record {
+  later = omega (arith, c.pieces.invariant.reads, c.take_piece.ensures.reads.later);
+  kept = c.take_piece.ensures.reads.kept ∙ c.pieces.invariant.read_bound;
+  rose = λ is. absurd (not_read c.end_stream.result c.of_stream.result c.of_stream.ensures is);
+}
+
+pub returns-in-AtEnd-clause-writes : goal.returns-in-AtEnd-clause-writes
+returns-in-AtEnd-clause-writes g c =
+    let before : g.W.Sink.faults c.args.sink.now ≤ g.W.Sink.faults c.take_piece.new.sink = omega (arith, c.pieces.invariant.writes, c.take_piece.ensures.writes.later) in
+    record {
+      later = omega (arith, before, c.end_stream.ensures.writes.later);
+      kept = c.end_stream.ensures.writes.kept ∙ c.take_piece.ensures.writes.kept ∙ c.pieces.invariant.write_bound;
+      rose = λ is. rose_later before (c.end_stream.ensures.writes.rose (write_failed c.end_stream.result c.of_stream.result c.of_stream.ensures is));
+    }
 
 pub returns-in-Failed-clause-output : goal.returns-in-Failed-clause-output
 returns-in-Failed-clause-output g c = output_broken _ _ _ _ _ _ _ _ c.pieces.invariant.stands c.in-Failed.ensures.takes.1

@@ -1,8 +1,9 @@
 ghost use Rattle.std.specs.Prelude.{◌≡◌};
 
-use assess_model::Validity;
+use edit_replies::BreakOff;
+use stream_answers::Ending;
 
-/// How a run ended.
+/// How a run ended. The last three of its kinds are no answer to the stream.
 #[derive(Clone, Copy, Debug, PartialEq, Eq)]
 pub enum Status {
     /// The schema is accepted, and the root is valid where a document was asked for.
@@ -26,7 +27,7 @@ pub enum Status {
 }
 
 impl Status {
-    ghost use Rattle.stream_answers.specs.Numbers.{number_of};
+    ghost use Rattle.xsv_run.specs.Statuses.{number_of, status_by};
 
     /// The number that the program ends with.
     pub fn number(self) -> u8
@@ -45,15 +46,18 @@ impl Status {
         }
     }
 
-    ghost use Rattle.stream_answers.specs.Turns.{status_of};
-
-    /// The status of a run to its end, by the root's validity.
-    pub fn of_validity(validity: Validity) -> Status
-        ensures { result ≡ status_of validity }
+    /// The status of a stream that ended, or that was broken off.
+    pub fn of_stream(ended: Result<Ending, BreakOff>) -> Status
+        ensures { result ≡ status_by ended }
     {
-        match validity {
-            Validity::Valid => Status::Valid,
-            Validity::Invalid | Validity::NotKnown => Status::NotValid,
+        match ended {
+            Ok(Ending::Valid) => Status::Valid,
+            Ok(Ending::NotValid) => Status::NotValid,
+            Ok(Ending::ListingRefused) => Status::ListingRefused,
+            Ok(Ending::Limit) => Status::Limit,
+            Ok(Ending::Unsupported) => Status::Unsupported,
+            Err(BreakOff::Memory) => Status::Memory,
+            Err(BreakOff::WriteFault) => Status::WriteFault,
         }
     }
 }

@@ -1,0 +1,16 @@
+use Rattle.std.proofs.Common.{refl}
+use Rattle.report_text.specs.Words as words
+use Rattle.text_sink.proofs.Sequence.{written_then, written_short}
+use Rattle.report_text.proofs.codes.write_next_code.Goals as goal
+
+pub returns-in_err-write_text : goal.returns-in_err-write_text
+returns-in_err-write_text g c = record {
+  written = written_short g.W.Sink.taken g.W.Sink.faults g.W.Sink.fault_bound c.args.sink.now c.write_text.new.sink _ c.from_residual.result _ (words.code_text c.args.code) _ refl
+      c.from_residual.ensures.0 c.in_err-write_text.ensures.written;
+}
+
+pub returns : goal.returns
+returns g c = record {
+  written = written_then g.W.Sink.taken g.W.Sink.faults g.W.Sink.fault_bound c.args.sink.now c.write_text.new.sink c.write_code.new.sink c.write_code.result _ _ _ refl
+      c.in_ok-write_text.ensures.written.all c.in_ok-write_text.ensures.written.cause.later c.in_ok-write_text.ensures.written.kept c.write_code.ensures.written;
+}

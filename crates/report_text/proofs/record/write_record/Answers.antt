@@ -1,0 +1,16 @@
+use Rattle.std.proofs.Common.{refl}
+use Rattle.report_text.proofs.Lines.{known_line, typed_line, whole_line}
+use Rattle.text_sink.proofs.Sequence.{written_then, written_short}
+use Rattle.report_text.proofs.record.write_record.Goals as goal
+
+pub returns-in_err-write_parts : goal.returns-in_err-write_parts
+returns-in_err-write_parts g c = record {
+  written = written_short g.W.Sink.taken g.W.Sink.faults g.W.Sink.fault_bound c.args.sink.now c.write_parts.new.sink _ c.from_residual.result _ _ _ (whole_line _ _ _ _ _ _)
+      c.from_residual.ensures.0 c.in_err-write_parts.ensures.written;
+}
+
+pub returns : goal.returns
+returns g c = record {
+  written = written_then g.W.Sink.taken g.W.Sink.faults g.W.Sink.fault_bound c.args.sink.now c.write_parts.new.sink c.write_typed.new.sink c.write_typed.result _ _ _ (whole_line _ _ _ _ _ _)
+      c.in_ok-write_parts.ensures.written.all c.in_ok-write_parts.ensures.written.cause.later c.in_ok-write_parts.ensures.written.kept c.write_typed.ensures.written;
+}

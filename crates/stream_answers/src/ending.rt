@@ -1,0 +1,29 @@
+ghost use Rattle.std.specs.Prelude.{◌≡◌};
+ghost use Rattle.stream_answers.specs.Turns.{ending_of};
+
+use assess_model::Validity;
+
+/// How a stream ended.
+#[derive(Clone, Copy, Debug, PartialEq, Eq)]
+pub enum Ending {
+    /// The schema is accepted, and the root is valid where a document was asked for.
+    Valid,
+    /// The root is invalid, or its validity is not known.
+    NotValid,
+    /// A line of the stream is refused.
+    ListingRefused,
+    /// A limit is passed.
+    Limit,
+    /// The schema or the document is not of the form that is accepted so far.
+    Unsupported,
+}
+
+/// How a stream ended, by the root's validity.
+pub fn ending_of(validity: Validity) -> Ending
+    ensures { result ≡ ending_of validity }
+{
+    match validity {
+        Validity::Valid => Ending::Valid,
+        Validity::Invalid | Validity::NotKnown => Ending::NotValid,
+    }
+}
