@@ -51,7 +51,7 @@ impl Tree {
     ghost use Rattle.tree_rows.specs.declared.row.NodeKind.TheVariants.{Element};
 
     /// The tree of rows in document order.
-    pub(crate) fn from_rows(rows: Vec<Row>, next_free: u32) -> Self
+    pub fn from_rows(rows: Vec<Row>, next_free: u32) -> Self
         requires sound { AreSound rows.items }
         requires tree { IsTree (record { forest = siblings rows.items 1; next_free = next_free }) }
         ensures { result ≡ record { forest = siblings rows.items 1; next_free = next_free } }
