@@ -5,3 +5,5 @@
 mod answers;
 #[cfg(test)]
 mod limits;
+#[cfg(test)]
+mod places;
