@@ -1,10 +1,10 @@
 -- Lines and pieces, one after another.
-use Rattle.std.proofs.Common.{◌≡◌, ℕ, ◌+◌, ◌≤◌, List, [], ◌++◌, length, Bool, true, false, Option, Result, Ok, Err, refl, sym, ap, ◌∙◌, subst, append_assoc}
+use Rattle.std.proofs.Common.{◌≡◌, ℕ, ◌+◌, ◌≤◌, List, [], ◌++◌, length, Bool, true, false, Option, Result, Ok, Err, refl, sym, ap, ◌∙◌, subst, append_assoc, length-append, arith, if◌then◌else◌}
 use Rattle.std.proofs.KnownBytes.{Appends-nil, Appends-trans}
 use Rattle.item_listing.specs.State.{Reading}
 use Rattle.item_listing.specs.declared.past.Past.{Past}
 use Rattle.item_listing.specs.declared.limits.TheConstants.{MOST_BYTES}
-use Rattle.item_listing.specs.Listing.{bytes_taken}
+use Rattle.item_listing.specs.Listing.{bytes_taken, fed}
 use Rattle.item_listing.specs.Listed.{listed, Waits}
 use Rattle.stream_answers.specs.Output.{Told, told, before, finished}
 use Rattle.stream_answers.specs.Turning.{IsOpen}
@@ -41,9 +41,9 @@ ends_further a p q r s o m n e one two = λ more closed.
     subst (EndsAs e o n) (sym (one.told_on more closed)) (ends_behind e o m n one.said (to_tell a q s more closed) one.written (two more closed))
 
 module _ (a : Asked) (p : Place) (r f : Reading) (bytes : List ℕ) (past : f.past ≡ r.past)
-    (fed : (more : List ℕ) (closed : Bool) → listed f more closed ≡ listed r (bytes ++ more) closed) where
+    (reads : (more : List ℕ) (closed : Bool) → listed f more closed ≡ listed r (bytes ++ more) closed) where
   same_told : (more : List ℕ) (closed : Bool) → to_tell a p r (bytes ++ more) closed ≡ to_tell a p f more closed
-  same_told more closed = ap (told a r.past.lines p) (sym (fed more closed)) ∙ ap (λ (q : Past). told a q.lines p (listed f more closed)) (sym past)
+  same_told more closed = ap (told a r.past.lines p) (sym (reads more closed)) ∙ ap (λ (q : Past). told a q.lines p (listed f more closed)) (sym past)
 
   pub feeds : (q : Place) (s : Reading) (o n : Option (List ℕ)) → GoesOn a p f o q s n → Waits s → bytes_taken s ≡ bytes_taken r + length bytes
       → bytes_taken s ≤ MOST_BYTES → s.finished ≡ false → Feeds a p r o bytes q s n
@@ -67,6 +67,20 @@ module _ (a : Asked) (p : Place) (r f : Reading) (bytes : List ℕ) (past : f.pa
   fed_on s o n (Ok (progresses.Waits q)) h counted going = feeds q s o n h.0 h.1 counted h.2 going
   fed_on s o n (Ok (progresses.Ends ending)) h counted going = ends_fed o n (Ok ending) h
   fed_on s o n (Err why) h counted going = ends_fed o n (Err why) h
+
+-- a piece that came: the lines that were read are as before
+module _ (r f : Reading) (bytes : List ℕ) (going : r.finished ≡ false) (is : f ≡ fed r bytes) where
+  with_piece : f ≡ record r { held = r.held ++ bytes }
+  with_piece = is ∙ ap (λ t. if t then r else record r { held = r.held ++ bytes }) going
+
+  pub fed_past : f.past ≡ r.past
+  fed_past = ap (λ (x : Reading). x.past) with_piece
+
+  pub fed_going : f.finished ≡ false
+  fed_going = ap (λ (x : Reading). x.finished) with_piece ∙ going
+
+  pub fed_counted : bytes_taken f ≡ bytes_taken r + length bytes
+  fed_counted = ap bytes_taken with_piece ∙ omega (arith, length-append r.held bytes)
 
 -- no whole line is left
 pub waits_now : (a : Asked) (p q x : Place) (r s t : Reading) (o m n : Option (List ℕ)) → GoesOn a p r o q s m → TakesNext a q s m t n (Ok (nexts.Waits x)) → bytes_taken t ≤ MOST_BYTES

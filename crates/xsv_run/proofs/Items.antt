@@ -35,8 +35,8 @@ item_ends (goes said next) a b ending h is = absurd is
 item_ends (ends said was) a b ending h is = (h, is)
 
 pub item_broken : (t : Turned) (a b : Option (List ℕ)) (why : BreakOff) → Wrote {T = Turn} (Err why) a b (said_of t) → TakesItem t a b (Err why)
-item_broken (goes said next) a b why h = front_broken why a b said h
-item_broken (ends said ending) a b why h = front_broken why a b said h
+item_broken (goes said next) a b why h = front_broken Turn why a b said h
+item_broken (ends said ending) a b why h = front_broken Turn why a b said h
 
 module _ (a : Asked) (place : Place) (r s : Reading) (it : Item) (old new : Option (List ℕ))
     (reads : (more : List ℕ) (closed : Bool) → listed r more closed ≡ gives it (listed s more closed)) (line : s.past.lines ≡ r.past.lines + 1) where
@@ -94,7 +94,7 @@ refused_by : (a : Asked) (place : Place) (r : Reading) (fault : ListingFault) (o
     → IfOk n (λ next. next ≡ nexts.Ends (refusal_ending (refusals.Line fault.reason))) → TakesNext a place r old r new n
 refused_by a place r fault old new (Ok next) reads h is =
     subst (λ x. TakesNext a place r old r new (Ok x)) (sym is) (fault_ends a place r fault old new (Ok (refusal_ending (refusals.Line fault.reason))) reads (h, refl))
-refused_by a place r fault old new (Err why) reads h is = fault_ends a place r fault old new (Err why) reads (front_broken why old new _ h)
+refused_by a place r fault old new (Err why) reads h is = fault_ends a place r fault old new (Err why) reads (front_broken Next why old new _ h)
 
 pub fault_read : (a : Asked) (place : Place) (r s : Reading) (read : Result (Option Item) ListingFault) (fault : ListingFault) (old new : Option (List ℕ)) (n : Result Next BreakOff)
     → read ≡ Err fault → ReadsOn r read s → Leaves r read s

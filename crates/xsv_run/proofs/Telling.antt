@@ -27,14 +27,14 @@ pub front_all : (a b : Option (List ℕ)) (text : List ℕ) → Appends a b text
 front_all a b text h = (length text, subst (Appends a b) (sym (take_all (length text) text (omega arith))) h)
 
 -- a call that broke off has written a front
-pub front_broken : {T : Type 0} (why : BreakOff) (a b : Option (List ℕ)) (text : List ℕ) → Wrote {T = T} (Err why) a b text → AppendsFront a b text
-front_broken breaks.Memory a b text same = subst (λ o. AppendsFront a o text) (sym same) (front_none a text)
-front_broken breaks.WriteFault a b text front = front
+pub front_broken : (T : Type 0) (why : BreakOff) (a b : Option (List ℕ)) (text : List ℕ) → Wrote {T = T} (Err why) a b text → AppendsFront a b text
+front_broken T breaks.Memory a b text same = subst (λ o. AppendsFront a o text) (sym same) (front_none a text)
+front_broken T breaks.WriteFault a b text front = front
 
 -- what is told at the end of a stream
 pub ends_as : (e : Result Ending BreakOff) (a b : Option (List ℕ)) (t : Told) → Wrote e a b t.text → IfOk e (λ ending. t.ending ≡ Some ending) → EndsAs e a b t
 ends_as (Ok ending) a b t wrote is = (wrote, is)
-ends_as (Err why) a b t wrote is = front_broken why a b t.text wrote
+ends_as (Err why) a b t wrote is = front_broken Ending why a b t.text wrote
 
 -- what is told behind a text
 pub ends_behind : (e : Result Ending BreakOff) (a b c : Option (List ℕ)) (said : List ℕ) (t : Told) → Appends a b said → EndsAs e b c t → EndsAs e a c (before said t)

@@ -45,10 +45,10 @@ fn take_bytes<W: Sink, L: Ledger>(
     ensures writes { KeepsCount W.faults W.fault_bound sink.old sink.new (IsWriteFault result) }
     ensures steps { steps.old ≤ steps.new }
 {
-    if listing.feed(bytes).is_err() {
-        return Err(BreakOff::Memory);
+    match listing.feed(bytes) {
+        Ok(()) => take_lines(alloc, asked, listing, place, sink, steps),
+        Err(_) => Err(BreakOff::Memory),
     }
-    take_lines(alloc, asked, listing, place, sink, steps)
 }
 
 /// Reads a piece of at most `room` bytes, and answers its lines.

@@ -75,11 +75,11 @@ pub fn run_by<S: Source, W: Sink, L: Ledger>(
     sink: &mut W,
     steps: &mut Steps<L>,
 ) -> Status
-    ensures read { IfOk words (λ read. IfSome (S.rest source.old) (λ bytes.
+    ensures read { IfOk words.entry (λ read. IfSome (S.rest source.old) (λ bytes.
         Answers result (W.taken sink.old) (W.taken sink.new) (output read.now bytes))) }
-    ensures memory { words ≡ Err WordsFault.Memory
+    ensures memory { words.entry ≡ Err WordsFault.Memory
         → (result ≡ Status.Memory) × (W.taken sink.new ≡ W.taken sink.old) × (S.rest source.new ≡ S.rest source.old) }
-    ensures not_text { words ≡ Err WordsFault.NotText
+    ensures not_text { words.entry ≡ Err WordsFault.NotText
         → Answers result (W.taken sink.old) (W.taken sink.new) refused_words × (S.rest source.new ≡ S.rest source.old) }
     ensures reads { KeepsCount S.faults S.fault_bound source.old source.new (result ≡ Status.ReadFault) }
     ensures writes { KeepsCount W.faults W.fault_bound sink.old sink.new (result ≡ Status.WriteFault) }

@@ -14,4 +14,4 @@ returns-in-Ok-Err-clause-takes g c =
     c.in-Ok-Err.field-0-is c.in-Ok-Err.ensures.listed c.in-Ok-Err.ensures.leaves c.refuse_line.ensures.tells.wrote c.refuse_line.ensures.ends
 
 pub returns-in-Ok-Err-clause-holds : goal.returns-in-Ok-Err-clause-holds
-returns-in-Ok-Err-clause-holds g c = holds_ended c.refuse_line.result _ _ _ c.refuse_line.ensures.ends
+returns-in-Ok-Err-clause-holds g c = holds_ended c.refuse_line.result c.args.listing.now c.next_item.new.self _ c.refuse_line.ensures.ends

@@ -8,7 +8,7 @@ returns-in-Ok-Ends-clause-takes g c =
     ends_piece _ _ _ (take c.in-Ok.count c.read.new.into) _ _ _ _ _ (Ok c.in-Ok-Ends.ending) c.in-Ok.ensures.bytes.0 (take-append-le c.in-Ok.count c.read.new.into _ c.in-Ok.ensures.bound.0) (rw c.in-Ok-Ends.field-0-is at c.in-Ok-Ends.ensures.takes)
     (omega (arith, length-take c.in-Ok.count c.read.new.into, length-take c.min-most.result c.args.buf.now, c.min-most.ensures, c.in-Ok.ensures.bound, c.read.auto.into, c.requires.room))
 
-pub returns-in-Ok-Err-clause-takes : goal.returns-in-Ok-Err-clause-takes
-returns-in-Ok-Err-clause-takes g c =
-    ends_piece _ _ _ (take c.in-Ok.count c.read.new.into) _ _ _ _ _ (Err c.in-Ok-Err.why) c.in-Ok.ensures.bytes.0 (take-append-le c.in-Ok.count c.read.new.into _ c.in-Ok.ensures.bound.0) c.in-Ok-Err.ensures.takes
+pub returns-in-Err-take_bytes-clause-takes : goal.returns-in-Err-take_bytes-clause-takes
+returns-in-Err-take_bytes-clause-takes g c =
+    ends_piece _ _ _ (take c.in-Ok.count c.read.new.into) _ _ _ _ _ (Err c.in-Err-take_bytes.why) c.in-Ok.ensures.bytes.0 (take-append-le c.in-Ok.count c.read.new.into _ c.in-Ok.ensures.bound.0) c.in-Err-take_bytes.ensures.takes
     (omega (arith, length-take c.in-Ok.count c.read.new.into, length-take c.min-most.result c.args.buf.now, c.min-most.ensures, c.in-Ok.ensures.bound, c.read.auto.into, c.requires.room))

@@ -42,30 +42,30 @@ pieces-preserved g c =
 
 pub returns-in-Ends-clause-output : goal.returns-in-Ends-clause-output
 returns-in-Ends-clause-output g c =
-    answers_by _ c.in-Ends.ended _ _ (λ whole. told_of c.args.asked whole true) c.of_stream.result c.of_stream.ensures
+    answers_by _ c.in-Ends.ended _ _ (λ whole. told_of c.args.asked whole true) c.of_stream-in-Ends.result c.of_stream-in-Ends.ensures
     (output_ends _ _ _ _ _ _ _ _ _ c.in-Ends.ended c.pieces.invariant.stands c.in-Ends.ensures.takes)
 
 pub returns-in-Ends-clause-few : goal.returns-in-Ends-clause-few
 returns-in-Ends-clause-few g c = few_ends _ _ _ _ _ _ _ _ _ c.in-Ends.ended c.pieces.invariant.stands c.in-Ends.ensures.takes
 
 pub returns-in-Ends-clause-broken : goal.returns-in-Ends-clause-broken
-returns-in-Ends-clause-broken g c = λ is. absurd (not_read c.in-Ends.ended c.of_stream.result c.of_stream.ensures is)
+returns-in-Ends-clause-broken g c = λ is. absurd (not_read c.in-Ends.ended c.of_stream-in-Ends.result c.of_stream-in-Ends.ensures is)
 
 pub returns-in-Ends-clause-answered : goal.returns-in-Ends-clause-answered
-returns-in-Ends-clause-answered g c = not_words c.in-Ends.ended c.of_stream.result c.of_stream.ensures
+returns-in-Ends-clause-answered g c = not_words c.in-Ends.ended c.of_stream-in-Ends.result c.of_stream-in-Ends.ensures
 
 pub returns-in-Ends-clause-reads : goal.returns-in-Ends-clause-reads
 returns-in-Ends-clause-reads g c = record {
   later = omega (arith, c.pieces.invariant.reads, c.take_piece.ensures.reads.later);
   kept = c.take_piece.ensures.reads.kept ∙ c.pieces.invariant.read_bound;
-  rose = λ is. absurd (not_read c.in-Ends.ended c.of_stream.result c.of_stream.ensures is);
+  rose = λ is. absurd (not_read c.in-Ends.ended c.of_stream-in-Ends.result c.of_stream-in-Ends.ensures is);
 }
 
 pub returns-in-Ends-clause-writes : goal.returns-in-Ends-clause-writes
 returns-in-Ends-clause-writes g c = record {
   later = omega (arith, c.pieces.invariant.writes, c.take_piece.ensures.writes.later);
   kept = c.take_piece.ensures.writes.kept ∙ c.pieces.invariant.write_bound;
-  rose = λ is. rose_later c.pieces.invariant.writes (c.in-Ends.ensures.writes.rose (write_failed c.in-Ends.ended c.of_stream.result c.of_stream.ensures is));
+  rose = λ is. rose_later c.pieces.invariant.writes (c.in-Ends.ensures.writes.rose (write_failed c.in-Ends.ended c.of_stream-in-Ends.result c.of_stream-in-Ends.ensures is));
 }
 
 pub returns-in-AtEnd-clause-output : goal.returns-in-AtEnd-clause-output

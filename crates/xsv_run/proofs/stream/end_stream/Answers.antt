@@ -16,7 +16,7 @@ returns-in-Ok-Ends-clause-answers g c =
     ends_last c.args.asked c.args.place c.args.listing c.finish.new.self (ap (λ (r : Reading). r.past) c.finish.ensures.finished) c.finish.ensures.listed
     _ _ (Ok c.in-Ok-Ends.ending) (rw c.in-Ok-Ends.field-0-is at c.in-Ok-Ends.ensures.progress)
 
-pub returns-in-Err-clause-answers : goal.returns-in-Err-clause-answers
-returns-in-Err-clause-answers g c =
+pub returns-clause-answers : goal.returns-clause-answers
+returns-clause-answers g c =
     ends_last c.args.asked c.args.place c.args.listing c.finish.new.self (ap (λ (r : Reading). r.past) c.finish.ensures.finished) c.finish.ensures.listed
     _ _ (Err c.in-Err.why) c.in-Err.ensures.progress
