@@ -82,6 +82,11 @@ module _ (r f : Reading) (bytes : List ℕ) (going : r.finished ≡ false) (is :
   pub fed_counted : bytes_taken f ≡ bytes_taken r + length bytes
   fed_counted = ap bytes_taken with_piece ∙ omega (arith, length-append r.held bytes)
 
+-- how many lines were read is what the listing says
+pub ended_behind : (e : Result Ending BreakOff) (m n : Option (List ℕ)) (place : Place) (count lines : ℕ) → count ≡ lines → EndsAs e m n (finished count place)
+    → EndsAs e m n (finished lines place)
+ended_behind e m n place count lines same ended = subst (λ k. EndsAs e m n (finished k place)) same ended
+
 -- no whole line is left
 pub waits_now : (a : Asked) (p q x : Place) (r s t : Reading) (o m n : Option (List ℕ)) → GoesOn a p r o q s m → TakesNext a q s m t n (Ok (nexts.Waits x)) → bytes_taken t ≤ MOST_BYTES
     → Progresses a p r o t n (Ok (progresses.Waits x))

@@ -77,6 +77,11 @@ pub fn run_by<S: Source, W: Sink, L: Ledger>(
 ) -> Status
     ensures read { IfOk words.entry (λ read. IfSome (S.rest source.old) (λ bytes.
         Answers result (W.taken sink.old) (W.taken sink.new) (output read.now bytes))) }
+    ensures broken { IfOk words.entry (λ read. result ≡ Status.ReadFault
+        → BreaksOff read.now (S.rest source.old) (S.rest source.new) (W.taken sink.old) (W.taken sink.new)) }
+    ensures refused { IfOk words.entry (λ read. result ≡ Status.Words → asked read.now ≡ None) }
+    ensures unread { IfOk words.entry (λ read. asked read.now ≡ None → S.rest source.new ≡ S.rest source.old) }
+    ensures few { TakesAtMost (MOST_BYTES + 1) (S.rest source.old) (S.rest source.new) }
     ensures memory { words.entry ≡ Err WordsFault.Memory
         → (result ≡ Status.Memory) × (W.taken sink.new ≡ W.taken sink.old) × (S.rest source.new ≡ S.rest source.old) }
     ensures not_text { words.entry ≡ Err WordsFault.NotText
