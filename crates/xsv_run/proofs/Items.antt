@@ -12,7 +12,7 @@ use Rattle.edit_replies.specs.declared.break_off.BreakOff.TheVariants.{Memory}
 use Rattle.edit_replies.specs.Tells.{Wrote}
 use Rattle.stream_answers.specs.Turns.{Turned, goes, ends, turned}
 use Rattle.stream_answers.specs.Turning.{TurnsTo, said_of}
-use Rattle.stream_answers.specs.Output.{told, turn_then, before, over, stopped}
+use Rattle.stream_answers.specs.Output.{told, turn_then, before, stopped}
 use Rattle.stream_answers.specs.Refusals.{refusal_ending}
 use Rattle.stream_answers.specs.declared.ending.Ending.{Ending}
 use Rattle.stream_answers.specs.declared.place.Asked.{Asked}

@@ -1,5 +1,4 @@
-use Rattle.std.proofs.Common.{Ok, Err, sym, subst, ap, ◌∙◌}
-use Rattle.xsv_run.specs.Progress.{TakesNext}
+use Rattle.std.proofs.Common.{Ok, ap, ◌∙◌}
 use Rattle.xsv_run.proofs.Items.{item_read, fault_read, holds_ended}
 use Rattle.xsv_run.proofs.next.take_next.Goals as goal
 

@@ -1,4 +1,4 @@
-use Rattle.std.proofs.Common.{◌∙◌, ap, ◌+◌, length}
+use Rattle.std.proofs.Common.{◌∙◌}
 use Rattle.xsv_run.proofs.Going.{fed_on, fed_past, fed_going, fed_counted}
 use Rattle.xsv_run.proofs.piece.take_bytes.Goals as goal
 

@@ -1,4 +1,4 @@
-use Rattle.std.proofs.Common.{Ok, Err, arith, ap, ◌∙◌}
+use Rattle.std.proofs.Common.{Ok, Err, ap, ◌∙◌}
 use Rattle.item_listing.specs.State.{Reading}
 use Rattle.stream_answers.specs.Output.{finished}
 use Rattle.xsv_run.proofs.Going.{ends_last, finished_last, ended_behind}
