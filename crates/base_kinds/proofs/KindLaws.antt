@@ -37,7 +37,7 @@ module _ (t : Tables) where
   functional _ _ _ (inherited id p a e f c) (inherited _ q b g h d) =
       ap taken (functional p.base a b c (subst (λ (r : ComplexType). HasContent t r.base b) (part-same q p (slice_get t.complexes.parts id) g e) d))
 
-  kind-sound : (table : List (Option ContentKind)) → IsSound t table → (x : TypeId) (kind : ContentKind) → kind_in table x ≡ Some kind → HasContent t x kind
+  pub kind-sound : (table : List (Option ContentKind)) → IsSound t table → (x : TypeId) (kind : ContentKind) → kind_in table x ≡ Some kind → HasContent t x kind
   kind-sound table sound AnyType kind e = subst (HasContent t AnyType) (let g = e in cc) of_any
   kind-sound table sound (Builtin b) kind e = subst (HasContent t (Builtin b)) (let g = e in cc) (of_built_in b)
   kind-sound table sound (Simple id) kind e = subst (HasContent t (Simple id)) (let g = e in cc) (of_simple id)

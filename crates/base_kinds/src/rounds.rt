@@ -43,6 +43,7 @@ fn rounds(parts: &Components, order: &[u32], known: &mut [Option<ContentKind>])
     requires sound { IsSound parts.now known.old }
     ensures sound { IsSound parts.now known.new }
     ensures lacks { All (LacksAt parts.now known.new) order.now }
+    ensures len { length known.new ≡ length known.old }
 {
     'round: loop {
         if !round(parts, order, known) {

@@ -1,7 +1,8 @@
 -- Circles, and the first of them part by part.
 use Rattle.std.proofs.Common.{◌≡◌, ℕ, ◌+◌, ◌-◌, ◌<◌, ◌≤◌, ◌⊎◌, inl, inr, true, false, List, [], ◌∷◌, ◌++◌, Option, None, Some, length, map, get_or, slice_get, refl, sym, ap, ◌∙◌, subst, arith}
+use Rattle.std.specs.Option.{option_map}
 use Rattle.std.proofs.lemmas.Bool.{cases_eq, cases_lt}
-use Rattle.std.proofs.lemmas.Option.{slice_get-get_or, slice_get_within, get_or_from_slice_get}
+use Rattle.std.proofs.lemmas.Option.{slice_get-get_or, slice_get-map, slice_get_read, slice_get_within, get_or_from_slice_get}
 use Rattle.std.proofs.lemmas.List.{length-map}
 use Rattle.xs_circles.specs.Circles.{Leads, HasCircle}
 use Rattle.xs_circles.proofs.FirstLaws.{leads-there}
@@ -49,6 +50,14 @@ module _ (places : List Place) (refs : List (List ℕ)) (first : ℕ) (code : Co
     pub step-behind : (best : Option Fault) → comes_first (circle_fault at code) best ≡ false → IsLeast (BackBelow i) best → IsLeast (BackBelow (i + 1)) best
     step-behind best e is_best = least-behind (BackBelow i) (BackBelow (i + 1)) (circle_fault at code) more only best is_best e
 
+  -- the same of a fault that is that of the part
+  module _ (i : ℕ) (at : Place) (fault : Fault) (is : slice_get places i ≡ Some at) (same : fault ≡ circle_fault at code) where
+    pub fault-behind : (best : Option Fault) → comes_first fault best ≡ false → IsLeast (BackBelow i) best → IsLeast (BackBelow (i + 1)) best
+    fault-behind best e least = step-behind i at is best (subst (λ f. comes_first f best ≡ false) same e) least
+
+    pub fault-first : (best : Option Fault) → Leads refs (first + i) (first + i) → comes_first fault best ≡ true → IsLeast (BackBelow i) best → IsLeast (BackBelow (i + 1)) (Some fault)
+    fault-first best circle e least = subst (λ f. IsLeast (BackBelow (i + 1)) (Some f)) (sym same) (step-back i at is best circle (subst (λ f. comes_first f best ≡ true) same e) least)
+
   -- all parts
   pub all-back : (n : ℕ) → n ≡ length places → (best : Option Fault) → IsLeast (BackBelow n) best → IsLeast (ComesBack places refs first code) best
   all-back n e best is = least-same (BackBelow n) (ComesBack places refs first code) (λ f c. (c.0, c.2, c.3, c.4, c.5)) (λ f c. (c.0, omega (arith, e, slice_get_within places c.0 c.1 c.2), c.1, c.2, c.3, c.4)) best is
@@ -56,6 +65,10 @@ module _ (places : List Place) (refs : List (List ℕ)) (first : ℕ) (code : Co
   -- where no part comes back there is nothing
   pub none-back : ((x : ℕ) → Leads refs x x → ⊥) → (f : Fault) → ComesBack places refs first code f → ⊥
   none-back straight f c = straight (first + c.0) c.3
+
+-- where a part stands that was read
+pub place-read : {X : Type 0} (at : X → Place) (xs : List X) (i : ℕ) (x : X) (place : Place) → i < length xs → x ≡ get_or xs i x → place ≡ at x → slice_get (map at xs) i ≡ Some place
+place-read at xs i x place within is e = slice_get-map at xs i ∙ ap (option_map at) (slice_get_read xs (length xs) i x refl within is) ∙ ap Some (sym e)
 
 -- a part that comes back stands somewhere
 pub circle-at : {X : Type 0} (at : X → Place) (xs : List X) (refs : List (List ℕ)) (first : ℕ) (code : Code) (n : ℕ) → n < length xs → Leads refs (first + n) (first + n)
