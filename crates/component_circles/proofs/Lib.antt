@@ -4,3 +4,4 @@ pub mod GraphLaws
 pub mod CircleLaws
 pub mod GroupLaws
 pub mod RankLaws
+pub mod OutcomeLaws

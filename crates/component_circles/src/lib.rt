@@ -1,6 +1,7 @@
 //! Circular definitions among components, and ranks by which every reference goes lower where there are none.
 #![tactic(auto)]
 
+mod falling;
 mod first;
 mod model_graph;
 mod placed;

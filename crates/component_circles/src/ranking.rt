@@ -1,11 +1,12 @@
-ghost use Rattle.std.specs.Prelude.{◌≡◌, ◌<◌, ◌^◌, length, vec_len, IfOk, IfNone};
+ghost use Rattle.std.specs.Prelude.{◌≡◌, ◌<◌, ◌^◌, vec_len, IfOk, IfNone};
 ghost use Rattle.xs_references.specs.Ranked.{IsRanked};
 ghost use Rattle.xs_faults.specs.Least.{IsLeast};
-ghost use Rattle.component_circles.specs.References.{IsClosed, type_references};
+ghost use Rattle.component_circles.specs.References as graph;
+ghost use Rattle.component_circles.specs.References.{IsClosed};
 ghost use Rattle.component_circles.specs.Circles as spec;
-ghost use Rattle.component_circles.specs.inside.Parts.{AreTypesRanked, AreElementsRanked, AreAttrGroupsRanked, AreModelsRanked, HaveTypeRanks, HaveElementRanks, HaveAttrGroupRanks, HaveModelRanks};
+ghost use Rattle.component_circles.specs.inside.Parts.{IsOutcome, AreTypesRanked, AreElementsRanked, AreAttrGroupsRanked, AreModelsRanked, HaveTypeRanks, HaveElementRanks, HaveAttrGroupRanks, HaveModelRanks};
 
-use crate::first::first_circle;
+use crate::falling::{Ranking, rank_all_types, rank_parts};
 use crate::model_graph::model_references;
 use crate::type_graph::{attr_group_references, element_references, type_references};
 use crate::writing::{
@@ -13,7 +14,6 @@ use crate::writing::{
     write_simples,
 };
 use std::alloc::{AllocError, Global};
-use xs_circles::{levels, ranks};
 use xs_codes::{Code, Fault};
 use xs_components::Components;
 use xs_faults::sooner;
@@ -30,36 +30,23 @@ fn numbered(refs: Vec<Listed<u32>>) -> Result<Vec<Listed<u32>>, AllocError>
     Ok(refs)
 }
 
-// The first type that comes back to itself.
-fn first_type(
-    alloc: Global,
-    parts: &Components,
-    refs: &[Listed<u32>],
-) -> Result<Option<Fault>, AllocError>
-    requires few { length refs.now < 2 ^ 32 }
-    requires closed { IsClosed parts.now }
-    requires refs { refs.now ≡ type_references parts.now }
-    ensures least { IfOk result (IsLeast (spec.IsTypeCircle parts.now)) }
+// Writes ranks of types, or answers the first circle of them.
+fn put_types(parts: &mut Components, ranking: &Ranking) -> Option<Fault>
+    requires closed { IsClosed parts.old }
+    requires outcome { IsOutcome (graph.type_references parts.old) (spec.IsTypeCircle parts.old) ranking.now }
+    ensures least { IsLeast (spec.IsTypeCircle parts.old) result }
+    ensures ranked { IfNone result (AreTypesRanked parts.new) }
+    ensures tables { HaveTypeRanks parts.old parts.new }
 {
-    let levels = levels(alloc, refs)?;
-    let count = parts.simples().len() as u32;
-    let simple = first_circle(
-        alloc,
-        parts.simples(),
-        refs,
-        levels.as_slice(),
-        0,
-        Code::StPropsCorrect2,
-    )?;
-    let complex = first_circle(
-        alloc,
-        parts.complexes(),
-        refs,
-        levels.as_slice(),
-        count,
-        Code::CtPropsCorrect3,
-    )?;
-    Ok(sooner(simple, complex))
+    match ranking {
+        Ranking::Falling(ranks) => {
+            let simples = parts.simples().len();
+            write_simples(parts, &ranks[..simples]);
+            write_complexes(parts, &ranks[simples..]);
+            None
+        },
+        Ranking::Circular(found) => *found,
+    }
 }
 
 // Ranks types, or answers the first circle of them.
@@ -70,13 +57,25 @@ fn rank_types(alloc: Global, parts: &mut Components) -> Result<Option<Fault>, Al
     ensures tables { IfOk result (λ found. HaveTypeRanks parts.old parts.new) }
 {
     let refs = numbered(type_references(alloc, parts)?)?;
-    let Some(ranks) = ranks(alloc, refs.as_slice())? else {
-        return first_type(alloc, parts, refs.as_slice());
-    };
-    let simples = parts.simples().len();
-    write_simples(parts, &ranks[..simples]);
-    write_complexes(parts, &ranks[simples..]);
-    Ok(None)
+    let ranking = rank_all_types(alloc, parts.simples(), parts.complexes(), refs.as_slice())?;
+    Ok(put_types(parts, &ranking))
+}
+
+// Writes ranks of elements by their heads, or answers the first circle of them.
+fn put_elements(parts: &mut Components, ranking: &Ranking) -> Option<Fault>
+    requires closed { IsClosed parts.old }
+    requires outcome { IsOutcome (graph.element_references parts.old) (spec.IsElementCircle parts.old) ranking.now }
+    ensures least { IsLeast (spec.IsElementCircle parts.old) result }
+    ensures ranked { IfNone result (AreElementsRanked parts.new) }
+    ensures tables { HaveElementRanks parts.old parts.new }
+{
+    match ranking {
+        Ranking::Falling(ranks) => {
+            write_elements(parts, ranks.as_slice());
+            None
+        },
+        Ranking::Circular(found) => *found,
+    }
 }
 
 // Ranks elements by their heads, or answers the first circle of them.
@@ -87,19 +86,30 @@ fn rank_elements(alloc: Global, parts: &mut Components) -> Result<Option<Fault>,
     ensures tables { IfOk result (λ found. HaveElementRanks parts.old parts.new) }
 {
     let refs = numbered(element_references(alloc, parts)?)?;
-    let Some(ranks) = ranks(alloc, refs.as_slice())? else {
-        let levels = levels(alloc, refs.as_slice())?;
-        return first_circle(
-            alloc,
-            parts.elements(),
-            refs.as_slice(),
-            levels.as_slice(),
-            0,
-            Code::EPropsCorrect6,
-        );
-    };
-    write_elements(parts, ranks.as_slice());
-    Ok(None)
+    let ranking = rank_parts(
+        alloc,
+        parts.elements(),
+        refs.as_slice(),
+        Code::EPropsCorrect6,
+    )?;
+    Ok(put_elements(parts, &ranking))
+}
+
+// Writes ranks of attribute groups, or answers the first circle of them.
+fn put_attr_groups(parts: &mut Components, ranking: &Ranking) -> Option<Fault>
+    requires closed { IsClosed parts.old }
+    requires outcome { IsOutcome (graph.attr_group_references parts.old) (spec.IsAttrGroupCircle parts.old) ranking.now }
+    ensures least { IsLeast (spec.IsAttrGroupCircle parts.old) result }
+    ensures ranked { IfNone result (AreAttrGroupsRanked parts.new) }
+    ensures tables { HaveAttrGroupRanks parts.old parts.new }
+{
+    match ranking {
+        Ranking::Falling(ranks) => {
+            write_attr_groups(parts, ranks.as_slice());
+            None
+        },
+        Ranking::Circular(found) => *found,
+    }
 }
 
 // Ranks attribute groups, or answers the first circle of them.
@@ -110,19 +120,32 @@ fn rank_attr_groups(alloc: Global, parts: &mut Components) -> Result<Option<Faul
     ensures tables { IfOk result (λ found. HaveAttrGroupRanks parts.old parts.new) }
 {
     let refs = numbered(attr_group_references(alloc, parts)?)?;
-    let Some(ranks) = ranks(alloc, refs.as_slice())? else {
-        let levels = levels(alloc, refs.as_slice())?;
-        return first_circle(
-            alloc,
-            parts.attr_groups(),
-            refs.as_slice(),
-            levels.as_slice(),
-            0,
-            Code::SrcAttributeGroup3,
-        );
-    };
-    write_attr_groups(parts, ranks.as_slice());
-    Ok(None)
+    let ranking = rank_parts(
+        alloc,
+        parts.attr_groups(),
+        refs.as_slice(),
+        Code::SrcAttributeGroup3,
+    )?;
+    Ok(put_attr_groups(parts, &ranking))
+}
+
+// Writes ranks of groups and particles, or answers the first circle of groups.
+fn put_models(parts: &mut Components, ranking: &Ranking) -> Option<Fault>
+    requires closed { IsClosed parts.old }
+    requires outcome { IsOutcome (graph.model_references parts.old) (spec.IsGroupCircle parts.old) ranking.now }
+    ensures least { IsLeast (spec.IsGroupCircle parts.old) result }
+    ensures ranked { IfNone result (AreModelsRanked parts.new) }
+    ensures tables { HaveModelRanks parts.old parts.new }
+{
+    match ranking {
+        Ranking::Falling(ranks) => {
+            let groups = parts.groups().len();
+            write_groups(parts, &ranks[..groups]);
+            write_particles(parts, &ranks[groups..]);
+            None
+        },
+        Ranking::Circular(found) => *found,
+    }
 }
 
 // Ranks groups and particles, or answers the first circle of groups.
@@ -133,21 +156,13 @@ fn rank_models(alloc: Global, parts: &mut Components) -> Result<Option<Fault>, A
     ensures tables { IfOk result (λ found. HaveModelRanks parts.old parts.new) }
 {
     let refs = numbered(model_references(alloc, parts)?)?;
-    let Some(ranks) = ranks(alloc, refs.as_slice())? else {
-        let levels = levels(alloc, refs.as_slice())?;
-        return first_circle(
-            alloc,
-            parts.groups(),
-            refs.as_slice(),
-            levels.as_slice(),
-            0,
-            Code::MgPropsCorrect2,
-        );
-    };
-    let groups = parts.groups().len();
-    write_groups(parts, &ranks[..groups]);
-    write_particles(parts, &ranks[groups..]);
-    Ok(None)
+    let ranking = rank_parts(
+        alloc,
+        parts.groups(),
+        refs.as_slice(),
+        Code::MgPropsCorrect2,
+    )?;
+    Ok(put_models(parts, &ranking))
 }
 
 /// Writes ranks by which every reference of a type, an element, a group, an attribute group and a particle goes to a lower

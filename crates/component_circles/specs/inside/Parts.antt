@@ -1,9 +1,17 @@
 -- What ranks are kind by kind.
-use Rattle.std.specs.Prelude.{◌≡◌, ℕ, ◌+◌, List, All, IfSome}
+use Rattle.std.specs.Prelude.{◌≡◌, ℕ, ◌+◌, ◌⊎◌, List, All, map, length, IfSome}
+use Rattle.xs_circles.specs.Circles.{HasCircle, IsRanking}
+use Rattle.xs_codes.specs.declared.code.Code.TheVariants.{StPropsCorrect2, CtPropsCorrect3}
+use Rattle.xs_codes.specs.declared.fault.Fault.{Fault}
+use Rattle.xs_components.specs.declared.simple.SimpleType.{SimpleType}
+use Rattle.xs_components.specs.declared.complex.ComplexType.{ComplexType}
+use Rattle.xs_faults.specs.Least.{IsLeast}
 use Rattle.xs_components.specs.Tables.{Tables}
 use Rattle.xs_references.specs.Heights.{first_height, IsLower}
 use Rattle.xs_references.specs.Ranked.{EachPart, IsBelow, named_types, held_particles, named_group}
-use Rattle.component_circles.specs.Circles.{with_ranks}
+use Rattle.component_circles.specs.Circles.{ComesBack, with_ranks}
+use Rattle.component_circles.specs.declared.falling.Ranking.{Ranking}
+use Rattle.component_circles.specs.declared.falling.Ranking.TheVariants.{Falling, Circular}
 
 pub record AreTypesRanked (t : Tables) : Type 0 where
   pub simples : EachPart t.simples (λ rank part. All (IsLower t (first_height + rank)) (named_types part.form))
@@ -32,3 +40,13 @@ HaveAttrGroupRanks old new = (groups : List ℕ) × (new ≡ record old { attr_g
 
 abbrev pub HaveModelRanks : Tables → Tables → Type 0
 HaveModelRanks old new = (groups : List ℕ) × (particles : List ℕ) × (new ≡ record old { groups = with_ranks old.groups groups; particles = with_ranks old.particles particles })
+
+-- a type comes back to itself, where the simple types stand first among the references
+abbrev pub AreTypesBack : List SimpleType → List ComplexType → List (List ℕ) → Fault → Type 0
+AreTypesBack simples complexes refs fault =
+    ComesBack (map (λ part. part.at) simples) refs 0 StPropsCorrect2 fault ⊎ ComesBack (map (λ part. part.at) complexes) refs (length simples) CtPropsCorrect3 fault
+
+-- ranks that fall, or the least fault where some part comes back
+abbrev pub IsOutcome : List (List ℕ) → (Fault → Type 0) → Ranking → Type 0
+IsOutcome refs Broken (Falling ranks) = IsRanking refs ranks.items
+IsOutcome refs Broken (Circular found) = HasCircle refs × IsLeast Broken found
