@@ -5,3 +5,4 @@ pub mod CircleLaws
 pub mod GroupLaws
 pub mod RankLaws
 pub mod OutcomeLaws
+pub mod AllLaws
