@@ -36,9 +36,8 @@ fn simple_content_by_restriction_of_a_simple_type(rt: HostRuntime) -> Result<(),
 // Simple content by restriction of anyType, whose content is mixed, with a simple type of its own and without.
 fn with_restrictions_of_any(alloc: Global) -> Result<Components, AllocError> {
     let mut parts = Components::new(alloc)?;
-    let any = TypeId::AnyType;
-    add_simple_content(alloc, &mut parts, 2, any, false, Some(string()))?;
-    add_simple_content(alloc, &mut parts, 3, any, false, None)?;
+    add_simple_content(alloc, &mut parts, 2, TypeId::AnyType, false, Some(string()))?;
+    add_simple_content(alloc, &mut parts, 3, TypeId::AnyType, false, None)?;
     Ok(parts)
 }
 

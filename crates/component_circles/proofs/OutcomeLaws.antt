@@ -86,4 +86,3 @@ elements-written t new v ranks closed ranking a e = subst AreElementsRanked (sym
 
 pub attr_groups-written : (t new : Tables) (v ranks : List ℕ) → IsClosed t → IsRanking (attr_group_references t) v → ranks ≡ v → new ≡ record t { attr_groups = with_ranks t.attr_groups ranks } → AreAttrGroupsRanked new
 attr_groups-written t new v ranks closed ranking a e = subst AreAttrGroupsRanked (sym (e ∙ ap (λ l. record t { attr_groups = with_ranks t.attr_groups l }) a)) (attr_groups-ranked t closed v ranking.fall)
-

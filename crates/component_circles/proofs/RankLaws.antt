@@ -121,7 +121,7 @@ module _ (t : Tables) (closed : IsClosed t) (v : List ℕ) (fall : AreFalling (m
       let h : n < length t.particles.parts = slice_get_within t.particles.parts n part e in
       let p = get_or (held_particles part.term) k d in
       let low = fall (G + n) (G + p) (omega (arith, all-models))
-          (rw (particle-row n part e) (Contains-append_right (one_or_none (named_group part.term)) (behind G (held_particles part.term)) (G + p) (Contains-map (λ x. G + x) (held_particles part.term) k d within))) in
+      (rw (particle-row n part e) (Contains-append_right (one_or_none (named_group part.term)) (behind G (held_particles part.term)) (G + p) (Contains-map (λ x. G + x) (held_particles part.term) k d within))) in
       record { there = held-there t closed n part e k d within; lower = omega (arith, low, rank-particle n, rank-particle p) }
 
   to-group : (n : ℕ) (part : Particle) → slice_get t.particles.parts n ≡ Some part → (o : Option ℕ) → named_group part.term ≡ o → IfSome o (IsPart t.groups) → IfSome o (IsBelow (with_ranks t.groups (take G v)) (slice_index (drop G v) n))

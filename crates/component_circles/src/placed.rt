@@ -1,9 +1,7 @@
 ghost use Rattle.std.specs.Prelude.{◌≡◌};
 ghost use Rattle.xs_components.specs.declared.common.Place.{Place as PlaceValue};
 
-use xs_components::{
-    AttrGroupDef, ComplexType, ElementDecl, GroupDef, Place, SimpleType,
-};
+use xs_components::{AttrGroupDef, ComplexType, ElementDecl, GroupDef, Place, SimpleType};
 
 // A component that is represented somewhere.
 pub(crate) trait Placed {

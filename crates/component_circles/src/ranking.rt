@@ -1,4 +1,4 @@
-ghost use Rattle.std.specs.Prelude.{◌≡◌, ◌<◌, ◌^◌, vec_len, IfOk, IfNone};
+ghost use Rattle.std.specs.Prelude.{◌≡◌, ◌<◌, ◌≤◌, ◌^◌, length, take, drop, vec_len, IfOk, IfNone};
 ghost use Rattle.xs_references.specs.Ranked.{IsRanked};
 ghost use Rattle.xs_faults.specs.Least.{IsLeast};
 ghost use Rattle.component_circles.specs.References as graph;
@@ -30,6 +30,22 @@ fn numbered(refs: Vec<Listed<u32>>) -> Result<Vec<Listed<u32>>, AllocError>
     Ok(refs)
 }
 
+// The ranks of the first kind.
+fn first_ranks(ranks: &[u32], count: usize) -> &[u32]
+    requires { count ≤ length ranks.now }
+    ensures { result.now ≡ take count ranks.now }
+{
+    &ranks[..count]
+}
+
+// The ranks behind those of the first kind.
+fn other_ranks(ranks: &[u32], count: usize) -> &[u32]
+    requires { count ≤ length ranks.now }
+    ensures { result.now ≡ drop count ranks.now }
+{
+    &ranks[count..]
+}
+
 // Writes ranks of types, or answers the first circle of them.
 fn put_types(parts: &mut Components, ranking: &Ranking) -> Option<Fault>
     requires closed { IsClosed parts.old }
@@ -41,8 +57,11 @@ fn put_types(parts: &mut Components, ranking: &Ranking) -> Option<Fault>
     match ranking {
         Ranking::Falling(ranks) => {
             let simples = parts.simples().len();
-            write_simples(parts, &ranks[..simples]);
-            write_complexes(parts, &ranks[simples..]);
+            let all = ranks.as_slice();
+            let front = first_ranks(all, simples);
+            let back = other_ranks(all, simples);
+            write_simples(parts, front);
+            write_complexes(parts, back);
             None
         },
         Ranking::Circular(found) => *found,
@@ -140,8 +159,11 @@ fn put_models(parts: &mut Components, ranking: &Ranking) -> Option<Fault>
     match ranking {
         Ranking::Falling(ranks) => {
             let groups = parts.groups().len();
-            write_groups(parts, &ranks[..groups]);
-            write_particles(parts, &ranks[groups..]);
+            let all = ranks.as_slice();
+            let front = first_ranks(all, groups);
+            let back = other_ranks(all, groups);
+            write_groups(parts, front);
+            write_particles(parts, back);
             None
         },
         Ranking::Circular(found) => *found,

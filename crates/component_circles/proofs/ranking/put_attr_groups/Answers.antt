@@ -1,4 +1,4 @@
-use Rattle.std.proofs.Common.{subst}
+use Rattle.std.proofs.Common.{refl, subst}
 use Rattle.component_circles.specs.References.{attr_group_references}
 use Rattle.component_circles.specs.Circles.{IsAttrGroupCircle}
 use Rattle.component_circles.specs.inside.Parts.{IsOutcome, AreAttrGroupsRanked}
@@ -13,3 +13,6 @@ returns-in-Falling-clause-ranked c =
 
 pub returns-in-Circular-clause-ranked : goal.returns-in-Circular-clause-ranked
 returns-in-Circular-clause-ranked c = attr_groups-none c.args.parts.now c.args.ranking.now c.in-Circular.found c.in-Circular.is (AreAttrGroupsRanked c.args.parts.now) c.requires.outcome
+
+pub returns-in-Circular-clause-tables : goal.returns-in-Circular-clause-tables
+returns-in-Circular-clause-tables c = (c.args.parts.now.attr_groups.ranks, refl)

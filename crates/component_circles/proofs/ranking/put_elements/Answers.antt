@@ -1,4 +1,4 @@
-use Rattle.std.proofs.Common.{subst}
+use Rattle.std.proofs.Common.{refl, subst}
 use Rattle.component_circles.specs.References.{element_references}
 use Rattle.component_circles.specs.Circles.{IsElementCircle}
 use Rattle.component_circles.specs.inside.Parts.{IsOutcome, AreElementsRanked}
@@ -13,3 +13,6 @@ returns-in-Falling-clause-ranked c =
 
 pub returns-in-Circular-clause-ranked : goal.returns-in-Circular-clause-ranked
 returns-in-Circular-clause-ranked c = elements-none c.args.parts.now c.args.ranking.now c.in-Circular.found c.in-Circular.is (AreElementsRanked c.args.parts.now) c.requires.outcome
+
+pub returns-in-Circular-clause-tables : goal.returns-in-Circular-clause-tables
+returns-in-Circular-clause-tables c = (c.args.parts.now.elements.ranks, refl)
