@@ -1,2 +1,0 @@
-pub mod GrowLaws
-pub mod FillLaws

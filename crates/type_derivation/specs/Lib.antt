@@ -1,3 +1,0 @@
-pub mod Particles
-pub mod Cycles
-pub mod inside
