@@ -53,7 +53,11 @@ fn attribute_symbol(form: &Represented) -> Option<NameId>
     ensures { result ≡ spec.attribute_symbol form.now }
 {
     match form {
-        Represented::Attribute(attribute) => if attribute.global { attribute.name } else { None },
+        Represented::Attribute(attribute) => if attribute.global {
+            attribute.name
+        } else {
+            None
+        },
         _ => None,
     }
 }

@@ -1,5 +1,5 @@
 -- Where no document leads to others the first is the whole set.
-use Rattle.std.proofs.Common.{◌≡◌, ℕ, ◌+◌, ◌⊎◌, inl, inr, Bool, true, false, true≢false, List, [], ◌∷◌, Option, None, Some, slice_get, refl, sym, ap, ◌∙◌, subst, arith}
+use Rattle.std.proofs.Common.{◌≡◌, ℕ, ◌+◌, ◌⊎◌, inl, inr, Bool, true, false, true≢false, List, [], ◌∷◌, ◌++◌, Option, None, Some, slice_get, refl, sym, ap, ◌∙◌, subst, arith}
 use Rattle.std.specs.Prelude.{All, Contains}
 use Rattle.std.proofs.lemmas.Option.{slice_get_within, get_or_from_slice_get}
 use Rattle.std.proofs.lemmas.List.Elements.{All-nil, All-cons, All-contains, All-get_or, Contains-get_or}
@@ -16,7 +16,7 @@ no-shape available alone document IsForm s =
     let a = s.1 in
     let read = get_or_from_slice_get available s.0 a a s.4 in
     let fine : All (λ shape. is_composition shape.form ≡ false) a.shaped.shapes =
-        subst (λ (b : Available). All (λ shape. is_composition shape.form ≡ false) b.shaped.shapes) read (All-get_or (λ (b : Available). All (λ shape. is_composition shape.form ≡ false) b.shaped.shapes) available s.0 a (slice_get_within available s.0 a s.4) alone) in
+    subst (λ (b : Available). All (λ shape. is_composition shape.form ≡ false) b.shaped.shapes) read (All-get_or (λ (b : Available). All (λ shape. is_composition shape.form ≡ false) b.shaped.shapes) available s.0 a (slice_get_within available s.0 a s.4) alone) in
     (s.2.form, s.6, All-contains (λ (shape : Shape). is_composition shape.form ≡ false) a.shaped.shapes s.2 fine s.5)
 
 not-inclusion : (form : Form) (location : List ℕ) → IsInclusion form location → is_composition form ≡ false → ⊥
@@ -44,3 +44,8 @@ module _ (available : List Available) (alone : AreAlone available) (a : Availabl
     only = All-cons (λ (e : SetDocument). InSet available e.number e.target) d [] (rw (n, t) (first a is)) (All-nil (λ (e : SetDocument). InSet available e.number e.target));
     each = λ number target inside. let o = only-first number target inside in (d, Contains-get_or (d ∷ []) 0 d (omega arith), n ∙ sym o.0, t ∙ sym o.1);
   }
+
+  -- the same, put into an empty list
+  pub set-of-one : (none new : List SetDocument) (d : SetDocument) → none ≡ [] → new ≡ none ++ d ∷ [] → d.number ≡ 1 → d.target ≡ own_target a.shaped.shapes → d.shaped.now ≡ a.shaped → IsEffectiveSet available new
+  set-of-one none new d empty put n t s =
+      subst (IsEffectiveSet available) (sym (put ∙ ap (λ (l : List SetDocument). l ++ d ∷ []) empty)) (one-document d n t s)

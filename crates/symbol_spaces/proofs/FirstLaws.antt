@@ -33,9 +33,9 @@ pub kept-some : (names old new : List (Option ℕ)) (own place : ℕ) → place 
     AreKept (names ++ Some own ∷ []) new
 kept-some names old new own place is kept added = record {
   exact = λ name.
-    let many : 0 + length names ≡ place = omega arith in
-    added name ∙ ap (λ o. option_or o (if own == name then Some place else None)) (kept.exact name) ∙
-    sym (first-push names (Some own) 0 name ∙ ap (λ k. option_or (first_from names 0 name) (if_named (Some own) k name)) many);
+      let many : 0 + length names ≡ place = omega arith in
+      added name ∙ ap (λ o. option_or o (if own == name then Some place else None)) (kept.exact name) ∙
+      sym (first-push names (Some own) 0 name ∙ ap (λ k. option_or (first_from names 0 name) (if_named (Some own) k name)) many);
 }
 
 -- the same names by a longer list
