@@ -2,7 +2,7 @@
 use Rattle.std.specs.Prelude.{◌≡◌, ℕ, Bool, true, false, List, [], ◌∷◌, Option, None, Some, if◌then◌else◌, is_some, not}
 use Rattle.std.specs.Option.{unwrap_or}
 use Rattle.tree_rows.specs.declared.name.Expanded.{Expanded}
-use Rattle.xs_names.specs.Names.{NameTable, absent_space, space_number, with_space, with_name}
+use Rattle.xs_names.specs.Names.{NameTable, absent_space, space_number, name_number, with_space, with_name, Grown}
 use Rattle.schema_shape.specs.declared.forms.Form.{Form}
 use Rattle.schema_shape.specs.declared.forms.Form.TheVariants as forms
 use Rattle.schema_shape.specs.declared.forms.SchemaForm.{SchemaForm}
@@ -68,3 +68,36 @@ with_reference naming name t = with_expanded t (referred_space naming name.names
 abbrev pub with_reference_if : Naming → Option Expanded → NameTable → NameTable
 with_reference_if naming None t = t
 with_reference_if naming (Some name) t = with_reference naming name t
+
+-- the number of a name in a table
+abbrev pub name_in : NameTable → Option (List ℕ) → List ℕ → ℕ
+name_in t space local = unwrap_or (name_number t (space_in t space) local) 0
+
+-- the numbers of names of declarations, and of names that are referred to
+abbrev pub declared_number : NameTable → Naming → Bool → Option (List ℕ) → Option ℕ
+declared_number t naming in_target None = None
+declared_number t naming in_target (Some local) = Some (name_in t (declared_space naming in_target) local)
+
+abbrev pub reference_number : NameTable → Naming → Expanded → ℕ
+reference_number t naming name = name_in t (referred_space naming name.namespace) name.local
+
+abbrev pub reference_number_if : NameTable → Naming → Option Expanded → Option ℕ
+reference_number_if t naming None = None
+reference_number_if t naming (Some name) = Some (reference_number t naming name)
+
+-- A number that a table gives is the same in each that has grown from it, so the numbers that are found while names come are those
+-- of the table in the end.
+abbrev pub IsSpaceNumber : NameTable → Option (List ℕ) → ℕ → Type 0
+IsSpaceNumber t space n = (later : NameTable) → Grown t later → n ≡ space_in later space
+
+abbrev pub IsNumber : NameTable → Option (List ℕ) → List ℕ → ℕ → Type 0
+IsNumber t space local n = (later : NameTable) → Grown t later → n ≡ name_in later space local
+
+abbrev pub IsDeclared : NameTable → Naming → Bool → Option (List ℕ) → Option ℕ → Type 0
+IsDeclared t naming in_target local n = (later : NameTable) → Grown t later → n ≡ declared_number later naming in_target local
+
+abbrev pub IsReferred : NameTable → Naming → Expanded → ℕ → Type 0
+IsReferred t naming name n = (later : NameTable) → Grown t later → n ≡ reference_number later naming name
+
+abbrev pub IsReferredIf : NameTable → Naming → Option Expanded → Option ℕ → Type 0
+IsReferredIf t naming name n = (later : NameTable) → Grown t later → n ≡ reference_number_if later naming name

@@ -5,5 +5,6 @@ mod forms;
 mod naming;
 mod numbering;
 
-pub use naming::{Naming, naming_of};
+pub use forms::is_in_target;
+pub use naming::{Naming, naming_of, number_name, number_space};
 pub use numbering::number_names;

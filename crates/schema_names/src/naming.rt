@@ -1,10 +1,11 @@
 ghost use Rattle.std.specs.Prelude.{◌≡◌, IfOk, OnOk};
+ghost use Rattle.xs_names.specs.Names.{Grown};
 ghost use Rattle.schema_names.specs.Naming as spec;
 
 use schema_shape::{Form, SchemaForm, Shape};
 use std::alloc::AllocError;
 use tree_rows::Expanded;
-use xs_names::{Names, Text};
+use xs_names::{NameId, Names, NsId, Text};
 
 /// How the names in a document are meant that has this target namespace in a schema set.
 #[derive(Debug, Drop)]
@@ -56,87 +57,107 @@ pub fn naming_of(target: &Option<Text>, shapes: &[Shape]) -> Result<Naming, Allo
     })
 }
 
-// Puts a namespace into the table.
-pub(crate) fn add_space(names: &mut Names, space: &Option<Text>) -> Result<(), AllocError>
-    ensures { OnOk result (names.new ≡ spec.with_space_of names.old space.now) }
+// The name of a namespace, empty for the absent one.
+fn space_text(space: &Option<Text>) -> &str
+    ensures { result.now ≡ spec.space_text space.now }
 {
-    let text = match space {
+    match space {
         None => "",
         Some(space) => space.as_str(),
-    };
-    names.namespace_id(text)?;
-    Ok(())
+    }
 }
 
-// Puts a name into the table.
-fn add_name(names: &mut Names, space: &Option<Text>, local: &Text) -> Result<(), AllocError>
-    ensures { OnOk result (names.new ≡ spec.with_expanded names.old space.now local.now) }
+/// The number of a namespace, which is put into the table where it is not there. `None` is the absent one.
+///
+/// # Errors
+///
+/// `AllocError` is want of memory, here and below. Names may have come into the table then.
+pub fn number_space(names: &mut Names, space: &Option<Text>) -> Result<NsId, AllocError>
+    ensures table { OnOk result (names.new ≡ spec.with_space_of names.old space.now) }
+    ensures number { IfOk result (spec.IsSpaceNumber names.new space.now) }
+    ensures grown { Grown names.old names.new }
 {
-    let text = match space {
-        None => "",
-        Some(space) => space.as_str(),
-    };
-    let ns = names.namespace_id(text)?;
-    names.intern(ns, local.as_str())?;
-    Ok(())
+    let ns = names.namespace_id(space_text(space))?;
+    Ok(ns)
+}
+
+/// The number of a name, which is put into the table where it is not there.
+pub fn number_name(
+    names: &mut Names,
+    space: &Option<Text>,
+    local: &Text,
+) -> Result<NameId, AllocError>
+    ensures table { OnOk result (names.new ≡ spec.with_expanded names.old space.now local.now) }
+    ensures number { IfOk result (spec.IsNumber names.new space.now local.now) }
+    ensures grown { Grown names.old names.new }
+{
+    let ns = names.namespace_id(space_text(space))?;
+    let name = names.intern(ns, local.as_str())?;
+    Ok(name)
 }
 
 impl Naming {
-    // Puts the name of a declaration in the target namespace, or in none, into the table.
-    pub(crate) fn declare(
+    /// The number of the name of a declaration in the target namespace, or in none.
+    pub fn declare(
         &self,
         names: &mut Names,
         in_target: bool,
         local: &Option<Text>,
-    ) -> Result<(), AllocError>
-        ensures { OnOk result (names.new ≡ spec.with_declared self.now in_target local.now names.old) }
+    ) -> Result<Option<NameId>, AllocError>
+        ensures table { OnOk result (names.new ≡ spec.with_declared self.now in_target local.now names.old) }
+        ensures number { IfOk result (spec.IsDeclared names.new self.now in_target local.now) }
+        ensures grown { Grown names.old names.new }
     {
-        match local {
-            None => Ok(()),
-            Some(local) => {
-                if in_target {
-                    add_name(names, &self.target, local)
-                } else {
-                    add_name(names, &None, local)
-                }
-            },
+        let Some(local) = local else {
+            return Ok(None);
+        };
+        if in_target {
+            Ok(Some(number_name(names, &self.target, local)?))
+        } else {
+            Ok(Some(number_name(names, &None, local)?))
         }
     }
 
-    // Puts the name of a global declaration into the table.
-    pub(crate) fn declare_global(&self, names: &mut Names, local: &Text) -> Result<(), AllocError>
-        ensures { OnOk result (names.new ≡ spec.with_global self.now local.now names.old) }
+    /// The number of the name of a global declaration.
+    pub fn declare_global(&self, names: &mut Names, local: &Text) -> Result<NameId, AllocError>
+        ensures table { OnOk result (names.new ≡ spec.with_global self.now local.now names.old) }
+        ensures number { IfOk result (spec.IsNumber names.new self.now.target local.now) }
+        ensures grown { Grown names.old names.new }
     {
-        add_name(names, &self.target, local)
+        number_name(names, &self.target, local)
     }
 
-    // Puts a name that is referred to into the table.
-    pub(crate) fn refer(&self, names: &mut Names, name: &Expanded) -> Result<(), AllocError>
-        ensures { OnOk result (names.new ≡ spec.with_reference self.now name.now names.old) }
+    /// The number of a name that is referred to.
+    pub fn refer(&self, names: &mut Names, name: &Expanded) -> Result<NameId, AllocError>
+        ensures table { OnOk result (names.new ≡ spec.with_reference self.now name.now names.old) }
+        ensures number { IfOk result (spec.IsReferred names.new self.now name.now) }
+        ensures grown { Grown names.old names.new }
     {
         match &name.namespace {
-            Some(_) => add_name(names, &name.namespace, &name.local),
+            Some(_) => number_name(names, &name.namespace, &name.local),
             None => {
                 if self.adopts {
-                    add_name(names, &self.target, &name.local)
+                    number_name(names, &self.target, &name.local)
                 } else {
-                    add_name(names, &None, &name.local)
+                    number_name(names, &None, &name.local)
                 }
-            },
+            }
         }
     }
 
-    // Puts a name that may be referred to into the table.
-    pub(crate) fn refer_if(
+    /// The number of a name that may be referred to.
+    pub fn refer_if(
         &self,
         names: &mut Names,
         name: &Option<Expanded>,
-    ) -> Result<(), AllocError>
-        ensures { OnOk result (names.new ≡ spec.with_reference_if self.now name.now names.old) }
+    ) -> Result<Option<NameId>, AllocError>
+        ensures table { OnOk result (names.new ≡ spec.with_reference_if self.now name.now names.old) }
+        ensures number { IfOk result (spec.IsReferredIf names.new self.now name.now) }
+        ensures grown { Grown names.old names.new }
     {
         match name {
-            None => Ok(()),
-            Some(name) => self.refer(names, name),
+            None => Ok(None),
+            Some(name) => Ok(Some(self.refer(names, name)?)),
         }
     }
 }

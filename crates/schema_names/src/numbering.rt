@@ -1,7 +1,7 @@
 ghost use Rattle.std.specs.Prelude.{◌≡◌, OnOk};
 ghost use Rattle.schema_names.specs.Documents as spec;
 
-use crate::naming::{Naming, add_space, naming_of};
+use crate::naming::{Naming, naming_of, number_space};
 use schema_shape::Shape;
 use std::alloc::AllocError;
 use tree_rows::Binding;
@@ -45,6 +45,6 @@ pub fn number_names(
     ensures table { OnOk result (names.new ≡ spec.document_table target.now shapes.now names.old) }
 {
     let naming = naming_of(target, shapes)?;
-    add_space(names, target)?;
+    number_space(names, target)?;
     add_shapes(&naming, names, shapes)
 }
