@@ -1,0 +1,3 @@
+pub mod Naming
+pub mod Forms
+pub mod Documents

@@ -1,0 +1,10 @@
+//! The names that stand in schema documents, numbered in document order.
+#![tactic(auto)]
+
+mod forms;
+mod naming;
+mod numbering;
+
+pub use forms::is_in_target;
+pub use naming::{Naming, naming_of, number_name, number_space};
+pub use numbering::number_names;
