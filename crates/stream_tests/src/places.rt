@@ -13,12 +13,91 @@ const SCHEMA: &[u8] =
 /// A document section without its first line.
 const ROOT: &[u8] = b"(r\n)r\n";
 
+const DOCUMENT: &[u8] = b"document\n";
+
+const EDITS: &[u8] = b"edits\n";
+
+const INSERT: &[u8] = b"insert 1 0\n";
+
+const BLOCK: &[u8] = b"(a\n)a\n";
+
+const END: &[u8] = b"end\n";
+
+/// The lines before a place in a stream, in parts.
+type Before = &'static [&'static [u8]];
+
+const NOTHING: Before = &[];
+
+const IN_SCHEMA: Before = &[SCHEMA];
+
+const IN_DOCUMENT: Before = &[SCHEMA, DOCUMENT, ROOT];
+
+const IN_EDITS: Before = &[SCHEMA, DOCUMENT, ROOT, EDITS];
+
+const IN_BLOCK: Before = &[SCHEMA, DOCUMENT, ROOT, EDITS, INSERT];
+
+const LATER_IN_BLOCK: Before = &[SCHEMA, DOCUMENT, ROOT, EDITS, INSERT, BLOCK];
+
+const CHECKED: Before = &[SCHEMA, END];
+
+const READ: Before = &[SCHEMA, DOCUMENT, ROOT, END];
+
+const EDITED: Before = &[SCHEMA, DOCUMENT, ROOT, EDITS, END];
+
+/// Lines of each kind, but for attributes.
+const FIRST: &[&str] = &[
+    "(a", "-x", ")a", "?x", "document", "edits", "end", ".", "total",
+];
+
+const FOR_CHECK: &[&str] = &["document", "edits", ".", "total"];
+
+const FOR_OTHERS: &[&str] = &["edits", "end", ".", "total"];
+
+const FOR_ASSESS: &[&str] = &["schema\tt", "document", "edits", ".", "total"];
+
+const FOR_SESSION: &[&str] = &["schema\tt", "document", ".", "total"];
+
+const FOR_EDITS: &[&str] = &[
+    "(a",
+    "-x",
+    ")a",
+    "?x",
+    "schema\tt",
+    "document",
+    "edits",
+    ".",
+];
+
+const FOR_BLOCK: &[&str] = &["schema\tt", "document", "edits", "end", "total"];
+
+const ATTRIBUTE: &[&str] = &["Aa 1"];
+
+const ANY: &[&str] = &[
+    "(a",
+    "Aa 1",
+    "-x",
+    ")a",
+    "?x",
+    "schema\tt",
+    "document",
+    "edits",
+    "end",
+    ".",
+    "total",
+];
+
+/// What is written where the schema was accepted, where a session has begun, and for the report.
+const OPENED: &str = "schema ok\n";
+
+const READY: &str = "schema ok\nok 0 0\n";
+
+const REPORT: &str = "schema ok\ne 1 r xs:string valid full given -\ntotal 0\n";
+
 /// A place in a stream that a word reads, behind some lines, and the lines that cannot stand there.
 #[derive(Drop)]
 struct Spot<'a> {
     word: &'a str,
-    /// The lines before, in parts.
-    before: &'a [&'a [u8]],
+    before: Before,
     /// What is written for them.
     said: &'a str,
     /// The number of the next line.
@@ -64,7 +143,7 @@ fn check_spot(rt: &impl Abort, alloc: Global, spot: &Spot) -> Result<(), AllocEr
 /// Lines that cannot stand in a section.
 const fn misplaced<'a>(
     word: &'a str,
-    before: &'a [&'a [u8]],
+    before: Before,
     said: &'a str,
     line: u32,
     refused: &'a [&'a str],
@@ -82,74 +161,18 @@ const fn misplaced<'a>(
 #[test]
 fn refuses_what_stands_elsewhere(rt: HostRuntime) -> Result<(), Fail> {
     let alloc = rt.alloc();
-    let first: &[&str] = &[
-        "(a", "-x", ")a", "?x", "document", "edits", "end", ".", "total",
-    ];
-    let inside: &[&str] = &["schema\tt", "document", "edits", "end", "total"];
-    let among: &[&str] = &[
-        "(a",
-        "-x",
-        ")a",
-        "?x",
-        "schema\tt",
-        "document",
-        "edits",
-        ".",
-    ];
-    let document: &[u8] = b"document\n";
-    let edits: &[u8] = b"edits\n";
-    let insert: &[u8] = b"insert 1 0\n";
-    let block: &[u8] = b"(a\n)a\n";
-    let opened = "schema ok\n";
-    let ready = "schema ok\nok 0 0\n";
     let spots = [
-        misplaced("check", &[], "", 1, first),
-        misplaced("assess", &[], "", 1, first),
-        misplaced("session", &[], "", 1, first),
-        misplaced(
-            "check",
-            &[SCHEMA],
-            "",
-            9,
-            &["document", "edits", ".", "total"],
-        ),
-        misplaced("assess", &[SCHEMA], "", 9, &["edits", "end", ".", "total"]),
-        misplaced("session", &[SCHEMA], "", 9, &["edits", "end", ".", "total"]),
-        misplaced(
-            "assess",
-            &[SCHEMA, document, ROOT],
-            opened,
-            12,
-            &["schema\tt", "document", "edits", ".", "total"],
-        ),
-        misplaced(
-            "session",
-            &[SCHEMA, document, ROOT],
-            opened,
-            12,
-            &["schema\tt", "document", ".", "total"],
-        ),
-        misplaced(
-            "session",
-            &[SCHEMA, document, ROOT, edits],
-            ready,
-            13,
-            among,
-        ),
-        misplaced(
-            "session",
-            &[SCHEMA, document, ROOT, edits, insert],
-            ready,
-            14,
-            inside,
-        ),
-        misplaced(
-            "session",
-            &[SCHEMA, document, ROOT, edits, insert, block],
-            ready,
-            16,
-            inside,
-        ),
+        misplaced("check", NOTHING, "", 1, FIRST),
+        misplaced("assess", NOTHING, "", 1, FIRST),
+        misplaced("session", NOTHING, "", 1, FIRST),
+        misplaced("check", IN_SCHEMA, "", 9, FOR_CHECK),
+        misplaced("assess", IN_SCHEMA, "", 9, FOR_OTHERS),
+        misplaced("session", IN_SCHEMA, "", 9, FOR_OTHERS),
+        misplaced("assess", IN_DOCUMENT, OPENED, 12, FOR_ASSESS),
+        misplaced("session", IN_DOCUMENT, OPENED, 12, FOR_SESSION),
+        misplaced("session", IN_EDITS, READY, 13, FOR_EDITS),
+        misplaced("session", IN_BLOCK, READY, 14, FOR_BLOCK),
+        misplaced("session", LATER_IN_BLOCK, READY, 16, FOR_BLOCK),
     ];
     for spot in &spots {
         check_spot(&rt, alloc, spot)?;
@@ -157,97 +180,46 @@ fn refuses_what_stands_elsewhere(rt: HostRuntime) -> Result<(), Fail> {
     Ok(())
 }
 
-/// An attribute line that follows no start line is refused before its place in the stream is looked at, and after `end` every
-/// line is.
+/// An attribute line that follows no start line, whose place in the stream is not looked at.
+const fn attribute<'a>(word: &'a str, before: Before, said: &'a str, line: u32) -> Spot<'a> {
+    Spot {
+        word,
+        before,
+        said,
+        line,
+        refused: ATTRIBUTE,
+        reason: "BadAttributePlace",
+    }
+}
+
+/// Lines of each kind behind the line `end`.
+const fn late<'a>(word: &'a str, before: Before, said: &'a str, line: u32) -> Spot<'a> {
+    Spot {
+        word,
+        before,
+        said,
+        line,
+        refused: ANY,
+        reason: "AfterEnd",
+    }
+}
+
 #[test]
 fn refuses_attributes_and_what_follows_the_end(rt: HostRuntime) -> Result<(), Fail> {
     let alloc = rt.alloc();
-    let attribute: &[&str] = &["Aa 1"];
-    let any: &[&str] = &[
-        "(a",
-        "Aa 1",
-        "-x",
-        ")a",
-        "?x",
-        "schema\tt",
-        "document",
-        "edits",
-        "end",
-        ".",
-        "total",
+    let spots = [
+        attribute("check", NOTHING, "", 1),
+        attribute("assess", IN_SCHEMA, "", 9),
+        attribute("assess", IN_DOCUMENT, OPENED, 12),
+        attribute("session", IN_EDITS, READY, 13),
+        attribute("session", IN_BLOCK, READY, 14),
+        late("check", CHECKED, OPENED, 10),
+        late("assess", READ, REPORT, 13),
+        late("session", READ, READY, 13),
+        late("session", EDITED, READY, 14),
     ];
-    let document: &[u8] = b"document\n";
-    let edits: &[u8] = b"edits\n";
-    let insert: &[u8] = b"insert 1 0\n";
-    let end: &[u8] = b"end\n";
-    let opened = "schema ok\n";
-    let ready = "schema ok\nok 0 0\n";
-    let report = "schema ok\ne 1 r xs:string valid full given -\ntotal 0\n";
-    let alone = "BadAttributePlace";
-    let late = "AfterEnd";
-    let cases: [(&str, &[&[u8]], &str, u32, &[&str], &str); 9] = [
-        ("check", &[], "", 1, attribute, alone),
-        ("assess", &[SCHEMA], "", 9, attribute, alone),
-        (
-            "assess",
-            &[SCHEMA, document, ROOT],
-            opened,
-            12,
-            attribute,
-            alone,
-        ),
-        (
-            "session",
-            &[SCHEMA, document, ROOT, edits],
-            ready,
-            13,
-            attribute,
-            alone,
-        ),
-        (
-            "session",
-            &[SCHEMA, document, ROOT, edits, insert],
-            ready,
-            14,
-            attribute,
-            alone,
-        ),
-        ("check", &[SCHEMA, end], opened, 10, any, late),
-        (
-            "assess",
-            &[SCHEMA, document, ROOT, end],
-            report,
-            13,
-            any,
-            late,
-        ),
-        (
-            "session",
-            &[SCHEMA, document, ROOT, end],
-            ready,
-            13,
-            any,
-            late,
-        ),
-        (
-            "session",
-            &[SCHEMA, document, ROOT, edits, end],
-            ready,
-            14,
-            any,
-            late,
-        ),
-    ];
-    for (word, before, said, line, refused, reason) in cases {
-        let spot = Spot {
-            word,
-            before,
-            said,
-            line,
-            refused,
-            reason,
-        };
-        check_spot(&rt, alloc, &spot)?;
+    for spot in &spots {
+        check_spot(&rt, alloc, spot)?;
     }
     Ok(())
 }
