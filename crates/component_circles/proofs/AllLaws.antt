@@ -23,7 +23,7 @@ none-both (Some a) None e = absurd (none-some a (sym e))
 none-both (Some a) (Some b) e = absurd (not-none (is_before b a) a b e)
 
 at-none : (o : Option Fault) (P : Type 0) → o ≡ None → IfNone o P → P
-at-none o P e h = let k : IfNone None P = subst (λ (x : Option Fault). IfNone x P) e h in k
+at-none o P e h = subst (λ (x : Option Fault). IfNone x P) e h
 
 module _ (t0 t1 t2 t3 t4 : Tables) (ht : HaveTypeRanks t0 t1) (he : HaveElementRanks t1 t2) (ha : HaveAttrGroupRanks t2 t3) (hm : HaveModelRanks t3 t4)
     (types elements groups models r : Option Fault) (is : r ≡ sooner (sooner types elements) (sooner groups models)) where
