@@ -1,0 +1,6 @@
+pub mod GrowLaws
+pub mod MapLaws
+pub mod NodeLaws
+pub mod SumLaws
+pub mod NextLaws
+pub mod TwoLaws
