@@ -40,10 +40,11 @@ module _ (a b : List Node) (are : AreNodes a) (grows : Grows a b) where
   shape-kept zero n l is = subst IsNoFork (sym (node-kept a b n grows l)) is
   shape-kept (suc d) n l is =
       let e = sym (node-kept a b n grows l) in
-      let in' = are.each n l in
-      (subst IsNoLeaf e is.0,
-       subst (λ x. IsMap b d (node_left x)) e (shape-kept d (node_left (node_at a n)) in'.left is.1),
-       subst (λ x. IsMap b d (node_right x)) e (shape-kept d (node_right (node_at a n)) in'.right is.2))
+      let in' = are.each n l in (
+        subst IsNoLeaf e is.0,
+        subst (λ x. IsMap b d (node_left x)) e (shape-kept d (node_left (node_at a n)) in'.left is.1),
+        subst (λ x. IsMap b d (node_right x)) e (shape-kept d (node_right (node_at a n)) in'.right is.2),
+      )
 
   sums-kept : (node : Node) → node_left node < length a → node_right node < length a → SumsUp a node → SumsUp b node
   sums-kept Empty l r s = s

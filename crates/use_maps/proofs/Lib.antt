@@ -4,3 +4,4 @@ pub mod NodeLaws
 pub mod SumLaws
 pub mod NextLaws
 pub mod TwoLaws
+pub mod StepLaws

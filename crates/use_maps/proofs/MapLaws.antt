@@ -17,6 +17,9 @@ use Rattle.use_maps.specs.Maps.{MapNodes, IsMapOf, KeepsMaps}
 use Rattle.use_maps.specs.Steps.{Puts, Combines}
 use Rattle.use_maps.proofs.GrowLaws.{below, above, grows-longer, find-kept, shape-kept}
 
+abbrev no_entry : Option Entry
+no_entry = None
+
 -- the part of nothing
 pub find-nothing : (ns : List Node) → node_at ns 0 ≡ Empty → (d key : ℕ) → find ns d 0 key ≡ None
 find-nothing ns e zero key = ap node_entry e
@@ -25,7 +28,7 @@ find-nothing ns e (suc d) key =
     let r : find ns d (node_right (node_at ns 0)) (key - 2 ^ d) ≡ None = ap (λ x. find ns d (node_right x) (key - 2 ^ d)) e ∙ find-nothing ns e d (key - 2 ^ d) in
     rw (l, r) (either (nat_lt key (2 ^ d)))
   where
-    either : (b : Bool) → (if b then (None : Option Entry) else None) ≡ None
+    either : (b : Bool) → (if b then no_entry else no_entry) ≡ no_entry
     either true = refl
     either false = refl
 
@@ -43,7 +46,7 @@ module _ (ns : List Node) (d n left right : ℕ) (l : node_left (node_at ns n) �
   find-upper key h = rw (above key (2 ^ d) h, r) refl
 
   pub shape-fork : IsNoLeaf (node_at ns n) → IsMap ns d left → IsMap ns d right → IsMap ns (suc d) n
-  shape-fork no a b = (no, subst (IsMap ns d) (sym l) a, subst (IsMap ns d) (sym r) b)
+  shape-fork kind a b = (kind, subst (IsMap ns d) (sym l) a, subst (IsMap ns d) (sym r) b)
 
 same_holder-itself : (a : UseHolder) → same_holder a a ≡ true
 same_holder-itself (OfType a) = grind (arith, nat_tests)
@@ -95,13 +98,13 @@ module _ (how : Join) (old mid more new : List Node) (d first second left right 
     (one : first < length old) (two : second < length old)
     (lower : Combines how old mid d (node_left (node_at old first)) (node_left (node_at old second)) left)
     (upper : Combines how mid more d (node_right (node_at old first)) (node_right (node_at old second)) right)
-    (there : made < length new) (no : IsNoLeaf (node_at new made)) (l : node_left (node_at new made) ≡ left) (r : node_right (node_at new made) ≡ right) where
+    (there : made < length new) (kind : IsNoLeaf (node_at new made)) (l : node_left (node_at new made) ≡ left) (r : node_right (node_at new made) ≡ right) where
   pub combines-fork : Combines how old new (suc d) first second made
   combines-fork = record {
     there = there;
-    shape = shape-fork new d made left right l r no
-      (shape-kept more new are_more k d left (grows-longer mid more left h lower.there) (shape-kept mid more are_mid h d left lower.there lower.shape))
-      (shape-kept more new are_more k d right upper.there upper.shape);
+    shape = shape-fork new d made left right l r kind
+        (shape-kept more new are_more k d left (grows-longer mid more left h lower.there) (shape-kept mid more are_mid h d left lower.there lower.shape))
+        (shape-kept more new are_more k d right upper.there upper.shape);
     finds = λ key. elim (cases_lt key (2 ^ d)) [
       | inl a ↦ (let x = find-lower new d made left right l r key a in
           let y = find-kept more new are_more k d left (grows-longer mid more left h lower.there) key ∙ find-kept mid more are_mid h d left lower.there key in

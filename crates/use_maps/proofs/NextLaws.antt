@@ -25,7 +25,7 @@ module _ (d : ℕ) (whole lower upper : ℕ → Option Entry)
     behind = omega (arith, high.behind);
     within = omega (arith, high.within, wide);
     needed = (let less : 2 ^ d + m - 2 ^ d ≡ m = omega arith in
-      ap is_needed (in_upper (2 ^ d + m) (omega arith) ∙ ap upper less) ∙ high.needed);
+        ap is_needed (in_upper (2 ^ d + m) (omega arith) ∙ ap upper less) ∙ high.needed);
     none = none-before low m high.none;
   }
 

@@ -51,7 +51,7 @@ eq-less a b c h k = grind (arith, nat_tests)
 -- one entry more in one half
 module _ (old mid new : List Node) (d at name : ℕ) (entry : Entry) (made left right : ℕ) (are : AreNodes old) (are_mid : AreNodes mid)
     (g : Grows old mid) (k : Grows mid new) (here : at < length old) (shape : IsMap old (suc d) at)
-    (there : made < length new) (no : IsNoLeaf (node_at new made)) (l : node_left (node_at new made) ≡ left) (r : node_right (node_at new made) ≡ right) where
+    (there : made < length new) (kind : IsNoLeaf (node_at new made)) (l : node_left (node_at new made) ≡ left) (r : node_right (node_at new made) ≡ right) where
   pub puts-lower : name < 2 ^ d → Puts old mid d (node_left (node_at old at)) name entry left → right ≡ node_right (node_at old at) → Puts old new (suc d) at name entry made
   puts-lower small put same =
       let in' = are.each at here in
@@ -59,7 +59,7 @@ module _ (old mid new : List Node) (d at name : ℕ) (entry : Entry) (made left 
       let shape' : IsMap mid d right = rw same (shape-kept old mid are g d (node_right (node_at old at)) in'.right shape.2) in
       record {
         there = there;
-        shape = shape-fork new d made left right l r no (shape-kept mid new are_mid k d left put.there put.shape) (shape-kept mid new are_mid k d right there' shape');
+        shape = shape-fork new d made left right l r kind (shape-kept mid new are_mid k d left put.there put.shape) (shape-kept mid new are_mid k d right there' shape');
         finds = λ key h. elim (cases_lt key (2 ^ d)) [
           | inl a ↦ (let x = find-lower new d made left right l r key a ∙ (find-kept mid new are_mid k d left put.there key ∙ put.finds key a) in
               x ∙ sym (rw (below key (2 ^ d) a) refl))
@@ -77,7 +77,7 @@ module _ (old mid new : List Node) (d at name : ℕ) (entry : Entry) (made left 
       let shape' : IsMap mid d left = rw same (shape-kept old mid are g d (node_left (node_at old at)) in'.left shape.1) in
       record {
         there = there;
-        shape = shape-fork new d made left right l r no (shape-kept mid new are_mid k d left there' shape') (shape-kept mid new are_mid k d right put.there put.shape);
+        shape = shape-fork new d made left right l r kind (shape-kept mid new are_mid k d left there' shape') (shape-kept mid new are_mid k d right put.there put.shape);
         finds = λ key h. elim (cases_lt key (2 ^ d)) [
           | inl a ↦ (let x = find-lower new d made left right l r key a ∙ find-kept mid new are_mid k d left there' key in
               let y : find mid d left key ≡ find old d (node_left (node_at old at)) key = ap (λ n. find mid d n key) same ∙ find-kept old mid are g d (node_left (node_at old at)) in'.left key in

@@ -17,16 +17,16 @@ module _ (ns : List Node) (are : AreNodes ns) (p : Entry → Bool) (q : Sum → 
   sum_of n = q (node_sum (node_at ns n))
 
   sum-split : (node : Node) → IsNoLeaf node → SumsUp ns node → q (node_sum node) ≡ (sum_of (node_left node) || sum_of (node_right node))
-  sum-split Empty no up =
+  sum-split Empty kind up =
       let e : sum_of 0 ≡ false = ap (λ x. q (node_sum x)) are.first ∙ none in
       none ∙ sym (or_from (sum_of 0) (sum_of 0) e e)
-  sum-split (Leaf e) no up = absurd no
-  sum-split (Fork left right sum) no up = ap q up ∙ both (node_sum (node_at ns left)) (node_sum (node_at ns right))
+  sum-split (Leaf e) kind up = absurd kind
+  sum-split (Fork left right sum) kind up = ap q up ∙ both (node_sum (node_at ns left)) (node_sum (node_at ns right))
 
   last-sum : (node : Node) → IsNoFork node → q (node_sum node) ≡ entry_is p (node_entry node)
-  last-sum Empty no = none
-  last-sum (Leaf e) no = one e
-  last-sum (Fork left right sum) no = absurd no
+  last-sum Empty kind = none
+  last-sum (Leaf e) kind = one e
+  last-sum (Fork left right sum) kind = absurd kind
 
   -- the sum is that of some entry
   pub sum-found : (d n : ℕ) → n < length ns → IsMap ns d n → sum_of n ≡ true → (key : ℕ) × (key < 2 ^ d) × (entry_is p (find ns d n key) ≡ true)
@@ -58,7 +58,7 @@ module _ (ns : List Node) (are : AreNodes ns) (p : Entry → Bool) (q : Sum → 
     found-in : b ≡ true → SomeIs maps.depth p has
     found-in t =
         let w = sum-found maps.depth top (subst (λ (xs : List Node). top < length xs) same is.there) (subst (λ xs. IsMap xs maps.depth top) same is.shape) (sym e ∙ t) in
-        (w.0, w.1, sym (ap (entry_is p) (sym (is.finds w.0 w.1) ∙ ap (λ xs. find xs maps.depth top w.0) same)) ∙ w.2)
+        (w.0, w.1, ap (entry_is p) (sym (is.finds w.0 w.1) ∙ ap (λ xs. find xs maps.depth top w.0) same) ∙ w.2)
 
     not-in : b ≡ false → SomeIs maps.depth p has → b ≡ true
     not-in f w =

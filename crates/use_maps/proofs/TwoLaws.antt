@@ -22,14 +22,14 @@ module _ (ns : List Node) (are : AreNodes ns) where
   id_of n = (node_sum (node_at ns n)).id
 
   two-split : (node : Node) → IsNoLeaf node → SumsUp ns node → (node_sum node).two_ids ≡ (two_of (node_left node) || two_of (node_right node) || (id_of (node_left node) && id_of (node_right node)))
-  two-split Empty no up = rw are.first refl
-  two-split (Leaf e) no up = absurd no
-  two-split (Fork left right sum) no up = ap (λ (s : Sum). s.two_ids) up
+  two-split Empty kind up = rw are.first refl
+  two-split (Leaf e) kind up = absurd kind
+  two-split (Fork left right sum) kind up = ap (λ (s : Sum). s.two_ids) up
 
   two-last : (node : Node) → IsNoFork node → (node_sum node).two_ids ≡ false
-  two-last Empty no = refl
-  two-last (Leaf e) no = refl
-  two-last (Fork left right sum) no = absurd no
+  two-last Empty kind = refl
+  two-last (Leaf e) kind = refl
+  two-last (Fork left right sum) kind = absurd kind
 
   id-found : (d n : ℕ) → n < length ns → IsMap ns d n → id_of n ≡ true → (key : ℕ) × (key < 2 ^ d) × (is_id (find ns d n key) ≡ true)
   id-found = sum-found ns are (λ e. e.id) (λ s. s.id) refl (λ e. refl) (λ a b. refl)
@@ -49,12 +49,12 @@ module _ (ns : List Node) (are : AreNodes ns) where
       let a = node_left (node_at ns n) in let b = node_right (node_at ns n) in
       elim (or_cases (two_of a || two_of b) (id_of a && id_of b) (sym (two-split (node_at ns n) is.0 in'.sum) ∙ e)) [
         | inl one ↦ elim (or_cases (two_of a) (two_of b) one) [
-            | inl x ↦ (let w = two-found d a in'.left is.1 x in
-                (w.0, w.1, w.2, omega (arith, w.3), rw (below w.0 (2 ^ d) (omega (arith, w.2, w.3))) w.4, rw (below w.1 (2 ^ d) w.3) w.5))
-            | inr y ↦ (let w = two-found d b in'.right is.2 y in
-                let p : w.0 + 2 ^ d - 2 ^ d ≡ w.0 = omega arith in let q : w.1 + 2 ^ d - 2 ^ d ≡ w.1 = omega arith in
-                (w.0 + 2 ^ d, w.1 + 2 ^ d, omega (arith, w.2), omega (arith, w.3), rw (above (w.0 + 2 ^ d) (2 ^ d) (omega arith), p) w.4, rw (above (w.1 + 2 ^ d) (2 ^ d) (omega arith), q) w.5))
-          ]
+          | inl x ↦ (let w = two-found d a in'.left is.1 x in
+              (w.0, w.1, w.2, omega (arith, w.3), rw (below w.0 (2 ^ d) (omega (arith, w.2, w.3))) w.4, rw (below w.1 (2 ^ d) w.3) w.5))
+          | inr y ↦ (let w = two-found d b in'.right is.2 y in
+              let p : w.0 + 2 ^ d - 2 ^ d ≡ w.0 = omega arith in let q : w.1 + 2 ^ d - 2 ^ d ≡ w.1 = omega arith in
+              (w.0 + 2 ^ d, w.1 + 2 ^ d, omega (arith, w.2), omega (arith, w.3), rw (above (w.0 + 2 ^ d) (2 ^ d) (omega arith), p) w.4, rw (above (w.1 + 2 ^ d) (2 ^ d) (omega arith), q) w.5))
+        ]
         | inr each ↦ (let both = and_parts (id_of a) (id_of b) each in
             let x = id-found d a in'.left is.1 both.0 in let y = id-found d b in'.right is.2 both.1 in
             let q : y.0 + 2 ^ d - 2 ^ d ≡ y.0 = omega arith in
@@ -73,18 +73,19 @@ module _ (ns : List Node) (are : AreNodes ns) where
             let t = two-there d a in'.left is.1 (w.0, w.1, w.2, y, sym (rw (below w.0 (2 ^ d) x) refl) ∙ w.4, sym (rw (below w.1 (2 ^ d) y) refl) ∙ w.5) in
             split ∙ rw t refl)
         | inr y ↦ elim (cases_lt w.0 (2 ^ d)) [
-            | inl x ↦ (let s = id-there d a in'.left is.1 w.0 x (sym (rw (below w.0 (2 ^ d) x) refl) ∙ w.4) in
-                let t = id-there d b in'.right is.2 (w.1 - 2 ^ d) (omega (arith, w.3)) (sym (rw (above w.1 (2 ^ d) y) refl) ∙ w.5) in
-                split ∙ rw (s, t) (last (two_of a) (two_of b)))
-            | inr x ↦ (let t = two-there d b in'.right is.2 (w.0 - 2 ^ d, w.1 - 2 ^ d, omega (arith, w.2, x), omega (arith, w.3), sym (rw (above w.0 (2 ^ d) x) refl) ∙ w.4, sym (rw (above w.1 (2 ^ d) y) refl) ∙ w.5) in
-                split ∙ rw t (middle (two_of a) (id_of a && id_of b)))
-          ]
+          | inl x ↦ (let s = id-there d a in'.left is.1 w.0 x (sym (rw (below w.0 (2 ^ d) x) refl) ∙ w.4) in
+              let t = id-there d b in'.right is.2 (w.1 - 2 ^ d) (omega (arith, w.3)) (sym (rw (above w.1 (2 ^ d) y) refl) ∙ w.5) in
+              split ∙ rw (s, t) (last (two_of a) (two_of b)))
+          | inr x ↦ (let t = two-there d b in'.right is.2 (w.0 - 2 ^ d, w.1 - 2 ^ d, omega (arith, w.2, x), omega (arith, w.3), sym (rw (above w.0 (2 ^ d) x) refl) ∙ w.4, sym (rw (above w.1 (2 ^ d) y) refl) ∙ w.5) in
+              split ∙ rw t (middle (two_of a) (id_of a && id_of b)))
+        ]
       ]
     where
       last : (x y : Bool) → (x || y || true) ≡ true
       last true y = refl
       last false true = refl
       last false false = refl
+
       middle : (x z : Bool) → (x || true || z) ≡ true
       middle true z = refl
       middle false z = refl

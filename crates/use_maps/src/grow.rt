@@ -9,7 +9,13 @@ use crate::{Entry, Join};
 use std::alloc::AllocError;
 
 // The part below a node of so many levels, with one entry more.
-pub(crate) fn put_under(nodes: &mut Vec<Node>, levels: u32, at: u32, name: u32, entry: Entry) -> Result<u32, AllocError>
+pub(crate) fn put_under(
+    nodes: &mut Vec<Node>,
+    levels: u32,
+    at: u32,
+    name: u32,
+    entry: Entry,
+) -> Result<u32, AllocError>
     requires nodes { AreNodes nodes.old.items }
     requires levels { levels ≤ 32 }
     requires there { at < length nodes.old.items }
@@ -34,7 +40,13 @@ pub(crate) fn put_under(nodes: &mut Vec<Node>, levels: u32, at: u32, name: u32, 
 }
 
 // Two parts of so many levels, made one.
-pub(crate) fn combine_under(nodes: &mut Vec<Node>, levels: u32, how: Join, first: u32, second: u32) -> Result<u32, AllocError>
+pub(crate) fn combine_under(
+    nodes: &mut Vec<Node>,
+    levels: u32,
+    how: Join,
+    first: u32,
+    second: u32,
+) -> Result<u32, AllocError>
     requires nodes { AreNodes nodes.old.items }
     requires first { first < length nodes.old.items }
     requires second { second < length nodes.old.items }

@@ -67,7 +67,12 @@ impl UseMaps {
     }
 
     /// The map of two, made one name by name.
-    pub fn combine(&mut self, how: Join, first: UseMap, second: UseMap) -> Result<UseMap, AllocError>
+    pub fn combine(
+        &mut self,
+        how: Join,
+        first: UseMap,
+        second: UseMap,
+    ) -> Result<UseMap, AllocError>
         requires first { (one : ℕ → Option Entry) × IsMapOf self.old first.top one }
         requires second { (two : ℕ → Option Entry) × IsMapOf self.old second.top two }
         ensures kept { KeepsMaps self.old self.new }

@@ -6,7 +6,7 @@ abbrev pub invariant-loop-levels : goal.invariant-loop-levels
 invariant-loop-levels l = record {
   few : l.levels ≤ 32;
   there : l.at < length l.self.nodes;
-  same : find l.self.nodes l.levels l.at l.rest ≡ find l.self.nodes l.self.depth l.fn.map.top l.fn.name
+  same : find l.self.nodes l.levels l.at l.rest ≡ find l.self.nodes l.self.depth l.fn.map.top l.fn.name;
 }
 
 abbrev pub decreases-loop-levels : goal.decreases-loop-levels
