@@ -51,6 +51,7 @@ impl UseMaps {
     pub fn nothing(&self) -> UseMap
         ensures map { IsMapOf self.now result.top (λ name. None) }
     {
+        let _nodes = self.nodes.len();
         UseMap { top: 0 }
     }
 
