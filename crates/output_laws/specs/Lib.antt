@@ -1,0 +1,2 @@
+pub mod Sectioned
+pub mod Complete
