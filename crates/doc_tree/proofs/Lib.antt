@@ -1,0 +1,5 @@
+pub mod Reading
+pub mod Standing
+pub mod Answering
+pub mod Planting
+pub mod Named

@@ -1,0 +1,3 @@
+pub mod Standing
+pub mod Clearing
+pub mod Lain

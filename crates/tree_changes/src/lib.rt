@@ -1,0 +1,6 @@
+//! Changes of a document on its nodes by their numbers.
+#![tactic(auto)]
+
+mod parts;
+
+pub use parts::prune;

@@ -1,0 +1,45 @@
+//! A node with all that is below it, taken away; a text put in.
+
+ghost use Rattle.std.specs.Prelude.{◌≡◌, ◌≢◌, ◌⊎◌, ℕ, ◌+◌, ◌++◌, ◌∷◌, [], length, Some, None, IfOk, OnOk, OnErr};
+ghost use Rattle.xs_names.specs.Names.{NameTable};
+ghost use Rattle.tree_rows.specs.Forest.{Forest, Document, count, text as text_node, none};
+ghost use Rattle.tree_edits.specs.Tests.{made};
+ghost use Rattle.tree_edits.specs.declared.edit.Edit.TheVariants as edits;
+ghost use Rattle.node_links.specs.declared.content.Content.TheVariants as contents;
+ghost use Rattle.node_links.specs.Nodes.{Node, IsNode, IsChildAt, IsSound, Inserts};
+ghost use Rattle.tree_changes.specs.Stands.{StandsFor};
+ghost use Rattle.tree_changes.specs.Held.{parent_at, live_count};
+ghost use Rattle.tree_changes.specs.Changes.{Fits};
+ghost use Rattle.tree_changes.specs.Parts.{IsOver, Clears, Prunes};
+
+use node_links::{Content, NodeLinks};
+use std::alloc::AllocError;
+use xs_names::Text;
+
+/// Takes away all that is below a node, and answers how many nodes that were. It takes no memory.
+fn clear(links: &mut NodeLinks, number: u32) -> u32
+    requires over { (t : NameTable) × (below : Forest) × IsOver t links.old number below }
+    ensures clears { (t : NameTable) (below : Forest) → IsOver t links.old number below → Clears links.old links.new number below }
+    ensures count { (t : NameTable) (below : Forest) → IsOver t links.old number below → result ≡ count below }
+{
+    let mut gone = 0;
+    'children: while let Some(child) = links.child_at(number, 0) {
+        gone += clear(links, child) + 1;
+        links.take(child);
+    }
+    gone
+}
+
+/// Takes away a node that is no root, with all that is below it, and answers how many nodes that were. It takes no
+/// memory.
+pub fn prune(links: &mut NodeLinks, number: u32) -> u32
+    requires over { (t : NameTable) × (below : Forest) × IsOver t links.old number below }
+    requires parent { parent_at links.old number ≢ None }
+    ensures prunes { (t : NameTable) (below : Forest) → IsOver t links.old number below → (p place : ℕ) → IsChildAt links.old p place number → Prunes links.old links.new p place number below }
+    ensures count { (t : NameTable) (below : Forest) → IsOver t links.old number below → result ≡ count below + 1 }
+    ensures sound { IsSound links.new }
+{
+    let gone = clear(links, number);
+    links.take(number);
+    gone + 1
+}
