@@ -135,5 +135,5 @@ module _ (t : NameTable) (ns : Nodes) (d : Document) (z : StandsFor t ns d) (key
   pub depth_at : x.depth ≡ (at).0.depth
   depth_at = depth_lies t ns z.links key 1 d.forest (at).0 (lain) z.nodes (root_level ns d.forest z.tree.root z.root) x there
 
-  times_at : (m : ℕ) → times m (at).0.node ≤ times m d.forest
+  pub times_at : (m : ℕ) → times m (at).0.node ≤ times m d.forest
   times_at m = let a = times_changed m key 1 (λ node. none) d.forest (at).0 (lain) in omega (arith, a)

@@ -1,3 +1,4 @@
 pub mod Standing
 pub mod Clearing
 pub mod Lain
+pub mod Changing

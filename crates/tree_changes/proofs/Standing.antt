@@ -99,7 +99,7 @@ stand_parts t ns none g s = (tt, s)
 stand_parts t ns (text number chars next) g s = let z = stand_parts t ns next g s.1 in ((s.0, z.0), z.1)
 stand_parts t ns (element number name bindings attributes children next) g s = let z = stand_parts t ns next g s.2 in ((s.0, s.1, z.0), z.1)
 
-if_one : (b : Bool) → b ≡ true → ◌≡◌ {A = ℕ} (if b then 1 else 0) 1
+pub if_one : (b : Bool) → b ≡ true → ◌≡◌ {A = ℕ} (if b then 1 else 0) 1
 if_one b e = ap (λ c. if c then 1 else 0) e
 
 pub has_times : (m : ℕ) (f : Forest) → has m f ≡ true → 1 ≤ times m f
@@ -116,7 +116,7 @@ has_times m (element number name bindings attributes children next) h = elim (or
   ]
 ]
 
-if_none : (b : Bool) → b ≡ false → ◌≡◌ {A = ℕ} (if b then 1 else 0) 0
+pub if_none : (b : Bool) → b ≡ false → ◌≡◌ {A = ℕ} (if b then 1 else 0) 0
 if_none b e = ap (λ c. if c then 1 else 0) e
 
 pub no_times : (m : ℕ) (f : Forest) → has m f ≡ false → times m f ≡ 0

@@ -3,4 +3,4 @@
 
 mod parts;
 
-pub use parts::prune;
+pub use parts::{prune, remove_node};

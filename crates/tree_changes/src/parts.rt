@@ -43,3 +43,16 @@ pub fn prune(links: &mut NodeLinks, number: u32) -> u32
     links.take(number);
     gone + 1
 }
+
+/// Takes away a node that is not the root, with all that is below it, and answers how many nodes that were. It takes no
+/// memory.
+pub fn remove_node(links: &mut NodeLinks, number: u32) -> u32
+    requires stands { (t : NameTable) × (d : Document) × StandsFor t links.old d }
+    requires node { parent_at links.old number ≢ None }
+    ensures tree { (t : NameTable) (d : Document) → StandsFor t links.old d → StandsFor t links.new (made d (edits.Remove number)) }
+    ensures change { (t : NameTable) (below : Forest) → IsOver t links.old number below → (p place : ℕ) → IsChildAt links.old p place number → Prunes links.old links.new p place number below }
+    ensures count { (t : NameTable) (below : Forest) → IsOver t links.old number below → result ≡ count below + 1 }
+    ensures sound { IsSound links.new }
+{
+    prune(links, number)
+}
