@@ -2,3 +2,4 @@ pub mod Standing
 pub mod Clearing
 pub mod Lain
 pub mod Changing
+pub mod Holding

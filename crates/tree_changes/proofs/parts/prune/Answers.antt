@@ -1,4 +1,3 @@
-use Rattle.tree_changes.proofs.Changing.{not_key}
 use Rattle.std.proofs.Common.{◌≡◌, ◌+◌, [], Some, None, refl, sym, ap, ◌∙◌, arith}
 use Rattle.node_links.specs.Nodes.{node}
 use Rattle.tree_rows.specs.Forest.{count}
