@@ -19,7 +19,7 @@ use Rattle.node_links.specs.declared.content.Element.{Element}
 use Rattle.node_links.specs.Nodes.{Node, Nodes, node, IsNode, Inserts}
 use Rattle.doc_tree.specs.Planted.{Differ, AreFree, Planted, CanPlant}
 use Rattle.tree_changes.specs.Stands.{firsts, IsText, IsElement, StandFor, HasNames, expanded_of, attribute_of, binding_of}
-use Rattle.tree_changes.proofs.Standing.{stand_same, stand_append, stand_grown, firsts_append, append_assoc_forest, append_none, has_append, times_append, has_times}
+use Rattle.tree_changes.proofs.Standing.{stand_same, stand_append, stand_grown, firsts_append, append_assoc_forest, append_none, has_append, has_left, has_right, times_append, has_times}
 
 pub insert_last : (xs : List ℕ) (n : ℕ) → insert xs (length xs) n ≡ xs ++ n ∷ []
 insert_last [] n = refl
@@ -137,12 +137,6 @@ nodes_right : (free : ℕ) (f g : Forest) → AreNodes free (append f g) → Are
 nodes_right free none g a = a
 nodes_right free (text number chars next) g a = nodes_right free next g a.1
 nodes_right free (element number name bindings attributes children next) g a = nodes_right free next g a.3
-
-has_left : (m : ℕ) (f g : Forest) → has m f ≡ true → has m (append f g) ≡ true
-has_left m f g h = true_from_ne_false (has m (append f g)) (λ k. false≢true (sym (has_append m f g k).0 ∙ h))
-
-has_right : (m : ℕ) (f g : Forest) → has m g ≡ true → has m (append f g) ≡ true
-has_right m f g h = true_from_ne_false (has m (append f g)) (λ k. false≢true (sym (has_append m f g k).1 ∙ h))
 
 -- a node that is there is none of those that can be put
 pub not_parent : (ns : Nodes) (p : ℕ) (f : Forest) → CanPlant ns p f → (m : ℕ) → has m f ≡ true → m ≢ p

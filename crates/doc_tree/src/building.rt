@@ -34,9 +34,9 @@ pub(crate) fn put_all(
     parent: u32,
     siblings: Siblings<'_>,
 ) -> Result<(), AllocError>
-    requires can { CanPlant links.old parent siblings.entry }
+    requires can { CanPlant links.old parent siblings }
     requires sound { IsSound names.old }
-    ensures planted { OnOk result (Planted names.new links.old links.new parent siblings.entry) }
+    ensures planted { OnOk result (Planted names.new links.old links.new parent siblings) }
     ensures grown { Grown names.old names.new }
     ensures sound { IsSound names.new }
 {
@@ -65,9 +65,9 @@ fn put_one(
     row: &Row,
     children: Siblings<'_>,
 ) -> Result<(), AllocError>
-    requires can { CanPlant links.old parent (one_of row.now children.entry) }
+    requires can { CanPlant links.old parent (one_of row.now children) }
     requires sound { IsSound names.old }
-    ensures planted { OnOk result (Planted names.new links.old links.new parent (one_of row.now children.entry)) }
+    ensures planted { OnOk result (Planted names.new links.old links.new parent (one_of row.now children)) }
     ensures grown { Grown names.old names.new }
     ensures sound { IsSound names.new }
 {

@@ -1,6 +1,6 @@
 //! The document, and what is read of it.
 
-ghost use Rattle.std.specs.Prelude.{◌≡◌, ℕ, length, slice_get, IfOk};
+ghost use Rattle.std.specs.Prelude.{◌≡◌, ◌≢◌, ◌<◌, ◌+◌, ℕ, length, slice_get, Some, None, IfOk};
 ghost use Rattle.std.specs.Option.{option_map, option_and_then, option_copied};
 
 use crate::building::{give_numbers, put_all};
@@ -10,6 +10,7 @@ use node_links::{Content, NameAttribute, NodeLinks};
 use plain_tree::Tree;
 use std::alloc::{AllocError, Global};
 use std::marker::Model;
+use tree_changes::{remove_node, rename_node, set_text};
 use tree_rows::NodeKind;
 use tree_siblings::Sibling;
 use xs_names::{NameId, Names, Text};
@@ -19,6 +20,7 @@ use xs_names::{NameId, Names, Text};
 #[derive(Drop)]
 pub struct DocTree {
     links: NodeLinks,
+    alloc: Global,
 }
 
 impl Model for DocTree {
@@ -39,6 +41,16 @@ impl DocTree {
     ghost use Rattle.tree_rows.specs.Kinds.{kind_of};
     ghost use Rattle.xs_names.specs.Names.{NameTable};
     ghost use Rattle.tree_changes.specs.Held as held;
+    ghost use Rattle.tree_changes.specs.Held.{parent_at, kind_at};
+    ghost use Rattle.tree_changes.specs.Changes.{renamed};
+    ghost use Rattle.tree_changes.specs.Parts.{IsOver, Prunes};
+    ghost use Rattle.tree_edits.specs.Tests.{made};
+    ghost use Rattle.tree_edits.specs.declared.edit.Edit.TheVariants as edits;
+    ghost use Rattle.tree_rows.specs.declared.row.NodeKind.TheVariants as kinds;
+    ghost use Rattle.node_links.specs.declared.content.Content.TheVariants as contents;
+    ghost use Rattle.node_links.specs.declared.content.Element.{Element};
+    ghost use Rattle.tree_rows.specs.Forest.{Forest};
+    ghost use Rattle.node_links.specs.Nodes.{IsNode, IsChildAt, Holds};
     ghost use Rattle.doc_tree.specs.Readers.{parent_of, children_of};
     ghost use Rattle.tree_changes.specs.Stands.{StandsFor, expanded_of, attribute_of};
 
@@ -62,7 +74,7 @@ impl DocTree {
                     let mut links = NodeLinks::with_root(alloc, Content::Element(element))?;
                     give_numbers(&mut links, tree.next_free())?;
                     put_all(alloc, &mut links, names, 1, children)?;
-                    Ok(DocTree { links })
+                    Ok(DocTree { links, alloc })
                 }
             },
         }
@@ -152,5 +164,36 @@ impl DocTree {
             None => None,
             Some(content) => text_in(content),
         }
+    }
+
+    /// Takes away a node that is not the root, with all that is below it. It takes no memory.
+    pub fn remove(&mut self, node: u32)
+        requires stands { (t : NameTable) × (d : Document) × StandsFor t self.old d }
+        requires node { parent_at self.old node ≢ None }
+        ensures tree { (t : NameTable) (d : Document) → StandsFor t self.old d → StandsFor t self.new (made d (edits.Remove node)) }
+        ensures change { (t : NameTable) (below : Forest) → IsOver t self.old node below → (p place : ℕ) → IsChildAt self.old p place node → Prunes self.old self.new p place node below }
+        ensures sound { IsSound self.new }
+    {
+        remove_node(&mut self.links, node);
+    }
+
+    /// Gives an element another name. It takes no memory.
+    pub fn rename(&mut self, node: u32, name: NameId)
+        requires { kind_at self.old node ≡ Some kinds.Element }
+        ensures tree { (t : NameTable) (d : Document) → StandsFor t self.old d → name < length t.names → StandsFor t self.new (renamed node (expanded_of t name) d) }
+        ensures change { (it : Node) (e : Element) → IsNode self.old node it → it.content ≡ contents.Element e → Holds self.old self.new node (contents.Element (record e { name = name })) }
+        ensures sound { IsSound self.new }
+    {
+        rename_node(self.alloc, &mut self.links, node, name);
+    }
+
+    /// Gives a text other characters. It takes no memory.
+    pub fn set_text(&mut self, node: u32, text: Text)
+        requires { kind_at self.old node ≡ Some kinds.Chars }
+        ensures tree { (t : NameTable) (d : Document) → StandsFor t self.old d → StandsFor t self.new (made d (edits.SetText node text)) }
+        ensures change { Holds self.old self.new node (contents.Chars text) }
+        ensures sound { IsSound self.new }
+    {
+        set_text(&mut self.links, node, text);
     }
 }
