@@ -1,23 +1,20 @@
 -- What nodes stand for once a node of the document was changed or taken away.
-use Rattle.std.proofs.Common.{◌≡◌, ◌≢◌, ◌⊎◌, ℕ, zero, suc, ◌+◌, ◌<◌, ◌≤◌, List, [], ◌∷◌, ◌++◌, length, take, drop, remove, sym, ap, ◌∙◌, subst, Bool, true, false, ◌==◌, ◌||◌, if◌then◌else◌, Option, Some, None, refl, inl, inr, arith}
+use Rattle.std.proofs.Common.{◌≡◌, ◌≢◌, ◌⊎◌, ℕ, zero, suc, ◌+◌, ◌≤◌, List, [], ◌∷◌, ◌++◌, length, remove, sym, ap, ◌∙◌, subst, Bool, true, false, ◌==◌, ◌||◌, if◌then◌else◌, Option, Some, None, refl, inl, inr, arith}
 use Rattle.std.specs.Prelude.{slice_get}
 use Rattle.std.specs.Option.{option_map, option_and_then}
-use Rattle.std.proofs.lemmas.Bool.{or_parts, or_left, or_right, or_from, or_cases, eqb-true, eq-eqb, ne_eqb, false≢true, true≢false, false_from_ne_true, true_from_ne_false}
+use Rattle.std.proofs.lemmas.Bool.{or_left, or_right, eqb-true, eq-eqb, ne_eqb, true≢false, false_from_ne_true}
 use Rattle.std.proofs.lemmas.Option.{same_Some, none-some}
 use Rattle.xs_names.specs.Names.{NameTable}
 use Rattle.tree_rows.specs.Forest.{Forest, none, text, element, Document, count, deepest_of}
-use Rattle.tree_rows.specs.Whole.{times, AreNodes, HasRoot, IsTree}
-use Rattle.tree_rows.specs.declared.name.Expanded.{Expanded}
-use Rattle.tree_rows.specs.declared.row.Attribute.{Attribute}
-use Rattle.tree_rows.specs.declared.row.Binding.{Binding}
-use Rattle.tree_edits.specs.Edits.{has, append, Found, found, replaced, is_root}
+use Rattle.tree_rows.specs.Whole.{times, HasRoot, IsTree}
+use Rattle.tree_edits.specs.Edits.{has, Found, found, replaced, is_root}
 use Rattle.tree_edits.proofs.Lying.{Lies, lies, times_changed, count_changed, deepest_here}
 use Rattle.tree_edits.proofs.Keeping.{changed_tree}
 use Rattle.node_links.specs.Nodes.{Node, Nodes, node, IsNode, IsSound, IsChildAt, Has, Lacks, Distinct}
-use Rattle.tree_changes.specs.Stands.{firsts, IsText, IsElement, StandFor, StandsFor}
+use Rattle.tree_changes.specs.Stands.{firsts, StandFor, StandsFor}
 use Rattle.tree_changes.specs.Parts.{IsOver, Prunes}
 use Rattle.tree_changes.proofs.Standing.{here, stand_same, stand_append, firsts_append, has_times, no_times, absent_times, present_times, if_one, if_none}
-use Rattle.tree_changes.proofs.Lain.{IsApart, at, lain, apart, depth_at, times_at}
+use Rattle.tree_changes.proofs.Lain.{IsApart, at, apart, depth_at, times_at}
 
 pub not_key : (key : ℕ) (g : Forest) → times key g ≡ 0 → (m : ℕ) → has m g ≡ true → m ≢ key
 not_key key g e m h k = let a = has_times m g h in let b = ap (λ j. times j g) k in absurd (omega (arith, a, b, e))
@@ -45,7 +42,7 @@ module _ (t : NameTable) (old new : Nodes) (key : ℕ) (change : Forest → Fore
       let same : change it.node ≡ change (element n name bindings attributes children none) = ap (λ (i : Found). change i.node) l.1 in
       rw (l.0) (
         stand_append t new (change (element n name bindings attributes children none)) next (subst (StandFor t new) same c)
-        (stand_same t old new next (λ m k. h m (or_right (n == m) (has m children || has m next) (or_right (has m children) (has m next) k)) (not_key key next gone m k)) s.2),
+            (stand_same t old new next (λ m k. h m (or_right (n == m) (has m children || has m next) (or_right (has m children) (has m next) k)) (not_key key next gone m k)) s.2),
         firsts_append (change (element n name bindings attributes children none)) next ∙ ap (λ g. g ++ firsts next) (sym (ap firsts same) ∙ e) ∙ ap (λ x. x ∷ firsts next) (sym (eqb-true n key l.0)),
       )
   stand_changed depth (element n name bindings attributes children next) it (inr (inl l)) s o h c e =
@@ -166,10 +163,13 @@ module _ (t : NameTable) (old new : Nodes) (key : ℕ) where
   stand_removed depth (text n chars next) it (inr l) s o h =
       let g = rw (l.0) at h in
       let r = stand_removed depth next it l.1 s.1 (omega (arith, o)) (λ m k. g m (or_right (n == m) (has m (replaced key (λ node. none) next)) k)) in
-      rw (l.0) ((
-        record { text = childless key s.0.text; is = g n (here n (has n (replaced key (λ node. none) next))) ∙ ap (option_map (childless key)) s.0.is; content = s.0.content; no_children = ap (without key) s.0.no_children },
-        r.0,
-      ), ap (λ x. n ∷ x) r.1)
+      rw (l.0) (
+        (
+          record { text = childless key s.0.text; is = g n (here n (has n (replaced key (λ node. none) next))) ∙ ap (option_map (childless key)) s.0.is; content = s.0.content; no_children = ap (without key) s.0.no_children },
+          r.0,
+        ),
+        ap (λ x. n ∷ x) r.1,
+      )
   stand_removed depth (element n name bindings attributes children next) it (inl l) s o h =
       let own = if_one (n == key) l.0 in
       let gone : times key next ≡ 0 = omega (arith, own, o) in
@@ -181,41 +181,47 @@ module _ (t : NameTable) (old new : Nodes) (key : ℕ) where
       let g = rw (l.0, l.1) at h in
       let more = replaced key (λ node. none) children in
       let r = stand_removed (depth + 1) children it l.2 s.1 (omega (arith, o)) (λ m k. g m (or_right (n == m) (has m more || has m next) (or_left (has m more) (has m next) k))) in
-      rw (l.0, l.1) ((
-        record {
-          it = childless key s.0.it;
-          is = g n (here n (has n more || has n next)) ∙ ap (option_map (childless key)) s.0.is;
-          parts = s.0.parts;
-          content = s.0.content;
-          known = s.0.known;
-          name_is = s.0.name_is;
-          bindings_are = s.0.bindings_are;
-          attributes_are = s.0.attributes_are;
-          children_are = ap (without key) s.0.children_are ∙ sym r.1;
-        },
-        r.0,
-        stand_without next gone s.2 (λ m k. g m (or_right (n == m) (has m more || has m next) (or_right (has m more) (has m next) k))),
-      ), ap (λ x. n ∷ x) (sym (without_absent key next gone)))
+      rw (l.0, l.1) (
+        (
+          record {
+            it = childless key s.0.it;
+            is = g n (here n (has n more || has n next)) ∙ ap (option_map (childless key)) s.0.is;
+            parts = s.0.parts;
+            content = s.0.content;
+            known = s.0.known;
+            name_is = s.0.name_is;
+            bindings_are = s.0.bindings_are;
+            attributes_are = s.0.attributes_are;
+            children_are = ap (without key) s.0.children_are ∙ sym r.1;
+          },
+          r.0,
+          stand_without next gone s.2 (λ m k. g m (or_right (n == m) (has m more || has m next) (or_right (has m more) (has m next) k))),
+        ),
+        ap (λ x. n ∷ x) (sym (without_absent key next gone)),
+      )
   stand_removed depth (element n name bindings attributes children next) it (inr (inr l)) s o h =
       let gone : times key children ≡ 0 = no_times key children l.1 in
       let g = rw (l.0, l.1) at h in
       let more = replaced key (λ node. none) next in
       let r = stand_removed depth next it l.2 s.2 (omega (arith, o)) (λ m k. g m (or_right (n == m) (has m children || has m more) (or_right (has m children) (has m more) k))) in
-      rw (l.0, l.1) ((
-        record {
-          it = childless key s.0.it;
-          is = g n (here n (has n children || has n more)) ∙ ap (option_map (childless key)) s.0.is;
-          parts = s.0.parts;
-          content = s.0.content;
-          known = s.0.known;
-          name_is = s.0.name_is;
-          bindings_are = s.0.bindings_are;
-          attributes_are = s.0.attributes_are;
-          children_are = ap (without key) s.0.children_are ∙ without_absent key children gone;
-        },
-        stand_without children gone s.1 (λ m k. g m (or_right (n == m) (has m children || has m more) (or_left (has m children) (has m more) k))),
-        r.0,
-      ), ap (λ x. n ∷ x) r.1)
+      rw (l.0, l.1) (
+        (
+          record {
+            it = childless key s.0.it;
+            is = g n (here n (has n children || has n more)) ∙ ap (option_map (childless key)) s.0.is;
+            parts = s.0.parts;
+            content = s.0.content;
+            known = s.0.known;
+            name_is = s.0.name_is;
+            bindings_are = s.0.bindings_are;
+            attributes_are = s.0.attributes_are;
+            children_are = ap (without key) s.0.children_are ∙ without_absent key children gone;
+          },
+          stand_without children gone s.1 (λ m k. g m (or_right (n == m) (has m children || has m more) (or_left (has m children) (has m more) k))),
+          r.0,
+        ),
+        ap (λ x. n ∷ x) r.1,
+      )
 
 lacks_at : (x key : ℕ) (xs : List ℕ) (i : ℕ) → Lacks x xs → slice_get xs i ≡ Some key → key ≢ x
 lacks_at x key [] i l e k = absurd (none-some key e)
@@ -326,6 +332,7 @@ module _ (t : NameTable) (old new : Nodes) (d : Document) (z : StandsFor t old d
       where
         root_key : (n : ℕ) → n ≡ 1 → (n == key) ≡ true → ⊥
         root_key n e h = parent (z.root x (ap (node old) (sym e ∙ eqb-true n key h) ∙ there)).0
+
         by : (f : Forest) → HasRoot f → is_root key f ≡ true → ⊥
         by none r h = r
         by (text n chars next) r h = r
@@ -345,6 +352,7 @@ module _ (t : NameTable) (old new : Nodes) (d : Document) (z : StandsFor t old d
         was_if : (m : ℕ) (y : Node) → IsNode new m y → m ≢ key → has m own.below ≡ false → (b : Bool) → (m == p) ≡ b → has m d.forest ≡ true
         was_if m y i apart out true e = let k = eqb-true m p e in z.only m child.0 (ap (node old) k ∙ child.1)
         was_if m y i apart out false e = z.only m y (sym (q.others m (λ k. true≢false (sym (eq-eqb m p k) ∙ e)) apart out) ∙ i)
+
         was : (m : ℕ) (y : Node) → IsNode new m y → m ≢ key → has m own.below ≡ false → has m d.forest ≡ true
         was m y i apart out = was_if m y i apart out (m == p) refl
 
@@ -353,6 +361,7 @@ module _ (t : NameTable) (old new : Nodes) (d : Document) (z : StandsFor t old d
       where
         c : node new 1 ≡ option_map (childless key) (node old 1)
         c = changed_at 1 (only_left 1 y i)
+
         by : (o : Option Node) → node old 1 ≡ o → (y.parent ≡ None) × (y.depth ≡ 1)
         by None e = absurd (none-some y (sym (c ∙ ap (option_map (childless key)) e) ∙ i))
         by (Some v) e =
@@ -395,6 +404,7 @@ placed ns n sound h = by (node ns n) refl
         let u = sound.up n p x e q in
         let r = some_place n u.parent.children u.has in
         record { it = x; is = e; below = (λ k. none-some p (sym k ∙ q)); parent = p; place = r.0; at = (u.parent, u.is, r.1) }
+
     by : (o : Option Node) → node ns n ≡ o → IsPlaced ns n
     by None e = absurd (h (ap (option_and_then (λ (y : Node). y.parent)) e))
     by (Some x) e = with_parent x e x.parent refl

@@ -1,8 +1,8 @@
 -- What is below a node, taken away child by child.
-use Rattle.std.proofs.Common.{◌≡◌, ◌≢◌, ◌⊎◌, ℕ, zero, suc, ◌+◌, ◌-◌, ◌<◌, ◌≤◌, List, [], ◌∷◌, ◌++◌, length, remove, map, sym, ap, ◌∙◌, subst, Bool, true, false, ◌==◌, ◌||◌, if◌then◌else◌, Option, Some, None, refl, inl, inr, arith}
+use Rattle.std.proofs.Common.{◌≡◌, ◌≢◌, ◌⊎◌, ℕ, zero, suc, ◌+◌, ◌-◌, ◌<◌, ◌≤◌, List, [], ◌∷◌, length, remove, sym, ap, ◌∙◌, subst, Bool, true, false, ◌==◌, ◌||◌, if◌then◌else◌, Option, Some, None, refl, inl, inr, arith}
 use Rattle.std.specs.Prelude.{slice_get}
 use Rattle.std.specs.Option.{option_and_then}
-use Rattle.std.proofs.lemmas.Bool.{or_parts, or_left, or_right, or_from, or_cases, eqb-true, eq-eqb, ne_eqb, false≢true, true≢false, false_from_ne_true, true_from_ne_false}
+use Rattle.std.proofs.lemmas.Bool.{or_parts, or_left, or_right, or_cases, eqb-true, eq-eqb, false≢true, true≢false, false_from_ne_true, true_from_ne_false}
 use Rattle.std.proofs.lemmas.Option.{same_Some, none-some}
 use Rattle.xs_names.specs.Names.{NameTable}
 use Rattle.tree_rows.specs.Forest.{Forest, none, text, element, count, deepest_of}
@@ -13,9 +13,9 @@ use Rattle.tree_rows.specs.declared.row.Binding.{Binding}
 use Rattle.tree_edits.specs.Edits.{has, append}
 use Rattle.tree_edits.proofs.Lying.{count-append, times-append, deepest_append}
 use Rattle.node_links.specs.Nodes.{Node, Nodes, node, IsNode, IsSound, IsChildAt, Has, Removes, children_by, depth_by}
-use Rattle.tree_changes.specs.Stands.{firsts, IsText, IsElement, StandFor}
+use Rattle.tree_changes.specs.Stands.{firsts, IsElement, StandFor}
 use Rattle.tree_changes.specs.Parts.{IsOver, Clears, Prunes}
-use Rattle.tree_changes.proofs.Standing.{stand_same, stand_parts, firsts_append, append_none, append_assoc_forest, has_append, from_both, has_left, has_right, has_times, no_times, absent_times, or_none}
+use Rattle.tree_changes.proofs.Standing.{stand_same, stand_parts, append_none, append_assoc_forest, has_append, from_both, has_left, has_right, has_times, absent_times, or_none}
 
 -- the first of some siblings, apart from the next ones
 pub record IsHead (t : NameTable) (ns : Nodes) (left : Forest) (c : ℕ) : Type 0 where
@@ -224,9 +224,9 @@ module _ (t : NameTable) (old now : Nodes) (n : ℕ) (whole : Forest) (k : ℕ) 
       outside = absent_times c h.below own_once;
       high = high_below;
       shallow = (
-        let a = h.deep (over.it.depth + 1) in let b = deeps (over.it.depth + 1) in let s = over.shallow in
-        let d = ap (λ j. deepest_of (j + 1) h.below) depth_is in omega (arith, a, b, s, d)
-      );
+          let a = h.deep (over.it.depth + 1) in let b = deeps (over.it.depth + 1) in let s = over.shallow in
+          let d = ap (λ j. deepest_of (j + 1) h.below) depth_is in omega (arith, a, b, s, d)
+          );
       few = (let s = sizes in let f = over.few in omega (arith, s, f));
       sound = sound;
     }
@@ -347,9 +347,9 @@ module _ (t : NameTable) (old mid new : Nodes) (n : ℕ) (below : Forest) (over 
     outside : has p below ≡ false
     outside = false_from_ne_true (has p below) (λ j.
         let a = deep_in t old over.sound (over.it.depth + 1) below over.stand (λ c x z i.
-            let d = over.sound.down n c over.it over.is (subst (Has c) (sym over.children) z) in
-            let same = ap (λ (y : Node). y.depth) (same_Some x d.child (sym i ∙ d.is)) in
-            let b = d.below in omega (arith, same, b)) p j at.0 at.1 in
+        let d = over.sound.down n c over.it over.is (subst (Has c) (sym over.children) z) in
+        let same = ap (λ (y : Node). y.depth) (same_Some x d.child (sym i ∙ d.is)) in
+        let b = d.below in omega (arith, same, b)) p j at.0 at.1 in
         let b = depth_below in absurd (omega (arith, a, b)))
 
     deeper : p ≢ n

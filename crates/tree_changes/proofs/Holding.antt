@@ -1,7 +1,7 @@
 -- What nodes stand for once one holds something else.
-use Rattle.std.proofs.Common.{◌≡◌, ◌≢◌, ◌⊎◌, ℕ, zero, suc, ◌+◌, ◌<◌, ◌≤◌, List, [], ◌∷◌, ◌++◌, length, map, sym, ap, ◌∙◌, subst, Bool, true, false, ◌==◌, ◌||◌, if◌then◌else◌, Option, Some, None, refl, inl, inr, arith, All}
+use Rattle.std.proofs.Common.{◌≡◌, ℕ, ◌<◌, List, [], ◌∷◌, length, map, sym, ap, ◌∙◌, subst, Bool, true, false, ◌==◌, if◌then◌else◌, Option, Some, None, refl, inl, inr, arith}
 use Rattle.std.specs.Option.{option_map}
-use Rattle.std.proofs.lemmas.Bool.{eqb-true, eq-eqb, ne_eqb, false≢true, true≢false}
+use Rattle.std.proofs.lemmas.Bool.{eq-eqb, true≢false}
 use Rattle.std.proofs.lemmas.Option.{same_Some, none-some}
 use Rattle.std.specs.Prelude.{slice_get, slice_index_or}
 use Rattle.std.proofs.lemmas.Option.{slice_get-get_or}
@@ -9,13 +9,13 @@ use Rattle.xs_names.specs.Names.{NameTable, absent_space, first_spaces, space_of
 use Rattle.xs_names.specs.Names.{IsSound as AreNames}
 use Rattle.xs_names.proofs.NumberingLaws.{slice_get-Begins}
 use Rattle.tree_rows.specs.Forest.{Forest, none, text, element, Document, count, deepest_of}
-use Rattle.tree_rows.specs.Whole.{times, AreNodes, HasRoot, IsTree, IsNamed, IsNamespace}
+use Rattle.tree_rows.specs.Whole.{times, AreNodes, HasRoot, IsNamed, IsNamespace}
 use Rattle.tree_rows.specs.declared.name.Expanded.{Expanded}
 use Rattle.tree_rows.specs.declared.row.Attribute.{Attribute}
 use Rattle.tree_rows.specs.declared.row.Binding.{Binding}
 use Rattle.tree_rows.specs.declared.row.NodeKind.TheVariants as kinds
-use Rattle.tree_edits.specs.Edits.{has, append, Found, found, replaced, with_chars}
-use Rattle.tree_edits.proofs.Lying.{Lies, lies, deepest_here}
+use Rattle.tree_edits.specs.Edits.{Found, found, replaced, with_chars}
+use Rattle.tree_edits.proofs.Lying.{lies, deepest_here}
 use Rattle.tree_edits.proofs.Keeping.{IsAlone, found_alone, changed_tree}
 use Rattle.node_links.specs.Nodes.{Node, Nodes, node, IsNode, IsSound, Holds}
 use Rattle.node_links.specs.declared.content.Content.{Content}
@@ -25,7 +25,7 @@ use Rattle.node_links.proofs.Among.{same_or_other}
 use Rattle.tree_changes.specs.Stands.{firsts, IsText, IsElement, StandFor, StandsFor, HasNames, expanded_of, attribute_of, binding_of}
 use Rattle.tree_changes.specs.Held.{kind_in, kind_at}
 use Rattle.tree_changes.specs.Changes.{with_name, renamed}
-use Rattle.tree_changes.proofs.Standing.{stand_same, has_times, no_times}
+use Rattle.tree_changes.proofs.Standing.{stand_same}
 use Rattle.tree_changes.proofs.Lain.{at, lain, stand_lies, firsts_lies, times_at}
 use Rattle.tree_changes.proofs.Changing.{stands_changed, still_there, not_key}
 
@@ -123,6 +123,7 @@ holds_element ns n h = by (node ns n) refl
     with_content x i (contents.Element e) q = record { it = x; is = i; e = e; holds = q }
     with_content x i (contents.Chars chars) q =
         let k : Some kinds.Chars ≡ Some kinds.Element = sym (ap (option_map (λ (y : Node). kind_in y.content)) i ∙ ap (λ y. Some (kind_in y)) q) ∙ h in absurd (cc k)
+
     by : (o : Option Node) → node ns n ≡ o → HoldsElement ns n
     by None q = let k : None ≡ Some kinds.Element = sym (ap (option_map (λ (y : Node). kind_in y.content)) q) ∙ h in absurd (none-some kinds.Element k)
     by (Some x) q = with_content x q x.content refl
@@ -134,6 +135,7 @@ holds_chars ns n h = by (node ns n) refl
     with_content x i (contents.Chars chars) q = record { it = x; is = i; chars = chars; holds = q }
     with_content x i (contents.Element e) q =
         let k : Some kinds.Element ≡ Some kinds.Chars = sym (ap (option_map (λ (y : Node). kind_in y.content)) i ∙ ap (λ y. Some (kind_in y)) q) ∙ h in absurd (cc k)
+
     by : (o : Option Node) → node ns n ≡ o → HoldsChars ns n
     by None q = let k : None ≡ Some kinds.Chars = sym (ap (option_map (λ (y : Node). kind_in y.content)) q) ∙ h in absurd (none-some kinds.Chars k)
     by (Some x) q = with_content x q x.content refl
@@ -241,9 +243,9 @@ module _ (t : NameTable) (old new : Nodes) (d : Document) (z : StandsFor t old d
       ))
       (ap firsts changed_is)
       (λ m y i.
-          let v = still old new key (contents.Element e) h c.it c.is m y i in
-          let g = ap (times m) changed_is in
-          still_there d key m change it f.is_found (omega (arith, g)) (z.only m v.0 v.1))
+      let v = still old new key (contents.Element e) h c.it c.is m y i in
+      let g = ap (times m) changed_is in
+      still_there d key m change it f.is_found (omega (arith, g)) (z.only m v.0 v.1))
       (h.size ∙ z.next)
 
 -- what was written last is what a node holds
@@ -259,8 +261,10 @@ no_namespace t n sound l = by (space_of t n == absent_space) refl
   where
     first : slice_get t.spaces 0 ≡ Some []
     first = slice_get-Begins first_spaces t.spaces sound.begins 0 [] refl
+
     within : space_of t n < length t.spaces
     within = sound.within n (space_of t n) (local_of t n) (slice_get-get_or t.names n (0, []) l)
+
     by : (b : Bool) → (space_of t n == absent_space) ≡ b → IsNamespace (if b then None else Some (slice_index_or t.spaces (space_of t n) []))
     by true e = tt
     by false e = long (slice_index_or t.spaces (space_of t n) []) refl

@@ -1,22 +1,19 @@
 -- Where a node lies in its document, and what stands for it.
-use Rattle.std.proofs.Common.{◌≡◌, ◌≢◌, ◌⊎◌, ℕ, zero, suc, ◌+◌, ◌<◌, ◌≤◌, List, [], ◌∷◌, ◌++◌, length, sym, ap, ◌∙◌, subst, Bool, true, false, ◌==◌, ◌||◌, if◌then◌else◌, Option, Some, None, refl, inl, inr, arith}
-use Rattle.std.proofs.lemmas.Bool.{or_parts, or_left, or_right, or_from, or_cases, eqb-true, eq-eqb, ne_eqb, false≢true, true≢false, false_from_ne_true, true_from_ne_false}
-use Rattle.std.proofs.lemmas.Option.{same_Some, none-some}
+use Rattle.std.proofs.Common.{◌≡◌, ◌⊎◌, ℕ, ◌+◌, ◌≤◌, List, [], ◌∷◌, sym, ap, ◌∙◌, subst, true, false, ◌==◌, ◌||◌, if◌then◌else◌, Some, None, refl, inl, inr, arith}
+use Rattle.std.proofs.lemmas.Bool.{eqb-true, false≢true}
+use Rattle.std.proofs.lemmas.Option.{same_Some}
 use Rattle.xs_names.specs.Names.{NameTable}
 use Rattle.tree_rows.specs.Forest.{Forest, none, text, element, Document, count, deepest_of}
-use Rattle.tree_rows.specs.Whole.{times, AreNodes, HasRoot, IsTree}
+use Rattle.tree_rows.specs.Whole.{times, HasRoot}
 use Rattle.tree_rows.specs.declared.name.Expanded.{Expanded}
 use Rattle.tree_rows.specs.declared.row.Attribute.{Attribute}
 use Rattle.tree_rows.specs.declared.row.Binding.{Binding}
-use Rattle.tree_edits.specs.Edits.{has, append, Found, found, replaced, is_root}
-use Rattle.tree_edits.proofs.Lying.{Lies, lies, count-append, times-append, deepest_append, times_changed, deepest_here}
+use Rattle.tree_edits.specs.Edits.{has, Found, found}
+use Rattle.tree_edits.proofs.Lying.{Lies, lies, times_changed}
 use Rattle.tree_edits.proofs.Keeping.{IsAlone, found_alone}
-use Rattle.node_links.specs.Nodes.{Node, Nodes, node, IsNode, IsSound, Has, is_element}
-use Rattle.node_links.specs.declared.content.Content.{Content}
-use Rattle.node_links.specs.declared.content.Content.TheVariants as contents
-use Rattle.tree_changes.specs.Stands.{firsts, IsText, IsElement, StandFor, StandsFor}
-use Rattle.tree_changes.specs.Parts.{IsOver}
-use Rattle.tree_changes.proofs.Standing.{stand_same, has_times, no_times, absent_times, present_times, or_none}
+use Rattle.node_links.specs.Nodes.{Node, Nodes, node, IsNode, IsSound, Has}
+use Rattle.tree_changes.specs.Stands.{firsts, IsElement, StandFor, StandsFor}
+use Rattle.tree_changes.proofs.Standing.{or_none}
 
 pub found_has : (key depth : ℕ) (f : Forest) → has key f ≡ true → (it : Found) × (found key depth f ≡ Some it)
 found_has key depth none h = absurd (false≢true h)

@@ -1,20 +1,17 @@
 -- What stands for siblings, elsewhere and under more names.
-use Rattle.std.proofs.Common.{◌≡◌, ◌≢◌, ◌⊎◌, ℕ, zero, suc, ◌+◌, ◌<◌, ◌≤◌, List, [], ◌∷◌, ◌++◌, length, map, sym, ap, ◌∙◌, subst, Bool, true, false, ◌==◌, ◌||◌, if◌then◌else◌, Option, Some, None, refl, inl, inr, arith, All}
+use Rattle.std.proofs.Common.{◌≡◌, ℕ, ◌+◌, ◌<◌, ◌≤◌, List, [], ◌∷◌, ◌++◌, length, map, sym, ap, ◌∙◌, Bool, true, false, ◌==◌, ◌||◌, if◌then◌else◌, Some, None, refl, inl, inr, arith, All}
 use Rattle.std.specs.Prelude.{slice_index_or}
-use Rattle.std.proofs.lemmas.Bool.{or_parts, or_left, or_right, or_from, or_cases, eqb-true, eq-eqb, ne_eqb, false≢true, true≢false, false_from_ne_true, true_from_ne_false}
+use Rattle.std.proofs.lemmas.Bool.{or_parts, or_left, or_right, or_from, or_cases, eq-eqb, false≢true, false_from_ne_true, true_from_ne_false}
 use Rattle.std.proofs.lemmas.List.{get_or_append_left}
 use Rattle.std.proofs.lemmas.List.Elements.{All-head, All-tail}
 use Rattle.xs_names.specs.Names.{NameTable, Grown, IsSound, absent_space, space_of, local_of}
 use Rattle.std.proofs.lemmas.Option.{slice_get-get_or}
 use Rattle.xs_names.proofs.GrownLaws.{space_of-Grown, local_of-Grown}
-use Rattle.tree_rows.specs.Forest.{Forest, none, text, element, count}
+use Rattle.tree_rows.specs.Forest.{Forest, none, text, element}
 use Rattle.tree_rows.specs.Whole.{times}
-use Rattle.tree_rows.specs.declared.name.Expanded.{Expanded}
-use Rattle.tree_rows.specs.declared.row.Attribute.{Attribute}
-use Rattle.tree_rows.specs.declared.row.Binding.{Binding}
 use Rattle.tree_edits.specs.Edits.{has, append}
-use Rattle.node_links.specs.Nodes.{Node, Nodes, node, IsNode}
-use Rattle.tree_changes.specs.Stands.{firsts, IsText, IsElement, StandFor, HasNames, namespace_of, expanded_of, attribute_of, binding_of}
+use Rattle.node_links.specs.Nodes.{Nodes, node}
+use Rattle.tree_changes.specs.Stands.{firsts, StandFor, HasNames, namespace_of, expanded_of, attribute_of, binding_of}
 use Rattle.node_links.specs.declared.content.Element.{Element}
 use Rattle.node_links.specs.declared.content.NameAttribute.{NameAttribute}
 use Rattle.node_links.specs.declared.content.NameBinding.{NameBinding}

@@ -1,5 +1,5 @@
 -- What nodes by number stand for: a document, where names go by the numbers of a table.
-use Rattle.std.specs.Prelude.{◌≡◌, ℕ, ◌<◌, List, [], ◌∷◌, ◌==◌, length, map, Bool, true, All, Option, Some, None, slice_index_or, if◌then◌else◌}
+use Rattle.std.specs.Prelude.{◌≡◌, ℕ, ◌<◌, List, [], ◌∷◌, ◌==◌, length, map, true, All, Option, Some, None, slice_index_or, if◌then◌else◌}
 use Rattle.xs_names.specs.Names.{NameTable, IsSound, absent_space, space_of, local_of}
 use Rattle.tree_rows.specs.Forest.{Forest, none, text, element, Document}
 use Rattle.tree_rows.specs.Whole.{IsTree}
@@ -7,9 +7,8 @@ use Rattle.tree_rows.specs.declared.name.Expanded.{Expanded}
 use Rattle.tree_rows.specs.declared.row.Attribute.{Attribute}
 use Rattle.tree_rows.specs.declared.row.Binding.{Binding}
 use Rattle.tree_edits.specs.Edits.{has}
-use Rattle.node_links.specs.Nodes.{Node, Nodes, node, IsNode}
+use Rattle.node_links.specs.Nodes.{Node, Nodes, IsNode}
 use Rattle.node_links.specs.Nodes.{IsSound as AreSound}
-use Rattle.node_links.specs.declared.content.Content.{Content}
 use Rattle.node_links.specs.declared.content.Content.TheVariants as contents
 use Rattle.node_links.specs.declared.content.Element.{Element}
 use Rattle.node_links.specs.declared.content.NameAttribute.{NameAttribute}

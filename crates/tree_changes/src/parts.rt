@@ -1,20 +1,16 @@
-//! A node with all that is below it, taken away; a text put in.
+//! A node with all that is below it, taken away.
 
-ghost use Rattle.std.specs.Prelude.{◌≡◌, ◌≢◌, ◌⊎◌, ℕ, ◌+◌, ◌++◌, ◌∷◌, [], length, Some, None, IfOk, OnOk, OnErr};
+ghost use Rattle.std.specs.Prelude.{◌≡◌, ◌≢◌, ℕ, ◌+◌, None};
 ghost use Rattle.xs_names.specs.Names.{NameTable};
-ghost use Rattle.tree_rows.specs.Forest.{Forest, Document, count, text as text_node, none};
+ghost use Rattle.tree_rows.specs.Forest.{Forest, Document, count};
 ghost use Rattle.tree_edits.specs.Tests.{made};
 ghost use Rattle.tree_edits.specs.declared.edit.Edit.TheVariants as edits;
-ghost use Rattle.node_links.specs.declared.content.Content.TheVariants as contents;
-ghost use Rattle.node_links.specs.Nodes.{Node, IsNode, IsChildAt, IsSound, Inserts};
+ghost use Rattle.node_links.specs.Nodes.{IsChildAt, IsSound};
 ghost use Rattle.tree_changes.specs.Stands.{StandsFor};
-ghost use Rattle.tree_changes.specs.Held.{parent_at, live_count};
-ghost use Rattle.tree_changes.specs.Changes.{Fits};
+ghost use Rattle.tree_changes.specs.Held.{parent_at};
 ghost use Rattle.tree_changes.specs.Parts.{IsOver, Clears, Prunes};
 
-use node_links::{Content, NodeLinks};
-use std::alloc::AllocError;
-use xs_names::Text;
+use node_links::NodeLinks;
 
 /// Takes away all that is below a node, and answers how many nodes that were. It takes no memory.
 fn clear(links: &mut NodeLinks, number: u32) -> u32

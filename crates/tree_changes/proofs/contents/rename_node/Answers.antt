@@ -1,4 +1,4 @@
-use Rattle.std.proofs.Common.{◌≡◌, refl, sym, ap, ◌∙◌, subst}
+use Rattle.std.proofs.Common.{◌≡◌, refl, sym, ◌∙◌, subst}
 use Rattle.node_links.specs.Nodes.{Holds}
 use Rattle.node_links.specs.declared.content.Content.TheVariants as contents
 use Rattle.node_links.specs.declared.content.Element.{Element}

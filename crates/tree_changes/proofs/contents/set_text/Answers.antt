@@ -1,4 +1,4 @@
-use Rattle.std.proofs.Common.{◌≡◌, sym, ap, ◌∙◌}
+use Rattle.std.proofs.Common.{ap}
 use Rattle.node_links.specs.Nodes.{is_element}
 use Rattle.tree_changes.proofs.Holding.{holds_chars, text_stands}
 use Rattle.tree_changes.proofs.contents.set_text.Goals as goal

@@ -1,4 +1,4 @@
-use Rattle.std.proofs.Common.{◌≡◌, refl, sym, ap, ◌∙◌}
+use Rattle.std.proofs.Common.{ap}
 use Rattle.node_links.specs.Nodes.{is_element}
 use Rattle.tree_changes.proofs.Holding.{holds_element}
 use Rattle.tree_changes.proofs.contents.take_element.Goals as goal

@@ -1,6 +1,5 @@
-use Rattle.std.proofs.Common.{◌≡◌, ◌+◌, [], Some, None, refl, sym, ap, ◌∙◌, arith}
+use Rattle.std.proofs.Common.{◌+◌, [], refl, sym, ap, ◌∙◌, arith}
 use Rattle.std.proofs.lemmas.Option.{none-some}
-use Rattle.tree_rows.specs.Forest.{count}
 use Rattle.tree_changes.proofs.Clearing.{head, is_child, over_child, lower, room, mid_parent, mid_child, has_parent, next_so, fewer, ended}
 use Rattle.tree_changes.proofs.parts.+clear.Goals as goal
 

@@ -1,6 +1,5 @@
-use Rattle.std.proofs.Common.{◌≡◌, ◌+◌, [], Some, None, refl, sym, ap, ◌∙◌, arith}
+use Rattle.std.proofs.Common.{◌+◌, [], refl, ap, arith}
 use Rattle.node_links.specs.Nodes.{node}
-use Rattle.tree_rows.specs.Forest.{count}
 use Rattle.tree_changes.proofs.Clearing.{cleared_node, cleared_parent, child_still, pruned}
 use Rattle.tree_changes.proofs.parts.prune.Goals as goal
 

@@ -1,4 +1,3 @@
-use Rattle.std.proofs.Common.{◌≡◌, ap}
 use Rattle.tree_changes.proofs.Changing.{own_below, is_over, stands_removed, placed}
 use Rattle.tree_changes.proofs.parts.remove_node.Goals as goal
 

@@ -1,4 +1,0 @@
-pub mod Reading
-pub mod Answering
-pub mod Planting
-pub mod Named
