@@ -1,0 +1,5 @@
+pub mod Standing
+pub mod Clearing
+pub mod Lain
+pub mod Changing
+pub mod Holding

@@ -1,0 +1,4 @@
+pub mod Stands
+pub mod Held
+pub mod Changes
+pub mod Parts
