@@ -1,4 +1,4 @@
-ghost use Rattle.std.specs.Prelude.{◌≡◌, ◌||◌, IfOk};
+ghost use Rattle.std.specs.Prelude.{◌≡◌, ◌||◌, [], IfOk};
 ghost use Rattle.std.specs.List.{list_any};
 ghost use Rattle.tag_names.specs.Faults as faults;
 ghost use Rattle.tag_names.specs.Resolving as resolving;
@@ -9,7 +9,7 @@ use crate::judged::{judged_attribute, judged_element};
 use crate::named::{bindings_in, judged_lines};
 use crate::{NameReason, Named, Prefixes, Tag, TagFaults};
 use std::alloc::{AllocError, Global};
-use tree_rows::{Attribute, Binding, Expanded, MAX_ATTRIBUTES};
+use tree_rows::{Attribute, Attributes, Binding, Bindings, Expanded, MAX_ATTRIBUTES};
 use xs_names::{TextPool, XML_NAMESPACE, XMLNS_NAMESPACE};
 
 /// What a tag says of its element, and what stands against its names.
@@ -71,6 +71,32 @@ fn own_scope(alloc: Global, bindings: &[Binding]) -> Result<Option<Prefixes>, Al
     Ok(Some(Prefixes::of_bindings(alloc, bindings)?))
 }
 
+/// What a tag of this name that has no lines says of its element, and what stands against its name.
+fn judged_alone(
+    alloc: Global,
+    scope: &Prefixes,
+    pool: &mut TextPool,
+    name: &str,
+) -> Result<JudgedTag, AllocError>
+    ensures { IfOk result (λ judged. judged ≡ resolving.judged scope.now (record { name = name.now; attributes = [] })) }
+{
+    let element = judged_element(None, scope, pool, name)?;
+    Ok(JudgedTag {
+        named: Named {
+            name: element.name,
+            bindings: Bindings::new(alloc),
+            attributes: Attributes::new(alloc),
+        },
+        faults: TagFaults {
+            bad: element.bad,
+            reserved: element.reserved,
+            unbound: element.unbound,
+            double: false,
+            many: false,
+        },
+    })
+}
+
 impl Tag {
     /// What the tag says of its element, where it stands in this scope, and what stands against its names. Each name is
     /// read once. Namespaces are shared with their bindings, values with the lines, and other texts come from the pool.
@@ -83,6 +109,9 @@ impl Tag {
         ensures { IfOk result (λ judged. judged ≡ resolving.judged scope.now self.now) }
     {
         let lines = self.attributes.as_slice();
+        if lines.is_empty() {
+            return judged_alone(alloc, scope, pool, self.name.as_str());
+        }
         let bindings = bindings_in(alloc, pool, lines)?;
         let own = own_scope(alloc, bindings.as_slice())?;
         let own = own.as_ref();
