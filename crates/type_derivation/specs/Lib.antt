@@ -1,0 +1,3 @@
+pub mod Particles
+pub mod Cycles
+pub mod inside

@@ -1,0 +1,37 @@
+ghost use Rattle.std.specs.Prelude.{◌≡◌, None, All, IfOk, IfNone};
+ghost use Rattle.xs_faults.specs.Least.{IsLeast};
+ghost use Rattle.xs_references.specs.Ranked.{IsRanked};
+ghost use Rattle.component_circles.specs.References.{IsClosed};
+ghost use Rattle.component_circles.specs.Circles.{Ranks, with_all_ranks};
+ghost use Rattle.type_derivation.specs.Cycles as spec;
+ghost use Rattle.type_derivation.specs.Particles.{AreContentsSet};
+
+use base_kinds::first_base;
+use component_circles::rank_components;
+use crate::setting::set_contents;
+use std::alloc::{AllocError, Global};
+use xs_codes::Fault;
+use xs_components::Components;
+use xs_faults::sooner;
+
+/// The first circular definition or base of the wrong kind (Structures 3.3.6, 3.4.3, 3.4.6, 3.6.3, 3.8.6, 3.14.6), if there
+/// is one. Else every component has a rank by which every reference goes lower, and the particle of each complex type's
+/// content is set (Structures 3.4.2); a sequence that it takes is added. No content may have been set before.
+pub fn cycles(alloc: Global, parts: &mut Components) -> Result<Option<Fault>, AllocError>
+    requires closed { IsClosed parts.old }
+    requires none { All (λ content. content ≡ None) parts.old.contents }
+    ensures least { IfOk result (IsLeast (spec.IsBroken parts.old)) }
+    ensures ranked { IfOk result (λ found. IfNone found (IsRanked parts.new)) }
+    ensures contents { IfOk result (λ found. IfNone found (AreContentsSet parts.new)) }
+    ensures tables { IfOk result (λ found. (ranks : Ranks) × spec.IsAfter found (with_all_ranks parts.old ranks) parts.new) }
+{
+    let base = first_base(alloc, parts)?;
+    let circle = rank_components(alloc, parts)?;
+    match sooner(circle, base) {
+        Some(fault) => Ok(Some(fault)),
+        None => {
+            set_contents(alloc, parts)?;
+            Ok(None)
+        },
+    }
+}

@@ -1,0 +1,84 @@
+ghost use Rattle.std.specs.Prelude.{◌≡◌, ◌<◌, ℕ, None, Some, All, length, slice_get, OnOk, IfSome};
+ghost use Rattle.xs_components.specs.declared.complex.ComplexType.{ComplexType as ComplexTypeValue};
+ghost use Rattle.xs_references.specs.Order.{IsOrder};
+ghost use Rattle.xs_references.specs.Ranked.{IsRanked};
+ghost use Rattle.component_circles.specs.References.{effective_of, IsPart, Each};
+ghost use Rattle.type_derivation.specs.Cycles.{IsGrown};
+ghost use Rattle.type_derivation.specs.Particles.{AreContentsSet};
+ghost use Rattle.type_derivation.specs.inside.Filling.{IsFilling, IsDone, IsBaseDone, Sets};
+
+use crate::contents::content_of;
+use std::alloc::{AllocError, Global};
+use xs_components::{ComplexId, Components, ParticleId};
+use xs_references::order_of;
+
+// Writes the particle of the content of a complex type, if it has one.
+fn write_content(parts: &mut Components, id: ComplexId, content: Option<ParticleId>)
+    requires there { id < length parts.old.complexes.parts }
+    requires none { slice_get parts.old.contents id ≡ Some None }
+    ensures set { Sets parts.old parts.new id content }
+{
+    if let Some(particle) = content {
+        parts.set_content(id, particle);
+    }
+}
+
+// Sets the content of a complex type whose base is done.
+fn set_content(
+    alloc: Global,
+    parts: &mut Components,
+    done: &mut [bool],
+    number: u32,
+) -> Result<(), AllocError>
+    requires there { number < length parts.old.complexes.parts }
+    requires filling { IsFilling parts.old done.old }
+    requires base { (part : ComplexTypeValue) → slice_get parts.old.complexes.parts number ≡ Some part → IsBaseDone done.old part.base }
+    ensures filling { OnOk result (IsFilling parts.new done.new) }
+    ensures here { OnOk result (IsDone done.new number) }
+    ensures kept { OnOk result ((n : ℕ) → IsDone done.old n → IsDone done.new n) }
+    ensures grown { OnOk result (IsGrown parts.old parts.new) }
+{
+    if done[number as usize] {
+        return Ok(());
+    }
+    let Some(id) = parts.complex_at(number) else {
+        return Ok(());
+    };
+    let content = content_of(alloc, parts, id)?;
+    write_content(parts, id, content);
+    done[number as usize] = true;
+    Ok(())
+}
+
+// Sets the contents of all complex types, in an order by ranks.
+fn set_all(
+    alloc: Global,
+    parts: &mut Components,
+    order: &[u32],
+    done: &mut [bool],
+) -> Result<(), AllocError>
+    requires order { IsOrder (length parts.old.complexes.parts) parts.old.complexes.ranks order.now }
+    requires filling { IsFilling parts.old done.old }
+    ensures ranked { OnOk result (IsRanked parts.new) }
+    ensures contents { OnOk result (AreContentsSet parts.new) }
+    ensures grown { OnOk result (IsGrown parts.old parts.new) }
+{
+    for number in order {
+        set_content(alloc, parts, done, *number)?;
+    }
+    Ok(())
+}
+
+/// Sets the particles of the contents of all complex types, those of bases first.
+pub(crate) fn set_contents(alloc: Global, parts: &mut Components) -> Result<(), AllocError>
+    requires ranked { IsRanked parts.old }
+    requires effectives { Each parts.old.complexes (λ part. IfSome (effective_of part.content) (IsPart parts.old.particles)) }
+    requires none { All (λ content. content ≡ None) parts.old.contents }
+    ensures ranked { OnOk result (IsRanked parts.new) }
+    ensures contents { OnOk result (AreContentsSet parts.new) }
+    ensures grown { OnOk result (IsGrown parts.old parts.new) }
+{
+    let order = order_of(alloc, parts.complex_ranks())?;
+    let mut done = Vec::from_elem(alloc, false, parts.contents().len())?;
+    set_all(alloc, parts, order.as_slice(), done.as_mut_slice())
+}
