@@ -1,1 +1,3 @@
-pub mod FaultLaws
+pub mod LimitLaws
+pub mod CodeLaws
+pub mod OriginLaws

@@ -1,38 +1,69 @@
--- The faults of names and references, and the first of them.
-use Rattle.std.specs.Prelude.{ℕ, suc, ◌+◌, Bool, not, List, [], ◌∷◌, ◌++◌, Option, None, Some, if◌then◌else◌}
+-- The faults of names and references of a schema set.
+use Rattle.std.specs.Prelude.{◌≡◌, ◌⊎◌, ℕ, ◌<◌, Bool, true, false, not, List, [], ◌∷◌, Option, None, Some, All, Contains, IfSome, length, slice_get, if◌then◌else◌}
+use Rattle.std.specs.List.{list_all}
 use Rattle.xs_codes.specs.declared.code.Code.{Code}
-use Rattle.xs_codes.specs.declared.code.Code.TheVariants.{SchPropsCorrect2, XLimitComponents, SrcResolve}
+use Rattle.xs_codes.specs.declared.code.Code.TheVariants.{SchPropsCorrect2, XLimitComponents, NoXmlns, NoXsi, SrcResolve, SrcResolve4}
 use Rattle.xs_codes.specs.declared.fault.Fault.{Fault}
-use Rattle.xs_faults.specs.Least.{sooner}
+use Rattle.xs_components.specs.declared.common.Place.{Place}
+use Rattle.xs_names.specs.Names.{NameTable}
+use Rattle.representations.specs.declared.parts.Represented.{Represented}
 use Rattle.representations.specs.declared.parts.Representation.{Representation}
 use Rattle.representations.specs.declared.source.SymbolSpaces.{SymbolSpaces}
-use Rattle.reference_faults.specs.Doubles.{is_double, is_past_limit, components_in}
-use Rattle.reference_faults.specs.Resolution.{resolves}
+use Rattle.representations.specs.Names.{spaces_of}
+use Rattle.reference_faults.specs.declared.imports.Origin.{Origin}
+use Rattle.reference_faults.specs.declared.lookup.Kinds.{Kinds}
+use Rattle.reference_faults.specs.Attributes.{attribute_name, is_xmlns, is_xsi}
+use Rattle.reference_faults.specs.Doubles.{is_double}
+use Rattle.reference_faults.specs.Imports.{origin_at, are_imported, IsInTable}
+use Rattle.reference_faults.specs.Limit.{component_places, IsPastLimit}
+use Rattle.reference_faults.specs.References.{references, name_of}
+use Rattle.reference_faults.specs.Resolution.{kinds_of, resolves}
 
-abbrev pub fault_of : Representation → Code → Fault
-fault_of rep code = record { phase = 3; document = rep.at.document; item = rep.at.item; code = code }
+-- the phase of compiling that looks at names
+abbrev pub name_fault : Place → Code → Fault
+name_fault at code = record { phase = 3; document = at.document; item = at.item; code = code }
 
-abbrev pub if_broken : Bool → Fault → List Fault
-if_broken broken fault = if broken then fault ∷ [] else []
+-- the code before others, where the constraint is broken
+abbrev pub code_if : Bool → Code → List Code → List Code
+code_if broken code others = if broken then code ∷ others else others
 
--- the faults of an element, before which so many components and representations come;
--- src-resolve (Structures 3.15.3): a reference is to no component of the kind needed
-abbrev pub faults_at : List Representation → SymbolSpaces → ℕ → ℕ → Representation → List Fault
-faults_at reps spaces count place rep =
-    if_broken (is_double spaces rep.form place) (fault_of rep SchPropsCorrect2)
-    ++ if_broken (is_past_limit count rep.form) (fault_of rep XLimitComponents)
-    ++ if_broken (not (resolves reps spaces rep.form)) (fault_of rep SrcResolve)
+module _ (t : NameTable) (spaces : SymbolSpaces) (kinds : Kinds) where
+  -- src-resolve (Structures 3.15.3): no component of the kind that a reference needs has its name
+  abbrev pub is_lost : Represented → Bool
+  is_lost form = not (list_all (resolves spaces kinds) (references form))
 
-abbrev pub faults_from : List Representation → SymbolSpaces → ℕ → ℕ → List Representation → List Fault
-faults_from reps spaces count place [] = []
-faults_from reps spaces count place (rep ∷ others) =
-    faults_at reps spaces count place rep ++ faults_from reps spaces (count + components_in rep.form) (suc place) others
+  -- src-resolve.4 (Structures 3.15.3): the namespace of a reference is not the target, is not that of schema documents, and the
+  -- document has no import of it
+  abbrev pub is_foreign : Option Origin → Represented → Bool
+  is_foreign origin form = not (are_imported t origin (references form))
 
--- the faults of representations with these names
-abbrev pub faults : List Representation → SymbolSpaces → List Fault
-faults reps spaces = faults_from reps spaces 0 0 reps
+  -- the codes of the constraints that the references of an element break, in their order
+  abbrev pub reference_codes : Option Origin → Represented → List Code
+  reference_codes origin form = code_if (is_lost form) SrcResolve (code_if (is_foreign origin form) SrcResolve4 [])
 
--- the first of these faults and the one that is known, if one is
-abbrev pub least_from : Option Fault → List Fault → Option Fault
-least_from best [] = best
-least_from best (fault ∷ others) = least_from (sooner best (Some fault)) others
+  -- the codes of the constraints that an element of a schema document breaks, in their order
+  abbrev pub codes_of : Option Origin → ℕ → Represented → List Code
+  codes_of origin place form =
+      code_if (is_double spaces place) SchPropsCorrect2
+      (code_if (is_xmlns t (attribute_name form)) NoXmlns (code_if (is_xsi t (attribute_name form)) NoXsi (reference_codes origin form)))
+
+-- an element breaks one of these constraints
+abbrev pub IsElementFault : NameTable → List Origin → List Representation → Fault → Type 0
+IsElementFault t origins reps fault =
+    (place : ℕ) × (rep : Representation) × (code : Code) × (slice_get reps place ≡ Some rep)
+    × Contains (codes_of t (spaces_of reps) (kinds_of reps) (origin_at origins place) place rep.form) code × (fault ≡ name_fault rep.at code)
+
+-- there is a component past the limit
+abbrev pub IsLimitFault : List Representation → Fault → Type 0
+IsLimitFault reps fault = (at : Place) × IsPastLimit (component_places reps) at × (fault ≡ name_fault at XLimitComponents)
+
+abbrev pub IsBroken : NameTable → List Origin → List Representation → Fault → Type 0
+IsBroken t origins reps fault = IsElementFault t origins reps fault ⊎ IsLimitFault reps fault
+
+-- the names that are referred to, and that of an attribute, are in the table
+pub record IsNamed (t : NameTable) (form : Represented) : Type 0 where
+  pub references : All (λ r. IfSome (name_of r) (IsInTable t)) (references form)
+  pub attribute : IfSome (attribute_name form) (IsInTable t)
+
+abbrev pub AreNamed : NameTable → List Representation → Type 0
+AreNamed t reps = All (λ rep. IsNamed t rep.form) reps

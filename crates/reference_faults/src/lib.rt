@@ -1,9 +1,14 @@
-//! Names that stand twice, too many components, and references that lead to nothing.
+//! The constraints on the names of a schema set and on the references among its components.
 #![tactic(auto)]
 
+mod attributes;
 mod doubles;
 mod faults;
-mod resolution;
+mod imports;
+mod limit;
+mod lookup;
+mod reference;
 
-pub use doubles::MAX_COMPONENTS;
 pub use faults::first_fault;
+pub use imports::Origin;
+pub use limit::MAX_COMPONENTS;

@@ -3,8 +3,8 @@ use Rattle.std.proofs.Common.{◌≡◌, ◌≢◌, ℕ, zero, suc, ◌+◌, ◌
 use Rattle.std.specs.Prelude.{All, Contains, IfSome}
 use Rattle.std.proofs.lemmas.Bool.{cases_eq, cases_lt, true≢false}
 use Rattle.std.proofs.lemmas.Option.{none-some, same_Some, slice_get-get_or, slice_get_within, get_or_from_slice_get}
-use Rattle.std.proofs.lemmas.List.{get_or_default, get_or-take, length-take-le, length-replicate, get_or-replicate}
-use Rattle.std.proofs.lemmas.List.Elements.{All-get_or, All-contains}
+use Rattle.std.proofs.lemmas.List.{take_all, get_or_default, get_or-take, length-take-le, length-replicate, get_or-replicate}
+use Rattle.std.proofs.lemmas.List.Elements.{All-get_or, All-contains, All-more, All-weaker}
 use Rattle.xs_components.specs.Tables.{Tables}
 use Rattle.xs_components.specs.declared.common.TypeId.{TypeId}
 use Rattle.xs_components.specs.declared.common.TypeId.TheVariants.{AnyType, Builtin, Simple, Complex}
@@ -115,9 +115,11 @@ module _ (a b : Tables) (done : List Bool) (n : ℕ) (part : ComplexType) (conte
         let r : IsContentOf after part.by_extension part.at part.base part.content content = content-kept b after from-b part.by_extension part.at part.base part.content content (base-of-b part.base base) of in
         (content, ap (slice_get cs) same ∙ here, subst (λ (q : ComplexType). IsContentOf after q.by_extension q.at q.base q.content content) (same-part p at) r))
     | inr other ↦ (let was : IsDone done m = sym (get-other done n m true other) ∙ d in
-        let old = filling.right m p e was in
-        (old.0, others m other ∙ ap (λ l. slice_get l m) (contents-same a b adds.more) ∙ old.1,
-        content-kept a after from-a p.by_extension p.at p.base p.content old.0 (base-of-a p.base (filling.based m p e was)) old.2))
+        let old = filling.right m p e was in (
+          old.0,
+          others m other ∙ ap (λ l. slice_get l m) (contents-same a b adds.more) ∙ old.1,
+          content-kept a after from-a p.by_extension p.at p.base p.content old.0 (base-of-a p.base (filling.based m p e was)) old.2,
+        ))
   ]
 
   based : (m : ℕ) (p : ComplexType) → slice_get a.complexes.parts m ≡ Some p → IsDone (set done n true) m → IsBaseDone (set done n true) p.base
@@ -198,3 +200,38 @@ filling-none t count all contents ranked effectives none = record {
     not : (n : ℕ) (b : Bool) → slice_get (replicate count false) n ≡ Some b → slice_get (replicate count false) n ≡ Some false
     not n b e = let h = slice_get_within (replicate count false) n b e in
         slice_get-get_or (replicate count false) n false h ∙ ap Some (get_or-replicate count n false false (omega (arith, h, length-replicate count false)))
+
+get-there : {X : Type 0} (xs : List X) (n : ℕ) → n < length xs → (x : X) × (slice_get xs n ≡ Some x)
+get-there [] n h = absurd (omega arith)
+get-there (x ∷ xs) zero h = (x, refl)
+get-there (x ∷ xs) (suc n) h = get-there xs n (omega (arith, h))
+
+-- the content of a type is written, whose base is done
+pub set-filling : (a b new : Tables) (done : List Bool) (n id : ℕ) (content : Option ℕ) → IsFilling a done → n < length a.complexes.parts → id ≡ n → slice_get done n ≡ Some false
+    → ((part : ComplexType) → slice_get a.complexes.parts n ≡ Some part → IsBaseDone done part.base) → Adds a b content
+    → ((part : ComplexType) → slice_get a.complexes.parts id ≡ Some part → IsContentOf b part.by_extension part.at part.base part.content content) → Sets b new id content → IsFilling new (set done n true)
+set-filling a b new done n id content filling h same none base adds of sets =
+    let p = get-there a.complexes.parts n h in
+    let at : slice_get a.complexes.parts id ≡ Some p.0 = ap (slice_get a.complexes.parts) same ∙ p.1 in
+    let s : Sets b new n content = subst (λ i. Sets b new i content) same sets in
+    subst (λ t. IsFilling t (set done n true)) (sym s.tables)
+    (filling-more a b done n p.0 content s.contents filling p.1 none (base p.0 p.1) adds (of p.0 at) s.here s.others)
+
+same-complexes : (old t : Tables) → IsGrown old t → t.complexes ≡ old.complexes
+same-complexes old t grown = ap (λ (u : Tables). u.complexes) grown.tables
+
+order-kept : (old t : Tables) (order : List ℕ) → IsGrown old t → IsOrder (length old.complexes.parts) old.complexes.ranks order → IsOrder (length t.complexes.parts) t.complexes.ranks order
+order-kept old t order grown o = subst (λ c. IsOrder (length c.parts) c.ranks order) (sym (same-complexes old t grown)) o
+
+-- the base of the next is done, where only contents and particles have come
+pub next-done : (old t : Tables) (done : List Bool) (order : List ℕ) (i n : ℕ) (part : ComplexType) → IsOrder (length old.complexes.parts) old.complexes.ranks order → IsGrown old t → i < length order → n ≡ get_or order i 0
+    → All (IsDone done) (take i order) → IsFilling t done → slice_get t.complexes.parts n ≡ Some part → IsBaseDone done part.base
+next-done old t done order i n part o grown within is known filling e = next-base t done order i n part (order-kept old t order grown o) within is known filling.ranked e
+
+pub known-more : (old new : List Bool) (order : List ℕ) (i : ℕ) → i < length order → ((n : ℕ) → IsDone old n → IsDone new n) → IsDone new (get_or order i 0) → All (IsDone old) (take i order) → All (IsDone new) (take (i + 1) order)
+known-more old new order i within kept here known = All-more (IsDone new) order i 0 within (All-weaker (IsDone old) (IsDone new) kept (take i order) known) here
+
+-- at the end all are set
+pub all-done : (old t : Tables) (done : List Bool) (order : List ℕ) (i : ℕ) → IsOrder (length old.complexes.parts) old.complexes.ranks order → IsGrown old t → length order ≤ i → All (IsDone done) (take i order) → IsFilling t done → AreContentsSet t
+all-done old t done order i o grown long known filling =
+    all-set t done order (order-kept old t order grown o).each (subst (All (IsDone done)) (take_all i order long) known) filling

@@ -1,2 +1,3 @@
 pub mod GrowLaws
 pub mod FillLaws
+pub mod CycleLaws

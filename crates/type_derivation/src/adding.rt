@@ -22,11 +22,7 @@ fn rank_above(parts: &Components, id: ParticleId) -> Result<u32, AllocError>
 }
 
 // Adds a particle of a rank.
-fn add_ranked(
-    parts: &mut Components,
-    part: Particle,
-    rank: u32,
-) -> Result<ParticleId, AllocError>
+fn add_ranked(parts: &mut Components, part: Particle, rank: u32) -> Result<ParticleId, AllocError>
     requires alike { length parts.old.particles.ranks ≡ length parts.old.particles.parts }
     ensures number { IfOk result (λ id. id ≡ length parts.old.particles.parts) }
     ensures table { OnOk result (parts.new ≡ with_particle parts.old part rank) }

@@ -6,9 +6,9 @@ ghost use Rattle.component_circles.specs.Circles.{Ranks, with_all_ranks};
 ghost use Rattle.type_derivation.specs.Cycles as spec;
 ghost use Rattle.type_derivation.specs.Particles.{AreContentsSet};
 
+use crate::setting::set_contents;
 use base_kinds::first_base;
 use component_circles::rank_components;
-use crate::setting::set_contents;
 use std::alloc::{AllocError, Global};
 use xs_codes::Fault;
 use xs_components::Components;

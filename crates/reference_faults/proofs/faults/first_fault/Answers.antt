@@ -1,10 +1,11 @@
-use Rattle.std.proofs.Common.{◌∙◌, arith}
-use Rattle.reference_faults.proofs.FaultLaws.{faults_more}
+use Rattle.std.proofs.Common.{◌≡◌, sym, ap, ◌∙◌, subst}
+use Rattle.xs_faults.specs.Least.{sooner, IsLeast}
+use Rattle.reference_faults.specs.Faults.{IsBroken}
+use Rattle.reference_faults.proofs.CodeLaws.{all-least}
 use Rattle.reference_faults.proofs.faults.first_fault.Goals as goal
 
-pub loop-place-preserved : goal.loop-place-preserved
-loop-place-preserved c = record {
-  few = omega (arith, c.loop-place.invariant.few, c.components_in-count.ensures.few);
-  same = faults_more c.args.reps.now c.args.spaces.now c.loop-place.best c.judged-best.result c.loop-place.count c.loop-place.place c.components_in-count.result
-      c.index-reps-place.result c.loop-place-test.true c.index-reps-place.is c.judged-best.ensures c.components_in-count.ensures.count ∙ c.loop-place.invariant.same;
+pub returns : goal.returns
+returns c = record {
+  least = subst (IsLeast (IsBroken c.args.names.now c.args.origins.now c.args.source.now.reps.now)) (sym (c.sooner.ensures.sooner ∙ ap (sooner c.in_ok-element.element) c.limit_fault.ensures))
+      (all-least c.args.names.now c.args.origins.now c.args.source.now.reps.now c.in_ok-element.element c.in_ok-limit.limit c.in_ok-element.ensures.least c.in_ok-limit.ensures.limit);
 }

@@ -1,0 +1,12 @@
+-- The first code of an element, and the place of the first component past the limit.
+use Rattle.std.specs.Prelude.{◌≡◌, ◌⊎◌, ℕ, ◌≤◌, Bool, true, false, List, [], ◌∷◌, Option, None, Some, slice_get, if◌then◌else◌}
+use Rattle.std.specs.Option.{option_map}
+use Rattle.xs_codes.specs.declared.code.Code.{Code}
+use Rattle.xs_codes.specs.declared.fault.Fault.{Fault}
+use Rattle.xs_components.specs.declared.common.Place.{Place}
+use Rattle.reference_faults.specs.Limit.{IsPastLimit}
+
+-- the only place past the limit, if there is one
+abbrev pub IsLimit : List Place → Option Place → Type 0
+IsLimit places None = (at : Place) → IsPastLimit places at → ⊥
+IsLimit places (Some at) = IsPastLimit places at × ((other : Place) → IsPastLimit places other → other ≡ at)
