@@ -175,9 +175,9 @@ no-limit places few at past = absurd (omega (arith, few, past.through, count_by-
 -- a component more
 pub places-more : (reps : List Representation) (i : ℕ) (rep : Representation) (done now : List Place) → i < length reps → rep ≡ get_or reps i rep → is_component rep.form ≡ true → now ≡ done ++ rep.at ∷ []
     → done ++ flat_map place_of (drop i reps) ≡ flat_map place_of reps → now ++ flat_map place_of (drop (i + 1) reps) ≡ flat_map place_of reps
-places-more reps i rep done now within is yes more before =
+places-more reps i rep done now within is component more before =
     let rest = flat_map place_of (drop (i + 1) reps) in
     let front : drop i reps ≡ rep ∷ drop (i + 1) reps = drop_more reps i rep within ∙ ap (λ (r : Representation). r ∷ drop (i + 1) reps) (sym is) in
-    let one : place_of rep ≡ rep.at ∷ [] = rw yes refl in
+    let one : place_of rep ≡ rep.at ∷ [] = rw component refl in
     let all : flat_map place_of (drop i reps) ≡ place_of rep ++ rest = ap (flat_map place_of) front in
     ap (λ ps. ps ++ rest) more ∙ append_assoc done (rep.at ∷ []) rest ∙ ap (λ ps. done ++ (ps ++ rest)) (sym one) ∙ ap (λ ps. done ++ ps) (sym all) ∙ before

@@ -35,6 +35,14 @@ fn place_number(at: Place) -> u64
     at.document as u64 * 4_294_967_296 + at.item as u64
 }
 
+// A place, the item of which is a number of 32 bits.
+fn counted(at: Place) -> Place
+    ensures same { result ≡ at }
+    ensures within { at.item < 2 ^ 32 }
+{
+    at
+}
+
 // Where all components are represented.
 fn component_places(alloc: Global, reps: &[Representation]) -> Result<Vec<Place>, AllocError>
     ensures places { IfOk result (λ places. places.items ≡ spec.component_places reps.now) }
@@ -45,7 +53,7 @@ fn component_places(alloc: Global, reps: &[Representation]) -> Result<Vec<Place>
         if !is_component(&rep.form) {
             continue;
         }
-        places.push(rep.at)?;
+        places.push(counted(rep.at))?;
     }
     Ok(places)
 }

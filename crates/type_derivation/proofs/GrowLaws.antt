@@ -220,7 +220,7 @@ adds-pair t new at first second rank id part alike ranked f s low_f low_s is num
 module _ (t t1 new : Tables) (at : Place) (any id rank : ℕ) (p q : Particle) (ranked : IsRanked t) (number : any ≡ length t.particles.parts) (first : t1 ≡ record t { particles = with_part t.particles p })
     (is : p ≡ any_elements at) (alike : length t1.particles.ranks ≡ length t1.particles.parts) (low : slice_index t1.particles.ranks any < rank) (of : q ≡ once at (Sequence (any ∷ [])))
     (last : id ≡ length t1.particles.parts) (second : new ≡ with_particle t1 q rank) where
-  t2 : Tables
+  abbrev t2 : Tables
   t2 = with_particle t (any_elements at) 0
 
   one : t1 ≡ t2
