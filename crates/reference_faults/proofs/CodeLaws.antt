@@ -5,7 +5,7 @@ use Rattle.std.specs.Option.{option_map}
 use Rattle.std.proofs.lemmas.Bool.{cases_eq}
 use Rattle.std.proofs.lemmas.Bool.Decides.{nat_tests}
 use Rattle.std.proofs.lemmas.Option.{slice_get_within}
-use Rattle.std.proofs.lemmas.List.Elements.{All-head, All-nil, All-cons, All-weaker, All-contains}
+use Rattle.std.proofs.lemmas.List.Elements.{All-nil, All-cons, All-weaker, All-contains}
 use Rattle.xs_codes.specs.declared.code.Code.{Code}
 use Rattle.xs_codes.specs.declared.code.Code.TheVariants.{SchPropsCorrect2, XLimitComponents, NoXmlns, NoXsi, SrcResolve, SrcResolve4}
 use Rattle.xs_codes.specs.declared.fault.Fault.{Fault}
@@ -24,9 +24,9 @@ use Rattle.reference_faults.specs.Attributes.{attribute_name, is_xmlns, is_xsi}
 use Rattle.reference_faults.specs.Doubles.{is_double}
 use Rattle.reference_faults.specs.Faults.{name_fault, code_if, is_lost, is_foreign, reference_codes, codes_of, IsElementFault, IsLimitFault, IsBroken}
 use Rattle.reference_faults.specs.Imports.{origin_at}
-use Rattle.reference_faults.specs.Limit.{component_places, IsPastLimit}
+use Rattle.reference_faults.specs.Limit.{component_places}
 use Rattle.reference_faults.specs.Resolution.{kinds_of}
-use Rattle.reference_faults.specs.inside.Codes.{IsLimit}
+use Rattle.reference_faults.specs.inside.Limits.{IsLimit}
 
 -- codes from this place on in the list of all
 abbrev From : ℕ → List Code → Type 0

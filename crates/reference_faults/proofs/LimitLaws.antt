@@ -1,11 +1,11 @@
 -- The item behind so many in a list in order.
-use Rattle.std.proofs.Common.{◌≡◌, ◌≢◌, ℕ, ◌+◌, ◌*◌, ◌^◌, ◌<◌, ◌≤◌, ◌⊎◌, inl, inr, zero, suc, Bool, true, false, not, cond, ◌==◌, if◌then◌else◌, List, [], ◌∷◌, Option, None, Some, length, drop, ◌++◌, append_assoc, get_or, refl, sym, ap, ◌∙◌, subst, arith}
+use Rattle.std.proofs.Common.{◌≡◌, ℕ, ◌+◌, ◌*◌, ◌^◌, ◌<◌, ◌≤◌, ◌⊎◌, inl, inr, zero, suc, Bool, true, not, cond, ◌==◌, if◌then◌else◌, List, [], ◌∷◌, None, Some, length, drop, ◌++◌, append_assoc, get_or, refl, sym, ap, ◌∙◌, subst, arith}
 use Rattle.std.specs.Prelude.{All, Contains, nat_lt}
-use Rattle.std.specs.List.{count_by, sum_by, flat_map}
+use Rattle.std.specs.List.{count_by, flat_map}
 use Rattle.std.proofs.lemmas.List.{drop_more}
 use Rattle.std.specs.List.Sorted.{IsPermutation, IsNonDecreasingBy}
 use Rattle.std.proofs.lemmas.Bool.Decides.{nat_tests}
-use Rattle.std.proofs.lemmas.Bool.{cases_eq, cases_lt}
+use Rattle.std.proofs.lemmas.Bool.{cases_lt}
 use Rattle.std.proofs.lemmas.List.Elements.{All-head, All-tail, All-contains, All-weaker, Contains-get_or}
 use Rattle.std.proofs.lemmas.List.Sorted.{All-permutation, Contains-permutation, IsPermutation-sym, sum_by-IsPermutation}
 use Rattle.std.proofs.lemmas.List.Sums.{sum_by-cons, count_by-le-length}
@@ -13,7 +13,7 @@ use Rattle.xs_components.specs.declared.common.Place.{Place}
 use Rattle.representations.specs.declared.parts.Representation.{Representation}
 use Rattle.reference_faults.specs.Limit.{is_component, place_of, comes_before, IsPastLimit}
 use Rattle.reference_faults.specs.declared.limit.TheConstants.{MAX_COMPONENTS}
-use Rattle.reference_faults.specs.inside.Codes.{IsLimit}
+use Rattle.reference_faults.specs.inside.Limits.{IsLimit}
 
 abbrev one_if : Bool → ℕ
 one_if b = cond b 1 0

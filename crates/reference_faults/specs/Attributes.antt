@@ -1,5 +1,5 @@
 -- Names that no attribute may have.
-use Rattle.std.specs.Prelude.{ℕ, Bool, true, false, List, Option, None, Some, bytes_eq, codes}
+use Rattle.std.specs.Prelude.{ℕ, Bool, false, List, Option, None, Some, bytes_eq, codes}
 use Rattle.xs_names.specs.Names.{NameTable, space_of, local_of}
 use Rattle.representations.specs.declared.parts.Represented.{Represented}
 use Rattle.representations.specs.declared.parts.Represented.TheVariants as forms

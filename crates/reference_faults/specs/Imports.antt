@@ -1,5 +1,5 @@
 -- References to other namespaces.
-use Rattle.std.specs.Prelude.{◌≡◌, ℕ, ◌<◌, Bool, true, false, ◌||◌, ◌==◌, nat_lt, List, [], ◌∷◌, Option, None, Some, length, slice_get, slice_index_or, bytes_eq, if◌then◌else◌, refl}
+use Rattle.std.specs.Prelude.{◌≡◌, ℕ, ◌<◌, Bool, true, ◌||◌, ◌==◌, nat_lt, List, [], ◌∷◌, Option, None, Some, length, slice_index_or, bytes_eq, if◌then◌else◌, refl}
 use Rattle.std.specs.List.{list_any, list_all}
 use Rattle.schema_grammar.specs.Names.{schema_namespace}
 use Rattle.xs_names.specs.Names.{NameTable, space_of}

@@ -1,5 +1,5 @@
 -- Too many components.
-use Rattle.std.specs.Prelude.{◌≡◌, ℕ, ◌<◌, ◌≤◌, Bool, true, false, not, ◌&&◌, ◌==◌, nat_lt, List, [], ◌∷◌, Contains, is_some, if◌then◌else◌}
+use Rattle.std.specs.Prelude.{◌<◌, ◌≤◌, Bool, true, false, not, ◌==◌, nat_lt, List, [], ◌∷◌, Contains, is_some, if◌then◌else◌}
 use Rattle.std.specs.List.{count_by, flat_map}
 use Rattle.xs_components.specs.declared.common.Place.{Place}
 use Rattle.representations.specs.declared.parts.Represented.{Represented}

@@ -1,5 +1,5 @@
 -- Which references resolve.
-use Rattle.std.specs.Prelude.{ℕ, Bool, true, false, List, Option, None, Some, map, is_some}
+use Rattle.std.specs.Prelude.{ℕ, Bool, false, List, Option, None, Some, map, is_some}
 use Rattle.symbol_spaces.specs.Symbols.{first_place}
 use Rattle.representations.specs.declared.parts.Represented.{Represented}
 use Rattle.representations.specs.declared.parts.Represented.TheVariants as forms

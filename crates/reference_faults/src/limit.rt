@@ -1,6 +1,6 @@
 ghost use Rattle.std.specs.Prelude.{◌≡◌, ◌+◌, ◌*◌, ◌^◌, ◌<◌, All, IfOk};
 ghost use Rattle.reference_faults.specs.Limit as spec;
-ghost use Rattle.reference_faults.specs.inside.Codes.{IsLimit};
+ghost use Rattle.reference_faults.specs.inside.Limits.{IsLimit};
 
 use representations::{Representation, Represented};
 use std::alloc::{AllocError, Global};

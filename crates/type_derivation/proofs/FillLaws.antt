@@ -1,5 +1,5 @@
 -- Contents of types are set one by one.
-use Rattle.std.proofs.Common.{◌≡◌, ◌≢◌, ℕ, zero, suc, ◌+◌, ◌<◌, ◌≤◌, ◌⊎◌, inl, inr, List, [], ◌∷◌, ◌++◌, Bool, true, false, Option, None, Some, length, length-set, replicate, set, take, get_or, slice_get, slice_index, refl, sym, ap, ◌∙◌, subst, arith}
+use Rattle.std.proofs.Common.{◌≡◌, ◌≢◌, ℕ, zero, suc, ◌+◌, ◌<◌, ◌≤◌, inl, inr, List, [], ◌∷◌, Bool, true, false, Option, None, Some, length, length-set, replicate, set, take, get_or, slice_get, slice_index, refl, sym, ap, ◌∙◌, subst, arith}
 use Rattle.std.specs.Prelude.{All, Contains, IfSome}
 use Rattle.std.proofs.lemmas.Bool.{cases_eq, cases_lt, true≢false}
 use Rattle.std.proofs.lemmas.Option.{none-some, same_Some, slice_get-get_or, slice_get_within, get_or_from_slice_get}
@@ -17,7 +17,7 @@ use Rattle.component_circles.specs.inside.Parts.{AreTypesRanked}
 use Rattle.component_circles.proofs.RankLaws.{types-kept}
 use Rattle.type_derivation.specs.Particles.{IsContentOf, IsContentAt, AreContentsSet}
 use Rattle.type_derivation.specs.Cycles.{IsGrown}
-use Rattle.type_derivation.specs.inside.Filling.{AreMore, Adds, IsDone, IsBaseDone, AreContentsThere, IsFilling, Sets}
+use Rattle.type_derivation.specs.inside.Filling.{Adds, IsDone, IsBaseDone, IsFilling, Sets}
 use Rattle.type_derivation.proofs.GrowLaws.{has-particles, longer, part-kept, contents-same, complexes-same, IsSameAt, content-kept, HasParticles}
 
 get-set : {X : Type 0} (xs : List X) (n : ℕ) (x : X) → n < length xs → slice_get (set xs n x) n ≡ Some x

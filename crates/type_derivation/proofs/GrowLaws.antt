@@ -1,5 +1,5 @@
 -- Particles that are added leave what was there, and ranks that fall.
-use Rattle.std.proofs.Common.{◌≡◌, ℕ, zero, suc, ◌+◌, ◌<◌, ◌≤◌, ◌⊎◌, inl, inr, List, [], ◌∷◌, ◌++◌, Bool, true, false, Option, None, Some, length, set, append_assoc, length-append, slice_get, slice_index, refl, sym, ap, ◌∙◌, subst, arith}
+use Rattle.std.proofs.Common.{◌≡◌, ℕ, zero, suc, ◌<◌, ◌≤◌, ◌⊎◌, inl, inr, List, [], ◌∷◌, ◌++◌, Bool, true, false, Option, None, Some, length, set, append_assoc, length-append, slice_get, slice_index, refl, sym, ap, ◌∙◌, subst, arith}
 use Rattle.std.specs.Prelude.{All, IfSome, IfOk, Result, Ok, Err}
 use Rattle.std.proofs.lemmas.Option.{none-some, same_Some, slice_get_within}
 use Rattle.std.proofs.lemmas.List.{append-nil, length_push, get_or_append_left, get_or_push}
@@ -11,7 +11,6 @@ use Rattle.xs_components.specs.declared.common.TypeId.{TypeId}
 use Rattle.xs_components.specs.declared.common.TypeId.TheVariants.{AnyType, Builtin, Simple, Complex}
 use Rattle.xs_components.specs.declared.complex.ComplexType.{ComplexType}
 use Rattle.xs_components.specs.declared.complex.ContentForm.{ContentForm}
-use Rattle.xs_components.specs.declared.group.GroupDef.{GroupDef}
 use Rattle.xs_components.specs.declared.particle.Particle.{Particle}
 use Rattle.xs_components.specs.declared.particle.Term.TheVariants.{Sequence}
 use Rattle.xs_references.specs.Ranked.{IsBelow, IsRanked, held_particles, named_group}

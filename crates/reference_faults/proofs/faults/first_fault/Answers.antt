@@ -1,4 +1,4 @@
-use Rattle.std.proofs.Common.{◌≡◌, sym, ap, ◌∙◌, subst}
+use Rattle.std.proofs.Common.{sym, ap, ◌∙◌, subst}
 use Rattle.xs_faults.specs.Least.{sooner, IsLeast}
 use Rattle.reference_faults.specs.Faults.{IsBroken}
 use Rattle.reference_faults.proofs.CodeLaws.{all-least}

@@ -1,4 +1,4 @@
-use Rattle.std.proofs.Common.{◌≡◌, ◌^◌, ◌<◌, ◌++◌, ◌∷◌, [], true, arith, rules}
+use Rattle.std.proofs.Common.{◌≡◌, ◌^◌, ◌<◌, ◌++◌, ◌∷◌, [], true, rules}
 use Rattle.std.proofs.lemmas.List.Elements.{All-push}
 use Rattle.reference_faults.specs.Limit.{is_component}
 use Rattle.reference_faults.proofs.LimitLaws.{places-more}

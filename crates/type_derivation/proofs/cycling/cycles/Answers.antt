@@ -1,4 +1,4 @@
-use Rattle.std.proofs.Common.{◌≡◌, None, Some, sym, ◌∙◌, subst}
+use Rattle.std.proofs.Common.{None, Some, sym, ◌∙◌, subst}
 use Rattle.std.specs.Prelude.{IfNone}
 use Rattle.xs_references.specs.Ranked.{IsRanked}
 use Rattle.type_derivation.proofs.CycleLaws.{no-first, least-of-both}

@@ -1,4 +1,4 @@
-use Rattle.std.proofs.Common.{◌≡◌, slice_index_or, refl, arith}
+use Rattle.std.proofs.Common.{slice_index_or, refl, arith}
 use Rattle.type_derivation.proofs.GrowLaws.{grown-none, grown-on}
 use Rattle.type_derivation.proofs.FillLaws.{next-done, known-more, all-done}
 use Rattle.type_derivation.proofs.setting.set_all.Goals as goal

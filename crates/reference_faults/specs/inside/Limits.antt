@@ -1,8 +1,5 @@
--- The first code of an element, and the place of the first component past the limit.
-use Rattle.std.specs.Prelude.{◌≡◌, ◌⊎◌, ℕ, ◌≤◌, Bool, true, false, List, [], ◌∷◌, Option, None, Some, slice_get, if◌then◌else◌}
-use Rattle.std.specs.Option.{option_map}
-use Rattle.xs_codes.specs.declared.code.Code.{Code}
-use Rattle.xs_codes.specs.declared.fault.Fault.{Fault}
+-- The place of the first component past the limit.
+use Rattle.std.specs.Prelude.{◌≡◌, List, Option, None, Some}
 use Rattle.xs_components.specs.declared.common.Place.{Place}
 use Rattle.reference_faults.specs.Limit.{IsPastLimit}
 
