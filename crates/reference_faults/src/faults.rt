@@ -123,7 +123,8 @@ fn first_of(
 }
 
 /// The first fault of names and references among representations, by document, then element, then the place of the code in the
-/// list of all; `None` where there is none.
+/// list of all; `None` where there is none. The names in each symbol space are those that the representations give, and each
+/// name in these is in the table.
 ///
 /// # Errors
 ///
