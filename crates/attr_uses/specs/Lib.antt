@@ -1,0 +1,4 @@
+pub mod Wildcards
+pub mod Written
+pub mod Uses
+pub mod Found
