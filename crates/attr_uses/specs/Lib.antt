@@ -1,4 +1,5 @@
 pub mod Wildcards
 pub mod Written
 pub mod Uses
-pub mod Found
+pub mod Tables
+pub mod inside

@@ -1,27 +1,23 @@
 -- The attribute uses and the attribute wildcard of complex types and of attribute groups (Structures 3.4.2, 3.6.2).
 use Rattle.std.specs.Prelude.{ℕ, ◌==◌, Bool, true, false, ◌&&◌, not, List, [], ◌∷◌, ◌++◌, map, filter, Option, None, Some, Result, Ok, Err, slice_get, slice_index, if◌then◌else◌}
-use Rattle.std.specs.List.{list_any, flat_map}
-use Rattle.std.specs.Option.{is_some}
-use Rattle.xs_codes.specs.declared.code.Code.{Code}
-use Rattle.xs_codes.specs.declared.code.Code.TheVariants.{SrcAttributeGroup2, SrcCt4, SrcCt5}
+use Rattle.std.specs.List.{list_any}
+use Rattle.std.specs.Option.{option_map, option_and_then}
+use Rattle.xs_codes.specs.declared.code.Code.TheVariants.{SrcCt5}
 use Rattle.xs_codes.specs.declared.fault.Fault.{Fault}
 use Rattle.xs_namespaces.specs.declared.constraint.NsConstraint.TheVariants.{Any}
 use Rattle.xs_components.specs.Tables.{Tables}
-use Rattle.xs_components.specs.declared.common.Place.{Place}
 use Rattle.xs_components.specs.declared.common.Wildcard.{Wildcard}
 use Rattle.xs_components.specs.declared.common.Process.TheVariants.{Lax}
 use Rattle.xs_components.specs.declared.common.TypeId.{TypeId}
 use Rattle.xs_components.specs.declared.common.TypeId.TheVariants.{AnyType, Builtin, Simple, Complex}
-use Rattle.xs_components.specs.declared.attribute.AttrUse.{AttrUse}
 use Rattle.xs_components.specs.declared.complex.ComplexType.{ComplexType}
-use Rattle.xs_components.specs.declared.attr_group.AttrGroupDef.{AttrGroupDef}
 use Rattle.xs_references.specs.Descent.{along}
 use Rattle.xs_references.specs.Heights.{type_height}
 use Rattle.use_maps.specs.declared.entry.UseAt.{UseAt}
 use Rattle.use_maps.specs.declared.entry.UseHolder.{UseHolder}
 use Rattle.use_maps.specs.declared.entry.UseHolder.TheVariants.{Complex as OfType, AttrGroup as OfGroup}
-use Rattle.attr_uses.specs.Wildcards.{complete_wildcard, joined_wildcard, union}
-use Rattle.attr_uses.specs.Written.{use_at, use_name, has_name, places, united}
+use Rattle.attr_uses.specs.Wildcards.{joined_wildcard, intersection, union}
+use Rattle.attr_uses.specs.Written.{OwnParts, fault_at, own_of_type, own_parts, use_name, has_name, places, united}
 
 -- the attribute uses, the names of prohibited attributes, and the wildcard
 pub record AttrUses : Type 0 where
@@ -32,83 +28,56 @@ pub record AttrUses : Type 0 where
 abbrev pub no_uses : AttrUses
 no_uses = record { uses = []; prohibited = []; wildcard = None }
 
--- what stands in a component itself
-pub record Own : Type 0 where
-  pub holder : UseHolder
-  pub uses : List AttrUse
-  pub groups : List ℕ
-  pub prohibited : List ℕ
-  pub wildcard : Option Wildcard
-  pub no_form : Fault
+-- what is written in a component
+abbrev pub own_uses : UseHolder → OwnParts → AttrUses
+own_uses holder own = record { uses = places holder 0 own.uses; prohibited = own.prohibited; wildcard = own.wildcard }
 
-abbrev pub fault_at : Place → Code → Fault
-fault_at at code = record { phase = 6; document = at.document; item = at.item; code = code }
+-- The uses of a component, and then those of an attribute group that it refers to; the wildcard is the intersection of both
+-- (the complete wildcard, Structures 3.4.2). None where it has no form.
+abbrev pub with_group : AttrUses → AttrUses → Option AttrUses
+with_group own group =
+    option_map (λ wildcard. record { uses = united own.uses group.uses; prohibited = own.prohibited ++ group.prohibited; wildcard = wildcard })
+    (joined_wildcard intersection own.wildcard group.wildcard)
 
--- src-ct.4 (Structures 3.4.3): the intersection of the wildcards of a complex type has no form.
-abbrev pub own_of_type : ℕ → ComplexType → Own
-own_of_type n part = record {
-  holder = OfType n;
-  uses = part.uses;
-  groups = part.groups;
-  prohibited = part.prohibited;
-  wildcard = part.wildcard;
-  no_form = fault_at part.at SrcCt4;
-}
+-- one group after another
+abbrev pub with_groups : AttrUses → List AttrUses → Option AttrUses
+with_groups own [] = Some own
+with_groups own (group ∷ groups) = option_and_then (λ both. with_groups both groups) (with_group own group)
 
--- src-attribute_group.2 (Structures 3.6.3): the intersection of the wildcards of an attribute group has no form.
-abbrev pub own_of_group : ℕ → AttrGroupDef → Own
-own_of_group n part = record {
-  holder = OfGroup n;
-  uses = part.uses;
-  groups = part.groups;
-  prohibited = part.prohibited;
-  wildcard = part.wildcard;
-  no_form = fault_at part.at SrcAttributeGroup2;
-}
+abbrev pub or_fault : Fault → Option AttrUses → Result AttrUses Fault
+or_fault fault None = Err fault
+or_fault fault (Some uses) = Ok uses
 
--- all of them, or the fault of the first that is refused
-abbrev pub also : AttrUses → Result (List AttrUses) Fault → Result (List AttrUses) Fault
-also u (Ok us) = Ok (u ∷ us)
-also u (Err fault) = Err fault
+-- the fault of the first that is refused
+abbrev pub first_refusal : List (Result AttrUses Fault) → Option Fault
+first_refusal [] = None
+first_refusal (Ok uses ∷ rest) = first_refusal rest
+first_refusal (Err fault ∷ rest) = Some fault
 
-abbrev pub all_found : List (Result AttrUses Fault) → Result (List AttrUses) Fault
-all_found [] = Ok []
-all_found (Ok u ∷ rest) = also u (all_found rest)
-all_found (Err fault ∷ rest) = Err fault
+-- those that are not refused
+abbrev pub accepted : List (Result AttrUses Fault) → List AttrUses
+accepted [] = []
+accepted (Ok uses ∷ rest) = uses ∷ accepted rest
+accepted (Err fault ∷ rest) = accepted rest
 
--- the uses of one list, and then of each of the others
-abbrev pub all_united : List UseAt → List (List UseAt) → List UseAt
-all_united some [] = some
-all_united some (more ∷ rest) = all_united (united some more) rest
+abbrev pub refused_or : Option Fault → Result AttrUses Fault → Result AttrUses Fault
+refused_or None uses = uses
+refused_or (Some fault) uses = Err fault
 
-abbrev pub with_wildcard : Own → List AttrUses → Option (Option Wildcard) → Result AttrUses Fault
-with_wildcard own groups None = Err own.no_form
-with_wildcard own groups (Some wildcard) = Ok record {
-  uses = all_united (places own.holder 0 own.uses) (map (λ g. g.uses) groups);
-  prohibited = own.prohibited ++ flat_map (λ g. g.prohibited) groups;
-  wildcard = wildcard;
-}
-
-abbrev pub of_own : Own → Result (List AttrUses) Fault → Result AttrUses Fault
-of_own own (Err fault) = Err fault
-of_own own (Ok groups) = with_wildcard own groups (complete_wildcard own.wildcard (map (λ g. g.wildcard) groups))
-
--- The uses that a component has of its own and by its attribute groups, and its complete wildcard (Structures 3.4.2, 3.6.2).
-abbrev pub own_uses : (ℕ → Result AttrUses Fault) → Own → Result AttrUses Fault
-own_uses group own = of_own own (all_found (map group own.groups))
-
-abbrev pub def_step : (ℕ → Result AttrUses Fault) → ℕ → Option AttrGroupDef → Result AttrUses Fault
-def_step group n None = Ok no_uses
-def_step group n (Some part) = own_uses group (own_of_group n part)
+-- The uses that a component has of its own and by its attribute groups, and its complete wildcard (Structures 3.4.2, 3.6.2). It is
+-- refused where a group is, and where the wildcards have no intersection.
+abbrev pub uses_with_groups : (ℕ → Result AttrUses Fault) → UseHolder → OwnParts → Result AttrUses Fault
+uses_with_groups group holder own =
+    refused_or (first_refusal (map group own.groups)) (or_fault own.no_form (with_groups (own_uses holder own) (accepted (map group own.groups))))
 
 abbrev pub group_step : Tables → (ℕ → Result AttrUses Fault) → ℕ → Result AttrUses Fault
-group_step t group n = def_step group n (slice_get t.attr_groups.parts n)
+group_step t group n = uses_with_groups group (OfGroup n) (own_parts t (OfGroup n))
 
--- Of an attribute group (Structures 3.6.2); a fault where an intersection of wildcards has no form.
+-- Of an attribute group (Structures 3.6.2); a fault where an intersection of wildcards that it is made of has no form.
 unfoldable pub group_uses : Tables → ℕ → Result AttrUses Fault
 group_uses t n = along (slice_index t.attr_groups.ranks) (Ok no_uses) (group_step t) n
 
--- whether a use has the name of one of these
+-- whether one of these uses has the name
 abbrev pub name_among : Tables → List UseAt → Option ℕ → Bool
 name_among t uses None = false
 name_among t uses (Some name) = list_any (has_name t name) uses
@@ -121,32 +90,39 @@ is_listed names (Some name) = list_any (λ other. other == name) names
 abbrev pub is_left : Tables → AttrUses → UseAt → Bool
 is_left t own u = not (name_among t own.uses (use_name t u)) && not (is_listed own.prohibited (use_name t u))
 
+-- By restriction: the uses of the type and those of the base that it leaves; the wildcard is that of the type.
 abbrev pub restricted : Tables → AttrUses → AttrUses → AttrUses
 restricted t own base = record own { uses = own.uses ++ filter (is_left t own) base.uses }
 
--- src-ct.5 (Structures 3.4.3): the union with the wildcard of the base has no form.
-abbrev pub extended : Fault → AttrUses → AttrUses → Option (Option Wildcard) → Result AttrUses Fault
-extended no_form own base None = Err no_form
-extended no_form own base (Some wildcard) = Ok record { uses = united own.uses base.uses; prohibited = own.prohibited; wildcard = wildcard }
+-- By extension: the uses of the type and those of the base; the wildcard is the union of both.
+abbrev pub extended : AttrUses → AttrUses → Option AttrUses
+extended own base =
+    option_map (λ wildcard. record { uses = united own.uses base.uses; prohibited = own.prohibited; wildcard = wildcard })
+    (joined_wildcard union own.wildcard base.wildcard)
 
-abbrev pub with_base : Tables → ComplexType → AttrUses → Result AttrUses Fault → Result AttrUses Fault
-with_base t part own (Err fault) = Err fault
-with_base t part own (Ok base) =
-    if part.by_extension
-    then extended (fault_at part.at SrcCt5) own base (joined_wildcard union own.wildcard base.wildcard)
-    else Ok (restricted t own base)
+-- src-ct.5 (Structures 3.4.3): the union with the wildcard of the base has no form.
+abbrev pub with_base : Tables → ComplexType → AttrUses → AttrUses → Result AttrUses Fault
+with_base t part own base = if part.by_extension then or_fault (fault_at part.at SrcCt5) (extended own base) else Ok (restricted t own base)
+
+abbrev pub with_base_of : Tables → ComplexType → AttrUses → Result AttrUses Fault → Result AttrUses Fault
+with_base_of t part own (Err fault) = Err fault
+with_base_of t part own (Ok base) = with_base t part own base
 
 abbrev pub with_own : Tables → ComplexType → Result AttrUses Fault → Result AttrUses Fault → Result AttrUses Fault
 with_own t part (Err fault) base = Err fault
-with_own t part (Ok own) base = with_base t part own base
+with_own t part (Ok own) base = with_base_of t part own base
 
 abbrev pub type_part : Tables → (TypeId → Result AttrUses Fault) → ℕ → Option ComplexType → Result AttrUses Fault
 type_part t uses n None = Ok no_uses
-type_part t uses n (Some part) = with_own t part (own_uses (group_uses t) (own_of_type n part)) (uses part.base)
+type_part t uses n (Some part) = with_own t part (uses_with_groups (group_uses t) (OfType n) (own_of_type (Some part))) (uses part.base)
 
--- anyType has no attribute uses, and a wildcard that admits all and is lax (Structures 3.4.7)
+-- what admits every namespace, and is lax
+abbrev pub any_wildcard : Wildcard
+any_wildcard = record { namespaces = Any; process = Lax }
+
+-- anyType has no attribute uses, and a wildcard that admits every namespace and is lax (Structures 3.4.7).
 abbrev pub any_type_uses : AttrUses
-any_type_uses = record { uses = []; prohibited = []; wildcard = Some record { namespaces = Any; process = Lax } }
+any_type_uses = record { uses = []; prohibited = []; wildcard = Some any_wildcard }
 
 abbrev pub type_step : Tables → (TypeId → Result AttrUses Fault) → TypeId → Result AttrUses Fault
 type_step t uses AnyType = Ok any_type_uses
@@ -159,10 +135,10 @@ type_step t uses (Complex id) = type_part t uses id (slice_get t.complexes.parts
 unfoldable pub uses_of : Tables → TypeId → Result AttrUses Fault
 uses_of t of = along (type_height t) (Ok no_uses) (type_step t) of
 
--- the first use of a name
 abbrev pub first_of : List UseAt → Option UseAt
 first_of [] = None
 first_of (u ∷ us) = Some u
 
+-- the first use of a name
 abbrev pub use_named : Tables → List UseAt → ℕ → Option UseAt
 use_named t uses name = first_of (filter (has_name t name) uses)

@@ -1,6 +1,6 @@
 -- Attribute wildcards: intersections and unions of them (Structures 3.4.2, 3.10.6). The result None is that there is no form.
-use Rattle.std.specs.Prelude.{ℕ, Bool, true, false, ◌||◌, ◌==◌, List, [], ◌∷◌, ◌++◌, Option, None, Some, filter, if◌then◌else◌}
-use Rattle.std.specs.Option.{option_map, option_and_then}
+use Rattle.std.specs.Prelude.{ℕ, Bool, true, false, ◌||◌, ◌==◌, List, ◌++◌, Option, None, Some, filter, if◌then◌else◌}
+use Rattle.std.specs.Option.{option_map}
 use Rattle.xs_names.specs.Names.{absent_space}
 use Rattle.xs_namespaces.specs.Sets.{admits}
 use Rattle.xs_namespaces.specs.declared.constraint.NsConstraint.{NsConstraint}
@@ -50,8 +50,3 @@ module _ (join : NsConstraint → NsConstraint → Option NsConstraint) where
   joined_wildcard None b = Some b
   joined_wildcard (Some a) None = Some (Some a)
   joined_wildcard (Some a) (Some b) = option_map (λ namespaces. Some (admitting a namespaces)) (join a.namespaces b.namespaces)
-
--- The complete wildcard (Structures 3.4.2): the local one and those of the attribute groups, one after another, intersected.
-abbrev pub complete_wildcard : Option Wildcard → List (Option Wildcard) → Option (Option Wildcard)
-complete_wildcard w [] = Some w
-complete_wildcard w (g ∷ gs) = option_and_then (λ both. complete_wildcard both gs) (joined_wildcard intersection w g)

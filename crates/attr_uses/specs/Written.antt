@@ -2,31 +2,60 @@
 use Rattle.std.specs.Prelude.{ℕ, suc, Bool, false, ◌==◌, List, [], ◌∷◌, ◌++◌, not, filter, Option, None, Some, slice_get}
 use Rattle.std.specs.List.{list_any}
 use Rattle.std.specs.Option.{option_map, option_and_then}
+use Rattle.xs_codes.specs.declared.code.Code.{Code}
+use Rattle.xs_codes.specs.declared.code.Code.TheVariants.{SrcAttributeGroup2, SrcCt4}
+use Rattle.xs_codes.specs.declared.fault.Fault.{Fault}
 use Rattle.use_maps.specs.Entries.{same_use}
 use Rattle.use_maps.specs.declared.entry.UseHolder.{UseHolder}
 use Rattle.use_maps.specs.declared.entry.UseHolder.TheVariants.{Complex as OfType, AttrGroup as OfGroup}
 use Rattle.use_maps.specs.declared.entry.UseAt.{UseAt}
 use Rattle.xs_components.specs.Tables.{Tables}
+use Rattle.xs_components.specs.declared.common.Place.{Place}
+use Rattle.xs_components.specs.declared.common.Wildcard.{Wildcard}
 use Rattle.xs_components.specs.declared.attribute.AttrUse.{AttrUse}
 use Rattle.xs_components.specs.declared.complex.ComplexType.{ComplexType}
 use Rattle.xs_components.specs.declared.attr_group.AttrGroupDef.{AttrGroupDef}
 
-abbrev pub type_uses : Option ComplexType → List AttrUse
-type_uses None = []
-type_uses (Some part) = part.uses
+-- what stands in a component itself, and the fault of an intersection of wildcards without a form
+pub record OwnParts : Type 0 where
+  pub uses : List AttrUse
+  pub groups : List ℕ
+  pub prohibited : List ℕ
+  pub wildcard : Option Wildcard
+  pub no_form : Fault
 
-abbrev pub def_uses : Option AttrGroupDef → List AttrUse
-def_uses None = []
-def_uses (Some part) = part.uses
+abbrev pub fault_at : Place → Code → Fault
+fault_at at code = record { phase = 6; document = at.document; item = at.item; code = code }
 
--- the attribute uses that are written in a component
-abbrev pub written_uses : Tables → UseHolder → List AttrUse
-written_uses t (OfType n) = type_uses (slice_get t.complexes.parts n)
-written_uses t (OfGroup n) = def_uses (slice_get t.attr_groups.parts n)
+-- src-ct.4 (Structures 3.4.3): the intersection of the wildcards of a complex type has no form.
+abbrev pub own_of_type : Option ComplexType → OwnParts
+own_of_type None = record { uses = []; groups = []; prohibited = []; wildcard = None; no_form = fault_at record { document = 0; item = 0 } SrcCt4 }
+own_of_type (Some part) = record {
+  uses = part.uses;
+  groups = part.groups;
+  prohibited = part.prohibited;
+  wildcard = part.wildcard;
+  no_form = fault_at part.at SrcCt4;
+}
+
+-- src-attribute_group.2 (Structures 3.6.3): the intersection of the wildcards of an attribute group has no form.
+abbrev pub own_of_group : Option AttrGroupDef → OwnParts
+own_of_group None = record { uses = []; groups = []; prohibited = []; wildcard = None; no_form = fault_at record { document = 0; item = 0 } SrcAttributeGroup2 }
+own_of_group (Some part) = record {
+  uses = part.uses;
+  groups = part.groups;
+  prohibited = part.prohibited;
+  wildcard = part.wildcard;
+  no_form = fault_at part.at SrcAttributeGroup2;
+}
+
+abbrev pub own_parts : Tables → UseHolder → OwnParts
+own_parts t (OfType n) = own_of_type (slice_get t.complexes.parts n)
+own_parts t (OfGroup n) = own_of_group (slice_get t.attr_groups.parts n)
 
 -- the attribute use that is written there
 abbrev pub use_at : Tables → UseAt → Option AttrUse
-use_at t u = slice_get (written_uses t u.holder) u.place
+use_at t u = slice_get (own_parts t u.holder).uses u.place
 
 -- the name of its declaration
 abbrev pub use_name : Tables → UseAt → Option ℕ

@@ -1,9 +1,13 @@
-//! The attribute uses and the attribute wildcards of complex types and of attribute groups.
+//! The attribute uses and the attribute wildcards of complex types and of attribute groups (Structures 3.4.2, 3.6.2).
 #![tactic(auto)]
 
-mod build;
+mod bases;
+mod filling;
+mod groups;
 mod own;
+mod store;
 mod tables;
 mod wildcards;
 
-pub use tables::{AttrTable, AttrTables, use_at};
+pub use store::KeptTable;
+pub use tables::{AttrTable, AttrTables, group_uses, use_at, uses_of};

@@ -52,7 +52,7 @@ same_holder-itself : (a : UseHolder) → same_holder a a ≡ true
 same_holder-itself (OfType a) = grind (arith, nat_tests)
 same_holder-itself (OfGroup a) = grind (arith, nat_tests)
 
-same_use-itself : (a : UseAt) → same_use a a ≡ true
+pub same_use-itself : (a : UseAt) → same_use a a ≡ true
 same_use-itself a = rw (same_holder-itself a.holder) (grind (arith, nat_tests))
 
 both-itself : (e : Entry) → both_entries e e ≡ e

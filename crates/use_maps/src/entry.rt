@@ -14,7 +14,7 @@ pub enum UseHolder {
 #[derive(Clone, Copy, Debug, PartialEq, Eq)]
 pub struct UseAt {
     pub holder: UseHolder,
-    pub place: u32,
+    pub place: usize,
 }
 
 /// What a map has for a name.
