@@ -177,14 +177,14 @@ module _ (t : Tables) (ids : List Bool) (u : UseAt) where
   pub entry-named : (name : ℕ) (e : Entry) → named_entry t ids u ≡ Some (name, e) → (use_name t u ≡ Some name) × (e ≡ entry_alone t ids u)
   entry-named name e is = of (use_name t u) is
     where
-      of : (o : Option ℕ) → option_map (λ (n : ℕ). (n, entry_alone t ids u)) o ≡ Some (name, e) → (o ≡ Some name) × (e ≡ entry_alone t ids u)
+      of : (o : Option ℕ) → option_map {U = ℕ × Entry} (λ (n : ℕ). (n, entry_alone t ids u)) o ≡ Some (name, e) → (o ≡ Some name) × (e ≡ entry_alone t ids u)
       of None is = absurd (none-some (name, e) is)
       of (Some n) is = let same = same_Some (n, entry_alone t ids u) (name, e) is in (ap (λ p. Some p.0) same, sym (ap (λ p. p.1) same))
 
   pub entry-nameless : named_entry t ids u ≡ None → use_name t u ≡ None
   entry-nameless is = of (use_name t u) is
     where
-      of : (o : Option ℕ) → option_map (λ (n : ℕ). (n, entry_alone t ids u)) o ≡ None → o ≡ None
+      of : (o : Option ℕ) → option_map {U = ℕ × Entry} (λ (n : ℕ). (n, entry_alone t ids u)) o ≡ None → o ≡ None
       of None is = refl
       of (Some n) is = absurd (none-some (n, entry_alone t ids u) (sym is))
 

@@ -219,11 +219,14 @@ pub answer-there : (t : Tables) (ids : List Bool) (store : Store) (o : Option (R
 answer-there t ids store None v is = absurd is
 answer-there t ids store (Some answer) v is = is
 
-pub answers-or : (t : Tables) (ids : List Bool) (store : Store) (made : Option KeptTable) (o : Option AttrUses) (f g : Fault) → f ≡ g → IsMade t ids store made o → Answers t ids store (table_or made f) (or_fault g o)
-answers-or t ids store None None f g e is = e
-answers-or t ids store None (Some v) f g e is = absurd is
-answers-or t ids store (Some table) None f g e is = absurd is
-answers-or t ids store (Some table) (Some v) f g e is = is
+pub answers-or : (t : Tables) (ids : List Bool) (store : Store) (made : Option KeptTable) (o : Option AttrUses) (f g : Fault) (r : Result KeptTable Fault) → r ≡ table_or made f → f ≡ g → IsMade t ids store made o → Answers t ids store r (or_fault g o)
+answers-or t ids store made o f g r answer e is = subst (λ x. Answers t ids store x (or_fault g o)) (sym answer) (of made o is)
+  where
+    of : (made : Option KeptTable) (o : Option AttrUses) → IsMade t ids store made o → Answers t ids store (table_or made f) (or_fault g o)
+    of None None is = e
+    of None (Some v) is = absurd is
+    of (Some table) None is = absurd is
+    of (Some table) (Some v) is = is
 
 pub with-restricted : (t : Tables) (part : ComplexType) (a b : AttrUses) → part.by_extension ≡ false → with_base t part a b ≡ Ok (restricted t a b)
 with-restricted t part a b h = ap (λ e. if e then or_fault (fault_at part.at SrcCt5) (extended a b) else Ok (restricted t a b)) h

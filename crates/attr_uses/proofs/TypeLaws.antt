@@ -3,7 +3,7 @@ use Rattle.std.proofs.Common.{◌≡◌, ℕ, ◌+◌, ◌<◌, ◌≤◌, inl, 
 use Rattle.std.specs.Prelude.{All}
 use Rattle.std.proofs.lemmas.Bool.{cases_lt}
 use Rattle.std.proofs.lemmas.Option.{slice_get_past}
-use Rattle.std.proofs.lemmas.List.Elements.{All-weaker, All-from_get_or}
+use Rattle.std.proofs.lemmas.List.Elements.{All-nil, All-weaker, All-from_get_or}
 use Rattle.xs_codes.specs.declared.fault.Fault.{Fault}
 use Rattle.xs_components.specs.Tables.{Tables}
 use Rattle.xs_components.specs.declared.common.TypeId.{TypeId}
@@ -42,7 +42,7 @@ module _ (t : Tables) (ids : List Bool) (store : Store) where
   group-answers groups n ranked below = of (slice_get t.attr_groups.parts n) refl
     where
       of : (o : Option AttrGroupDef) → slice_get t.attr_groups.parts n ≡ o → All (λ g. IsAnswerAt t ids store (slice_get groups g) (group_uses t g)) (own_of_group o).groups
-      of None e = λ i h. absurd (omega (arith, h))
+      of None e = All-nil (λ g. IsAnswerAt t ids store (slice_get groups g) (group_uses t g))
       of (Some part) e =
           All-weaker (IsBelow t.attr_groups (slice_index t.attr_groups.ranks n)) (λ g. IsAnswerAt t ids store (slice_get groups g) (group_uses t g))
           (λ g low. answer-there t ids store (slice_get groups g) (group_uses t g) (below g low.there low.lower)) part.groups (ranked.attr_groups n part e)

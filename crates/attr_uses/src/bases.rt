@@ -57,8 +57,8 @@ impl Store {
             TypeId::AnyType => Ok(self.any_type()),
             TypeId::Builtin(_) => Ok(self.nothing()),
             TypeId::Simple(_) => Ok(self.nothing()),
-            TypeId::Complex(id) => match types.get(id.number() as usize) {
-                Some(answer) => *answer,
+            TypeId::Complex(id) => match answer_at(types, id.number()) {
+                Some(answer) => answer,
                 None => Ok(self.nothing()),
             },
         }
@@ -128,4 +128,14 @@ fn complex_in(parts: &Components, number: u32) -> &ComplexType
     ensures { slice_get parts.now.complexes.parts number ≡ Some result.now }
 {
     &parts.complexes()[number as usize]
+}
+
+// The answer for a number, if there is one.
+fn answer_at(answers: &[Answer], number: u32) -> Option<Answer>
+    ensures { result ≡ slice_get answers.now number }
+{
+    match answers.get(number as usize) {
+        Some(answer) => Some(*answer),
+        None => None,
+    }
 }

@@ -23,10 +23,10 @@ returns-in-Simple c = record {
 
 pub returns-in-Some : goal.returns-in-Some
 returns-in-Some c = record {
-  table = λ t ids k. known-there t ids c.args.self.now c.args.types.now c.args.of c.in-Complex.id c.in-Complex.is c.number.result c.number.ensures c.in-Some.answer.now c.in-Some.ensures.lookup k;
+  table = λ t ids k. known-there t ids c.args.self.now c.args.types.now c.args.of c.in-Complex.id c.in-Complex.is c.number.result c.number.ensures c.in-Some.answer (sym c.in-Some.is ∙ c.answer_at.ensures) k;
 }
 
 pub returns-in-None : goal.returns-in-None
 returns-in-None c = record {
-  table = λ t ids k. known-missing t ids c.args.self.now c.args.types.now c.args.of c.in-Complex.id c.in-Complex.is c.number.result c.number.ensures c.in-None.ensures.lookup (Ok c.nothing-in-None.result) k;
+  table = λ t ids k. known-missing t ids c.args.self.now c.args.types.now c.args.of c.in-Complex.id c.in-Complex.is c.number.result c.number.ensures (sym c.in-None.is ∙ c.answer_at.ensures) (Ok c.nothing-in-None.result) k;
 }

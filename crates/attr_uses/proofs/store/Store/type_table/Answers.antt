@@ -31,8 +31,9 @@ with_base-requires-clause-own c =
     let t = c.args.parts.now in
     let ids = c.args.ids.now in
     let s1 = c.with_own_groups.new.self in
-    let w = answer-ok t ids s1 c.in-Ok.own _ (subst (λ r. Answers t ids s1 r _) c.in-Ok.is c.in_ok-answer.ensures.made.1) in
-    (t, (ids, (w.0, w.2)))
+    let own = uses_with_groups (group_uses t) (OfType c.args.number) (own_parts t (OfType c.args.number)) in
+    let w = answer-ok t ids s1 c.in-Ok.own own (subst (λ r. Answers t ids s1 r own) c.in-Ok.is c.in_ok-answer.ensures.made.1) in
+    (t, ids, w.0, w.2)
 
 pub with_base-requires-clause-base : goal.with_base-requires-clause-base
 with_base-requires-clause-base c =
@@ -42,7 +43,7 @@ with_base-requires-clause-base c =
     let part = c.complex_in-part.result.now in
     let known = c.known_table.ensures.table t ids (base-known t ids c.args.self.now s1 c.in_ok-answer.ensures.made.0 c.args.types.now c.args.number part c.requires.ranked c.complex_in-part.ensures c.requires.types) in
     let b = answer-ok t ids s1 c.in-Ok-known_table.base (uses_of t part.base) (subst (λ r. Answers t ids s1 r (uses_of t part.base)) c.in-Ok-known_table.is known) in
-    (t, (ids, (b.0, b.2)))
+    (t, ids, b.0, b.2)
 
 pub returns-in-Ok-known_table : goal.returns-in-Ok-known_table
 returns-in-Ok-known_table c =

@@ -28,5 +28,5 @@ returns c =
     let all = subst (λ xs. IsMade t ids new c.in_ok-made.made (with_groups (own_uses c.args.holder own) (accepted (map (group_uses t) xs)))) c.groups_in-named.ensures m.1 in
     record {
       made = (keeps-on c.args.self.now c.own_table.new.self new o.0 m.0,
-      subst (λ r. Answers t ids new r _) (sym c.or_fault.ensures) (answers-or t ids new c.in_ok-made.made _ c.no_form_in.result own.no_form c.no_form_in.ensures all));
+      answers-or t ids new c.in_ok-made.made (with_groups (own_uses c.args.holder own) (accepted (map (group_uses t) own.groups))) c.no_form_in.result own.no_form c.or_fault.result c.or_fault.ensures c.no_form_in.ensures all);
     }

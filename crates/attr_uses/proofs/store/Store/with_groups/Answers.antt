@@ -10,15 +10,15 @@ use Rattle.attr_uses.proofs.store.Store.with_groups.Goals as goal
 pub with_next-requires-clause-own : goal.with_next-requires-clause-own
 with_next-requires-clause-own c =
     let m = c.loop-group.invariant.made c.requires.own.0 c.requires.own.1 in
-    (c.args.parts.now, (c.args.ids.now, (m.0, m.1)))
+    (c.args.parts.now, c.args.ids.now, m.0, m.1)
 
 pub with_next-requires-clause-group : goal.with_next-requires-clause-group
 with_next-requires-clause-group c =
     let t = c.args.parts.now in
     let ids = c.args.ids.now in
     let g = c.group-item.result in
-    (t, (ids, (group_uses t g, answer-at-kept t ids c.args.self.now c.loop-group.self c.loop-group.invariant.keeps (slice_get c.args.groups.now g) (group_uses t g)
-      (answer-here t ids c.args.self.now c.args.groups.now c.args.named.now c.loop-group.group-index g c.loop-group-test.true c.group-item.is c.requires.groups))))
+    (t, ids, group_uses t g, answer-at-kept t ids c.args.self.now c.loop-group.self c.loop-group.invariant.keeps (slice_get c.args.groups.now g) (group_uses t g)
+      (answer-here t ids c.args.self.now c.args.groups.now c.args.named.now c.loop-group.group-index g c.loop-group-test.true c.group-item.is c.requires.groups))
 
 pub returns-in-None : goal.returns-in-None
 returns-in-None c =
@@ -58,9 +58,9 @@ loop-group-preserved c =
           (let m = inv.made start s in
           let n = c.in_ok-made.ensures.made t ids m.0 (group_uses t g) m.1 here in
           let v = made-some t ids new c.in-Some.both (with_next m.0 (group_uses t g)) (subst (λ o. IsMade t ids new o (with_next m.0 (group_uses t g))) c.in-Some.is n.1) in
-          (v.0, (v.2,
+          (v.0, v.2,
             sym (groups-step t ids c.args.self.now c.args.groups.now c.args.named.now i g c.loop-group-test.true c.group-item.is m.0 ∙
-              ap (option_and_then (λ both. with_groups both (accepted (map (group_uses t) (drop (i + 1) c.args.named.now))))) v.1) ∙ m.2)));
+              ap (option_and_then (λ both. with_groups both (accepted (map (group_uses t) (drop (i + 1) c.args.named.now))))) v.1) ∙ m.2));
     }
 
 pub returns : goal.returns
