@@ -1,8 +1,7 @@
 -- The definitions are their steps.
-use Rattle.std.proofs.Common.{◌≡◌, ℕ, ◌<◌, ◌≤◌, List, Option, None, Some, Result, Ok, Err, map, length, slice_get, slice_index, refl, sym, ap, ◌∙◌}
+use Rattle.std.proofs.Common.{◌≡◌, ℕ, ◌≤◌, Option, None, Some, Ok, length, slice_get, slice_index, refl, ap}
 use Rattle.std.specs.Prelude.{⊤}
 use Rattle.std.proofs.lemmas.Option.{slice_get_past}
-use Rattle.xs_codes.specs.declared.fault.Fault.{Fault}
 use Rattle.xs_components.specs.Tables.{Tables}
 use Rattle.xs_components.specs.declared.common.TypeId.{TypeId}
 use Rattle.xs_components.specs.declared.common.TypeId.TheVariants.{AnyType, Builtin, Simple, Complex}
@@ -15,7 +14,7 @@ use Rattle.xs_references.proofs.DescentLaws.{along-is}
 use Rattle.xs_references.proofs.ListLaws.{map-same}
 use Rattle.use_maps.specs.declared.entry.UseHolder.TheVariants.{Complex as OfType, AttrGroup as OfGroup}
 use Rattle.attr_uses.specs.Written.{own_of_group, own_of_type}
-use Rattle.attr_uses.specs.Uses.{AttrUses, no_uses, own_uses, with_groups, or_fault, first_refusal, accepted, refused_or, group_step, group_uses, uses_with_groups, with_own, type_part, type_step, any_type_uses, uses_of}
+use Rattle.attr_uses.specs.Uses.{no_uses, own_uses, with_groups, or_fault, first_refusal, accepted, refused_or, group_step, group_uses, uses_with_groups, with_own, type_part, type_step, any_type_uses, uses_of}
 
 module _ (t : Tables) (ranked : IsRanked t) where
   group-asks : AsksLower (slice_index t.attr_groups.ranks) (Ok no_uses) (group_step t) (λ x. ⊤)

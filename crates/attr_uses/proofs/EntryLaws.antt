@@ -1,10 +1,10 @@
 -- The entry of a name among the uses of two lists.
-use Rattle.std.proofs.Common.{◌≡◌, ℕ, ◌+◌, suc, zero, Bool, true, false, ◌&&◌, ◌||◌, not, ◌==◌, nat_eq, List, [], ◌∷◌, ◌++◌, Option, None, Some, filter, length, take, get_or, ◌<◌, refl, sym, ap, ◌∙◌, inl, inr, arith}
+use Rattle.std.proofs.Common.{◌≡◌, ℕ, ◌+◌, suc, Bool, true, false, ◌&&◌, ◌||◌, not, nat_eq, List, [], ◌∷◌, ◌++◌, Option, None, Some, filter, length, take, get_or, ◌<◌, refl, sym, ap, ◌∙◌, arith}
 use Rattle.std.specs.Prelude.{if◌then◌else◌}
 use Rattle.std.specs.List.{list_any}
 use Rattle.std.specs.Option.{is_some, option_map}
 use Rattle.std.proofs.lemmas.Option.{same_Some, none-some}
-use Rattle.std.proofs.lemmas.Bool.{and_parts, or_parts, or_from, true≢false, eqb-true}
+use Rattle.std.proofs.lemmas.Bool.{or_parts, or_from, true≢false, eqb-true}
 use Rattle.std.proofs.lemmas.Bool.Decides.{nat_tests}
 use Rattle.std.proofs.lemmas.List.{append-nil, take_more, length-take-le}
 use Rattle.std.proofs.lemmas.List.Elements.{filter-append}
@@ -53,7 +53,7 @@ module _ (t : Tables) (ids : List Bool) where
   entry-append (x ∷ xs) [] = ap (entry_of t ids) (append-nil (x ∷ xs))
   entry-append (x ∷ xs) (y ∷ ys) =
       ap (with_double x) (list_any-append (differs x) xs (y ∷ ys) ∙
-        doubles (list_any (differs x) xs) (list_any (differs y) ys) (list_any (differs x) ys) (differs x y) (λ e. ap (λ u. list_any (differs u) ys) (same_use-is x y (not-false' (same_use x y) e))))
+      doubles (list_any (differs x) xs) (list_any (differs y) ys) (list_any (differs x) ys) (differs x y) (λ e. ap (λ u. list_any (differs u) ys) (same_use-is x y (not-false' (same_use x y) e))))
 
   -- uses of which none is another than one are that one
   none-among : (x y : UseAt) (xs : List UseAt) → list_any (differs x) xs ≡ false → same_use y x ≡ false → list_any (same_use y) xs ≡ false
@@ -86,7 +86,7 @@ module _ (t : Tables) (ids : List Bool) where
   entry-new [] ys = ap (entry_of t ids) (filter-all (λ u. true) (λ u. refl) ys)
   entry-new (x ∷ xs) ys =
       ap (with_double x) (list_any-append (differs x) xs (filter (λ u. not (list_any (same_use u) (x ∷ xs))) ys) ∙
-        (of (list_any (differs x) xs) refl ∙ sym (list_any-append (differs x) xs ys))) ∙
+      (of (list_any (differs x) xs) refl ∙ sym (list_any-append (differs x) xs ys))) ∙
       entry-append (x ∷ xs) ys
     where
       of : (b : Bool) → list_any (differs x) xs ≡ b → (list_any (differs x) xs || list_any (differs x) (filter (λ u. not (list_any (same_use u) (x ∷ xs))) ys)) ≡ (list_any (differs x) xs || list_any (differs x) ys)
@@ -98,7 +98,7 @@ module _ (t : Tables) (ids : List Bool) where
   entry-united a b name =
       let h = has_name t name in
       ap (entry_of t ids) (filter-append h a (filter (λ u. not (list_any (same_use u) a)) b) ∙
-        ap (λ us. filter h a ++ us) (filters-swap h (λ u. not (list_any (same_use u) a)) (λ u. not (list_any (same_use u) (filter h a))) (λ u e. ap not (among u e)) b)) ∙
+      ap (λ us. filter h a ++ us) (filters-swap h (λ u. not (list_any (same_use u) a)) (λ u. not (list_any (same_use u) (filter h a))) (λ u e. ap not (among u e)) b)) ∙
       entry-new (filter h a) (filter h b)
     where
       among : (u : UseAt) → has_name t name u ≡ true → list_any (same_use u) a ≡ list_any (same_use u) (filter (has_name t name) a)
@@ -138,7 +138,7 @@ module _ (t : Tables) (ids : List Bool) where
       let k = list_any h own.uses in
       let l = is_listed own.prohibited (Some name) in
       ap (entry_of t ids) (filter-append h own.uses (filter (is_left t own) base.uses) ∙
-        ap (λ us. filter h own.uses ++ us) (filters-const h (is_left t own) (not k && not l) left base.uses)) ∙
+      ap (λ us. filter h own.uses ++ us) (filters-const h (is_left t own) (not k && not l) left base.uses)) ∙
       overridden (filter h own.uses) (filter h base.uses) p k l (any-some h own.uses) (sym e)
     where
       left : (u : UseAt) → has_name t name u ≡ true → is_left t own u ≡ (not (list_any (has_name t name) own.uses) && not (is_listed own.prohibited (Some name)))

@@ -1,5 +1,5 @@
 -- What is kept stands for the same.
-use Rattle.std.proofs.Common.{◌≡◌, ℕ, zero, suc, ◌+◌, ◌^◌, ◌<◌, Bool, List, [], ◌∷◌, Option, None, Some, Result, Ok, Err, length, slice_get, refl, sym, ap, subst, ◌∙◌, arith}
+use Rattle.std.proofs.Common.{◌≡◌, ℕ, zero, suc, ◌^◌, ◌<◌, Bool, List, [], ◌∷◌, Option, None, Some, Result, Ok, Err, length, slice_get, refl, sym, subst, ◌∙◌, arith}
 use Rattle.std.proofs.lemmas.Option.{slice_get_within}
 use Rattle.xs_codes.specs.declared.fault.Fault.{Fault}
 use Rattle.xs_components.specs.Tables.{Tables}
@@ -8,7 +8,7 @@ use Rattle.use_maps.specs.Maps.{MapNodes, IsMapOf, KeepsMaps}
 use Rattle.use_maps.specs.declared.entry.Entry.{Entry}
 use Rattle.attr_uses.specs.Uses.{AttrUses, group_uses}
 use Rattle.attr_uses.specs.Tables.{StandsFor, Answers, IsAnswer, IsSetOf, IsStore, IsWildcard, kept_wildcard, IsKeptWildcard}
-use Rattle.attr_uses.specs.inside.Kept.{Keeps, IsAnswerAt, AreGroups, IsGroupAnswer}
+use Rattle.attr_uses.specs.inside.Kept.{Keeps, IsAnswerAt, AreGroups}
 use Rattle.attr_uses.specs.declared.store.KeptTable.{KeptTable}
 use Rattle.attr_uses.specs.declared.store.Store.{Store}
 

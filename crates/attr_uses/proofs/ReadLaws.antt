@@ -1,6 +1,6 @@
 -- What is read from the map of attribute uses.
-use Rattle.std.proofs.Common.{◌≡◌, ℕ, ◌^◌, ◌<◌, ◌≤◌, Bool, true, false, List, [], ◌∷◌, Option, None, Some, filter, refl, sym, ap, subst, ◌∙◌, arith}
-use Rattle.std.specs.Prelude.{IsTrue, MatchOption, ◌↔◌}
+use Rattle.std.proofs.Common.{◌≡◌, ℕ, ◌^◌, ◌<◌, Bool, List, [], ◌∷◌, Option, None, Some, filter, refl, sym, ap, subst, ◌∙◌}
+use Rattle.std.specs.Prelude.{IsTrue, ◌↔◌}
 use Rattle.std.specs.Option.{option_map}
 use Rattle.xs_components.specs.Tables.{Tables}
 use Rattle.use_maps.specs.Maps.{entry_is, SomeIs, TwoAre, IsLeast}
@@ -9,7 +9,7 @@ use Rattle.use_maps.specs.declared.entry.Entry.{Entry}
 use Rattle.use_maps.specs.declared.entry.UseAt.{UseAt}
 use Rattle.attr_uses.specs.Written.{has_name}
 use Rattle.attr_uses.specs.Uses.{first_of, use_named}
-use Rattle.attr_uses.specs.Tables.{entry_of, entry_for, differ, is_id_named, is_needed_named, HasTwoOfOneName, HasTwoIds, NoneNeeded, IsNextNeeded, IsNext}
+use Rattle.attr_uses.specs.Tables.{entry_of, entry_for, differ, is_id_named, is_needed_named, HasTwoOfOneName, HasTwoIds, IsNext}
 
 module _ (t : Tables) (ids : List Bool) where
   entry-first : (us : List UseAt) → option_map (λ e. e.first) (entry_of t ids us) ≡ first_of us

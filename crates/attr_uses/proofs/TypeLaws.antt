@@ -1,5 +1,5 @@
 -- A component's table by those of the components that it is made of.
-use Rattle.std.proofs.Common.{◌≡◌, ℕ, ◌+◌, ◌<◌, ◌≤◌, inl, inr, Bool, List, [], Option, None, Some, Result, Ok, Err, length, get_or, slice_get, slice_index, refl, sym, ap, subst, ◌∙◌, arith}
+use Rattle.std.proofs.Common.{◌≡◌, ℕ, ◌+◌, ◌<◌, inl, inr, Bool, List, Option, None, Some, Result, Ok, Err, length, get_or, slice_get, slice_index, refl, sym, ap, subst, ◌∙◌, arith}
 use Rattle.std.specs.Prelude.{All}
 use Rattle.std.proofs.lemmas.Bool.{cases_lt}
 use Rattle.std.proofs.lemmas.Option.{slice_get_past}
@@ -14,7 +14,7 @@ use Rattle.xs_references.specs.Heights.{IsType, IsLower, first_height}
 use Rattle.xs_references.specs.Ranked.{IsBelow, IsRanked}
 use Rattle.use_maps.specs.declared.entry.UseHolder.TheVariants.{Complex as OfType, AttrGroup as OfGroup}
 use Rattle.attr_uses.specs.Written.{own_of_type, own_of_group, own_parts}
-use Rattle.attr_uses.specs.Uses.{AttrUses, no_uses, group_uses, uses_with_groups, with_own, with_base_of, with_base, type_part, uses_of}
+use Rattle.attr_uses.specs.Uses.{AttrUses, group_uses, uses_with_groups, with_own, with_base_of, with_base, type_part, uses_of}
 use Rattle.attr_uses.specs.Tables.{StandsFor, Answers, IsAnswer, AreTablesOf}
 use Rattle.attr_uses.specs.inside.Kept.{Keeps, IsAnswerAt, IsKnown, AreBelow, IsGroupAnswer, IsTypeAnswer, AreGroups}
 use Rattle.attr_uses.specs.declared.store.KeptTable.{KeptTable}

@@ -1,12 +1,11 @@
 -- Intersections and unions of wildcards, as sets of namespaces.
-use Rattle.std.proofs.Common.{◌≡◌, ℕ, ◌<◌, Bool, true, false, ◌&&◌, ◌||◌, not, ◌==◌, nat_eq, List, [], ◌∷◌, ◌++◌, Option, None, Some, Result, Ok, Err, IfOk, refl, sym, ap, subst, ◌∙◌, inl, inr, IfNone, length, slice_get, arith}
+use Rattle.std.proofs.Common.{◌≡◌, ℕ, Bool, true, false, ◌&&◌, ◌||◌, not, ◌==◌, List, Option, None, Some, Result, Ok, Err, IfOk, refl, sym, ap, subst, ◌∙◌, IfNone}
 use Rattle.std.specs.Prelude.{IfSome, if◌then◌else◌}
 use Rattle.std.specs.Option.{option_map}
-use Rattle.std.proofs.lemmas.Bool.{cases_eq, eqb-true, eqb-false, or_cases, or_parts}
-use Rattle.std.proofs.lemmas.Bool.Decides.{nat_tests}
+use Rattle.std.proofs.lemmas.Bool.{eqb-true, eqb-false}
 use Rattle.std.proofs.lemmas.List.Folds.{list_any-append}
 use Rattle.std.proofs.lemmas.Option.{none-some}
-use Rattle.std.proofs.Math.Bool.{and_comm, or_comm}
+use Rattle.std.proofs.Math.Bool.{or_comm}
 use Rattle.xs_namespaces.specs.Sets.{has, admits, IsIntersection, IsUnion}
 use Rattle.xs_namespaces.specs.declared.constraint.NsConstraint.{NsConstraint}
 use Rattle.xs_namespaces.specs.declared.constraint.NsConstraint.TheVariants.{Any, Not, In}
@@ -14,9 +13,7 @@ use Rattle.xs_namespaces.proofs.SetLaws.{no-intersection, no-union, all-united, 
 use Rattle.xs_components.specs.declared.common.Wildcard.{Wildcard}
 use Rattle.attr_uses.specs.Wildcards.{both_excluded, intersection, union_of_negation, with_all_but, union, admitting, joined_wildcard}
 use Rattle.attr_uses.specs.Tables.{IsLike, IsWildcard, kept_wildcard, IsKeptWildcard}
-use Rattle.attr_uses.specs.inside.Kept.{join_of, SameSet, IsFound, IsForm}
-use Rattle.attr_uses.specs.declared.wildcards.Joining.{Joining}
-use Rattle.attr_uses.specs.declared.wildcards.Joining.TheVariants as joining
+use Rattle.attr_uses.specs.inside.Kept.{SameSet, IsFound, IsForm}
 
 and_true : (b : Bool) → b ≡ (b && true)
 and_true true = refl

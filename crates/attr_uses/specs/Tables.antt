@@ -1,12 +1,11 @@
 -- What stands for the attribute uses of types and of attribute groups.
-use Rattle.std.specs.Prelude.{◌≡◌, ℕ, ◌^◌, ◌<◌, ◌≤◌, Bool, true, false, ◌||◌, not, ◌==◌, List, [], ◌∷◌, Option, None, Some, Result, Ok, Err, ⊤, filter, length, slice_get, slice_index_or, MatchOption}
+use Rattle.std.specs.Prelude.{◌≡◌, ℕ, ◌^◌, ◌<◌, ◌≤◌, Bool, true, false, ◌||◌, not, List, [], ◌∷◌, Option, None, Some, Result, Ok, Err, ⊤, filter, length, slice_get, slice_index_or, MatchOption}
 use Rattle.std.specs.List.{list_any}
 use Rattle.std.specs.Option.{is_some}
 use Rattle.xs_codes.specs.declared.fault.Fault.{Fault}
 use Rattle.xs_namespaces.specs.Sets.{admits}
 use Rattle.xs_components.specs.Tables.{Tables}
 use Rattle.xs_components.specs.declared.common.Wildcard.{Wildcard}
-use Rattle.xs_components.specs.declared.common.TypeId.{TypeId}
 use Rattle.xs_components.specs.declared.common.TypeId.TheVariants.{Complex}
 use Rattle.xs_components.specs.declared.attribute.AttributeDecl.{AttributeDecl}
 use Rattle.xs_components.specs.declared.attribute.AttrUse.{AttrUse}

@@ -1,5 +1,5 @@
 -- Attribute wildcards: intersections and unions of them (Structures 3.4.2, 3.10.6). The result None is that there is no form.
-use Rattle.std.specs.Prelude.{ℕ, Bool, true, false, ◌||◌, ◌==◌, List, ◌++◌, Option, None, Some, filter, if◌then◌else◌}
+use Rattle.std.specs.Prelude.{ℕ, Bool, true, false, ◌||◌, ◌==◌, ◌++◌, Option, None, Some, filter, if◌then◌else◌}
 use Rattle.std.specs.Option.{option_map}
 use Rattle.xs_names.specs.Names.{absent_space}
 use Rattle.xs_namespaces.specs.Sets.{admits}

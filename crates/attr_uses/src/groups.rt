@@ -118,12 +118,19 @@ impl Store {
         ensures made { (t : Tables) (ids : List Bool) (a b : AttrUses) → StandsFor t ids self.old own a → StandsFor t ids self.old group b
             → IfOk result (λ made. Keeps self.old self.new × IsMade t ids self.new made (spec.with_group a b)) }
     {
-        let wildcard = match self.joined(alloc, Joining::Intersection, own.wildcard, group.wildcard)? {
+        let wildcard = match self.joined(
+            alloc,
+            Joining::Intersection,
+            own.wildcard,
+            group.wildcard,
+        )? {
             Some(wildcard) => wildcard,
             None => return Ok(None),
         };
         let uses = self.maps.combine(Join::Union, own.uses, group.uses)?;
-        let prohibited = self.maps.combine(Join::Union, own.prohibited, group.prohibited)?;
+        let prohibited = self
+            .maps
+            .combine(Join::Union, own.prohibited, group.prohibited)?;
         Ok(Some(KeptTable {
             uses,
             prohibited,

@@ -40,11 +40,7 @@ pub struct AttrTable {
 impl AttrTables {
     /// Makes them, each once, those that it is made of before it. The marks, by numbers of attribute declarations, say which are
     /// of a type that is or derives from ID.
-    pub fn of(
-        alloc: Global,
-        parts: &Components,
-        ids: &[bool],
-    ) -> Result<AttrTables, AllocError>
+    pub fn of(alloc: Global, parts: &Components, ids: &[bool]) -> Result<AttrTables, AllocError>
         requires ranked { IsRanked parts.now }
         ensures tables { IfOk result (AreTablesOf parts.now ids.now) }
     {

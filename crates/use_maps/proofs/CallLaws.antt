@@ -1,21 +1,21 @@
 -- What the calls ask for and give, on plain variables.
-use Rattle.std.proofs.Common.{◌≡◌, ℕ, zero, suc, ◌+◌, ◌-◌, ◌*◌, ◌^◌, ◌<◌, ◌≤◌, nat_lt, Bool, true, false, List, Option, None, Some, Result, Ok, Err, length, refl, sym, ap, ◌∙◌, subst, inl, inr, ◌⊎◌, arith}
-use Rattle.std.specs.Prelude.{IfOk, IsTrue, IfSome}
+use Rattle.std.proofs.Common.{◌≡◌, ℕ, suc, ◌+◌, ◌-◌, ◌*◌, ◌^◌, ◌<◌, ◌≤◌, Bool, false, List, Option, None, Some, Result, Ok, Err, length, refl, sym, ap, ◌∙◌, subst, arith}
+use Rattle.std.specs.Prelude.{IfOk, IsTrue}
 use Rattle.std.specs.Option.{option_map}
 use Rattle.std.proofs.Math.Nat.{pow-suc}
 use Rattle.use_maps.specs.declared.entry.Entry.{Entry}
 use Rattle.use_maps.specs.declared.join.Join.{Join}
 use Rattle.use_maps.specs.declared.node.Node.{Node}
-use Rattle.use_maps.specs.Nodes.{node_left, node_right, node_at, node_sum, find, IsMap, IsNoFork, IsNoLeaf, AreNodes, Grows}
-use Rattle.use_maps.specs.Maps.{MapNodes, IsMapOf, KeepsMaps, TwoAre, entry_is, is_needed, NoneNeeded, IsLeast, IsNext}
+use Rattle.use_maps.specs.Nodes.{node_left, node_right, node_at, node_sum, find, IsMap, IsNoLeaf, AreNodes, Grows}
+use Rattle.use_maps.specs.Maps.{MapNodes, IsMapOf, KeepsMaps, TwoAre, entry_is, NoneNeeded, IsLeast, IsNext}
 use Rattle.use_maps.specs.Steps.{Grown, Puts, Combines}
-use Rattle.use_maps.proofs.GrowLaws.{below, above, grows-longer, node-kept, shape-kept}
+use Rattle.use_maps.proofs.GrowLaws.{below, above, node-kept}
 use Rattle.use_maps.proofs.MapLaws.{combines-fork}
 use Rattle.use_maps.proofs.NodeLaws.{puts-lower, puts-upper}
 use Rattle.use_maps.proofs.StepLaws.{keeps}
 use Rattle.use_maps.proofs.SumLaws.{sum-none}
 use Rattle.use_maps.proofs.TwoLaws.{two-found, two-there}
-use Rattle.use_maps.proofs.NextLaws.{next-lower, next-upper, next-first, next-past}
+use Rattle.use_maps.proofs.NextLaws.{next-lower, next-upper}
 
 pub one-less : (levels : ℕ) → 0 < levels → levels ≡ suc (levels - 1)
 one-less levels h = omega (arith, h)
@@ -105,7 +105,7 @@ module _ (ns : List Node) (are : AreNodes ns) (levels at from : ℕ) (here : at 
     next-in-upper low start is next result h e =
         subst (IsNext levels (find ns levels at) from) (sym e)
         (back (option_map (λ m. 2 ^ (levels - 1) + m) next)
-          (next-upper (levels - 1) (find ns levels at) lower upper (half-lower ns levels at pos shape) (half-upper ns levels at pos shape) from low next (subst (λ s. IsNext (levels - 1) upper s next) is h)))
+        (next-upper (levels - 1) (find ns levels at) lower upper (half-lower ns levels at pos shape) (half-upper ns levels at pos shape) from low next (subst (λ s. IsNext (levels - 1) upper s next) is h)))
 
     pub next-in-lower : (name : ℕ) → IsLeast (levels - 1) lower from name → IsNext levels (find ns levels at) from (Some name)
     next-in-lower name h =

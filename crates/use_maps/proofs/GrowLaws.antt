@@ -1,12 +1,10 @@
 -- What stands below a node stays where nodes are added behind the old ones.
-use Rattle.std.proofs.Common.{◌≡◌, ℕ, zero, suc, ◌+◌, ◌-◌, ◌^◌, ◌<◌, ◌≤◌, nat_lt, nat_eq, Bool, true, false, List, [], ◌∷◌, ◌++◌, Option, None, Some, length, refl, sym, ap, ◌∙◌, subst, inl, inr, arith, length-append}
-use Rattle.std.specs.Prelude.{if◌then◌else◌}
+use Rattle.std.proofs.Common.{◌≡◌, ℕ, zero, suc, ◌+◌, ◌-◌, ◌^◌, ◌<◌, ◌≤◌, nat_lt, true, false, List, [], ◌++◌, length, refl, sym, ap, ◌∙◌, subst, arith, length-append}
 use Rattle.std.proofs.lemmas.Bool.Decides.{nat_tests}
 use Rattle.std.proofs.lemmas.List.{get_or_append_left, append_assoc, append-nil}
-use Rattle.use_maps.specs.declared.entry.Entry.{Entry}
 use Rattle.use_maps.specs.declared.node.Node.{Node}
 use Rattle.use_maps.specs.declared.node.Node.TheVariants.{Empty, Leaf, Fork}
-use Rattle.use_maps.specs.Nodes.{node_left, node_right, node_entry, node_at, node_sum, find, IsMap, IsNoFork, IsNoLeaf, SumsUp, IsNodeIn, AreNodes, Grows}
+use Rattle.use_maps.specs.Nodes.{node_left, node_right, node_entry, node_at, find, IsMap, IsNoFork, IsNoLeaf, SumsUp, IsNodeIn, AreNodes, Grows}
 
 pub below : (a b : ℕ) → a < b → nat_lt a b ≡ true
 below a b h = grind (arith, nat_tests)

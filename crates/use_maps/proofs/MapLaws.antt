@@ -1,7 +1,7 @@
 -- Maps with an entry more, and two maps made one.
-use Rattle.std.proofs.Common.{◌≡◌, ℕ, zero, suc, ◌+◌, ◌-◌, ◌^◌, ◌<◌, ◌≤◌, nat_lt, nat_eq, Bool, true, false, List, [], ◌∷◌, ◌++◌, Option, None, Some, length, refl, sym, ap, ◌∙◌, subst, inl, inr, ◌⊎◌, ◌||◌, arith}
+use Rattle.std.proofs.Common.{◌≡◌, ℕ, zero, suc, ◌-◌, ◌^◌, ◌<◌, ◌≤◌, nat_lt, Bool, true, false, List, Option, None, Some, length, refl, sym, ap, ◌∙◌, subst, inl, inr, ◌⊎◌, ◌||◌, arith}
 use Rattle.std.specs.Prelude.{if◌then◌else◌}
-use Rattle.std.proofs.lemmas.Bool.{cases_lt, cases_eq, ne_eqb}
+use Rattle.std.proofs.lemmas.Bool.{cases_lt}
 use Rattle.std.proofs.lemmas.Bool.Decides.{nat_tests}
 use Rattle.use_maps.specs.declared.entry.Entry.{Entry}
 use Rattle.use_maps.specs.declared.entry.UseAt.{UseAt}
@@ -10,11 +10,11 @@ use Rattle.use_maps.specs.declared.entry.UseHolder.TheVariants.{Complex as OfTyp
 use Rattle.use_maps.specs.declared.join.Join.{Join}
 use Rattle.use_maps.specs.declared.join.Join.TheVariants.{Union, Override, Without}
 use Rattle.use_maps.specs.declared.node.Node.{Node}
-use Rattle.use_maps.specs.declared.node.Node.TheVariants.{Empty, Leaf, Fork}
+use Rattle.use_maps.specs.declared.node.Node.TheVariants.{Empty}
 use Rattle.use_maps.specs.Entries.{same_holder, same_use, both_entries, kept, joined}
 use Rattle.use_maps.specs.Nodes.{node_left, node_right, node_entry, node_at, find, IsMap, IsNoFork, IsNoLeaf, AreNodes, Grows}
 use Rattle.use_maps.specs.Maps.{MapNodes, IsMapOf, KeepsMaps}
-use Rattle.use_maps.specs.Steps.{Puts, Combines}
+use Rattle.use_maps.specs.Steps.{Combines}
 use Rattle.use_maps.proofs.GrowLaws.{below, above, grows-longer, find-kept, shape-kept}
 
 abbrev no_entry : Option Entry

@@ -1,16 +1,13 @@
 -- Nodes one after another, and a map with one entry more.
-use Rattle.std.proofs.Common.{◌≡◌, ℕ, zero, suc, ◌+◌, ◌-◌, ◌*◌, ◌^◌, ◌<◌, ◌≤◌, nat_lt, nat_eq, Bool, true, false, List, [], ◌∷◌, ◌++◌, Option, None, Some, length, refl, sym, ap, ◌∙◌, subst, inl, inr, arith, length-append}
-use Rattle.std.specs.Prelude.{if◌then◌else◌}
+use Rattle.std.proofs.Common.{◌≡◌, ℕ, suc, ◌+◌, ◌-◌, ◌*◌, ◌^◌, ◌<◌, ◌≤◌, nat_eq, false, List, [], ◌∷◌, ◌++◌, length, refl, sym, ap, ◌∙◌, subst, inl, inr, arith, length-append}
 use Rattle.std.proofs.lemmas.Bool.{cases_lt, cases_eq, ne_eqb}
 use Rattle.std.proofs.lemmas.Bool.Decides.{nat_tests}
 use Rattle.std.proofs.Math.Seq.{get_or-append_seam}
 use Rattle.std.proofs.Math.Nat.{pow-suc}
 use Rattle.use_maps.specs.declared.entry.Entry.{Entry}
-use Rattle.use_maps.specs.declared.join.Join.TheVariants.{Union}
 use Rattle.use_maps.specs.declared.node.Node.{Node}
-use Rattle.use_maps.specs.declared.node.Node.TheVariants.{Empty, Leaf, Fork}
-use Rattle.use_maps.specs.Entries.{joined}
-use Rattle.use_maps.specs.Nodes.{node_left, node_right, node_entry, node_at, find, IsMap, IsNoFork, IsNoLeaf, IsNodeIn, AreNodes, Grows}
+use Rattle.use_maps.specs.declared.node.Node.TheVariants.{Empty}
+use Rattle.use_maps.specs.Nodes.{node_left, node_right, node_at, find, IsMap, IsNoLeaf, IsNodeIn, AreNodes, Grows}
 use Rattle.use_maps.specs.Steps.{Puts}
 use Rattle.use_maps.proofs.GrowLaws.{below, above, grows-longer, node-kept, find-kept, shape-kept, in-kept}
 use Rattle.use_maps.proofs.MapLaws.{find-lower, find-upper, shape-fork}

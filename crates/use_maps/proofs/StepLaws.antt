@@ -1,5 +1,5 @@
 -- Steps below a node, as the code takes them.
-use Rattle.std.proofs.Common.{◌≡◌, ℕ, zero, suc, ◌+◌, ◌-◌, ◌^◌, ◌<◌, ◌≤◌, nat_eq, List, [], ◌∷◌, ◌++◌, Option, None, Some, length, refl, sym, ap, ◌∙◌, subst, inl, inr, ◌⊎◌, arith}
+use Rattle.std.proofs.Common.{◌≡◌, ℕ, ◌+◌, ◌^◌, ◌<◌, nat_eq, List, [], ◌∷◌, ◌++◌, Option, None, Some, length, refl, sym, ap, ◌∙◌, subst, inl, inr, ◌⊎◌, arith}
 use Rattle.std.specs.Prelude.{if◌then◌else◌}
 use Rattle.use_maps.specs.declared.entry.Entry.{Entry}
 use Rattle.use_maps.specs.declared.join.Join.{Join}
@@ -7,7 +7,7 @@ use Rattle.use_maps.specs.declared.join.Join.TheVariants.{Union}
 use Rattle.use_maps.specs.declared.join.Join.TheVariants as join
 use Rattle.use_maps.specs.declared.node.Node.{Node}
 use Rattle.use_maps.specs.Entries.{kept, joined}
-use Rattle.use_maps.specs.Nodes.{node_entry, node_at, find, IsMap, IsNoFork, IsNodeIn, AreNodes, Grows}
+use Rattle.use_maps.specs.Nodes.{node_entry, node_at, find, IsMap, IsNoFork, IsNodeIn, AreNodes}
 use Rattle.use_maps.specs.Maps.{MapNodes, IsMapOf, KeepsMaps}
 use Rattle.use_maps.specs.Steps.{Grown, Puts, Combines}
 use Rattle.use_maps.proofs.GrowLaws.{grows-itself, grows-on}

@@ -1,12 +1,12 @@
 -- What sums tell of two entries of types of ids.
-use Rattle.std.proofs.Common.{◌≡◌, ℕ, zero, suc, ◌+◌, ◌-◌, ◌*◌, ◌^◌, ◌<◌, ◌≤◌, Bool, true, false, ◌&&◌, ◌||◌, List, Option, None, Some, length, refl, sym, ap, ◌∙◌, subst, inl, inr, arith}
-use Rattle.std.proofs.lemmas.Bool.{cases_lt, or_cases, or_from, or_parts, true≢false, and_from, and_parts}
+use Rattle.std.proofs.Common.{◌≡◌, ℕ, zero, suc, ◌+◌, ◌-◌, ◌*◌, ◌^◌, ◌<◌, Bool, true, false, ◌&&◌, ◌||◌, List, Option, length, refl, sym, ap, ◌∙◌, inl, inr, arith}
+use Rattle.std.proofs.lemmas.Bool.{cases_lt, or_cases, or_from, true≢false, and_parts}
 use Rattle.std.proofs.Math.Nat.{pow-suc}
 use Rattle.use_maps.specs.declared.entry.Entry.{Entry}
 use Rattle.use_maps.specs.declared.node.Sum.{Sum}
 use Rattle.use_maps.specs.declared.node.Node.{Node}
 use Rattle.use_maps.specs.declared.node.Node.TheVariants.{Empty, Leaf, Fork}
-use Rattle.use_maps.specs.Nodes.{node_left, node_right, node_at, node_sum, both_sums, find, IsMap, IsNoFork, IsNoLeaf, SumsUp, AreNodes}
+use Rattle.use_maps.specs.Nodes.{node_left, node_right, node_at, node_sum, find, IsMap, IsNoFork, IsNoLeaf, SumsUp, AreNodes}
 use Rattle.use_maps.specs.Maps.{entry_is, TwoAre}
 use Rattle.use_maps.proofs.GrowLaws.{below, above}
 use Rattle.use_maps.proofs.SumLaws.{sum-found, sum-none}

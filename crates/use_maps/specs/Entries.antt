@@ -1,5 +1,5 @@
 -- Entries of maps, and how two of one name are made one.
-use Rattle.std.specs.Prelude.{ℕ, Bool, true, false, ◌&&◌, ◌||◌, not, ◌==◌, Option, None, Some}
+use Rattle.std.specs.Prelude.{ℕ, Bool, false, ◌&&◌, ◌||◌, not, ◌==◌, Option, None, Some}
 use Rattle.use_maps.specs.declared.entry.UseHolder.{UseHolder}
 use Rattle.use_maps.specs.declared.entry.UseHolder.TheVariants.{Complex as OfType, AttrGroup as OfGroup}
 use Rattle.use_maps.specs.declared.entry.UseAt.{UseAt}

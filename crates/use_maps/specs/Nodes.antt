@@ -1,5 +1,5 @@
 -- Nodes of maps in one list: a map of so many levels is a tree of halves of the numbers below a power of 2.
-use Rattle.std.specs.Prelude.{◌≡◌, ℕ, zero, suc, ◌-◌, ◌^◌, ◌<◌, nat_lt, Bool, false, ◌&&◌, ◌||◌, List, ◌++◌, Option, None, Some, ⊤, length, slice_index_or, if◌then◌else◌}
+use Rattle.std.specs.Prelude.{◌≡◌, ℕ, zero, suc, ◌-◌, ◌^◌, ◌<◌, nat_lt, false, ◌&&◌, ◌||◌, List, ◌++◌, Option, None, Some, ⊤, length, slice_index_or, if◌then◌else◌}
 use Rattle.use_maps.specs.declared.entry.Entry.{Entry}
 use Rattle.use_maps.specs.declared.node.Sum.{Sum}
 use Rattle.use_maps.specs.declared.node.Node.{Node}

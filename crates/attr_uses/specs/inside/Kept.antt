@@ -1,5 +1,5 @@
 -- What stays in the store, and what is made in it.
-use Rattle.std.specs.Prelude.{◌≡◌, ℕ, Bool, true, false, ◌<◌, List, Option, None, Some, Result, Ok, Err, ⊤, map, length, slice_get, slice_index}
+use Rattle.std.specs.Prelude.{◌≡◌, ℕ, Bool, false, ◌<◌, List, Option, None, Some, Result, Ok, Err, ⊤, map, length, slice_get, slice_index}
 use Rattle.std.specs.Option.{option_map}
 use Rattle.xs_codes.specs.declared.fault.Fault.{Fault}
 use Rattle.xs_namespaces.specs.Sets.{admits}

@@ -1,4 +1,4 @@
-use Rattle.std.proofs.Common.{List, ℕ, [], ◌∷◌, ◌++◌, take, take_all, arith, sym, ap, subst, ◌∙◌}
+use Rattle.std.proofs.Common.{ℕ, [], ◌∷◌, ◌++◌, take, take_all, arith, sym, ap, subst, ◌∙◌}
 use Rattle.std.proofs.lemmas.List.{take_more}
 use Rattle.attr_uses.specs.Tables.{IsSetOf}
 use Rattle.attr_uses.proofs.KeptLaws.{maps-on}

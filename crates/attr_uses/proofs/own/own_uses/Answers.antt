@@ -1,4 +1,4 @@
-use Rattle.std.proofs.Common.{take, take_all, arith, ap, subst, ◌∙◌}
+use Rattle.std.proofs.Common.{take, take_all, arith, subst, ◌∙◌}
 use Rattle.use_maps.specs.Maps.{IsMapOf}
 use Rattle.attr_uses.specs.Written.{places}
 use Rattle.attr_uses.specs.Tables.{entry_for}
@@ -23,6 +23,9 @@ pub returns : goal.returns
 returns c =
     let inv = c.loop-place.invariant in
     record {
-      made = (inv.keeps, subst (λ us. IsMapOf c.loop-place.maps c.loop-place.map.top (entry_for c.args.parts.now c.args.ids.now (places c.args.holder 0 us)))
-          (take_all c.loop-place.place c.uses_in-part-items.result.now (omega arith) ∙ c.uses_in-part-items.ensures) inv.map);
+      made = (
+        inv.keeps,
+        subst (λ us. IsMapOf c.loop-place.maps c.loop-place.map.top (entry_for c.args.parts.now c.args.ids.now (places c.args.holder 0 us)))
+            (take_all c.loop-place.place c.uses_in-part-items.result.now (omega arith) ∙ c.uses_in-part-items.ensures) inv.map,
+      );
     }

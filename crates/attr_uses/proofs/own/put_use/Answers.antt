@@ -1,4 +1,4 @@
-use Rattle.std.proofs.Common.{◌≡◌, nat_eq, [], ◌∷◌, ◌++◌, Some, None, sym, ap, ◌∙◌, rules, subst}
+use Rattle.std.proofs.Common.{nat_eq, [], ◌∷◌, ◌++◌, Some, sym, ap, ◌∙◌}
 use Rattle.std.specs.Prelude.{if◌then◌else◌}
 use Rattle.std.proofs.lemmas.Result.{IfOk-weaker}
 use Rattle.use_maps.specs.Entries.{joined}
@@ -19,8 +19,11 @@ returns-in-Some c =
       made = λ us is. IfOk-weaker c.put.result
           (λ made. IsMapOf c.put.new.self made.top (λ key. if nat_eq key c.in-Some.name then joined Union (entry_for t ids us key) (Some c.in-Some.entry) else entry_for t ids us key))
           (λ made. KeepsMaps c.args.maps.now c.put.new.self × IsMapOf c.put.new.self made.top (entry_for t ids (us ++ u ∷ [])))
-          (λ made m. (c.put.ensures.kept, map-same c.put.new.self made.top _ _
-            (λ key h. ap (λ e. if nat_eq key c.in-Some.name then joined Union (entry_for t ids us key) (Some e) else entry_for t ids us key) named.1 ∙ entry-more t ids us u c.in-Some.name named.0 key) m))
+          (λ made m. (
+            c.put.ensures.kept,
+            map-same c.put.new.self made.top _ _
+                (λ key h. ap (λ e. if nat_eq key c.in-Some.name then joined Union (entry_for t ids us key) (Some e) else entry_for t ids us key) named.1 ∙ entry-more t ids us u c.in-Some.name named.0 key) m,
+          ))
           (c.put.ensures.map (entry_for t ids us) is);
     }
 

@@ -1,6 +1,5 @@
-use Rattle.std.proofs.Common.{◌≡◌, ◌<◌, ◌-◌, ◌^◌, length, rules, arith, ap, sym, subst, ◌∙◌, inl, inr}
-use Rattle.use_maps.specs.Nodes.{node_at, node_left, node_right, IsMap}
-use Rattle.use_maps.specs.Steps.{Combines}
+use Rattle.std.proofs.Common.{◌≡◌, ◌-◌, rules, arith, ap, ◌∙◌, inl, inr}
+use Rattle.use_maps.specs.Nodes.{node_at, node_left, node_right}
 use Rattle.use_maps.proofs.GrowLaws.{grows-longer, grows-on, shape-kept}
 use Rattle.use_maps.proofs.StepLaws.{combines_nothing, combines_kept}
 use Rattle.use_maps.proofs.CallLaws.{halves, no-leaf-kept, combine-in-fork}
@@ -14,7 +13,7 @@ returns-then-first-eq0-clause-combined t c =
 pub returns-then-second-eq0-clause-combined : goal.returns-then-second-eq0-clause-combined
 returns-then-second-eq0-clause-combined t c =
     rw c.kept.ensures (combines_kept c.args.how c.args.nodes.now.items c.args.levels c.args.first c.args.second c.requires.nodes c.requires.first c.requires.first_shape
-      (elim c.then-second-eq0.branch [ then-second-eq0-via-then-second-eq0 w ↦ inl w.if-second-eq0.true | then-second-eq0-via-else-second-eq0+then-first-second w ↦ inr w.if-first-second.true ]))
+    (elim c.then-second-eq0.branch [ then-second-eq0-via-then-second-eq0 w ↦ inl w.if-second-eq0.true | then-second-eq0-via-else-second-eq0+then-first-second w ↦ inr w.if-first-second.true ]))
 
 pub combine_under-requires-2 : goal.combine_under-requires-2
 combine_under-requires-2 t c =
@@ -24,10 +23,22 @@ combine_under-requires-2 t c =
     let two = ap (λ p. p.1) c.sides-4.ensures ∙ ap node_right second' in
     let g = c.in_ok-left.ensures.grown in
     let first = c.requires.nodes.each c.args.first c.requires.first in
-    let second = c.requires.nodes.each c.args.second c.requires.second in
-    (omega arith, (g.are, (rw one (grows-longer c.args.nodes.now.items c.combine_under.new.nodes.items _ g.more first.right), (rw two (grows-longer c.args.nodes.now.items c.combine_under.new.nodes.items _ g.more second.right),
-    (rw one (shape-kept c.args.nodes.now.items c.combine_under.new.nodes.items c.requires.nodes g.more (c.args.levels - 1) _ first.right (halves c.args.nodes.now.items c.args.levels c.args.first (omega arith) c.requires.first_shape).2),
-    rw two (shape-kept c.args.nodes.now.items c.combine_under.new.nodes.items c.requires.nodes g.more (c.args.levels - 1) _ second.right (halves c.args.nodes.now.items c.args.levels c.args.second (omega arith) c.requires.second_shape).2))))))
+    let second = c.requires.nodes.each c.args.second c.requires.second in (
+      omega arith,
+      (
+        g.are,
+        (
+          rw one (grows-longer c.args.nodes.now.items c.combine_under.new.nodes.items _ g.more first.right),
+          (
+            rw two (grows-longer c.args.nodes.now.items c.combine_under.new.nodes.items _ g.more second.right),
+            (
+              rw one (shape-kept c.args.nodes.now.items c.combine_under.new.nodes.items c.requires.nodes g.more (c.args.levels - 1) _ first.right (halves c.args.nodes.now.items c.args.levels c.args.first (omega arith) c.requires.first_shape).2),
+              rw two (shape-kept c.args.nodes.now.items c.combine_under.new.nodes.items c.requires.nodes g.more (c.args.levels - 1) _ second.right (halves c.args.nodes.now.items c.args.levels c.args.second (omega arith) c.requires.second_shape).2),
+            ),
+          ),
+        ),
+      ),
+    )
 
 pub fork-requires-clause-shape : goal.fork-requires-clause-shape
 fork-requires-clause-shape t c =

@@ -1,4 +1,4 @@
-use Rattle.std.proofs.Common.{◌≡◌, ◌<◌, ◌-◌, ◌^◌, length, rules, arith, ap, sym, subst, ◌∙◌}
+use Rattle.std.proofs.Common.{◌≡◌, ◌<◌, length, rules, arith, ap, sym, subst, ◌∙◌}
 use Rattle.use_maps.specs.Nodes.{node_at, node_left, node_right}
 use Rattle.use_maps.proofs.GrowLaws.{grows-longer}
 use Rattle.use_maps.proofs.CallLaws.{halves, no-leaf-kept, put-in-lower, put-in-upper, small-upper}
@@ -12,10 +12,22 @@ fork-requires-clause-shape t c =
 pub put_under-requires-else-name-half : goal.put_under-requires-else-name-half
 put_under-requires-else-name-half t c =
     let node : c.node_of-node.result ≡ node_at c.args.nodes.now.items c.args.at = search rules in
-    let side = ap (λ p. p.1) c.sides-left.ensures ∙ ap node_right node in
-    (omega arith, (c.requires.nodes, (omega arith, (subst (λ n. n < length c.args.nodes.now.items) (sym side) (c.requires.nodes.each c.args.at c.requires.there).right,
-    (rw side (halves c.args.nodes.now.items c.args.levels c.args.at (omega arith) c.requires.shape).2,
-    rw c.half_of-half.ensures (small-upper c.args.levels c.args.name (omega arith) c.requires.name (rw (← c.half_of-half.ensures) (omega arith))))))))
+    let side = ap (λ p. p.1) c.sides-left.ensures ∙ ap node_right node in (
+      omega arith,
+      (
+        c.requires.nodes,
+        (
+          omega arith,
+          (
+            subst (λ n. n < length c.args.nodes.now.items) (sym side) (c.requires.nodes.each c.args.at c.requires.there).right,
+            (
+              rw side (halves c.args.nodes.now.items c.args.levels c.args.at (omega arith) c.requires.shape).2,
+              rw c.half_of-half.ensures (small-upper c.args.levels c.args.name (omega arith) c.requires.name (rw (← c.half_of-half.ensures) (omega arith))),
+            ),
+          ),
+        ),
+      ),
+    )
 
 pub fork-requires-else-name-half-clause-left : goal.fork-requires-else-name-half-clause-left
 fork-requires-else-name-half-clause-left t c =

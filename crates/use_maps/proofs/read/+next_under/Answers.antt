@@ -1,7 +1,7 @@
-use Rattle.std.proofs.Common.{◌≡◌, ℕ, ◌+◌, ◌<◌, ◌≤◌, ◌-◌, ◌^◌, None, Some, length, rules, arith, refl, ap, sym, subst, ◌∙◌}
+use Rattle.std.proofs.Common.{ℕ, ◌+◌, ◌<◌, ◌≤◌, ◌-◌, ◌^◌, None, Some, arith, ap, sym, subst, ◌∙◌}
 use Rattle.std.specs.Option.{option_map}
 use Rattle.std.proofs.lemmas.Bool.{not-true}
-use Rattle.use_maps.specs.Nodes.{node_at, node_left, node_right, node_sum, find}
+use Rattle.use_maps.specs.Nodes.{node_left, node_right, node_sum, find}
 use Rattle.use_maps.specs.Maps.{IsNext}
 use Rattle.use_maps.proofs.CallLaws.{none-needed, next-in-upper, next-in-lower}
 use Rattle.use_maps.proofs.read.+next_under.Goals as goal
@@ -29,7 +29,7 @@ returns-in-Some t c =
     record {
       next = next-in-lower c.args.nodes.now c.requires.nodes c.args.levels c.args.at c.args.from c.requires.there c.requires.shape (omega arith) c.in-Some.name
           (subst (λ n. IsNext (c.args.levels - 1) (find c.args.nodes.now (c.args.levels - 1) n) c.args.from (Some c.in-Some.name)) left'
-            (subst (IsNext (c.args.levels - 1) (find c.args.nodes.now (c.args.levels - 1) c.sides-left.result.0) c.args.from) c.in-Some.is c.next_under-2.ensures.next));
+          (subst (IsNext (c.args.levels - 1) (find c.args.nodes.now (c.args.levels - 1) c.sides-left.result.0) c.args.from) c.in-Some.is c.next_under-2.ensures.next));
     }
 
 pub returns-in-None : goal.returns-in-None
@@ -41,7 +41,7 @@ returns-in-None t c =
     record {
       next = next-in-upper c.args.nodes.now c.requires.nodes c.args.levels c.args.at c.args.from c.requires.there c.requires.shape (omega arith)
           (subst (λ n. IsNext (c.args.levels - 1) (find c.args.nodes.now (c.args.levels - 1) n) c.args.from None) left'
-            (subst (IsNext (c.args.levels - 1) (find c.args.nodes.now (c.args.levels - 1) c.sides-left.result.0) c.args.from) c.in-None.is c.next_under-2.ensures.next))
+          (subst (IsNext (c.args.levels - 1) (find c.args.nodes.now (c.args.levels - 1) c.sides-left.result.0) c.args.from) c.in-None.is c.next_under-2.ensures.next))
           0 (omega (arith, small)) c.next_under-in-None.result c.beyond-in-None.result
           (subst (λ n. IsNext (c.args.levels - 1) (find c.args.nodes.now (c.args.levels - 1) n) 0 c.next_under-in-None.result) right' c.next_under-in-None.ensures.next)
           (c.beyond-in-None.ensures ∙ ap (λ h. option_map (λ (n : ℕ). h + n) c.next_under-in-None.result) half);

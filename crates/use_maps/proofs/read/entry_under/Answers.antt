@@ -1,4 +1,4 @@
-use Rattle.std.proofs.Common.{◌≡◌, ◌<◌, ◌-◌, length, arith, ap, sym, subst, ◌∙◌}
+use Rattle.std.proofs.Common.{◌<◌, ◌-◌, length, arith, ap, sym, subst, ◌∙◌}
 use Rattle.use_maps.specs.Nodes.{node_at, node_left, node_right, find}
 use Rattle.use_maps.proofs.CallLaws.{found-lower, found-upper}
 use Rattle.use_maps.proofs.read.entry_under.Goals as goal

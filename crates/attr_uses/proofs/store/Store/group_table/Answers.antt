@@ -1,6 +1,5 @@
 use Rattle.std.proofs.Common.{sym, subst}
 use Rattle.std.proofs.lemmas.Result.{IfOk-weaker}
-use Rattle.use_maps.specs.declared.entry.UseHolder.TheVariants.{AttrGroup as OfGroup}
 use Rattle.attr_uses.specs.Uses.{group_uses, group_step}
 use Rattle.attr_uses.specs.Tables.{Answers}
 use Rattle.attr_uses.specs.inside.Kept.{Keeps}

@@ -1,7 +1,6 @@
-use Rattle.std.proofs.Common.{Ok, sym, ap, subst, ◌∙◌, slice_get}
+use Rattle.std.proofs.Common.{Ok, sym, ap, subst, ◌∙◌}
 use Rattle.attr_uses.specs.Uses.{uses_of}
-use Rattle.attr_uses.specs.Tables.{Answers, IsAnswer}
-use Rattle.attr_uses.specs.inside.Kept.{IsKnown}
+use Rattle.attr_uses.specs.Tables.{Answers}
 use Rattle.attr_uses.proofs.DefLaws.{any_type_is, builtin_is, simple_is}
 use Rattle.attr_uses.proofs.TypeLaws.{known-there, known-missing}
 use Rattle.attr_uses.proofs.store.Store.known_table.Goals as goal

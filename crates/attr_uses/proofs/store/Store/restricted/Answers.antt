@@ -1,4 +1,3 @@
-use Rattle.std.proofs.Common.{sym, ap, subst}
 use Rattle.attr_uses.specs.Tables.{entry_for}
 use Rattle.attr_uses.proofs.MadeLaws.{restricted-made}
 use Rattle.attr_uses.proofs.store.Store.restricted.Goals as goal
@@ -14,5 +13,5 @@ returns c = record {
   made = λ t ids a b sa sb.
       restricted-made t ids c.args.self.now c.combine.new.self c.combine-2.new.self c.in_ok-left.ensures.kept c.in_ok-uses.ensures.kept c.args.own a b sa c.in_ok-uses.uses
       (c.in_ok-uses.ensures.map (entry_for t ids a.uses) _ (c.in_ok-left.ensures.kept.maps c.args.own.uses.top _ sa.uses)
-        (c.in_ok-left.ensures.map sa.prohibited.entries (entry_for t ids b.uses) sa.prohibited.map sb.uses));
+      (c.in_ok-left.ensures.map sa.prohibited.entries (entry_for t ids b.uses) sa.prohibited.map sb.uses));
 }

@@ -1,4 +1,4 @@
-use Rattle.std.proofs.Common.{Ok, Err, sym, subst, ◌∙◌}
+use Rattle.std.proofs.Common.{sym, subst}
 use Rattle.std.proofs.lemmas.Result.{IfOk-weaker}
 use Rattle.xs_components.specs.declared.common.TypeId.TheVariants.{Complex}
 use Rattle.use_maps.specs.declared.entry.UseHolder.TheVariants.{Complex as OfType}

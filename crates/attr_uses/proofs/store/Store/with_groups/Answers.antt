@@ -16,9 +16,13 @@ pub with_next-requires-clause-group : goal.with_next-requires-clause-group
 with_next-requires-clause-group c =
     let t = c.args.parts.now in
     let ids = c.args.ids.now in
-    let g = c.group-item.result in
-    (t, ids, group_uses t g, answer-at-kept t ids c.args.self.now c.loop-group.self c.loop-group.invariant.keeps (slice_get c.args.groups.now g) (group_uses t g)
-      (answer-here t ids c.args.self.now c.args.groups.now c.args.named.now c.loop-group.group-index g c.loop-group-test.true c.group-item.is c.requires.groups))
+    let g = c.group-item.result in (
+      t,
+      ids,
+      group_uses t g,
+      answer-at-kept t ids c.args.self.now c.loop-group.self c.loop-group.invariant.keeps (slice_get c.args.groups.now g) (group_uses t g)
+          (answer-here t ids c.args.self.now c.args.groups.now c.args.named.now c.loop-group.group-index g c.loop-group-test.true c.group-item.is c.requires.groups),
+    )
 
 pub returns-in-None : goal.returns-in-None
 returns-in-None c =
@@ -33,12 +37,13 @@ returns-in-None c =
           (let m = inv.made start s in
           let n = c.in_ok-made.ensures.made t ids m.0 (group_uses t g) m.1
           (answer-at-kept t ids c.args.self.now c.loop-group.self inv.keeps (slice_get c.args.groups.now g) (group_uses t g)
-            (answer-here t ids c.args.self.now c.args.groups.now c.args.named.now i g c.loop-group-test.true c.group-item.is c.requires.groups)) in
-          let none = made-none t ids new (with_next m.0 (group_uses t g)) (subst (λ o. IsMade t ids new o (with_next m.0 (group_uses t g))) c.in-None.is n.1) in
-          (keeps-on c.args.self.now c.loop-group.self new inv.keeps n.0,
-          subst (IsMade t ids new None)
-            (sym (sym m.2 ∙ (groups-step t ids c.args.self.now c.args.groups.now c.args.named.now i g c.loop-group-test.true c.group-item.is m.0 ∙
-              ap (option_and_then (λ both. with_groups both (accepted (map (group_uses t) (drop (i + 1) c.args.named.now))))) none))) tt));
+          (answer-here t ids c.args.self.now c.args.groups.now c.args.named.now i g c.loop-group-test.true c.group-item.is c.requires.groups)) in
+          let none = made-none t ids new (with_next m.0 (group_uses t g)) (subst (λ o. IsMade t ids new o (with_next m.0 (group_uses t g))) c.in-None.is n.1) in (
+            keeps-on c.args.self.now c.loop-group.self new inv.keeps n.0,
+            subst (IsMade t ids new None)
+                (sym (sym m.2 ∙ (groups-step t ids c.args.self.now c.args.groups.now c.args.named.now i g c.loop-group-test.true c.group-item.is m.0 ∙
+                ap (option_and_then (λ both. with_groups both (accepted (map (group_uses t) (drop (i + 1) c.args.named.now))))) none))) tt,
+          ));
     }
 
 pub loop-group-preserved : goal.loop-group-preserved
@@ -57,18 +62,21 @@ loop-group-preserved c =
       made = λ start s.
           (let m = inv.made start s in
           let n = c.in_ok-made.ensures.made t ids m.0 (group_uses t g) m.1 here in
-          let v = made-some t ids new c.in-Some.both (with_next m.0 (group_uses t g)) (subst (λ o. IsMade t ids new o (with_next m.0 (group_uses t g))) c.in-Some.is n.1) in
-          (v.0, v.2,
+          let v = made-some t ids new c.in-Some.both (with_next m.0 (group_uses t g)) (subst (λ o. IsMade t ids new o (with_next m.0 (group_uses t g))) c.in-Some.is n.1) in (
+            v.0,
+            v.2,
             sym (groups-step t ids c.args.self.now c.args.groups.now c.args.named.now i g c.loop-group-test.true c.group-item.is m.0 ∙
-              ap (option_and_then (λ both. with_groups both (accepted (map (group_uses t) (drop (i + 1) c.args.named.now))))) v.1) ∙ m.2));
+                ap (option_and_then (λ both. with_groups both (accepted (map (group_uses t) (drop (i + 1) c.args.named.now))))) v.1) ∙ m.2,
+          ));
     }
 
 pub returns : goal.returns
 returns c = record {
   made = λ start s.
       (let m = c.loop-group.invariant.made start s in
-      let t = c.args.parts.now in
-      (c.loop-group.invariant.keeps,
-      subst (IsMade t c.args.ids.now c.loop-group.self (Some c.loop-group.table))
-        (sym (sym m.2 ∙ ap (λ xs. with_groups m.0 (accepted (map (group_uses t) xs))) (drop_all c.loop-group.group-index c.args.named.now (omega arith)))) m.1));
+      let t = c.args.parts.now in (
+        c.loop-group.invariant.keeps,
+        subst (IsMade t c.args.ids.now c.loop-group.self (Some c.loop-group.table))
+            (sym (sym m.2 ∙ ap (λ xs. with_groups m.0 (accepted (map (group_uses t) xs))) (drop_all c.loop-group.group-index c.args.named.now (omega arith)))) m.1,
+      ));
 }

@@ -1,4 +1,4 @@
-use Rattle.std.proofs.Common.{None, Some, map, slice_get, sym, ap, subst, ◌∙◌}
+use Rattle.std.proofs.Common.{map, slice_get, sym, ap, subst, ◌∙◌}
 use Rattle.std.specs.Prelude.{All}
 use Rattle.std.proofs.lemmas.Result.{IfOk-weaker}
 use Rattle.attr_uses.specs.Written.{own_parts}

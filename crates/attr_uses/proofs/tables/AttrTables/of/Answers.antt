@@ -1,4 +1,3 @@
-use Rattle.std.proofs.Common.{slice_get}
 use Rattle.attr_uses.specs.Uses.{group_uses}
 use Rattle.attr_uses.proofs.KeptLaws.{keeps-on, store-kept, answer-kept}
 use Rattle.attr_uses.proofs.tables.AttrTables.of.Goals as goal

@@ -1,4 +1,4 @@
-use Rattle.std.proofs.Common.{◌≡◌, ◌^◌, ◌<◌, arith, sym, ap, ◌∙◌}
+use Rattle.std.proofs.Common.{◌^◌, ◌<◌, arith, sym, ap, ◌∙◌}
 use Rattle.attr_uses.specs.Tables.{entry_for}
 use Rattle.attr_uses.proofs.ReadLaws.{named-by}
 use Rattle.attr_uses.proofs.tables.AttrTables.use_named.Goals as goal

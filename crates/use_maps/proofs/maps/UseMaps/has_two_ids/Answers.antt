@@ -1,4 +1,4 @@
-use Rattle.std.proofs.Common.{◌≡◌, rules, refl, ap, ◌∙◌}
+use Rattle.std.proofs.Common.{◌≡◌, rules, ap, ◌∙◌}
 use Rattle.use_maps.specs.Nodes.{node_at, node_sum}
 use Rattle.use_maps.proofs.CallLaws.{two-told}
 use Rattle.use_maps.proofs.maps.UseMaps.has_two_ids.Goals as goal

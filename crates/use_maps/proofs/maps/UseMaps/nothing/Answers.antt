@@ -1,7 +1,4 @@
 use Rattle.use_maps.proofs.MapLaws.{nothing-is}
-use Rattle.use_maps.proofs.NodeLaws.{pushed}
-use Rattle.use_maps.proofs.SumLaws.{told}
-use Rattle.use_maps.proofs.NextLaws.{next-first}
 use Rattle.use_maps.proofs.maps.UseMaps.nothing.Goals as goal
 
 pub returns : goal.returns
