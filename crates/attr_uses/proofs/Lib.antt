@@ -1,0 +1,9 @@
+pub mod DefLaws
+pub mod UseLaws
+pub mod EntryLaws
+pub mod WildcardLaws
+pub mod KeptLaws
+pub mod FillLaws
+pub mod MadeLaws
+pub mod TypeLaws
+pub mod ReadLaws

@@ -1,0 +1,5 @@
+pub mod Wildcards
+pub mod Written
+pub mod Uses
+pub mod Tables
+pub mod inside

@@ -1,0 +1,4 @@
+pub mod Entries
+pub mod Nodes
+pub mod Maps
+pub mod Steps
