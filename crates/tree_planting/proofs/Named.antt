@@ -15,7 +15,7 @@ use Rattle.node_links.specs.declared.content.NameAttribute.{NameAttribute}
 use Rattle.node_links.specs.declared.content.NameBinding.{NameBinding}
 use Rattle.xs_names.proofs.GrownLaws.{Grown-trans}
 use Rattle.tree_planting.specs.Named.{IsCalled}
-use Rattle.tree_changes.proofs.Standing.{expanded_grown, attributes_grown, bindings_grown, more_attributes, more_bindings}
+use Rattle.tree_changes.proofs.Standing.{expanded_grown, attributes_grown, bindings_grown, more_attributes, more_bindings, known_grown}
 use Rattle.tree_rows.specs.declared.name.Expanded.{Expanded}
 use Rattle.tree_changes.specs.Stands.{namespace_of, expanded_of, attribute_of, binding_of}
 use Rattle.tree_planting.specs.Named.{space_text, HasAttributes, HasBindings}
@@ -104,3 +104,12 @@ called t u w e name bindings attributes st su name_is within g b h a =
       bindings_are = bindings_grown u w h su e.bindings b.known ∙ b.are;
       attributes_are = a.are;
     }
+
+-- where the table grows
+pub called_grown : (t u : NameTable) → Grown t u → IsSound t → (e : Element) (name : Expanded) (bindings : List Binding) (attributes : List Attribute) → IsCalled t e name bindings attributes → IsCalled u e name bindings attributes
+called_grown t u g sound e name bindings attributes c = record {
+  known = known_grown t u g sound e c.known;
+  name_is = expanded_grown t u g sound e.name c.known.name ∙ c.name_is;
+  bindings_are = bindings_grown t u g sound e.bindings c.known.bindings ∙ c.bindings_are;
+  attributes_are = attributes_grown t u g sound e.attributes c.known.attributes ∙ c.attributes_are;
+}

@@ -1,16 +1,17 @@
 //! Siblings put among the children of a node, each with all that is below it.
 
-ghost use Rattle.std.specs.Prelude.{◌≡◌, ◌≤◌, ◌<◌, ◌+◌, ◌^◌, ℕ, length, IfOk, OnOk, OnErr};
+ghost use Rattle.std.specs.Prelude.{◌≡◌, ◌≤◌, ◌<◌, ◌+◌, ◌^◌, ℕ, length, None, IfOk, OnOk, OnErr};
 ghost use Rattle.xs_names.specs.Names.{Grown, IsSound};
 ghost use Rattle.tree_rows.specs.Forest.{count};
-ghost use Rattle.node_links.specs.Nodes.{Node, IsNode};
-ghost use Rattle.tree_planting.specs.inside.Growing.{CanPlant, Planted, PlantedFirst, numbered_by, number_by, behind, one_of, at_end, before};
+ghost use Rattle.tree_rows.specs.Whole.{IsNamed};
+ghost use Rattle.node_links.specs.Nodes.{Node, node, IsNode, IsSound as AreSound};
+ghost use Rattle.tree_planting.specs.inside.Growing.{CanPlant, Planted, PlantedFirst, PutsElement, numbered_by, number_by, behind, one_of, at_end, before};
 
 use crate::naming::name_element;
 use node_links::{Content, NodeLinks};
 use std::alloc::{AllocError, Global};
 use tree_changes::prune;
-use tree_rows::Row;
+use tree_rows::{Expanded, Row};
 use tree_siblings::{Sibling, Siblings};
 use xs_names::Names;
 
@@ -55,6 +56,30 @@ impl Numbering {
 pub struct Spot {
     pub parent: u32,
     pub place: u32,
+}
+
+/// Puts an element without children before the child of a place.
+fn put_tag(
+    alloc: Global,
+    links: &mut NodeLinks,
+    names: &mut Names,
+    spot: Spot,
+    number: u32,
+    name: &Expanded,
+    row: &Row,
+) -> Result<(), AllocError>
+    requires named { IsNamed name.now row.now.bindings row.now.attributes }
+    requires given { number < length links.old }
+    requires free { node links.old number ≡ None }
+    requires parent { (it : Node) × IsNode links.old spot.parent it × (spot.place ≤ length it.children) × (it.depth + 1 < 2 ^ 32) }
+    ensures ok { OnOk result (PutsElement names.new links.old links.new spot.parent spot.place number name.now row.now.bindings row.now.attributes) }
+    ensures err { OnErr result (links.new ≡ links.old) }
+    ensures grown { Grown names.old names.new }
+    ensures names { IsSound names.new }
+    ensures sound { OnOk result (AreSound links.new) }
+{
+    let element = name_element(alloc, names, name, row)?;
+    links.put(number, spot.parent, spot.place, Content::Element(element))
 }
 
 /// Puts siblings, with all that is below them, behind the children of a node, and answers the numbers of what comes next.
@@ -123,8 +148,7 @@ pub(crate) fn put_one(
             Ok(behind)
         }
         tree_rows::Content::Element(name) => {
-            let element = name_element(alloc, names, name, row)?;
-            links.put(number, spot.parent, spot.place, Content::Element(element))?;
+            put_tag(alloc, links, names, spot, number, name, row)?;
             match put_all(alloc, links, names, number, behind, children) {
                 Ok(left) => Ok(left),
                 Err(error) => {

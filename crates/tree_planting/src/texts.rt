@@ -27,7 +27,7 @@ pub fn add_text(
     text: Text,
 ) -> Result<u32, AllocError>
     requires fits { (t : NameTable) × (d : Document) × StandsFor t links.old d × Fits d parent place (text_node 0 text none) }
-    ensures tree { OnOk result ((t : NameTable) (d : Document) → StandsFor t links.old d → Fits d parent place (text_node 0 text none) → StandsFor t links.new (made d (edits.AddText parent place text))) }
+    ensures tree { OnOk result ((t : NameTable) (d : Document) → StandsFor t links.old d → StandsFor t links.new (made d (edits.AddText parent place text))) }
     ensures number { IfOk result (λ number. number ≡ length links.old) }
     ensures change { OnOk result ((t : NameTable) → Plants t links.old links.new parent place (text_node 0 text none)) }
     ensures err { OnErr result (links.new ≡ links.old) }

@@ -3,7 +3,6 @@
 
 mod names;
 mod rows;
-mod temp_tests;
 mod tree;
 
 pub use tree::read_tree;

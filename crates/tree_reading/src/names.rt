@@ -1,6 +1,6 @@
 //! Names and namespaces from the numbers of a table to texts.
 
-ghost use Rattle.std.specs.Prelude.{◌≡◌, ◌<◌, ℕ, length, map, slice_index_or, All, IfOk};
+ghost use Rattle.std.specs.Prelude.{◌≡◌, ◌<◌, [], length, map, slice_index_or, All, IfOk};
 ghost use Rattle.tree_changes.specs.Stands.{expanded_of, namespace_of, attribute_of, binding_of};
 
 use node_links::{NameAttribute, NameBinding};

@@ -4,13 +4,19 @@ use Rattle.xs_names.specs.Names.{NameTable}
 use Rattle.tree_rows.specs.Forest.{Forest, none, count, deepest_of}
 use Rattle.tree_rows.specs.Rows.{node as node_of}
 use Rattle.tree_rows.specs.Whole.{times}
-use Rattle.tree_rows.specs.declared.limits.TheConstants.{MAX_DEPTH}
+use Rattle.tree_rows.specs.declared.limits.TheConstants.{MAX_DEPTH, MAX_NODES}
+use Rattle.tree_rows.specs.declared.name.Expanded.{Expanded}
+use Rattle.tree_rows.specs.declared.row.Attribute.{Attribute}
+use Rattle.tree_rows.specs.declared.row.Binding.{Binding}
 use Rattle.tree_rows.specs.declared.row.Row.{Row}
 use Rattle.tree_edits.specs.Edits.{has, append, renumbered}
 use Rattle.tree_edits.proofs.BlockNaming.{HaveNames}
 use Rattle.tree_edits.proofs.Keeping.{IsAlone}
-use Rattle.node_links.specs.Nodes.{Node, Nodes, node, IsNode, IsSound}
+use Rattle.node_links.specs.declared.content.Content.TheVariants as contents
+use Rattle.node_links.specs.declared.content.Element.{Element}
+use Rattle.node_links.specs.Nodes.{Node, Nodes, node, IsNode, Inserts, IsSound}
 use Rattle.tree_changes.specs.Stands.{firsts, StandFor}
+use Rattle.tree_planting.specs.Named.{IsCalled}
 use Rattle.tree_planting.specs.declared.planting.Numbering.{Numbering}
 use Rattle.tree_planting.specs.declared.planting.Numbering.TheVariants as numbers
 
@@ -53,6 +59,7 @@ pub record CanPlant (ns : Nodes) (p : ℕ) (f : Forest) : Type 0 where
   pub free : AreFree ns f
   pub differ : (key : ℕ) → times key f ≤ 1
   pub names : HaveNames f
+  pub few : count f ≤ MAX_NODES
   pub sound : IsSound ns
 
 -- the siblings stand among the children of p, and each other number has what it had
@@ -62,6 +69,12 @@ pub record Planted (t : NameTable) (old new : Nodes) (p : ℕ) (put : List ℕ �
   pub stand : StandFor t new f
   pub others : (m : ℕ) → has m f ≡ false → m ≢ p → node new m ≡ node old m
   pub sound : IsSound new
+
+-- an element without children has become the child of p at this place
+pub record PutsElement (t : NameTable) (old new : Nodes) (p place n : ℕ) (name : Expanded) (bindings : List Binding) (attributes : List Attribute) : Type 0 where
+  pub parts : Element
+  pub called : IsCalled t parts name bindings attributes
+  pub inserts : Inserts old new p place n (contents.Element parts)
 
 -- the first of the siblings stand there, and the others do not
 pub record PlantedFirst (t : NameTable) (old new : Nodes) (p : ℕ) (put : List ℕ → List ℕ → List ℕ) (whole : Forest) : Type 0 where
@@ -78,6 +91,7 @@ pub record CanGrow (ns : Nodes) (p place : ℕ) (f : Forest) (until : ℕ) : Typ
   pub high : it.depth ≤ MAX_DEPTH
   pub shallow : deepest_of (it.depth + 1) f ≤ MAX_DEPTH
   pub names : HaveNames f
+  pub few : count f ≤ MAX_NODES
   pub alone : IsAlone f
   pub numbers : until ≡ length ns + count f
   pub sound : IsSound ns
