@@ -59,11 +59,7 @@ fn space_text(alloc: Global, names: &Names, space: NsId) -> Result<Text, AllocEr
 }
 
 /// A binding by the name of its namespace.
-fn read_binding(
-    alloc: Global,
-    names: &Names,
-    binding: &NameBinding,
-) -> Result<Binding, AllocError>
+fn read_binding(alloc: Global, names: &Names, binding: &NameBinding) -> Result<Binding, AllocError>
     requires { binding.now.namespace < length names.now.spaces }
     ensures { IfOk result (λ read. read ≡ binding_of names.now binding.now) }
 {

@@ -13,8 +13,7 @@ pub read_below-requires : goal.read_below-requires
 read_below-requires t c =
     let q = c.requires.under in let n = c.args.names.now in let l = c.args.links.now in let child = c.in-Some.child in
     let old = c.args.rows.now.items in let now = c.children.rows.items in let so = c.children.invariant q.0 q.1 in
-    let f = first n l c.args.number c.args.depth old now c.children.place q.0 q.1 c.requires.depth so child c.in-Some.ensures.child in
-    (
+    let f = first n l c.args.number c.args.depth old now c.children.place q.0 q.1 c.requires.depth so child c.in-Some.ensures.child in (
       omega (arith, c.decreases, lower n l c.args.number c.args.depth old now c.children.place q.0 q.1 c.requires.depth so child c.in-Some.ensures.child),
       (
         (f.below, under_child n l c.args.number c.args.depth old now c.children.place q.0 q.1 c.requires.depth so child c.in-Some.ensures.child),
