@@ -1,6 +1,6 @@
 -- Siblings that are put behind the children of a node, one after the other.
 use Rattle.std.proofs.Common.{◌≡◌, ◌≢◌, ◌⊎◌, ℕ, zero, suc, ◌+◌, ◌<◌, ◌≤◌, ◌^◌, List, [], ◌∷◌, ◌++◌, length, insert, take, drop, map, sym, ap, ◌∙◌, subst, Bool, true, false, ◌==◌, ◌||◌, if◌then◌else◌, Option, Some, None, refl, inl, inr, arith, append_assoc, append-nil}
-use Rattle.std.specs.Prelude.{insert_slice}
+use Rattle.std.specs.List.{insert_slice}
 use Rattle.std.proofs.lemmas.Bool.{or_parts, or_left, or_right, eq-eqb, true≢false, false≢true, false_from_ne_true}
 use Rattle.std.proofs.lemmas.Option.{same_Some, none-some}
 use Rattle.xs_names.specs.Names.{NameTable, Grown, IsSound}
@@ -255,8 +255,10 @@ module _ (s t : NameTable) (old now : Nodes) (p : ℕ) (numbers : Numbering) (wh
     }
 
     -- what was put before memory was wanting
-    pub first_of : Planted u old now p at_end so.done → PlantedFirst u old now p at_end (numbered_by numbers whole)
-    first_of put = record { part = so.done; rest = numbered_by numbers_left left; split = so.split; planted = put }
+    pub first_of : new ≡ now → PlantedFirst u old new p at_end (numbered_by numbers whole)
+    first_of same =
+        subst (λ ns. PlantedFirst u old ns p at_end (numbered_by numbers whole)) (sym same)
+        (record { part = so.done; rest = numbered_by numbers_left left; split = so.split; planted = planted_grown t u g so.sound old now p so.done so.planted })
 
 -- what is below an element that was put can be put
 module _ (old mid : Nodes) (p place n : ℕ) (content : contents_of.Content) (name : Expanded) (bindings : List Binding) (attributes : List Attribute) (children : Forest)
@@ -348,13 +350,16 @@ module _ (s : Numbering) (row : Row) (children : Forest) where
         (planted_element u old mid p place k can.it can.is new puts.parts name row.bindings row.attributes inner puts.inserts below
         (or_parts (has p inner) false outside.1).0 (not_number k p outside.0) (called_grown t u g table puts.parts name row.bindings row.attributes puts.called))
 
+    -- fewer nodes are below it
+    pub element_size : count (one_of row children) ≡ 1 + count children
+    element_size = ap (λ c. count (node_of row.number c row.bindings row.attributes children none)) is ∙ size
+      where
+        size : 1 + (count children + 0) ≡ 1 + count children
+        size = omega arith
+
     pub element_counted : (left : Numbering) → left ≡ behind next (count children) → left ≡ behind s (count (one_of row children))
     element_counted left e =
-        e ∙ ap (λ b. behind b (count children)) more ∙ behind_more s 1 (count children)
-        ∙ ap (behind s) (size ∙ ap (λ c. count (node_of row.number c row.bindings row.attributes children none)) (sym is))
-      where
-        size : 1 + count children ≡ 1 + (count children + 0)
-        size = omega arith
+        e ∙ ap (λ b. behind b (count children)) more ∙ behind_more s 1 (count children) ∙ ap (behind s) (sym element_size)
 
 -- the names of an element that can be put
 pub named_one : (old : Nodes) (p : ℕ) (s : Numbering) (row : Row) (children : Forest) → CanPlant old p (numbered_by s (one_of row children)) → (name : Expanded) → row.content ≡ rows.Element name

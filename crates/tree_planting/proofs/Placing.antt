@@ -1,6 +1,6 @@
 -- The element that gets new children, in the document and among its nodes.
 use Rattle.std.proofs.Common.{◌≡◌, ◌≢◌, ◌⊎◌, ℕ, zero, suc, ◌+◌, ◌<◌, ◌≤◌, ◌^◌, List, [], ◌∷◌, ◌++◌, length, take, drop, insert, sym, ap, ◌∙◌, subst, Bool, true, false, ◌==◌, ◌||◌, nat_lt, if◌then◌else◌, Option, Some, None, Result, Ok, Err, refl, inl, inr, arith}
-use Rattle.std.specs.Prelude.{insert_slice}
+use Rattle.std.specs.List.{insert_slice}
 use Rattle.std.proofs.lemmas.Bool.{or_parts, false≢true, true≢false, false_from_ne_true}
 use Rattle.std.proofs.lemmas.Bool.Decides.{nat_tests}
 use Rattle.std.proofs.lemmas.List.{get_or_past, length_push}
@@ -18,7 +18,8 @@ use Rattle.tree_edits.specs.declared.edit.EditError.TheVariants.{TooManyNodes, T
 use Rattle.tree_edits.proofs.BlockNaming.{HaveNames}
 use Rattle.tree_edits.proofs.Keeping.{IsAlone, found_alone, IsPlace, count-renumbered, numbered_renumbered}
 use Rattle.tree_edits.proofs.Lying.{Lies, lies, deepest_here}
-use Rattle.node_links.specs.Nodes.{Node, Nodes, node, IsNode}
+use Rattle.node_links.specs.declared.content.Content.TheVariants as contents
+use Rattle.node_links.specs.Nodes.{Node, Nodes, node, IsNode, Inserts}
 use Rattle.node_links.specs.Nodes.{IsSound as AreSound}
 use Rattle.tree_changes.specs.Stands.{firsts, IsElement, StandFor, StandsFor}
 use Rattle.tree_changes.proofs.Lain.{firsts_lies, stand_lies, at, depth_at}
@@ -27,7 +28,7 @@ use Rattle.tree_planting.specs.Fits.{Fits}
 use Rattle.tree_planting.specs.Planted.{Plants}
 use Rattle.tree_planting.specs.inside.Growing.{numbered_by, before, CanPlant, CanGrow, Planted}
 use Rattle.tree_planting.proofs.Numbering.{deepest_numbered, count_numbered, names_numbered, number_within}
-use Rattle.tree_planting.proofs.Growth.{slice_of_one}
+use Rattle.tree_planting.proofs.Growth.{slice_of_one, planted_text}
 
 -- an element of a document, with its node
 pub record IsParent (t : NameTable) (ns : Nodes) (d : Document) (parent : ℕ) : Type 0 where
@@ -193,3 +194,16 @@ pub one_more : (old now new : Nodes) (until : ℕ) → GivesMore old now until �
 one_more old now new until g l e =
     let size = ap length e ∙ length_push now None in let more = g.more in
     record { more = omega (arith, more, size); within = omega (arith, l, size); same = λ m. ap (λ ns. node ns m) e ∙ node_past_end now m ∙ g.same m }
+
+-- a text is put under the number that is given out next
+module _ (ns mid : Nodes) (parent place : ℕ) (chars : List ℕ) (can : CanGrow ns parent place (text 0 chars none) (length ns + 1)) (pushed : mid ≡ ns ++ None ∷ []) (sound : AreSound mid) where
+  same_pushed : (m : ℕ) → node mid m ≡ node ns m
+  same_pushed m = ap (λ x. node x m) pushed ∙ node_past_end ns m
+
+  pub pushed_parent : (it : Node) × IsNode mid parent it × (place ≤ length it.children) × (it.depth + 1 < 2 ^ 32)
+  pushed_parent = let high = can.high in (can.it, same_pushed parent ∙ can.is, can.within, omega (arith, high))
+
+  pub text_plants : (t : NameTable) (new : Nodes) (n : ℕ) → n ≡ length ns → Inserts mid new parent place n (contents.Chars chars) → AreSound new → Plants t ns new parent place (text 0 chars none)
+  text_plants t new n e inserts after =
+      grown ns mid parent place (length ns + 1) (text 0 chars none) can same_pushed (ap length pushed ∙ length_push ns None) sound t new
+      (planted_text t mid new parent place (length ns) can.it (same_pushed parent ∙ can.is) chars (subst (λ k. Inserts mid new parent place k (contents.Chars chars)) e inserts) after)

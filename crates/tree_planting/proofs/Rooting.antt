@@ -4,13 +4,18 @@ use Rattle.std.proofs.lemmas.Bool.{or_cases, or_left, or_right, eqb-true, eq-eqb
 use Rattle.std.proofs.lemmas.Option.{same_Some, none-some}
 use Rattle.xs_names.specs.Names.{NameTable, IsSound}
 use Rattle.tree_rows.specs.Forest.{Forest, none, text, element, Document, count, deepest_of}
-use Rattle.tree_rows.specs.Whole.{times, AreNodes, IsTree}
+use Rattle.tree_rows.specs.Rows.{node as node_of}
+use Rattle.tree_rows.specs.Whole.{times, IsNamed, AreNodes, HasRoot, IsTree}
+use Rattle.tree_rows.specs.declared.row.Row.{Row}
+use Rattle.tree_rows.specs.declared.row.Content.{Content}
+use Rattle.tree_rows.specs.declared.row.Content.TheVariants as rows
 use Rattle.tree_rows.specs.declared.name.Expanded.{Expanded}
 use Rattle.tree_rows.specs.declared.row.Attribute.{Attribute}
 use Rattle.tree_rows.specs.declared.row.Binding.{Binding}
 use Rattle.tree_edits.specs.Edits.{has}
 use Rattle.tree_edits.proofs.BlockNaming.{HaveNames}
-use Rattle.node_links.specs.declared.content.Content.{Content}
+use Rattle.tree_edits.proofs.Keeping.{IsAlone}
+use Rattle.node_links.specs.declared.content.Content as contents_of
 use Rattle.node_links.specs.declared.content.Content.TheVariants as contents
 use Rattle.node_links.specs.declared.content.Element.{Element}
 use Rattle.node_links.specs.Nodes.{Node, Nodes, node, IsNode, alone}
@@ -18,7 +23,48 @@ use Rattle.node_links.specs.Nodes.{IsSound as AreSound}
 use Rattle.tree_changes.specs.Stands.{firsts, StandsFor}
 use Rattle.tree_changes.proofs.Standing.{has_times}
 use Rattle.tree_planting.specs.Named.{IsCalled}
-use Rattle.tree_planting.specs.inside.Growing.{at_end, CanPlant, Planted}
+use Rattle.tree_planting.specs.inside.Growing.{at_end, one_of, CanPlant, Planted}
+
+-- the row of a root
+module _ (row : Row) (children : Forest) (free : ℕ) (tree : IsTree (record { forest = one_of row children; next_free = free })) where
+  pub no_text_root : (chars : List ℕ) → row.content ≡ rows.Chars chars → ⊥
+  no_text_root chars is = subst (λ c. HasRoot (node_of row.number c row.bindings row.attributes children none)) is tree.root
+
+  module _ (name : Expanded) (is : row.content ≡ rows.Element name) where
+    pub root_is_1 : row.number ≡ 1
+    root_is_1 = (subst (λ c. HasRoot (node_of row.number c row.bindings row.attributes children none)) is tree.root).0
+
+    pub as_root : one_of row children ≡ element 1 name row.bindings row.attributes children none
+    as_root = ap (λ c. node_of row.number c row.bindings row.attributes children none) is ∙ ap (λ n. element n name row.bindings row.attributes children none) root_is_1
+
+    pub root_tree : IsTree (record { forest = element 1 name row.bindings row.attributes children none; next_free = free })
+    root_tree = subst (λ f. IsTree (record { forest = f; next_free = free })) as_root tree
+
+    pub root_named : IsNamed name row.bindings row.attributes
+    root_named = (root_tree).nodes.1
+
+    pub root_below : 2 ≤ free
+    root_below = let h = (root_tree).nodes.0.1 in omega (arith, h)
+
+-- a tree is a root with what is below it
+module _ (d : Document) (tree : IsTree d) (row : Row) (children next : Forest) (taken : d.forest ≡ node_of row.number row.content row.bindings row.attributes children next) where
+  no_next : (c : Content) → HasRoot (node_of row.number c row.bindings row.attributes children next) → next ≡ none
+  no_next (rows.Element name) r = r.1
+  no_next (rows.Chars chars) r = absurd r
+
+  pub one_root : d.forest ≡ one_of row children
+  one_root = taken ∙ ap (node_of row.number row.content row.bindings row.attributes children) (no_next row.content (subst HasRoot taken tree.root))
+
+  pub same_tree : d ≡ record { forest = one_of row children; next_free = d.next_free }
+  same_tree = λ i. record { forest = one_root i; next_free = d.next_free }
+
+pub has_no_root : (d : Document) → IsTree d → d.forest ≡ none → ⊥
+has_no_root d tree e = subst HasRoot e tree.root
+
+pub alone_root : (f : Forest) → HasRoot f → IsAlone f
+alone_root none r = absurd r
+alone_root (text n chars next) r = absurd r
+alone_root (element n name bindings attributes children next) r = r.1
 
 -- the numbers of nodes are above 0 and below the next free one
 pub number_in : (free m : ℕ) (f : Forest) → AreNodes free f → has m f ≡ true → (0 < m) × (m < free)
@@ -41,12 +87,12 @@ names_in free none a = tt
 names_in free (text n chars next) a = names_in free next a.1
 names_in free (element n name bindings attributes children next) a = (a.1, names_in free children a.2, names_in free next a.3)
 
-alone_free : (content : Content) (m : ℕ) → m ≢ 1 → node (alone content) m ≡ None
+alone_free : (content : contents_of.Content) (m : ℕ) → m ≢ 1 → node (alone content) m ≡ None
 alone_free content zero d = refl
 alone_free content (suc zero) d = absurd (d refl)
 alone_free content (suc (suc m)) d = refl
 
-module _ (mid : Nodes) (free : ℕ) (content : Content) (name : Expanded) (bindings : List Binding) (attributes : List Attribute) (children : Forest)
+module _ (mid : Nodes) (free : ℕ) (content : contents_of.Content) (name : Expanded) (bindings : List Binding) (attributes : List Attribute) (children : Forest)
     (tree : IsTree (record { forest = element 1 name bindings attributes children none; next_free = free }))
     (nodes : (m : ℕ) → node mid m ≡ node (alone content) m) (size : length mid ≡ free) (sound : AreSound mid) where
   abbrev root : Node

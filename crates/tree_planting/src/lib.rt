@@ -5,7 +5,6 @@ mod naming;
 mod numbers;
 mod parts;
 mod planting;
-mod temp_tests;
 mod texts;
 mod trees;
 

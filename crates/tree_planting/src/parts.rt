@@ -32,7 +32,7 @@ fn grow(
 ) -> Result<(), AllocError>
     requires can { CanGrow links.old spot.parent spot.place (one_of row.now children) until }
     requires names { IsSound names.old }
-    ensures plants { OnOk result (Plants names.new links.old links.new spot.parent spot.place (one_of row.now children)) }
+    ensures plants { OnOk result (Plants names.new links.old links.new spot.parent spot.place (one_of row.now children.entry)) }
     ensures more { length links.old ≤ length links.new }
     ensures same { OnErr result ((m : ℕ) → node links.new m ≡ node links.old m) }
     ensures grown { Grown names.old names.new }

@@ -16,7 +16,7 @@ use tree_siblings::{Sibling, Siblings};
 use xs_names::Names;
 
 /// The numbers that planted nodes get.
-#[derive(Clone, Copy, Debug, PartialEq, Eq)]
+#[derive(Clone, Copy)]
 pub enum Numbering {
     /// Each its own.
     Own,
@@ -25,7 +25,7 @@ pub enum Numbering {
 }
 
 /// The number of a node, and the numbers of the nodes behind it.
-#[derive(Clone, Copy, Debug, PartialEq, Eq)]
+#[derive(Clone, Copy)]
 pub struct Numbered {
     pub number: u32,
     pub behind: Numbering,
@@ -52,7 +52,7 @@ impl Numbering {
 }
 
 /// A place among the children of a node.
-#[derive(Clone, Copy, Debug, PartialEq, Eq)]
+#[derive(Clone, Copy)]
 pub struct Spot {
     pub parent: u32,
     pub place: u32,
@@ -79,7 +79,8 @@ fn put_tag(
     ensures sound { OnOk result (AreSound links.new) }
 {
     let element = name_element(alloc, names, name, row)?;
-    links.put(number, spot.parent, spot.place, Content::Element(element))
+    links.put(number, spot.parent, spot.place, Content::Element(element))?;
+    Ok(())
 }
 
 /// Puts siblings, with all that is below them, behind the children of a node, and answers the numbers of what comes next.
@@ -95,9 +96,9 @@ pub(crate) fn put_all(
 ) -> Result<Numbering, AllocError>
     requires can { CanPlant links.old parent (numbered_by numbers siblings) }
     requires names { IsSound names.old }
-    ensures planted { OnOk result (Planted names.new links.old links.new parent at_end (numbered_by numbers siblings)) }
-    ensures behind { IfOk result (λ left. left ≡ behind numbers (count siblings)) }
-    ensures first { OnErr result (PlantedFirst names.new links.old links.new parent at_end (numbered_by numbers siblings)) }
+    ensures planted { OnOk result (Planted names.new links.old links.new parent at_end (numbered_by numbers siblings.entry)) }
+    ensures behind { IfOk result (λ left. left ≡ behind numbers (count siblings.entry)) }
+    ensures first { OnErr result (PlantedFirst names.new links.old links.new parent at_end (numbered_by numbers siblings.entry)) }
     ensures grown { Grown names.old names.new }
     ensures names { IsSound names.new }
 {
@@ -134,8 +135,8 @@ pub(crate) fn put_one(
     requires can { CanPlant links.old spot.parent (numbered_by numbers (one_of row.now children)) }
     requires within { (it : Node) → IsNode links.old spot.parent it → spot.place ≤ length it.children }
     requires names { IsSound names.old }
-    ensures planted { OnOk result (Planted names.new links.old links.new spot.parent (before spot.place) (numbered_by numbers (one_of row.now children))) }
-    ensures behind { IfOk result (λ left. left ≡ behind numbers (count (one_of row.now children))) }
+    ensures planted { OnOk result (Planted names.new links.old links.new spot.parent (before spot.place) (numbered_by numbers (one_of row.now children.entry))) }
+    ensures behind { IfOk result (λ left. left ≡ behind numbers (count (one_of row.now children.entry))) }
     ensures err { OnErr result (links.new ≡ links.old) }
     ensures grown { Grown names.old names.new }
     ensures names { IsSound names.new }

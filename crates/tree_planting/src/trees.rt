@@ -25,7 +25,7 @@ fn plant_root(
     children: Siblings<'_>,
 ) -> Result<NodeLinks, AllocError>
     requires { IsTree (record { forest = one_of row.now children; next_free = next_free }) }
-    ensures stands { IfOk result (λ links. StandsFor names.new links (record { forest = one_of row.now children; next_free = next_free })) }
+    ensures stands { IfOk result (λ links. StandsFor names.new links (record { forest = one_of row.now children.entry; next_free = next_free })) }
     ensures grown { Grown names.old names.new }
 {
     match &row.content {

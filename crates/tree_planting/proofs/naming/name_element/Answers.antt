@@ -1,6 +1,6 @@
 use Rattle.std.proofs.Common.{◌≡◌, sym, subst}
 use Rattle.xs_names.proofs.GrownLaws.{Grown-trans}
-use Rattle.tree_rows.specs.Whole.{AreNamespaces}
+use Rattle.node_links.specs.declared.content.Element.{Element}
 use Rattle.tree_planting.proofs.Named.{called}
 use Rattle.tree_planting.proofs.naming.name_element.Goals as goal
 
@@ -20,7 +20,7 @@ returns-clause-grown c =
 pub returns-clause-called : goal.returns-clause-called
 returns-clause-called c =
     let row = c.args.row.now in
-    let e = record { name = c.in_ok-number.number; bindings = c.in_ok-bindings.bindings; attributes = c.in_ok-attributes.attributes } in
+    let e : Element = record { name = c.in_ok-number.number; bindings = c.in_ok-bindings.bindings; attributes = c.in_ok-attributes.attributes } in
     called c.name_id.new.names c.name_bindings.new.names c.name_attributes.new.names e c.args.name.now row.bindings row.attributes
     c.name_id.ensures.sound c.name_bindings.ensures.sound c.in_ok-number.ensures.name c.in_ok-number.ensures.within c.name_bindings.ensures.grown
     (rw c.as_slice.ensures at c.in_ok-bindings.ensures.named) c.name_attributes.ensures.grown (rw c.as_slice-2.ensures at c.in_ok-attributes.ensures.named)
