@@ -1,6 +1,6 @@
 -- The nodes stand for the document with new nodes in it.
-use Rattle.std.proofs.Common.{◌≡◌, ◌≢◌, ◌⊎◌, ℕ, zero, suc, ◌+◌, ◌<◌, ◌≤◌, List, [], ◌∷◌, ◌++◌, length, take, insert, map, sym, ap, ◌∙◌, subst, Bool, true, false, ◌==◌, nat_le, Option, Some, None, refl, inl, inr, arith}
-use Rattle.std.proofs.lemmas.Bool.{eq-eqb}
+use Rattle.std.proofs.Common.{◌≡◌, ◌≢◌, ◌⊎◌, ℕ, zero, suc, ◌+◌, ◌-◌, ◌<◌, ◌≤◌, List, [], ◌∷◌, ◌++◌, length, take, insert, map, sym, ap, ◌∙◌, subst, Bool, true, false, ◌==◌, nat_le, if◌then◌else◌, Option, Some, None, refl, inl, inr, arith}
+use Rattle.std.proofs.lemmas.Bool.{eq-eqb, eqb-true, true≢false}
 use Rattle.std.proofs.lemmas.Bool.Decides.{nat_tests}
 use Rattle.std.proofs.lemmas.List.{ext_get_or, get_or-take, length-take-le}
 use Rattle.std.proofs.lemmas.Option.{same_Some, none-some}
@@ -28,13 +28,26 @@ use Rattle.tree_planting.proofs.Rooting.{number_in}
 use Rattle.tree_planting.proofs.Placing.{IsParent, parent_of, firsts_alone, no_node_past, place_is}
 
 -- siblings with one more among them
+none_insert : (place n : ℕ) → insert [] place n ≡ n ∷ []
+none_insert zero n = refl
+none_insert (suc place) n = refl
+
+insert_if : (place n m : ℕ) (ys : List ℕ) (now later : Forest) (b : Bool) → (place == 0) ≡ b → firsts now ≡ n ∷ m ∷ ys → firsts later ≡ m ∷ insert ys (place - 1) n
+    → firsts (if b then now else later) ≡ insert (m ∷ ys) place n
+insert_if place n m ys now later true k a c = a ∙ ap (λ j. insert (m ∷ ys) j n) (sym (eqb-true place 0 k))
+insert_if place n m ys now later false k a c = c ∙ ap (λ j. insert (m ∷ ys) j n) (sym up)
+  where
+    up : place ≡ suc (place - 1)
+    up = let d : place ≢ 0 = λ e. true≢false (sym (eq-eqb place 0 e) ∙ k) in omega (arith, d)
+
 pub firsts_insert : (place n : ℕ) (own f : Forest) → firsts own ≡ n ∷ [] → firsts (insert_at place own f) ≡ insert (firsts f) place n
-firsts_insert zero n own none e = e
-firsts_insert (suc place) n own none e = e
-firsts_insert zero n own (text m chars next) e = firsts_append own (text m chars next) ∙ ap (λ l. l ++ m ∷ firsts next) e
-firsts_insert (suc place) n own (text m chars next) e = ap (λ l. m ∷ l) (firsts_insert place n own next e)
-firsts_insert zero n own (element m name bindings attributes children next) e = firsts_append own (element m name bindings attributes children next) ∙ ap (λ l. l ++ m ∷ firsts next) e
-firsts_insert (suc place) n own (element m name bindings attributes children next) e = ap (λ l. m ∷ l) (firsts_insert place n own next e)
+firsts_insert place n own none e = e ∙ sym (none_insert place n)
+firsts_insert place n own (text m chars next) e =
+    insert_if place n m (firsts next) (append own (text m chars next)) (text m chars (insert_at (place - 1) own next)) (place == 0) refl
+    (firsts_append own (text m chars next) ∙ ap (λ l. l ++ m ∷ firsts next) e) (ap (λ l. m ∷ l) (firsts_insert (place - 1) n own next e))
+firsts_insert place n own (element m name bindings attributes children next) e =
+    insert_if place n m (firsts next) (append own (element m name bindings attributes children next)) (element m name bindings attributes children (insert_at (place - 1) own next)) (place == 0) refl
+    (firsts_append own (element m name bindings attributes children next) ∙ ap (λ l. l ++ m ∷ firsts next) e) (ap (λ l. m ∷ l) (firsts_insert (place - 1) n own next e))
 
 pub stand_insert : (t : NameTable) (ns : Nodes) (place : ℕ) (own f : Forest) → StandFor t ns own → StandFor t ns f → StandFor t ns (insert_at place own f)
 stand_insert t ns place own f a b =

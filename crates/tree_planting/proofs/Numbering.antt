@@ -98,17 +98,14 @@ number_given free m (text n chars next) low high = by (free == m) refl
         (number_given (free + 1) m next (grind (arith, nat_tests, e, low)) (omega (arith, high)))
 number_given free m (element n name bindings attributes children next) low high = by (free == m) refl (nat_lt m (free + 1 + count children)) refl
   where
-    below : Bool
-    below = has m (renumbered (free + 1) children)
-
-    beside : Bool
-    beside = has m (renumbered (free + 1 + count children) next)
-
-    by : (b : Bool) → (free == m) ≡ b → (c : Bool) → nat_lt m (free + 1 + count children) ≡ c → (free == m || (below || beside)) ≡ true
-    by true e c k = or_left (free == m) (below || beside) e
+    by : (b : Bool) → (free == m) ≡ b → (c : Bool) → nat_lt m (free + 1 + count children) ≡ c
+        → (free == m || (has m (renumbered (free + 1) children) || has m (renumbered (free + 1 + count children) next))) ≡ true
+    by true e c k = or_left (free == m) (has m (renumbered (free + 1) children) || has m (renumbered (free + 1 + count children) next)) e
     by false e true k =
-        or_right (free == m) (below || beside)
-        (or_left below beside (number_given (free + 1) m children (grind (arith, nat_tests, e, low)) (grind (arith, nat_tests, k))))
+        or_right (free == m) (has m (renumbered (free + 1) children) || has m (renumbered (free + 1 + count children) next))
+        (or_left (has m (renumbered (free + 1) children)) (has m (renumbered (free + 1 + count children) next))
+        (number_given (free + 1) m children (grind (arith, nat_tests, e, low)) (grind (arith, nat_tests, k))))
     by false e false k =
-        or_right (free == m) (below || beside)
-        (or_right below beside (number_given (free + 1 + count children) m next (grind (arith, nat_tests, k)) (omega (arith, high))))
+        or_right (free == m) (has m (renumbered (free + 1) children) || has m (renumbered (free + 1 + count children) next))
+        (or_right (has m (renumbered (free + 1) children)) (has m (renumbered (free + 1 + count children) next))
+        (number_given (free + 1 + count children) m next (grind (arith, nat_tests, k)) (omega (arith, high))))
