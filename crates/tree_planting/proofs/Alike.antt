@@ -95,14 +95,14 @@ found_alike key depth none (element m title scopes pairs below later) a = absurd
 found_alike key depth (text n chars next) none a = absurd a
 found_alike key depth (text n chars next) (text m others later) a =
     choice (n == key) (m == key) (Some (record { depth = depth; node = text n chars none })) (found key depth next) (Some (record { depth = depth; node = text m others none })) (found key depth later)
-    (ap (λ k. k == key) a.0) (refl, a.0, tt) (found_alike key depth next later a.1)
+    (ap (λ k. k == key) a.0) (refl, (a.0, tt)) (found_alike key depth next later a.1)
 found_alike key depth (text n chars next) (element m title scopes pairs below later) a = absurd a
 found_alike key depth (element n name bindings attributes children next) none a = absurd a
 found_alike key depth (element n name bindings attributes children next) (text m others later) a = absurd a
 found_alike key depth (element n name bindings attributes children next) (element m title scopes pairs below later) a =
     choice (n == key) (m == key) (Some (record { depth = depth; node = element n name bindings attributes children none })) (if has key children then found key (depth + 1) children else found key depth next)
     (Some (record { depth = depth; node = element m title scopes pairs below none })) (if has key below then found key (depth + 1) below else found key depth later)
-    (ap (λ k. k == key) a.0) (refl, a.0, a.1, tt)
+    (ap (λ k. k == key) a.0) (refl, (a.0, a.1, tt))
     (choice (has key children) (has key below) (found key (depth + 1) children) (found key depth next) (found key (depth + 1) below) (found key depth later)
     (has_alike key children below a.1) (found_alike key (depth + 1) children below a.1) (found_alike key depth next later a.2))
 

@@ -120,7 +120,7 @@ stands_once t ns d e a b =
 pub cut_same : (old new : Nodes) → length old ≤ length new → ((m : ℕ) → node new m ≡ node old m) → take (length old) new ≡ old
 cut_same old new more same =
     let size = length-take-le (length old) new more in
-    ext_get_or None (take (length old) new) old size (λ i l. get_or-take new (length old) i None (omega (arith, l, size)) ∙ same i)
+    ext_get_or None (take (length old) new) old size (λ i l. get_or-take (length old) new i None (omega (arith, l, size)) ∙ same i)
 
 module _ (t : NameTable) (old new : Nodes) (d : Document) (parent place : ℕ) (f : Forest) (z : StandsFor t old d) (fits : Fits d parent place f) (names : HaveNames f) (alone : IsAlone f)
     (plants : Plants t old new parent place f) (sound : AreSound new) where

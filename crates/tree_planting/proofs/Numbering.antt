@@ -87,25 +87,20 @@ number_within free m f h =
     within_if m free (free + count f) (times m (renumbered free f))
     (times_in m free (free + count f) (renumbered free f) (numbered_renumbered free f) (ap (λ k. free + k) (count-renumbered free f))) (has_times m (renumbered free f) h)
 
+step_given : (free m : ℕ) (later : Bool) → free ≤ m → (free + 1 ≤ m → later ≡ true) → (b : Bool) → (free == m) ≡ b → (free == m || later) ≡ true
+step_given free m later low h true e = or_left (free == m) later e
+step_given free m later low h false e = or_right (free == m) later (h (grind (arith, nat_tests, e, low)))
+
+split_given : (m mid : ℕ) (below beside : Bool) → (m < mid → below ≡ true) → (mid ≤ m → beside ≡ true) → (c : Bool) → nat_lt m mid ≡ c → (below || beside) ≡ true
+split_given m mid below beside h k true e = or_left below beside (h (grind (arith, nat_tests, e)))
+split_given m mid below beside h k false e = or_right below beside (k (grind (arith, nat_tests, e)))
+
 pub number_given : (free m : ℕ) (f : Forest) → free ≤ m → m < free + count f → has m (renumbered free f) ≡ true
 number_given free m none low high = absurd (omega (arith, low, high))
-number_given free m (text n chars next) low high = by (free == m) refl
-  where
-    by : (b : Bool) → (free == m) ≡ b → (free == m || has m (renumbered (free + 1) next)) ≡ true
-    by true e = or_left (free == m) (has m (renumbered (free + 1) next)) e
-    by false e =
-        or_right (free == m) (has m (renumbered (free + 1) next))
-        (number_given (free + 1) m next (grind (arith, nat_tests, e, low)) (omega (arith, high)))
-number_given free m (element n name bindings attributes children next) low high = by (free == m) refl (nat_lt m (free + 1 + count children)) refl
-  where
-    by : (b : Bool) → (free == m) ≡ b → (c : Bool) → nat_lt m (free + 1 + count children) ≡ c
-        → (free == m || (has m (renumbered (free + 1) children) || has m (renumbered (free + 1 + count children) next))) ≡ true
-    by true e c k = or_left (free == m) (has m (renumbered (free + 1) children) || has m (renumbered (free + 1 + count children) next)) e
-    by false e true k =
-        or_right (free == m) (has m (renumbered (free + 1) children) || has m (renumbered (free + 1 + count children) next))
-        (or_left (has m (renumbered (free + 1) children)) (has m (renumbered (free + 1 + count children) next))
-        (number_given (free + 1) m children (grind (arith, nat_tests, e, low)) (grind (arith, nat_tests, k))))
-    by false e false k =
-        or_right (free == m) (has m (renumbered (free + 1) children) || has m (renumbered (free + 1 + count children) next))
-        (or_right (has m (renumbered (free + 1) children)) (has m (renumbered (free + 1 + count children) next))
-        (number_given (free + 1 + count children) m next (grind (arith, nat_tests, k)) (omega (arith, high))))
+number_given free m (text n chars next) low high =
+    step_given free m (has m (renumbered (free + 1) next)) low (λ l. number_given (free + 1) m next l (omega (arith, high))) (free == m) refl
+number_given free m (element n name bindings attributes children next) low high =
+    step_given free m (has m (renumbered (free + 1) children) || has m (renumbered (free + 1 + count children) next)) low
+    (λ l. split_given m (free + 1 + count children) (has m (renumbered (free + 1) children)) (has m (renumbered (free + 1 + count children) next))
+    (λ a. number_given (free + 1) m children l a) (λ a. number_given (free + 1 + count children) m next a (omega (arith, high))) (nat_lt m (free + 1 + count children)) refl)
+    (free == m) refl

@@ -1,5 +1,5 @@
 -- The element that gets new children, in the document and among its nodes.
-use Rattle.std.proofs.Common.{◌≡◌, ◌≢◌, ◌⊎◌, ℕ, zero, suc, ◌+◌, ◌<◌, ◌≤◌, ◌^◌, List, [], ◌∷◌, ◌++◌, length, take, drop, insert, sym, ap, ◌∙◌, subst, Bool, true, false, ◌==◌, ◌||◌, nat_lt, if◌then◌else◌, Option, Some, None, Result, Ok, Err, refl, inl, inr, arith}
+use Rattle.std.proofs.Common.{◌≡◌, ◌≢◌, ◌⊎◌, ℕ, zero, suc, ◌+◌, ◌<◌, ◌≤◌, ◌^◌, List, [], ◌∷◌, ◌++◌, length, take, drop, insert, sym, ap, ◌∙◌, subst, Bool, true, false, ◌==◌, ◌||◌, nat_lt, if◌then◌else◌, Option, Some, None, Result, Ok, Err, OnErr, refl, inl, inr, arith}
 use Rattle.std.specs.List.{insert_slice}
 use Rattle.std.proofs.lemmas.Bool.{or_parts, false≢true, true≢false, false_from_ne_true}
 use Rattle.std.proofs.lemmas.Bool.Decides.{nat_tests}
@@ -207,3 +207,8 @@ module _ (ns mid : Nodes) (parent place : ℕ) (chars : List ℕ) (can : CanGrow
   text_plants t new n e inserts after =
       grown ns mid parent place (length ns + 1) (text 0 chars none) can same_pushed (ap length pushed ∙ length_push ns None) sound t new
       (planted_text t mid new parent place (length ns) can.it (same_pushed parent ∙ can.is) chars (subst (λ k. Inserts mid new parent place k (contents.Chars chars)) e inserts) after)
+
+-- what is asked of an error alone
+pub on_err : {A E P : Type 0} (r : Result A E) → P → OnErr r P
+on_err (Ok x) p = tt
+on_err (Err e) p = p

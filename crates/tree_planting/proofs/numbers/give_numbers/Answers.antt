@@ -1,4 +1,4 @@
-use Rattle.std.proofs.Common.{◌≡◌, refl, sym, ap, ◌∙◌, subst, length, arith}
+use Rattle.std.proofs.Common.{◌≡◌, ◌<◌, refl, sym, ap, ◌∙◌, subst, length, arith}
 use Rattle.tree_planting.proofs.Placing.{GivesMore, one_more}
 use Rattle.tree_planting.proofs.numbers.give_numbers.Goals as goal
 

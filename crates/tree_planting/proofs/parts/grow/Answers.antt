@@ -2,7 +2,7 @@ use Rattle.std.proofs.Common.{◌+◌, ◌≤◌, length, sym, ap, ◌∙◌, su
 use Rattle.node_links.specs.Nodes.{node, IsSound}
 use Rattle.tree_planting.specs.declared.planting.Numbering.TheVariants as numbers
 use Rattle.tree_planting.specs.inside.Growing.{numbered_by, before, one_of, CanPlant, Planted}
-use Rattle.tree_planting.proofs.Placing.{can_grown, within_grown, grown}
+use Rattle.tree_planting.proofs.Placing.{can_grown, within_grown, grown, on_err}
 use Rattle.tree_planting.proofs.parts.grow.Goals as goal
 
 pub give_numbers-requires : goal.give_numbers-requires
@@ -23,7 +23,7 @@ pub returns-in_err-put_one-clause-more : goal.returns-in_err-put_one-clause-more
 returns-in_err-put_one-clause-more c = subst (λ ns. length c.args.links.now ≤ length ns) (sym c.in_err-put_one.ensures.err) c.in_ok-give_numbers.ensures.more
 
 pub returns-in_err-put_one-clause-same : goal.returns-in_err-put_one-clause-same
-returns-in_err-put_one-clause-same c = λ m. ap (λ ns. node ns m) c.in_err-put_one.ensures.err ∙ c.in_ok-give_numbers.ensures.nodes m
+returns-in_err-put_one-clause-same c = on_err _ (λ m. ap (λ ns. node ns m) c.in_err-put_one.ensures.err ∙ c.in_ok-give_numbers.ensures.nodes m)
 
 pub returns-in_err-put_one-clause-sound : goal.returns-in_err-put_one-clause-sound
 returns-in_err-put_one-clause-sound c = subst IsSound (sym c.in_err-put_one.ensures.err) c.in_ok-give_numbers.ensures.sound

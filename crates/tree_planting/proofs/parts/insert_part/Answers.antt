@@ -7,29 +7,29 @@ use Rattle.tree_planting.specs.Planted.{Plants}
 use Rattle.tree_planting.specs.inside.Growing.{CanGrow}
 use Rattle.tree_planting.proofs.Inserting.{inserted, stands_grown, stands_once, cut_same}
 use Rattle.tree_planting.proofs.Placing.{can_grow, few_more, no_node_past}
-use Rattle.tree_planting.proofs.Rooting.{one_root, alone_root, has_no_root, names_in}
+use Rattle.tree_planting.proofs.Rooting.{one_root, alone_root, names_in}
 use Rattle.tree_planting.proofs.parts.insert_part.Goals as goal
 
 pub overflow_cast-until : goal.overflow_cast-until
 overflow_cast-until c =
     let q = c.requires.fits in let m = few_more c.args.names.now c.args.links.now q.0 c.args.parent c.args.place c.args.part.now.forest q.1 q.2 in
-    let size = ap length c.rows.ensures ∙ count-rows 1 c.args.part.now.forest in let len = c.len.ensures in
-    omega (arith, m.0, size, len)
+    let size = ap length c.rows.ensures ∙ count-rows 1 c.args.part.now.forest in
+    omega (arith, m.0, size)
 
 pub overflow_add-until : goal.overflow_add-until
 overflow_add-until c =
     let q = c.requires.fits in let m = few_more c.args.names.now c.args.links.now q.0 c.args.parent c.args.place c.args.part.now.forest q.1 q.2 in
-    let size = ap length c.rows.ensures ∙ count-rows 1 c.args.part.now.forest in let len = c.len.ensures in
+    let size = ap length c.rows.ensures ∙ count-rows 1 c.args.part.now.forest in
     let next = c.next_free-first.ensures.next in let free = q.1.next in
-    omega (arith, m.1, size, len, next, free)
+    omega (arith, m.1, size, next, free)
 
 pub grow-requires-clause-can : goal.grow-requires-clause-can
 grow-requires-clause-can c =
     let q = c.requires.fits in let f = c.args.part.now.forest in let tree = c.in_ok-index.ensures.tree in let s = c.in-Some.field-0 in
-    let size = ap length c.rows.ensures ∙ count-rows 1 f in let len = c.len.ensures in let next = c.next_free-first.ensures.next in
+    let size = ap length c.rows.ensures ∙ count-rows 1 f in let next = c.next_free-first.ensures.next in
     let one = one_root c.args.part.now tree s.row.now s.children s.next (sym (c.top.ensures ∙ c.in_ok-index.ensures.index) ∙ c.in-Some.ensures) in
     subst (λ g. CanGrow c.args.links.now c.args.parent c.args.place g _) one
-    (can_grow c.args.names.now c.args.links.now q.0 c.args.parent c.args.place f q.1 q.2 (names_in c.args.part.now.next_free f tree.nodes) (alone_root f tree.root) _ (omega (arith, next, len, size)))
+    (can_grow c.args.names.now c.args.links.now q.0 c.args.parent c.args.place f q.1 q.2 (names_in c.args.part.now.next_free f tree.nodes) (alone_root f tree.root) _ (omega (arith, next, size)))
 
 pub grow-requires-clause-names : goal.grow-requires-clause-names
 grow-requires-clause-names c = c.requires.fits.1.table
@@ -57,9 +57,6 @@ cut_numbers-requires c = λ m low.
     let next = c.next_free-first.ensures.next in
     c.in-Err.ensures.same m ∙ no_node_past c.args.links.now m (omega (arith, low, next))
 
-pub returns-in-Err-clause-err : goal.returns-in-Err-clause-err
-returns-in-Err-clause-err c =
+pub returns-in-Some-clause-err : goal.returns-in-Some-clause-err
+returns-in-Some-clause-err c =
     c.cut_numbers.ensures.change ∙ ap (λ k. take k c.grow.new.links) c.next_free-first.ensures.next ∙ cut_same c.args.links.now c.grow.new.links c.in-Err.ensures.more c.in-Err.ensures.same
-
-pub prove-unreachable-requires : goal.prove-unreachable-requires
-prove-unreachable-requires c = has_no_root c.args.part.now c.in_ok-index.ensures.tree (sym (c.top.ensures ∙ c.in_ok-index.ensures.index) ∙ c.in-None.ensures)

@@ -11,14 +11,3 @@ plant_root-requires c =
     let s = c.in-Some.field-0 in let tree = c.in_ok-index.ensures.tree in
     let same = same_tree c.args.tree.now tree s.row.now s.children s.next (sym (c.top.ensures ∙ c.in_ok-index.ensures.index) ∙ c.in-Some.ensures) in
     subst (λ n. IsTree (record { forest = one_of s.row.now s.children; next_free = n })) (sym c.next_free.ensures.next) (subst IsTree same tree)
-
-pub returns-in-Some-clause-stands : goal.returns-in-Some-clause-stands
-returns-in-Some-clause-stands c =
-    let s = c.in-Some.field-0 in let tree = c.in_ok-index.ensures.tree in
-    let same = same_tree c.args.tree.now tree s.row.now s.children s.next (sym (c.top.ensures ∙ c.in_ok-index.ensures.index) ∙ c.in-Some.ensures) in
-    let e : record { forest = one_of s.row.now s.children; next_free = c.next_free.result } ≡ c.args.tree.now =
-        ap (λ n. record { forest = one_of s.row.now s.children; next_free = n }) c.next_free.ensures.next ∙ sym same in
-    subst (λ d. IfOk c.plant_root.result (λ links. StandsFor c.plant_root.new.names links d)) e c.plant_root.ensures.stands
-
-pub prove-unreachable-requires : goal.prove-unreachable-requires
-prove-unreachable-requires c = has_no_root c.args.tree.now c.in_ok-index.ensures.tree (sym (c.top.ensures ∙ c.in_ok-index.ensures.index) ∙ c.in-None.ensures)
