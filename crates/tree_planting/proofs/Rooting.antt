@@ -27,9 +27,6 @@ use Rattle.tree_planting.specs.inside.Growing.{at_end, one_of, CanPlant, Planted
 
 -- the row of a root
 module _ (row : Row) (children : Forest) (free : ℕ) (tree : IsTree (record { forest = one_of row children; next_free = free })) where
-  pub no_text_root : (chars : List ℕ) → row.content ≡ rows.Chars chars → ⊥
-  no_text_root chars is = subst (λ c. HasRoot (node_of row.number c row.bindings row.attributes children none)) is tree.root
-
   module _ (name : Expanded) (is : row.content ≡ rows.Element name) where
     pub root_is_1 : row.number ≡ 1
     root_is_1 = (subst (λ c. HasRoot (node_of row.number c row.bindings row.attributes children none)) is tree.root).0
@@ -57,9 +54,6 @@ module _ (d : Document) (tree : IsTree d) (row : Row) (children next : Forest) (
 
   pub same_tree : d ≡ record { forest = one_of row children; next_free = d.next_free }
   same_tree = λ i. record { forest = one_root i; next_free = d.next_free }
-
-pub has_no_root : (d : Document) → IsTree d → d.forest ≡ none → ⊥
-has_no_root d tree e = subst HasRoot e tree.root
 
 pub alone_root : (f : Forest) → HasRoot f → IsAlone f
 alone_root none r = absurd r

@@ -1,4 +1,4 @@
-use Rattle.std.proofs.Common.{◌+◌, ◌≤◌, length, sym, ap, ◌∙◌, subst, arith}
+use Rattle.std.proofs.Common.{◌≡◌, ℕ, ◌+◌, ◌≤◌, length, sym, ap, ◌∙◌, subst, arith}
 use Rattle.node_links.specs.Nodes.{node, IsSound}
 use Rattle.tree_planting.specs.declared.planting.Numbering.TheVariants as numbers
 use Rattle.tree_planting.specs.inside.Growing.{numbered_by, before, one_of, CanPlant, Planted}
@@ -23,7 +23,8 @@ pub returns-in_err-put_one-clause-more : goal.returns-in_err-put_one-clause-more
 returns-in_err-put_one-clause-more c = subst (λ ns. length c.args.links.now ≤ length ns) (sym c.in_err-put_one.ensures.err) c.in_ok-give_numbers.ensures.more
 
 pub returns-in_err-put_one-clause-same : goal.returns-in_err-put_one-clause-same
-returns-in_err-put_one-clause-same c = on_err _ (λ m. ap (λ ns. node ns m) c.in_err-put_one.ensures.err ∙ c.in_ok-give_numbers.ensures.nodes m)
+returns-in_err-put_one-clause-same c =
+    let same : (m : ℕ) → node c.put_one.new.links m ≡ node c.args.links.now m = λ m. ap (λ ns. node ns m) c.in_err-put_one.ensures.err ∙ c.in_ok-give_numbers.ensures.nodes m in on_err _ same
 
 pub returns-in_err-put_one-clause-sound : goal.returns-in_err-put_one-clause-sound
 returns-in_err-put_one-clause-sound c = subst IsSound (sym c.in_err-put_one.ensures.err) c.in_ok-give_numbers.ensures.sound

@@ -28,8 +28,9 @@ grow-requires-clause-can c =
     let q = c.requires.fits in let f = c.args.part.now.forest in let tree = c.in_ok-index.ensures.tree in let s = c.in-Some.field-0 in
     let size = ap length c.rows.ensures ∙ count-rows 1 f in let next = c.next_free-first.ensures.next in
     let one = one_root c.args.part.now tree s.row.now s.children s.next (sym (c.top.ensures ∙ c.in_ok-index.ensures.index) ∙ c.in-Some.ensures) in
-    subst (λ g. CanGrow c.args.links.now c.args.parent c.args.place g _) one
-    (can_grow c.args.names.now c.args.links.now q.0 c.args.parent c.args.place f q.1 q.2 (names_in c.args.part.now.next_free f tree.nodes) (alone_root f tree.root) _ (omega (arith, next, size)))
+    let until = c.next_free-first.result + length c.rows.result.now in
+    subst (λ g. CanGrow c.args.links.now c.args.parent c.args.place g until) one
+    (can_grow c.args.names.now c.args.links.now q.0 c.args.parent c.args.place f q.1 q.2 (names_in c.args.part.now.next_free f tree.nodes) (alone_root f tree.root) until (omega (arith, next, size)))
 
 pub grow-requires-clause-names : goal.grow-requires-clause-names
 grow-requires-clause-names c = c.requires.fits.1.table

@@ -14,13 +14,11 @@ put_all-left-init t c = begun c.args.names.now c.args.links.now c.args.parent c.
 pub put_all-put_one-requires : goal.put_all-put_one-requires
 put_all-put_one-requires t c =
     let s = c.in-Some.field-0 in let so = c.left.invariant in
-    let k = count_taken s.row.now s.children s.next c.left.left c.in-Some.ensures in let n = so.counted in let place = c.child_count-place.ensures.count in
-    (
+    let k = count_taken s.row.now s.children s.next c.left.left c.in-Some.ensures in let n = so.counted in let place = c.child_count-place.ensures.count in (
       omega (arith, c.decreases, k.0, n),
       (
         can_next c.args.names.now c.left.names c.args.links.now c.left.links c.args.parent c.args.numbers c.args.siblings c.left.numbers_left c.left.left c.requires.can so s.row.now s.children s.next c.in-Some.ensures,
-        (λ it there. let l = ap (λ o. length (children_by o)) there in omega (arith, place, l)),
-        so.sound,
+        ((λ it there. let l = ap (λ o. length (children_by o)) there in omega (arith, place, l)), so.sound),
       ),
     )
 
@@ -103,12 +101,11 @@ pub put_one-put_all-requires : goal.put_one-put_all-requires
 put_one-put_all-requires t c =
     let puts = c.in_ok-put_tag-in-Element.ensures.ok in let s = c.args.numbers in let row = c.args.row.now in let next = c.next-number.result in
     let size = element_size s row c.args.children c.put_tag.new.names c.args.links.now c.put_tag.new.links c.args.spot.parent c.args.spot.place c.requires.can next.number c.next-number.ensures.number next.behind c.next-number.ensures.behind
-        c.in-Element.name c.in-Element.is puts c.in_ok-put_tag-in-Element.ensures.sound in
-    (
+    c.in-Element.name c.in-Element.is puts c.in_ok-put_tag-in-Element.ensures.sound in (
       omega (arith, c.decreases, size),
       (
         can_below s row c.args.children c.put_tag.new.names c.args.links.now c.put_tag.new.links c.args.spot.parent c.args.spot.place c.requires.can next.number c.next-number.ensures.number next.behind c.next-number.ensures.behind
-        c.in-Element.name c.in-Element.is puts c.in_ok-put_tag-in-Element.ensures.sound,
+            c.in-Element.name c.in-Element.is puts c.in_ok-put_tag-in-Element.ensures.sound,
         c.in_ok-put_tag-in-Element.ensures.names,
       ),
     )
@@ -135,8 +132,7 @@ pub put_one-prune-requires-clause-over : goal.put_one-prune-requires-clause-over
 put_one-prune-requires-clause-over t c =
     let puts = c.in_ok-put_tag-in-Element.ensures.ok in let s = c.args.numbers in let row = c.args.row.now in let next = c.next-number.result in let first = c.in-Err.ensures.first in
     let whole = can_whole s row c.args.children c.put_tag.new.names c.args.links.now c.put_tag.new.links c.args.spot.parent c.args.spot.place c.requires.can next.number c.next-number.ensures.number next.behind c.next-number.ensures.behind
-        c.in-Element.name c.in-Element.is puts c.in_ok-put_tag-in-Element.ensures.sound in
-    (
+    c.in-Element.name c.in-Element.is puts c.in_ok-put_tag-in-Element.ensures.sound in (
       c.put_all.new.names,
       first.part,
       over c.put_all.new.names c.args.links.now c.put_tag.new.links c.put_all.new.links c.args.spot.parent c.args.spot.place next.number (contents.Element puts.parts) c.in-Element.name row.bindings row.attributes _ whole c.requires.within puts.inserts c.in_ok-put_tag-in-Element.ensures.sound first,
@@ -146,14 +142,14 @@ pub put_one-prune-requires-clause-parent : goal.put_one-prune-requires-clause-pa
 put_one-prune-requires-clause-parent t c =
     let puts = c.in_ok-put_tag-in-Element.ensures.ok in let s = c.args.numbers in let row = c.args.row.now in let next = c.next-number.result in let first = c.in-Err.ensures.first in
     let whole = can_whole s row c.args.children c.put_tag.new.names c.args.links.now c.put_tag.new.links c.args.spot.parent c.args.spot.place c.requires.can next.number c.next-number.ensures.number next.behind c.next-number.ensures.behind
-        c.in-Element.name c.in-Element.is puts c.in_ok-put_tag-in-Element.ensures.sound in
+    c.in-Element.name c.in-Element.is puts c.in_ok-put_tag-in-Element.ensures.sound in
     below_parent c.put_all.new.names c.args.links.now c.put_tag.new.links c.put_all.new.links c.args.spot.parent c.args.spot.place next.number (contents.Element puts.parts) c.in-Element.name row.bindings row.attributes _ whole c.requires.within puts.inserts c.in_ok-put_tag-in-Element.ensures.sound first
 
 pub put_one-returns-in-Err-clause-err : goal.put_one-returns-in-Err-clause-err
 put_one-returns-in-Err-clause-err t c =
     let puts = c.in_ok-put_tag-in-Element.ensures.ok in let s = c.args.numbers in let row = c.args.row.now in let next = c.next-number.result in let first = c.in-Err.ensures.first in
     let whole = can_whole s row c.args.children c.put_tag.new.names c.args.links.now c.put_tag.new.links c.args.spot.parent c.args.spot.place c.requires.can next.number c.next-number.ensures.number next.behind c.next-number.ensures.behind
-        c.in-Element.name c.in-Element.is puts c.in_ok-put_tag-in-Element.ensures.sound in
+    c.in-Element.name c.in-Element.is puts c.in_ok-put_tag-in-Element.ensures.sound in
     let own = over c.put_all.new.names c.args.links.now c.put_tag.new.links c.put_all.new.links c.args.spot.parent c.args.spot.place next.number (contents.Element puts.parts) c.in-Element.name row.bindings row.attributes _ whole c.requires.within puts.inserts c.in_ok-put_tag-in-Element.ensures.sound first in
     pruned c.put_all.new.names c.args.links.now c.put_tag.new.links c.put_all.new.links c.args.spot.parent c.args.spot.place next.number (contents.Element puts.parts) c.in-Element.name row.bindings row.attributes _ whole c.requires.within puts.inserts c.in_ok-put_tag-in-Element.ensures.sound first
     c.prune.new.links (λ q k at. c.prune.ensures.prunes c.put_all.new.names first.part own q k at)

@@ -3,7 +3,7 @@ use Rattle.tree_rows.specs.Forest.{Document}
 use Rattle.tree_rows.specs.Whole.{IsTree}
 use Rattle.tree_changes.specs.Stands.{StandsFor}
 use Rattle.tree_planting.specs.inside.Growing.{one_of}
-use Rattle.tree_planting.proofs.Rooting.{one_root, same_tree, has_no_root}
+use Rattle.tree_planting.proofs.Rooting.{same_tree}
 use Rattle.tree_planting.proofs.trees.nodes_of.Goals as goal
 
 pub plant_root-requires : goal.plant_root-requires
