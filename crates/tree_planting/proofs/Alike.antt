@@ -1,9 +1,9 @@
 -- Documents for which the same nodes stand, under whatever names: they differ in names and texts alone.
-use Rattle.std.proofs.Common.{◌≡◌, ◌≢◌, ℕ, ◌+◌, ◌≤◌, List, [], ◌∷◌, length, sym, ap, ◌∙◌, subst, Bool, true, false, ◌==◌, ◌||◌, nat_lt, if◌then◌else◌, Option, Some, None, refl, arith, max}
+use Rattle.std.proofs.Common.{◌≡◌, ℕ, ◌+◌, length, sym, ap, ◌∙◌, subst, Bool, true, false, ◌==◌, ◌||◌, nat_lt, if◌then◌else◌, Option, Some, None, refl, arith}
 use Rattle.std.proofs.lemmas.Option.{same_Some}
 use Rattle.xs_names.specs.Names.{NameTable}
 use Rattle.tree_rows.specs.Forest.{Forest, none, text, element, Document, count, deepest_of}
-use Rattle.tree_edits.specs.Edits.{has, Found, found, width, too_many_more}
+use Rattle.tree_edits.specs.Edits.{has, Found, found, width}
 use Rattle.tree_edits.specs.Tests.{is_element, element_node, width_of, node_width, depth_of}
 use Rattle.node_links.specs.Nodes.{Node, Nodes, node}
 use Rattle.node_links.specs.declared.content.Content.TheVariants as contents

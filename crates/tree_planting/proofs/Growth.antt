@@ -1,8 +1,8 @@
 -- Siblings that are put behind the children of a node, one after the other.
-use Rattle.std.proofs.Common.{◌≡◌, ◌≢◌, ◌⊎◌, ℕ, zero, suc, ◌+◌, ◌<◌, ◌≤◌, ◌^◌, List, [], ◌∷◌, ◌++◌, length, insert, take, drop, map, sym, ap, ◌∙◌, subst, Bool, true, false, ◌==◌, ◌||◌, if◌then◌else◌, Option, Some, None, refl, inl, inr, arith, append_assoc, append-nil}
+use Rattle.std.proofs.Common.{◌≡◌, ◌≢◌, ℕ, ◌+◌, ◌<◌, ◌≤◌, ◌^◌, List, [], ◌∷◌, ◌++◌, length, insert, take, drop, sym, ap, ◌∙◌, subst, true, false, ◌==◌, ◌||◌, if◌then◌else◌, Some, None, refl, arith, append_assoc, append-nil}
 use Rattle.std.specs.List.{insert_slice}
 use Rattle.std.proofs.lemmas.Bool.{or_parts, or_left, or_right, eq-eqb, true≢false, false≢true, false_from_ne_true}
-use Rattle.std.proofs.lemmas.Option.{same_Some, none-some}
+use Rattle.std.proofs.lemmas.Option.{none-some}
 use Rattle.xs_names.specs.Names.{NameTable, Grown, IsSound}
 use Rattle.xs_names.proofs.GrownLaws.{Grown-refl, Grown-trans}
 use Rattle.tree_rows.specs.Forest.{Forest, none, text, element, count, deepest_of}
@@ -22,7 +22,7 @@ use Rattle.node_links.specs.declared.content.Content.TheVariants as contents
 use Rattle.node_links.specs.declared.content.Element.{Element}
 use Rattle.node_links.specs.Nodes.{Node, Nodes, node, IsNode, Inserts}
 use Rattle.node_links.specs.Nodes.{IsSound as AreSound}
-use Rattle.tree_changes.specs.Stands.{firsts, StandFor}
+use Rattle.tree_changes.specs.Stands.{firsts}
 use Rattle.tree_changes.proofs.Standing.{stand_same, stand_append, stand_grown, firsts_append, append_assoc_forest, append_none, has_append, has_left, has_right, times_append, has_times}
 use Rattle.tree_planting.specs.declared.planting.Numbering.{Numbering}
 use Rattle.tree_planting.specs.Named.{IsCalled}

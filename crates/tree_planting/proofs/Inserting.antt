@@ -1,16 +1,16 @@
 -- The nodes stand for the document with new nodes in it.
-use Rattle.std.proofs.Common.{◌≡◌, ◌≢◌, ◌⊎◌, ℕ, zero, suc, ◌+◌, ◌-◌, ◌<◌, ◌≤◌, List, [], ◌∷◌, ◌++◌, length, take, insert, map, sym, ap, ◌∙◌, subst, Bool, true, false, ◌==◌, nat_le, if◌then◌else◌, Option, Some, None, refl, inl, inr, arith}
+use Rattle.std.proofs.Common.{◌≡◌, ◌≢◌, ◌⊎◌, ℕ, zero, suc, ◌+◌, ◌-◌, ◌<◌, ◌≤◌, List, [], ◌∷◌, ◌++◌, length, take, insert, map, sym, ap, ◌∙◌, subst, Bool, true, false, ◌==◌, nat_le, if◌then◌else◌, None, refl, inl, inr, arith}
 use Rattle.std.proofs.lemmas.Bool.{eq-eqb, eqb-true, true≢false}
 use Rattle.std.proofs.lemmas.Bool.Decides.{nat_tests}
 use Rattle.std.proofs.lemmas.List.{ext_get_or, get_or-take, length-take-le}
 use Rattle.std.proofs.lemmas.Option.{same_Some, none-some}
 use Rattle.xs_names.specs.Names.{NameTable, Grown, IsSound}
 use Rattle.tree_rows.specs.Forest.{Forest, none, text, element, Document, count}
-use Rattle.tree_rows.specs.Whole.{times, HasRoot, IsTree}
-use Rattle.tree_edits.specs.Edits.{has, Found, found, renumbered, append, insert_at, with_children, replaced}
+use Rattle.tree_rows.specs.Whole.{times, HasRoot}
+use Rattle.tree_edits.specs.Edits.{has, Found, renumbered, append, insert_at, with_children, replaced}
 use Rattle.tree_edits.specs.Tests.{with_nodes}
 use Rattle.tree_edits.proofs.BlockNaming.{HaveNames}
-use Rattle.tree_edits.proofs.Keeping.{IsAlone, Splits, splits, joins_at, put_kept}
+use Rattle.tree_edits.proofs.Keeping.{IsAlone, splits, joins_at, put_kept}
 use Rattle.tree_edits.proofs.Lying.{lies, times_changed}
 use Rattle.node_links.specs.declared.content.Content.TheVariants as contents
 use Rattle.node_links.specs.declared.content.Element.{Element}
@@ -20,7 +20,6 @@ use Rattle.node_links.proofs.Among.{same_or_other}
 use Rattle.tree_changes.specs.Stands.{firsts, StandFor, StandsFor, expanded_of, attribute_of, binding_of}
 use Rattle.tree_changes.proofs.Standing.{stand_same, stand_append, stand_parts, stand_grown, firsts_append, has_times, present_times}
 use Rattle.tree_changes.proofs.Changing.{stands_changed, still_there, not_key}
-use Rattle.tree_changes.proofs.Lain.{times_at}
 use Rattle.tree_planting.specs.Fits.{Fits}
 use Rattle.tree_planting.specs.Planted.{Plants}
 use Rattle.tree_planting.proofs.Numbering.{number_given}

@@ -1,11 +1,11 @@
 -- Names and namespaces that a table has under their numbers.
-use Rattle.std.proofs.Common.{◌≡◌, ◌≢◌, ℕ, zero, suc, ◌+◌, ◌<◌, List, [], ◌∷◌, ◌++◌, length, map, take, get_or, All, add-one, sym, ap, ◌∙◌, subst, Bool, true, false, ◌==◌, if◌then◌else◌, Option, Some, None, refl, arith}
-use Rattle.std.specs.Prelude.{slice_get, slice_index_or, bytes_eq, ◌↔◌}
+use Rattle.std.proofs.Common.{◌≡◌, ℕ, zero, suc, ◌+◌, ◌<◌, List, [], ◌∷◌, ◌++◌, length, map, take, get_or, add-one, sym, ap, ◌∙◌, subst, if◌then◌else◌, Option, Some, None, refl, arith}
+use Rattle.std.specs.Prelude.{slice_index_or, bytes_eq, ◌↔◌}
 use Rattle.std.proofs.lemmas.Bool.{eq-eqb, ne_eqb}
 use Rattle.std.proofs.lemmas.List.Elements.{All-push}
 use Rattle.std.proofs.lemmas.Option.{get_or_from_slice_get}
 use Rattle.std.proofs.lemmas.Slice.Eq.{bytes_eq-Decides}
-use Rattle.xs_names.specs.Names.{NameTable, Grown, IsSound, same_name, absent_space, space_number, name_number, space_of, local_of}
+use Rattle.xs_names.specs.Names.{NameTable, Grown, IsSound, same_name, absent_space, space_number, name_number}
 use Rattle.xs_names.proofs.NumberingLaws.{slice_get-number_of, same_name-Decides, slice_get-Begins}
 use Rattle.tree_rows.specs.Whole.{IsNamespace, AreNamespaces}
 use Rattle.tree_rows.specs.declared.row.Attribute.{Attribute}

@@ -1,6 +1,6 @@
 -- The numbers that planted nodes get.
-use Rattle.std.proofs.Common.{◌≡◌, ◌≢◌, ◌⊎◌, ℕ, ◌+◌, ◌≤◌, ◌<◌, List, Bool, true, false, ◌==◌, ◌||◌, nat_lt, sym, ap, ◌∙◌, subst, refl, inl, inr, arith, max}
-use Rattle.std.proofs.lemmas.Bool.{or_left, or_right, eq-eqb}
+use Rattle.std.proofs.Common.{◌≡◌, ℕ, ◌+◌, ◌≤◌, ◌<◌, List, Bool, true, false, ◌==◌, ◌||◌, nat_lt, ap, refl, inl, inr, arith}
+use Rattle.std.proofs.lemmas.Bool.{or_left, or_right}
 use Rattle.std.proofs.lemmas.Bool.Decides.{nat_tests}
 use Rattle.tree_rows.specs.Forest.{Forest, none, text, element, count, deepest_of}
 use Rattle.tree_rows.specs.Rows.{node as node_of}

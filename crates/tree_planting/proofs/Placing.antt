@@ -1,23 +1,22 @@
 -- The element that gets new children, in the document and among its nodes.
-use Rattle.std.proofs.Common.{◌≡◌, ◌≢◌, ◌⊎◌, ℕ, zero, suc, ◌+◌, ◌<◌, ◌≤◌, ◌^◌, List, [], ◌∷◌, ◌++◌, length, take, drop, insert, sym, ap, ◌∙◌, subst, Bool, true, false, ◌==◌, ◌||◌, nat_lt, if◌then◌else◌, Option, Some, None, Result, Ok, Err, OnErr, refl, inl, inr, arith}
+use Rattle.std.proofs.Common.{◌≡◌, ℕ, zero, suc, ◌+◌, ◌<◌, ◌≤◌, ◌^◌, List, [], ◌∷◌, ◌++◌, length, sym, ap, ◌∙◌, subst, Bool, true, false, nat_lt, if◌then◌else◌, Option, Some, None, Result, Ok, Err, OnErr, refl, arith}
 use Rattle.std.specs.List.{insert_slice}
 use Rattle.std.proofs.lemmas.Bool.{or_parts, false≢true, true≢false, false_from_ne_true}
 use Rattle.std.proofs.lemmas.Bool.Decides.{nat_tests}
 use Rattle.std.proofs.lemmas.List.{get_or_past, length_push}
-use Rattle.std.proofs.lemmas.Option.{same_Some, none-some}
-use Rattle.xs_names.specs.Names.{NameTable, Grown, IsSound}
+use Rattle.std.proofs.lemmas.Option.{same_Some}
+use Rattle.xs_names.specs.Names.{NameTable}
 use Rattle.tree_rows.specs.Forest.{Forest, none, text, element, Document, count, deepest_of}
-use Rattle.tree_rows.specs.Whole.{times}
 use Rattle.tree_rows.specs.declared.name.Expanded.{Expanded}
 use Rattle.tree_rows.specs.declared.row.Attribute.{Attribute}
 use Rattle.tree_rows.specs.declared.row.Binding.{Binding}
 use Rattle.tree_building.proofs.Numbers.{numbers_differ}
-use Rattle.tree_edits.specs.Edits.{has, Found, found, width, renumbered, append, insert_at, with_children, too_many_more, put_within}
+use Rattle.tree_edits.specs.Edits.{has, Found, found, width, renumbered, too_many_more, put_within}
 use Rattle.tree_edits.specs.Tests.{is_element, width_of, depth_of, element_node, with_nodes}
 use Rattle.tree_edits.specs.declared.edit.EditError.TheVariants.{TooManyNodes, TooDeep}
 use Rattle.tree_edits.proofs.BlockNaming.{HaveNames}
-use Rattle.tree_edits.proofs.Keeping.{IsAlone, found_alone, IsPlace, count-renumbered, numbered_renumbered}
-use Rattle.tree_edits.proofs.Lying.{Lies, lies, deepest_here}
+use Rattle.tree_edits.proofs.Keeping.{IsAlone, found_alone, IsPlace, numbered_renumbered}
+use Rattle.tree_edits.proofs.Lying.{lies, deepest_here}
 use Rattle.node_links.specs.declared.content.Content.TheVariants as contents
 use Rattle.node_links.specs.Nodes.{Node, Nodes, node, IsNode, Inserts}
 use Rattle.node_links.specs.Nodes.{IsSound as AreSound}

@@ -1,11 +1,11 @@
 -- A root that was made, and all that was put below it.
-use Rattle.std.proofs.Common.{◌≡◌, ◌≢◌, ◌⊎◌, ℕ, zero, suc, ◌+◌, ◌<◌, ◌≤◌, List, [], ◌∷◌, length, sym, ap, ◌∙◌, subst, Bool, true, false, ◌==◌, ◌||◌, if◌then◌else◌, Some, None, refl, inl, inr, arith}
+use Rattle.std.proofs.Common.{◌≡◌, ◌≢◌, ℕ, zero, suc, ◌<◌, ◌≤◌, List, [], length, sym, ap, ◌∙◌, subst, Bool, true, false, ◌==◌, ◌||◌, None, refl, inl, inr, arith}
 use Rattle.std.proofs.lemmas.Bool.{or_cases, or_left, or_right, eqb-true, eq-eqb, false≢true}
 use Rattle.std.proofs.lemmas.Option.{same_Some, none-some}
 use Rattle.xs_names.specs.Names.{NameTable, IsSound}
-use Rattle.tree_rows.specs.Forest.{Forest, none, text, element, Document, count, deepest_of}
+use Rattle.tree_rows.specs.Forest.{Forest, none, text, element, Document}
 use Rattle.tree_rows.specs.Rows.{node as node_of}
-use Rattle.tree_rows.specs.Whole.{times, IsNamed, AreNodes, HasRoot, IsTree}
+use Rattle.tree_rows.specs.Whole.{IsNamed, AreNodes, HasRoot, IsTree}
 use Rattle.tree_rows.specs.declared.row.Row.{Row}
 use Rattle.tree_rows.specs.declared.row.Content.{Content}
 use Rattle.tree_rows.specs.declared.row.Content.TheVariants as rows

@@ -1,4 +1,3 @@
-use Rattle.std.proofs.Common.{◌≡◌, ap, ◌∙◌}
 use Rattle.tree_planting.proofs.Named.{space_is}
 use Rattle.tree_planting.proofs.naming.name_binding.Goals as goal
 

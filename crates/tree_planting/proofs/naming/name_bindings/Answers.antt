@@ -1,4 +1,4 @@
-use Rattle.std.proofs.Common.{◌≡◌, ◌+◌, [], take, refl, sym, ap, ◌∙◌, subst, arith}
+use Rattle.std.proofs.Common.{◌+◌, [], take, refl, sym, subst, arith}
 use Rattle.xs_names.proofs.GrownLaws.{Grown-refl, Grown-trans}
 use Rattle.tree_planting.proofs.Named.{BindingsSoFar, bindings_next}
 use Rattle.tree_planting.proofs.naming.name_bindings.Goals as goal

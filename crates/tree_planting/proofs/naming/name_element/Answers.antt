@@ -1,4 +1,3 @@
-use Rattle.std.proofs.Common.{◌≡◌, sym, subst}
 use Rattle.xs_names.proofs.GrownLaws.{Grown-trans}
 use Rattle.node_links.specs.declared.content.Element.{Element}
 use Rattle.tree_planting.proofs.Named.{called}

@@ -1,5 +1,3 @@
-use Rattle.std.proofs.Common.{◌≡◌, Some, subst}
-use Rattle.xs_names.specs.Names.{absent_space, space_number, name_number}
 use Rattle.xs_names.proofs.GrownLaws.{Grown-trans}
 use Rattle.tree_planting.proofs.Named.{expanded_is}
 use Rattle.tree_planting.proofs.naming.name_id.Goals as goal

@@ -1,5 +1,5 @@
-use Rattle.std.proofs.Common.{◌≡◌, ◌<◌, refl, sym, ap, ◌∙◌, subst, length, arith}
-use Rattle.tree_planting.proofs.Placing.{GivesMore, one_more}
+use Rattle.std.proofs.Common.{◌<◌, refl, subst, arith}
+use Rattle.tree_planting.proofs.Placing.{one_more}
 use Rattle.tree_planting.proofs.numbers.give_numbers.Goals as goal
 
 pub numbers-init : goal.numbers-init

@@ -1,4 +1,4 @@
-use Rattle.std.proofs.Common.{◌≡◌, ℕ, ◌+◌, ◌≤◌, length, sym, ap, ◌∙◌, subst, arith}
+use Rattle.std.proofs.Common.{◌≡◌, ℕ, ◌≤◌, length, sym, ap, ◌∙◌, subst, arith}
 use Rattle.node_links.specs.Nodes.{node, IsSound}
 use Rattle.tree_planting.specs.declared.planting.Numbering.TheVariants as numbers
 use Rattle.tree_planting.specs.inside.Growing.{numbered_by, before, one_of, CanPlant, Planted}

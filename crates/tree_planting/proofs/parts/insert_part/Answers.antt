@@ -1,7 +1,5 @@
-use Rattle.std.proofs.Common.{◌≡◌, ◌+◌, length, take, sym, ap, ◌∙◌, subst, arith}
-use Rattle.tree_rows.specs.Forest.{count}
+use Rattle.std.proofs.Common.{◌+◌, length, take, sym, ap, ◌∙◌, subst, arith}
 use Rattle.tree_building.proofs.RowCounts.{count-rows}
-use Rattle.node_links.specs.Nodes.{node}
 use Rattle.tree_planting.specs.Fits.{Fits}
 use Rattle.tree_planting.specs.Planted.{Plants}
 use Rattle.tree_planting.specs.inside.Growing.{CanGrow}

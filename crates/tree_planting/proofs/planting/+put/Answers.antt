@@ -1,9 +1,9 @@
-use Rattle.std.proofs.Common.{◌≡◌, ◌+◌, length, sym, ap, ◌∙◌, subst, refl, arith}
-use Rattle.xs_names.proofs.GrownLaws.{Grown-refl, Grown-trans}
+use Rattle.std.proofs.Common.{length, sym, ap, ◌∙◌, refl, arith}
+use Rattle.xs_names.proofs.GrownLaws.{Grown-trans}
 use Rattle.tree_rows.specs.declared.row.Content.TheVariants as rows
 use Rattle.node_links.specs.declared.content.Content.TheVariants as contents
 use Rattle.node_links.specs.Nodes.{children_by}
-use Rattle.tree_planting.proofs.Growth.{begun, ended, can_next, next_so, first_of, count_taken, number_free, text_planted, text_counted, inner, can_whole, can_below, planted_whole, element_size, element_counted, named_one}
+use Rattle.tree_planting.proofs.Growth.{begun, ended, can_next, next_so, first_of, count_taken, number_free, text_planted, text_counted, can_whole, can_below, planted_whole, element_size, element_counted, named_one}
 use Rattle.tree_planting.proofs.Placing.{on_err}
 use Rattle.tree_planting.proofs.Pruning.{over, below_parent, pruned}
 use Rattle.tree_planting.proofs.planting.+put.Goals as goal

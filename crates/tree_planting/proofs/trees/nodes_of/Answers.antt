@@ -1,7 +1,5 @@
-use Rattle.std.proofs.Common.{◌≡◌, sym, ap, ◌∙◌, subst, IfOk}
-use Rattle.tree_rows.specs.Forest.{Document}
+use Rattle.std.proofs.Common.{sym, ◌∙◌, subst}
 use Rattle.tree_rows.specs.Whole.{IsTree}
-use Rattle.tree_changes.specs.Stands.{StandsFor}
 use Rattle.tree_planting.specs.inside.Growing.{one_of}
 use Rattle.tree_planting.proofs.Rooting.{same_tree}
 use Rattle.tree_planting.proofs.trees.nodes_of.Goals as goal

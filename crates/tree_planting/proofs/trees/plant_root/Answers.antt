@@ -1,4 +1,4 @@
-use Rattle.std.proofs.Common.{◌≡◌, ◌≤◌, ◌+◌, length, sym, ap, ◌∙◌, subst, refl, arith}
+use Rattle.std.proofs.Common.{length, sym, ap, ◌∙◌, subst, refl, arith}
 use Rattle.node_links.specs.declared.content.Content.TheVariants as contents
 use Rattle.node_links.specs.Nodes.{node}
 use Rattle.xs_names.proofs.GrownLaws.{Grown-trans}
