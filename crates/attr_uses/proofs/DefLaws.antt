@@ -14,7 +14,7 @@ use Rattle.xs_references.proofs.DescentLaws.{along-is}
 use Rattle.xs_references.proofs.ListLaws.{map-same}
 use Rattle.use_maps.specs.declared.entry.UseHolder.TheVariants.{Complex as OfType, AttrGroup as OfGroup}
 use Rattle.attr_uses.specs.Written.{own_of_group, own_of_type}
-use Rattle.attr_uses.specs.Uses.{no_uses, own_uses, with_groups, or_fault, first_refusal, accepted, refused_or, group_step, group_uses, uses_with_groups, with_own, type_part, type_step, any_type_uses, uses_of}
+use Rattle.attr_uses.specs.Uses.{no_uses, own_uses, with_groups, or_fault, first_refusal, accepted_groups, refused_or, group_step, group_uses, uses_with_groups, with_own, type_part, type_step, any_type_uses, uses_of}
 
 module _ (t : Tables) (ranked : IsRanked t) where
   group-asks : AsksLower (slice_index t.attr_groups.ranks) (Ok no_uses) (group_step t) (λ x. ⊤)
@@ -23,7 +23,7 @@ module _ (t : Tables) (ranked : IsRanked t) where
       of : (o : Option AttrGroupDef) → slice_get t.attr_groups.parts x ≡ o → uses_with_groups f (OfGroup x) (own_of_group o) ≡ uses_with_groups g (OfGroup x) (own_of_group o)
       of None e = refl
       of (Some part) e =
-          ap (λ rs. refused_or (first_refusal rs) (or_fault (own_of_group (Some part)).no_form (with_groups (own_uses (OfGroup x) (own_of_group (Some part))) (accepted rs))))
+          ap (λ rs. refused_or (first_refusal rs) (or_fault (own_of_group (Some part)).no_form (with_groups (own_uses (OfGroup x) (own_of_group (Some part))) (accepted_groups rs))))
           (map-same (IsBelow t.attr_groups (slice_index t.attr_groups.ranks x)) f g (λ y low. same y tt low.lower) part.groups (ranked.attr_groups x part e))
 
   pub group_uses_is : (n : ℕ) → group_uses t n ≡ group_step t (group_uses t) n

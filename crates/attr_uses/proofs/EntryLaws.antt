@@ -18,8 +18,8 @@ use Rattle.use_maps.specs.declared.entry.UseAt.{UseAt}
 use Rattle.use_maps.specs.declared.entry.UseHolder.{UseHolder}
 use Rattle.use_maps.specs.declared.join.Join.TheVariants.{Union, Override, Without}
 use Rattle.use_maps.proofs.MapLaws.{same_use-itself}
-use Rattle.attr_uses.specs.Written.{use_name, is_name, has_name, places, united}
-use Rattle.attr_uses.specs.Uses.{AttrUses, name_among, is_listed, is_left, restricted}
+use Rattle.attr_uses.specs.Written.{use_name, is_name, has_name, places, united_uses}
+use Rattle.attr_uses.specs.Uses.{AttrUses, name_among, is_listed, is_left, restricted_uses}
 use Rattle.attr_uses.specs.Tables.{is_needed, is_id, entry_of, entry_for}
 use Rattle.attr_uses.specs.inside.Kept.{entry_alone, named_entry}
 use Rattle.attr_uses.proofs.UseLaws.{same_use-is, filters-swap, filter-all, filters-const}
@@ -94,7 +94,7 @@ module _ (t : Tables) (ids : List Bool) where
       of false e = ap (λ d. list_any (differs x) xs || d) (left-differs x xs e ys)
 
   -- one use more, and uses of another list
-  pub entry-united : (a b : List UseAt) (name : ℕ) → entry_for t ids (united a b) name ≡ joined Union (entry_for t ids a name) (entry_for t ids b name)
+  pub entry-united : (a b : List UseAt) (name : ℕ) → entry_for t ids (united_uses a b) name ≡ joined Union (entry_for t ids a name) (entry_for t ids b name)
   entry-united a b name =
       let h = has_name t name in
       ap (entry_of t ids) (filter-append h a (filter (λ u. not (list_any (same_use u) a)) b) ∙
@@ -132,7 +132,7 @@ module _ (t : Tables) (ids : List Bool) where
 
   -- by restriction
   pub entry-restricted : (own base : AttrUses) (name : ℕ) (p : Option Entry) → is_some p ≡ is_listed own.prohibited (Some name) →
-      entry_for t ids (restricted t own base).uses name ≡ joined Override (entry_for t ids own.uses name) (joined Without p (entry_for t ids base.uses name))
+      entry_for t ids (restricted_uses t own base).uses name ≡ joined Override (entry_for t ids own.uses name) (joined Without p (entry_for t ids base.uses name))
   entry-restricted own base name p e =
       let h = has_name t name in
       let k = list_any h own.uses in

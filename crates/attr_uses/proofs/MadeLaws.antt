@@ -20,8 +20,8 @@ use Rattle.use_maps.specs.declared.entry.Entry.{Entry}
 use Rattle.use_maps.specs.declared.join.Join.TheVariants.{Union, Override, Without}
 use Rattle.use_maps.specs.declared.maps.UseMap.{UseMap}
 use Rattle.attr_uses.specs.Wildcards.{joined_wildcard, intersection, union}
-use Rattle.attr_uses.specs.Written.{OwnParts, fault_at, places, united}
-use Rattle.attr_uses.specs.Uses.{AttrUses, no_uses, with_group, with_groups, accepted, first_refusal, restricted, extended, is_listed, any_wildcard, any_type_uses, own_uses, or_fault, with_base, group_uses}
+use Rattle.attr_uses.specs.Written.{OwnParts, fault_at, places, united_uses}
+use Rattle.attr_uses.specs.Uses.{AttrUses, no_uses, with_group, with_groups, accepted_groups, first_refusal, restricted_uses, extended_uses, is_listed, any_wildcard, any_type_uses, own_uses, or_fault, with_base, group_uses}
 use Rattle.attr_uses.specs.Tables.{entry_for, StandsFor, Answers, IsAnswer, IsSetOf, IsStore, IsWildcard, kept_wildcard, IsKeptWildcard}
 use Rattle.attr_uses.specs.inside.Kept.{Keeps, IsForm, IsMade, IsAnswerAt, table_of, fault_of, with_next, table_or}
 use Rattle.attr_uses.specs.declared.store.KeptTable.{KeptTable}
@@ -50,7 +50,7 @@ module _ (t : Tables) (ids : List Bool) where
   -- by restriction
   pub restricted-made : (store : Store) (m1 m2 : MapNodes) → KeepsMaps store.maps m1 → KeepsMaps m1 m2 → (own : KeptTable) (a b : AttrUses) (sa : StandsFor t ids store own a) (uses : UseMap) →
       IsMapOf m2 uses.top (λ name. joined Override (entry_for t ids a.uses name) (joined Without (sa.prohibited.entries name) (entry_for t ids b.uses name))) →
-      Keeps store record { maps = m2; wildcards = store.wildcards } × StandsFor t ids record { maps = m2; wildcards = store.wildcards } record { uses = uses; prohibited = own.prohibited; wildcard = own.wildcard } (restricted t a b)
+      Keeps store record { maps = m2; wildcards = store.wildcards } × StandsFor t ids record { maps = m2; wildcards = store.wildcards } record { uses = uses; prohibited = own.prohibited; wildcard = own.wildcard } (restricted_uses t a b)
   restricted-made store m1 m2 k1 k2 own a b sa uses is =
       let k = maps-on store.maps m1 m2 k1 k2 in
       let keeps = keeps-maps store m2 k in
@@ -68,7 +68,7 @@ module _ (t : Tables) (ids : List Bool) where
   pub extended-made : (store s1 : Store) (m2 : MapNodes) → Keeps store s1 → KeepsMaps s1.maps m2 → (own : KeptTable) (a b : AttrUses) (sa : StandsFor t ids store own a) (w : Option ℕ) (uses : UseMap) →
       IsForm s1.wildcards (Some w) (joined_wildcard union a.wildcard b.wildcard) →
       IsMapOf m2 uses.top (λ name. joined Union (entry_for t ids a.uses name) (entry_for t ids b.uses name)) →
-      Keeps store record { maps = m2; wildcards = s1.wildcards } × IsMade t ids record { maps = m2; wildcards = s1.wildcards } (Some record { uses = uses; prohibited = own.prohibited; wildcard = w }) (extended a b)
+      Keeps store record { maps = m2; wildcards = s1.wildcards } × IsMade t ids record { maps = m2; wildcards = s1.wildcards } (Some record { uses = uses; prohibited = own.prohibited; wildcard = w }) (extended_uses a b)
   extended-made store s1 m2 k1 k2 own a b sa w uses form is =
       let keeps = keeps-on store s1 (store-of m2 s1.wildcards) k1 (keeps-maps s1 m2 k2) in
       let sa' = stands-kept t ids store (store-of m2 s1.wildcards) keeps own a sa in
@@ -76,7 +76,7 @@ module _ (t : Tables) (ids : List Bool) where
     where
       of : (o : Option (Option Wildcard)) → IsForm s1.wildcards (Some w) o → StandsFor t ids record { maps = m2; wildcards = s1.wildcards } own a →
           IsMade t ids record { maps = m2; wildcards = s1.wildcards } (Some record { uses = uses; prohibited = own.prohibited; wildcard = w })
-          (option_map (λ wildcard. record { uses = united a.uses b.uses; prohibited = a.prohibited; wildcard = wildcard }) o)
+          (option_map (λ wildcard. record { uses = united_uses a.uses b.uses; prohibited = a.prohibited; wildcard = wildcard }) o)
       of None form sa' = absurd form
       of (Some v) form sa' = record {
         uses = map-same m2 uses.top _ _ (λ name h. sym (entry-united t ids a.uses b.uses name)) is;
@@ -85,11 +85,11 @@ module _ (t : Tables) (ids : List Bool) where
         wildcard = form.1;
       }
 
-  pub extended-none : (store : Store) (a b : AttrUses) → IsForm store.wildcards None (joined_wildcard union a.wildcard b.wildcard) → IsMade t ids store None (extended a b)
+  pub extended-none : (store : Store) (a b : AttrUses) → IsForm store.wildcards None (joined_wildcard union a.wildcard b.wildcard) → IsMade t ids store None (extended_uses a b)
   extended-none store a b form = of (joined_wildcard union a.wildcard b.wildcard) form
     where
       of : (o : Option (Option Wildcard)) → IsForm store.wildcards None o →
-          IsMade t ids store None (option_map (λ wildcard. record { uses = united a.uses b.uses; prohibited = a.prohibited; wildcard = wildcard }) o)
+          IsMade t ids store None (option_map (λ wildcard. record { uses = united_uses a.uses b.uses; prohibited = a.prohibited; wildcard = wildcard }) o)
       of None form = tt
       of (Some v) form = absurd form
 
@@ -108,7 +108,7 @@ module _ (t : Tables) (ids : List Bool) where
     where
       of : (o : Option (Option Wildcard)) → IsForm s1.wildcards (Some w) o → IsSetOf m3 pro.top (a.prohibited ++ b.prohibited) →
           IsMade t ids record { maps = m3; wildcards = s1.wildcards } (Some record { uses = uses; prohibited = pro; wildcard = w })
-          (option_map (λ wildcard. record { uses = united a.uses b.uses; prohibited = a.prohibited ++ b.prohibited; wildcard = wildcard }) o)
+          (option_map (λ wildcard. record { uses = united_uses a.uses b.uses; prohibited = a.prohibited ++ b.prohibited; wildcard = wildcard }) o)
       of None form sets = absurd form
       of (Some v) form sets = record {
         uses = map-same m3 uses.top _ _ (λ name h. sym (entry-united t ids a.uses b.uses name)) (k3.maps uses.top _ is);
@@ -121,7 +121,7 @@ module _ (t : Tables) (ids : List Bool) where
   group-none store a b form = of (joined_wildcard intersection a.wildcard b.wildcard) form
     where
       of : (o : Option (Option Wildcard)) → IsForm store.wildcards None o →
-          IsMade t ids store None (option_map (λ wildcard. record { uses = united a.uses b.uses; prohibited = a.prohibited ++ b.prohibited; wildcard = wildcard }) o)
+          IsMade t ids store None (option_map (λ wildcard. record { uses = united_uses a.uses b.uses; prohibited = a.prohibited ++ b.prohibited; wildcard = wildcard }) o)
       of None form = tt
       of (Some v) form = absurd form
 
@@ -147,7 +147,7 @@ module _ (t : Tables) (ids : List Bool) where
   table-missing store (Some (Err f)) a (Ok v) e is = absurd is
   table-missing store (Some (Err f)) a (Err g) e is = refl
 
-  pub with_groups-next : (a : AttrUses) (r : Result AttrUses Fault) (rs : List (Result AttrUses Fault)) → with_groups a (accepted (r ∷ rs)) ≡ option_and_then (λ both. with_groups both (accepted rs)) (with_next a r)
+  pub with_groups-next : (a : AttrUses) (r : Result AttrUses Fault) (rs : List (Result AttrUses Fault)) → with_groups a (accepted_groups (r ∷ rs)) ≡ option_and_then (λ both. with_groups both (accepted_groups rs)) (with_next a r)
   with_groups-next a (Ok v) rs = refl
   with_groups-next a (Err f) rs = refl
 
@@ -227,11 +227,11 @@ answers-or t ids store made o f g r answer e is = subst (λ x. Answers t ids sto
     of (Some table) None is = absurd is
     of (Some table) (Some v) is = is
 
-pub with-restricted : (t : Tables) (part : ComplexType) (a b : AttrUses) → part.by_extension ≡ false → with_base t part a b ≡ Ok (restricted t a b)
-with-restricted t part a b h = ap (λ e. if e then or_fault (fault_at part.at SrcCt5) (extended a b) else Ok (restricted t a b)) h
+pub with-restricted : (t : Tables) (part : ComplexType) (a b : AttrUses) → part.by_extension ≡ false → with_base t part a b ≡ Ok (restricted_uses t a b)
+with-restricted t part a b h = ap (λ e. if e then or_fault (fault_at part.at SrcCt5) (extended_uses a b) else Ok (restricted_uses t a b)) h
 
-pub with-extended : (t : Tables) (part : ComplexType) (a b : AttrUses) → part.by_extension ≡ true → with_base t part a b ≡ or_fault (fault_at part.at SrcCt5) (extended a b)
-with-extended t part a b h = ap (λ e. if e then or_fault (fault_at part.at SrcCt5) (extended a b) else Ok (restricted t a b)) h
+pub with-extended : (t : Tables) (part : ComplexType) (a b : AttrUses) → part.by_extension ≡ true → with_base t part a b ≡ or_fault (fault_at part.at SrcCt5) (extended_uses a b)
+with-extended t part a b h = ap (λ e. if e then or_fault (fault_at part.at SrcCt5) (extended_uses a b) else Ok (restricted_uses t a b)) h
 
 like-itself : (o : Option Wildcard) → IsWildcard o o
 like-itself None = tt
@@ -263,5 +263,5 @@ module _ (t : Tables) (ids : List Bool) (store : Store) (groups : List (Result K
       first_refusal (map (group_uses t) (drop i named)) ≡ option_or (fault_of (slice_get groups g)) (first_refusal (map (group_uses t) (drop (i + 1) named)))
   refusal-step all = ap (λ xs. first_refusal (map (group_uses t) xs)) first-left ∙ refusal-next t ids store (slice_get groups g) (group_uses t g) (map (group_uses t) (drop (i + 1) named)) (answer-here all)
 
-  pub groups-step : (v : AttrUses) → with_groups v (accepted (map (group_uses t) (drop i named))) ≡ option_and_then (λ both. with_groups both (accepted (map (group_uses t) (drop (i + 1) named)))) (with_next v (group_uses t g))
-  groups-step v = ap (λ xs. with_groups v (accepted (map (group_uses t) xs))) first-left ∙ with_groups-next t ids v (group_uses t g) (map (group_uses t) (drop (i + 1) named))
+  pub groups-step : (v : AttrUses) → with_groups v (accepted_groups (map (group_uses t) (drop i named))) ≡ option_and_then (λ both. with_groups both (accepted_groups (map (group_uses t) (drop (i + 1) named)))) (with_next v (group_uses t g))
+  groups-step v = ap (λ xs. with_groups v (accepted_groups (map (group_uses t) xs))) first-left ∙ with_groups-next t ids v (group_uses t g) (map (group_uses t) (drop (i + 1) named))

@@ -9,14 +9,14 @@ use Rattle.use_maps.specs.declared.entry.Entry.{Entry}
 use Rattle.use_maps.specs.declared.entry.UseAt.{UseAt}
 use Rattle.attr_uses.specs.Written.{has_name}
 use Rattle.attr_uses.specs.Uses.{first_of, use_named}
-use Rattle.attr_uses.specs.Tables.{entry_of, entry_for, differ, is_id_named, is_needed_named, HasTwoOfOneName, HasTwoIds, IsNext}
+use Rattle.attr_uses.specs.Tables.{entry_of, entry_for, has_another, is_id_named, is_needed_named, HasTwoOfOneName, HasTwoIds, IsNext}
 
 module _ (t : Tables) (ids : List Bool) where
   entry-first : (us : List UseAt) → option_map (λ e. e.first) (entry_of t ids us) ≡ first_of us
   entry-first [] = refl
   entry-first (u ∷ us) = refl
 
-  entry-differ : (us : List UseAt) → entry_is (λ e. e.double) (entry_of t ids us) ≡ differ us
+  entry-differ : (us : List UseAt) → entry_is (λ e. e.double) (entry_of t ids us) ≡ has_another us
   entry-differ [] = refl
   entry-differ (u ∷ us) = refl
 

@@ -106,13 +106,13 @@ pub record AreTablesOf (t : Tables) (ids : List Bool) (tables : AttrTables) : Ty
   pub types : (n : ℕ) → n < length t.complexes.parts → IsAnswer t ids tables.store (slice_get tables.types n) (uses_of t (Complex n))
 
 -- some use is another one than the first
-abbrev pub differ : List UseAt → Bool
-differ [] = false
-differ (u ∷ us) = list_any (λ v. not (same_use u v)) us
+abbrev pub has_another : List UseAt → Bool
+has_another [] = false
+has_another (u ∷ us) = list_any (λ v. not (same_use u v)) us
 
 -- some different uses have one name
 abbrev pub HasTwoOfOneName : Tables → List UseAt → Type 0
-HasTwoOfOneName t uses = (name : ℕ) × (name < 2 ^ 32) × (differ (filter (has_name t name) uses) ≡ true)
+HasTwoOfOneName t uses = (name : ℕ) × (name < 2 ^ 32) × (has_another (filter (has_name t name) uses) ≡ true)
 
 abbrev pub is_id_named : Tables → List Bool → Option UseAt → Bool
 is_id_named t ids None = false

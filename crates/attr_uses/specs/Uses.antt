@@ -17,7 +17,7 @@ use Rattle.use_maps.specs.declared.entry.UseAt.{UseAt}
 use Rattle.use_maps.specs.declared.entry.UseHolder.{UseHolder}
 use Rattle.use_maps.specs.declared.entry.UseHolder.TheVariants.{Complex as OfType, AttrGroup as OfGroup}
 use Rattle.attr_uses.specs.Wildcards.{joined_wildcard, intersection, union}
-use Rattle.attr_uses.specs.Written.{OwnParts, fault_at, own_of_type, own_parts, use_name, has_name, places, united}
+use Rattle.attr_uses.specs.Written.{OwnParts, fault_at, own_of_type, own_parts, use_name, has_name, places, united_uses}
 
 -- the attribute uses, the names of prohibited attributes, and the wildcard
 pub record AttrUses : Type 0 where
@@ -36,7 +36,7 @@ own_uses holder own = record { uses = places holder 0 own.uses; prohibited = own
 -- (the complete wildcard, Structures 3.4.2). None where it has no form.
 abbrev pub with_group : AttrUses → AttrUses → Option AttrUses
 with_group own group =
-    option_map (λ wildcard. record { uses = united own.uses group.uses; prohibited = own.prohibited ++ group.prohibited; wildcard = wildcard })
+    option_map (λ wildcard. record { uses = united_uses own.uses group.uses; prohibited = own.prohibited ++ group.prohibited; wildcard = wildcard })
     (joined_wildcard intersection own.wildcard group.wildcard)
 
 -- one group after another
@@ -55,10 +55,10 @@ first_refusal (Ok uses ∷ rest) = first_refusal rest
 first_refusal (Err fault ∷ rest) = Some fault
 
 -- those that are not refused
-abbrev pub accepted : List (Result AttrUses Fault) → List AttrUses
-accepted [] = []
-accepted (Ok uses ∷ rest) = uses ∷ accepted rest
-accepted (Err fault ∷ rest) = accepted rest
+abbrev pub accepted_groups : List (Result AttrUses Fault) → List AttrUses
+accepted_groups [] = []
+accepted_groups (Ok uses ∷ rest) = uses ∷ accepted_groups rest
+accepted_groups (Err fault ∷ rest) = accepted_groups rest
 
 abbrev pub refused_or : Option Fault → Result AttrUses Fault → Result AttrUses Fault
 refused_or None uses = uses
@@ -68,7 +68,7 @@ refused_or (Some fault) uses = Err fault
 -- refused where a group is, and where the wildcards have no intersection.
 abbrev pub uses_with_groups : (ℕ → Result AttrUses Fault) → UseHolder → OwnParts → Result AttrUses Fault
 uses_with_groups group holder own =
-    refused_or (first_refusal (map group own.groups)) (or_fault own.no_form (with_groups (own_uses holder own) (accepted (map group own.groups))))
+    refused_or (first_refusal (map group own.groups)) (or_fault own.no_form (with_groups (own_uses holder own) (accepted_groups (map group own.groups))))
 
 abbrev pub group_step : Tables → (ℕ → Result AttrUses Fault) → ℕ → Result AttrUses Fault
 group_step t group n = uses_with_groups group (OfGroup n) (own_parts t (OfGroup n))
@@ -91,18 +91,18 @@ abbrev pub is_left : Tables → AttrUses → UseAt → Bool
 is_left t own u = not (name_among t own.uses (use_name t u)) && not (is_listed own.prohibited (use_name t u))
 
 -- By restriction: the uses of the type and those of the base that it leaves; the wildcard is that of the type.
-abbrev pub restricted : Tables → AttrUses → AttrUses → AttrUses
-restricted t own base = record own { uses = own.uses ++ filter (is_left t own) base.uses }
+abbrev pub restricted_uses : Tables → AttrUses → AttrUses → AttrUses
+restricted_uses t own base = record own { uses = own.uses ++ filter (is_left t own) base.uses }
 
 -- By extension: the uses of the type and those of the base; the wildcard is the union of both.
-abbrev pub extended : AttrUses → AttrUses → Option AttrUses
-extended own base =
-    option_map (λ wildcard. record { uses = united own.uses base.uses; prohibited = own.prohibited; wildcard = wildcard })
+abbrev pub extended_uses : AttrUses → AttrUses → Option AttrUses
+extended_uses own base =
+    option_map (λ wildcard. record { uses = united_uses own.uses base.uses; prohibited = own.prohibited; wildcard = wildcard })
     (joined_wildcard union own.wildcard base.wildcard)
 
 -- src-ct.5 (Structures 3.4.3): the union with the wildcard of the base has no form.
 abbrev pub with_base : Tables → ComplexType → AttrUses → AttrUses → Result AttrUses Fault
-with_base t part own base = if part.by_extension then or_fault (fault_at part.at SrcCt5) (extended own base) else Ok (restricted t own base)
+with_base t part own base = if part.by_extension then or_fault (fault_at part.at SrcCt5) (extended_uses own base) else Ok (restricted_uses t own base)
 
 abbrev pub with_base_of : Tables → ComplexType → AttrUses → Result AttrUses Fault → Result AttrUses Fault
 with_base_of t part own (Err fault) = Err fault

@@ -74,5 +74,5 @@ places holder place [] = []
 places holder place (part ∷ parts) = record { holder = holder; place = place } ∷ places holder (suc place) parts
 
 -- the uses of one list, and those of another that are not among them: an `attribute` element that is reached twice is one use
-abbrev pub united : List UseAt → List UseAt → List UseAt
-united some more = some ++ filter (λ u. not (list_any (same_use u) some)) more
+abbrev pub united_uses : List UseAt → List UseAt → List UseAt
+united_uses some more = some ++ filter (λ u. not (list_any (same_use u) some)) more

@@ -95,7 +95,7 @@ impl Store {
         requires own { IsTable self.old own }
         requires base { IsTable self.old base }
         ensures made { (t : Tables) (ids : List Bool) (a b : AttrUses) → StandsFor t ids self.old own a → StandsFor t ids self.old base b
-            → IfOk result (λ made. Keeps self.old self.new × IsMade t ids self.new made (spec.extended a b)) }
+            → IfOk result (λ made. Keeps self.old self.new × IsMade t ids self.new made (spec.extended_uses a b)) }
     {
         let wildcard = match self.joined(alloc, Joining::Union, own.wildcard, base.wildcard)? {
             Some(wildcard) => wildcard,
@@ -114,7 +114,7 @@ impl Store {
         requires own { IsTable self.old own }
         requires base { IsTable self.old base }
         ensures made { (t : Tables) (ids : List Bool) (a b : AttrUses) → StandsFor t ids self.old own a → StandsFor t ids self.old base b
-            → IfOk result (λ made. Keeps self.old self.new × StandsFor t ids self.new made (spec.restricted t a b)) }
+            → IfOk result (λ made. Keeps self.old self.new × StandsFor t ids self.new made (spec.restricted_uses t a b)) }
     {
         let left = self.maps.combine(Join::Without, own.prohibited, base.uses)?;
         let uses = self.maps.combine(Join::Override, own.uses, left)?;

@@ -74,7 +74,7 @@ impl Store {
         requires groups { All (λ g. IsAnswerAt parts.now ids.now self.old (slice_get groups.now g) (group_uses parts.now g)) named.now }
         requires own { (value : AttrUses) × StandsFor parts.now ids.now self.old own value }
         ensures made { (value : AttrUses) → StandsFor parts.now ids.now self.old own value
-            → IfOk result (λ made. Keeps self.old self.new × IsMade parts.now ids.now self.new made (spec.with_groups value (spec.accepted (map (group_uses parts.now) named.now)))) }
+            → IfOk result (λ made. Keeps self.old self.new × IsMade parts.now ids.now self.new made (spec.with_groups value (spec.accepted_groups (map (group_uses parts.now) named.now)))) }
     {
         let mut table = own;
         for group in named {

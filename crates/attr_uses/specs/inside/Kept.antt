@@ -14,7 +14,7 @@ use Rattle.use_maps.specs.declared.entry.UseAt.{UseAt}
 use Rattle.use_maps.specs.declared.entry.UseHolder.{UseHolder}
 use Rattle.attr_uses.specs.Wildcards.{intersection, union}
 use Rattle.attr_uses.specs.Written.{OwnParts, use_name}
-use Rattle.attr_uses.specs.Uses.{AttrUses, no_uses, own_uses, with_group, with_groups, accepted, or_fault, group_uses, uses_of}
+use Rattle.attr_uses.specs.Uses.{AttrUses, no_uses, own_uses, with_group, with_groups, accepted_groups, or_fault, group_uses, uses_of}
 use Rattle.attr_uses.specs.Tables.{StandsFor, Answers, IsAnswer, is_needed, is_id, IsWildcard, kept_wildcard, IsKeptWildcard}
 use Rattle.attr_uses.specs.declared.store.KeptTable.{KeptTable}
 use Rattle.attr_uses.specs.declared.store.Store.{Store}
@@ -86,7 +86,7 @@ table_or (Some table) fault = Ok table
 
 -- the uses with those of groups, none of which is refused
 abbrev pub accepted_uses : (ℕ → Result AttrUses Fault) → UseHolder → OwnParts → Result AttrUses Fault
-accepted_uses group holder own = or_fault own.no_form (with_groups (own_uses holder own) (accepted (map group own.groups)))
+accepted_uses group holder own = or_fault own.no_form (with_groups (own_uses holder own) (accepted_groups (map group own.groups)))
 
 abbrev pub table_of : Option (Result KeptTable Fault) → Option KeptTable
 table_of None = None

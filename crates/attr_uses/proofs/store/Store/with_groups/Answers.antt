@@ -1,7 +1,7 @@
 use Rattle.std.proofs.Common.{◌+◌, None, Some, map, drop, slice_get, arith, sym, ap, subst, ◌∙◌}
 use Rattle.std.specs.Option.{option_and_then}
 use Rattle.std.proofs.lemmas.List.{drop_all}
-use Rattle.attr_uses.specs.Uses.{group_uses, with_groups, accepted}
+use Rattle.attr_uses.specs.Uses.{group_uses, with_groups, accepted_groups}
 use Rattle.attr_uses.specs.inside.Kept.{IsMade, with_next}
 use Rattle.attr_uses.proofs.KeptLaws.{keeps-on, answer-at-kept}
 use Rattle.attr_uses.proofs.MadeLaws.{answer-here, groups-step, made-some, made-none}
@@ -42,7 +42,7 @@ returns-in-None c =
             keeps-on c.args.self.now c.loop-group.self new inv.keeps n.0,
             subst (IsMade t ids new None)
                 (sym (sym m.2 ∙ (groups-step t ids c.args.self.now c.args.groups.now c.args.named.now i g c.loop-group-test.true c.group-item.is m.0 ∙
-                ap (option_and_then (λ both. with_groups both (accepted (map (group_uses t) (drop (i + 1) c.args.named.now))))) none))) tt,
+                ap (option_and_then (λ both. with_groups both (accepted_groups (map (group_uses t) (drop (i + 1) c.args.named.now))))) none))) tt,
           ));
     }
 
@@ -66,7 +66,7 @@ loop-group-preserved c =
             v.0,
             v.2,
             sym (groups-step t ids c.args.self.now c.args.groups.now c.args.named.now i g c.loop-group-test.true c.group-item.is m.0 ∙
-                ap (option_and_then (λ both. with_groups both (accepted (map (group_uses t) (drop (i + 1) c.args.named.now))))) v.1) ∙ m.2,
+                ap (option_and_then (λ both. with_groups both (accepted_groups (map (group_uses t) (drop (i + 1) c.args.named.now))))) v.1) ∙ m.2,
           ));
     }
 
@@ -77,6 +77,6 @@ returns c = record {
       let t = c.args.parts.now in (
         c.loop-group.invariant.keeps,
         subst (IsMade t c.args.ids.now c.loop-group.self (Some c.loop-group.table))
-            (sym (sym m.2 ∙ ap (λ xs. with_groups m.0 (accepted (map (group_uses t) xs))) (drop_all c.loop-group.group-index c.args.named.now (omega arith)))) m.1,
+            (sym (sym m.2 ∙ ap (λ xs. with_groups m.0 (accepted_groups (map (group_uses t) xs))) (drop_all c.loop-group.group-index c.args.named.now (omega arith)))) m.1,
       ));
 }
