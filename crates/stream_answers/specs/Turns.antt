@@ -133,15 +133,12 @@ document_in_schema Session line p = schemas_end p (document_begun line)
 abbrev pub schema_grown : SchemaSection → Item → Turned
 schema_grown p it = grown p.start (after p.builder it) (λ b. places.Schema (record p { builder = b }))
 
--- in a schema section
+-- a word in a schema section
 abbrev pub in_schema : Asked → ℕ → SchemaSection → Item → Turned
 in_schema a line p (items.Schema locations) = next_schema line p
 in_schema a line p items.End = end_in_schema a line p
 in_schema a line p items.Document = document_in_schema a line p
-in_schema a line p items.Edits = misplaced line
-in_schema a line p items.Dot = misplaced line
-in_schema a line p (items.Command text) = misplaced line
-in_schema a line p it = schema_grown p it
+in_schema a line p word = misplaced line
 
 -- an element has an attribute that is no binding
 abbrev pub has_attributes : List Row → Bool
@@ -200,15 +197,11 @@ edits_in_document Session line p = edits_begin p
 abbrev pub document_grown : DocumentSection → Item → Turned
 document_grown p it = grown p.start (after p.builder it) (λ b. places.Document (record p { builder = b }))
 
--- in the document section
+-- a word in the document section
 abbrev pub in_document : Asked → ℕ → DocumentSection → Item → Turned
 in_document a line p items.End = end_in_document a line p
 in_document a line p items.Edits = edits_in_document a line p
-in_document a line p items.Document = misplaced line
-in_document a line p items.Dot = misplaced line
-in_document a line p (items.Schema locations) = misplaced line
-in_document a line p (items.Command text) = misplaced line
-in_document a line p it = document_grown p it
+in_document a line p word = misplaced line
 
 -- the first word is insert
 abbrev pub begins_block : List ℕ → Bool
@@ -225,37 +218,49 @@ abbrev pub commanded : State → List ℕ → Turned
 commanded s line =
     if begins_block line then goes [] (places.Block (record { session = s; line = line; items = [] })) else answered s line None
 
+-- a word or a command behind the document
 abbrev pub in_edits : ℕ → State → Item → Turned
 in_edits line s (items.Command text) = commanded s text
 in_edits line s items.End = goes [] (session_ended s)
-in_edits line s it = misplaced line
+in_edits line s word = misplaced line
 
 -- one more item of a block
 abbrev pub block_grown : Block → Item → Turned
 block_grown b it = goes [] (places.Block (record b { items = b.items ++ it ∷ [] }))
 
--- in a block, which a dot ends
+-- a word in a block, which a dot ends
 abbrev pub in_block : ℕ → Block → Item → Turned
 in_block line b items.Dot = answered b.session b.line (Some b.items)
-in_block line b items.Document = misplaced line
-in_block line b items.Edits = misplaced line
-in_block line b items.End = misplaced line
-in_block line b (items.Schema locations) = misplaced line
-in_block line b (items.Command text) = misplaced line
-in_block line b it = block_grown b it
+in_block line b word = misplaced line
 
 abbrev pub in_fresh : ℕ → Item → Turned
 in_fresh line (items.Schema locations) = goes [] (schema_begun line 1 None)
-in_fresh line it = misplaced line
+in_fresh line word = misplaced line
+
+-- a word or a command moves the stream
+abbrev pub moved : Asked → ℕ → Place → Item → Turned
+moved a line places.Fresh word = in_fresh line word
+moved a line (places.Schema p) word = in_schema a line p word
+moved a line (places.Document p) word = in_document a line p word
+moved a line (places.Edits s) word = in_edits line s word
+moved a line (places.Block b) word = in_block line b word
+moved a line (places.Ended verdict) word = misplaced line
+
+-- an item of a tree belongs to the section or the block that is read
+abbrev pub part_taken : ℕ → Place → Item → Turned
+part_taken line (places.Schema p) it = schema_grown p it
+part_taken line (places.Document p) it = document_grown p it
+part_taken line (places.Block b) it = block_grown b it
+part_taken line place it = misplaced line
 
 -- the item of the line of this number, where a stream stands here
 abbrev pub turned : Asked → ℕ → Place → Item → Turned
-turned a line places.Fresh it = in_fresh line it
-turned a line (places.Schema p) it = in_schema a line p it
-turned a line (places.Document p) it = in_document a line p it
-turned a line (places.Edits s) it = in_edits line s it
-turned a line (places.Block b) it = in_block line b it
-turned a line (places.Ended verdict) it = misplaced line
+turned a line place (items.Start name) = part_taken line place (items.Start name)
+turned a line place (items.Attr name value) = part_taken line place (items.Attr name value)
+turned a line place (items.Chars text) = part_taken line place (items.Chars text)
+turned a line place (items.Close name) = part_taken line place (items.Close name)
+turned a line place items.Instruction = part_taken line place items.Instruction
+turned a line place word = moved a line place word
 
 -- how a stream ends, by the root's validity
 abbrev pub ending_of : Validity → Ending

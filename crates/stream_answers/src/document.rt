@@ -1,12 +1,13 @@
 ghost use Rattle.std.specs.Prelude.{◌≡◌, false, IfOk};
 ghost use Rattle.session_model.specs.State.{known};
 ghost use Rattle.stream_answers.specs.Turns as turns;
-ghost use Rattle.stream_answers.specs.Turning.{Turning};
+ghost use Rattle.stream_answers.specs.Turning.{Moving};
 ghost use Rattle.text_sink.specs.Written.{Written};
 
 use crate::place::{DocumentSection, Verdict};
 use crate::refusal::{misplaced, not_yet, refuse_tree};
-use crate::{Asked, Place, Turn};
+use crate::turn::Turn;
+use crate::{Asked, Place};
 use edit_replies::{BreakOff, write_made, write_total};
 use item_listing::Item;
 use plain_session::PlainSession;
@@ -45,7 +46,7 @@ fn write_report<W: Sink>(session: &PlainSession, sink: &mut W) -> Result<(), Fai
 /// The stream ends with a report on the document of a session.
 fn end_with_report<W: Sink>(session: &PlainSession, sink: &mut W) -> Result<Turn, BreakOff>
     requires { session.now.closed ≡ false }
-    ensures { Turning W.taken W.faults W.fault_bound sink.old sink.new result (turns.reported session.now) }
+    ensures { Moving W.taken W.faults W.fault_bound sink.old sink.new result (turns.reported session.now) }
 {
     match write_report(session, sink) {
         Ok(()) => Ok(Turn::Goes(Place::Ended(Some(verdict_of(session))))),
@@ -56,7 +57,7 @@ fn end_with_report<W: Sink>(session: &PlainSession, sink: &mut W) -> Result<Turn
 /// The stream ends with a session that has no edits.
 fn end_without_edits<W: Sink>(session: &PlainSession, sink: &mut W) -> Result<Turn, BreakOff>
     requires { session.now.closed ≡ false }
-    ensures { Turning W.taken W.faults W.fault_bound sink.old sink.new result (turns.answered_first session.now turns.session_ended) }
+    ensures { Moving W.taken W.faults W.fault_bound sink.old sink.new result (turns.answered_first session.now turns.session_ended) }
 {
     write_made(sink, session.revision(), session.code_total())?;
     Ok(Turn::Goes(Place::Ended(Some(verdict_of(session)))))
@@ -65,7 +66,7 @@ fn end_without_edits<W: Sink>(session: &PlainSession, sink: &mut W) -> Result<Tu
 /// The edits of a session begin.
 fn begin_session<W: Sink>(session: PlainSession, sink: &mut W) -> Result<Turn, BreakOff>
     requires { session.closed ≡ false }
-    ensures { Turning W.taken W.faults W.fault_bound sink.old sink.new result (turns.answered_first session (λ s. Place.Edits s)) }
+    ensures { Moving W.taken W.faults W.fault_bound sink.old sink.new result (turns.answered_first session (λ s. Place.Edits s)) }
 {
     write_made(sink, session.revision(), session.code_total())?;
     Ok(Turn::Goes(Place::Edits(session)))
@@ -79,7 +80,7 @@ fn end_document<W: Sink>(
     section: DocumentSection,
     sink: &mut W,
 ) -> Result<Turn, BreakOff>
-    ensures { Turning W.taken W.faults W.fault_bound sink.old sink.new result (turns.end_in_document asked line section) }
+    ensures { Moving W.taken W.faults W.fault_bound sink.old sink.new result (turns.end_in_document asked line section) }
 {
     let DocumentSection {
         schema,
@@ -109,7 +110,7 @@ fn begin_edits<W: Sink>(
     section: DocumentSection,
     sink: &mut W,
 ) -> Result<Turn, BreakOff>
-    ensures { Turning W.taken W.faults W.fault_bound sink.old sink.new result (turns.edits_begin section) }
+    ensures { Moving W.taken W.faults W.fault_bound sink.old sink.new result (turns.edits_begin section) }
 {
     let DocumentSection {
         schema,
@@ -126,26 +127,7 @@ fn begin_edits<W: Sink>(
     begin_session(PlainSession::open(alloc, schema, tree)?, sink)
 }
 
-/// One more item of the document's tree.
-fn grow<W: Sink>(section: DocumentSection, item: &Item, sink: &mut W) -> Result<Turn, BreakOff>
-    ensures { Turning W.taken W.faults W.fault_bound sink.old sink.new result (turns.document_grown section item.now) }
-{
-    let DocumentSection {
-        schema,
-        mut builder,
-        start,
-    } = section;
-    match builder.item(item)? {
-        Ok(()) => Ok(Turn::Goes(Place::Document(DocumentSection {
-            schema,
-            builder,
-            start,
-        }))),
-        Err(fault) => refuse_tree(sink, start, fault),
-    }
-}
-
-/// Answers an item in the document section.
+/// Answers a word in the document section.
 pub fn answer_document<W: Sink>(
     alloc: Global,
     asked: Asked,
@@ -154,7 +136,7 @@ pub fn answer_document<W: Sink>(
     item: Item,
     sink: &mut W,
 ) -> Result<Turn, BreakOff>
-    ensures { Turning W.taken W.faults W.fault_bound sink.old sink.new result (turns.in_document asked line section item) }
+    ensures { Moving W.taken W.faults W.fault_bound sink.old sink.new result (turns.in_document asked line section item) }
 {
     match item {
         Item::End => end_document(alloc, asked, line, section, sink),
@@ -162,7 +144,6 @@ pub fn answer_document<W: Sink>(
             Asked::Session => begin_edits(alloc, section, sink),
             Asked::Check | Asked::Assess => misplaced(sink, line),
         },
-        Item::Document | Item::Dot | Item::Schema(_) | Item::Command(_) => misplaced(sink, line),
-        item => grow(section, &item, sink),
+        _ => misplaced(sink, line),
     }
 }

@@ -1,15 +1,16 @@
-ghost use Rattle.std.specs.Prelude.{◌≡◌, ◌≤◌, false, IfOk};
+ghost use Rattle.std.specs.Prelude.{◌≡◌, ◌≤◌, false};
 ghost use Rattle.stream_answers.specs.Turns as turns;
-ghost use Rattle.stream_answers.specs.Turning.{TurnsTo, Turning};
+ghost use Rattle.stream_answers.specs.Turning.{Moving};
 
 use crate::document::verdict_of;
 use crate::place::Block;
 use crate::refusal::misplaced;
-use crate::{Place, Turn};
+use crate::Place;
+use crate::turn::Turn;
 use edit_replies::{BreakOff, answer_line};
 use item_listing::{Item, Items};
 use plain_session::PlainSession;
-use std::alloc::{AllocError, Global};
+use std::alloc::Global;
 use xs_names::Text;
 use xsv_io::Sink;
 use xsv_steps::{Ledger, Steps};
@@ -34,7 +35,7 @@ fn answer<W: Sink, L: Ledger>(
     steps: &mut Steps<L>,
 ) -> Result<Turn, BreakOff>
     requires { session.closed ≡ false }
-    ensures turns { Turning W.taken W.faults W.fault_bound sink.old sink.new result (turns.answered session line.now block) }
+    ensures moves { Moving W.taken W.faults W.fault_bound sink.old sink.new result (turns.answered session line.now block) }
     ensures steps { steps.old ≤ steps.new }
 {
     answer_line(alloc, &mut session, line, block, sink, steps)?;
@@ -50,7 +51,7 @@ fn take_command<W: Sink, L: Ledger>(
     steps: &mut Steps<L>,
 ) -> Result<Turn, BreakOff>
     requires { session.closed ≡ false }
-    ensures turns { Turning W.taken W.faults W.fault_bound sink.old sink.new result (turns.commanded session line) }
+    ensures moves { Moving W.taken W.faults W.fault_bound sink.old sink.new result (turns.commanded session line) }
     ensures steps { steps.old ≤ steps.new }
 {
     if !begins_block(line.as_str()) {
@@ -63,7 +64,7 @@ fn take_command<W: Sink, L: Ledger>(
     })))
 }
 
-/// Answers an item in the edits section.
+/// Answers a word or a command in the edits section.
 pub fn answer_edits<W: Sink, L: Ledger>(
     alloc: Global,
     line: u32,
@@ -73,7 +74,7 @@ pub fn answer_edits<W: Sink, L: Ledger>(
     steps: &mut Steps<L>,
 ) -> Result<Turn, BreakOff>
     requires { session.closed ≡ false }
-    ensures turns { Turning W.taken W.faults W.fault_bound sink.old sink.new result (turns.in_edits line session item) }
+    ensures moves { Moving W.taken W.faults W.fault_bound sink.old sink.new result (turns.in_edits line session item) }
     ensures steps { steps.old ≤ steps.new }
 {
     match item {
@@ -83,25 +84,7 @@ pub fn answer_edits<W: Sink, L: Ledger>(
     }
 }
 
-/// One more item of a block.
-fn grow(block: Block, item: Item) -> Result<Turn, AllocError>
-    requires { block.session.closed ≡ false }
-    ensures { IfOk result (TurnsTo (turns.block_grown block item)) }
-{
-    let Block {
-        session,
-        line,
-        mut items,
-    } = block;
-    items.push(item)?;
-    Ok(Turn::Goes(Place::Block(Block {
-        session,
-        line,
-        items,
-    })))
-}
-
-/// Answers an item in a block.
+/// Answers a word in a block.
 pub fn answer_block<W: Sink, L: Ledger>(
     alloc: Global,
     line: u32,
@@ -111,7 +94,7 @@ pub fn answer_block<W: Sink, L: Ledger>(
     steps: &mut Steps<L>,
 ) -> Result<Turn, BreakOff>
     requires { block.session.closed ≡ false }
-    ensures turns { Turning W.taken W.faults W.fault_bound sink.old sink.new result (turns.in_block line block item) }
+    ensures moves { Moving W.taken W.faults W.fault_bound sink.old sink.new result (turns.in_block line block item) }
     ensures steps { steps.old ≤ steps.new }
 {
     match item {
@@ -123,9 +106,6 @@ pub fn answer_block<W: Sink, L: Ledger>(
             } = block;
             answer(alloc, session, &line, Some(items), sink, steps)
         }
-        Item::Document | Item::Edits | Item::End | Item::Schema(_) | Item::Command(_) => {
-            misplaced(sink, line)
-        }
-        item => Ok(grow(block, item)?),
+        _ => misplaced(sink, line),
     }
 }

@@ -8,7 +8,7 @@ ghost use Rattle.xsv_run.specs.Progress.{EndsAs, StopsAt, to_tell};
 ghost use Rattle.xsv_run.specs.Taking.{TakesAtMost};
 
 use crate::Status;
-use crate::lines::{Progress, take_lines};
+use crate::lines::take_lines;
 use crate::piece::{ENOUGH, Piece, take_piece};
 use edit_replies::BreakOff;
 use item_listing::Listing;
@@ -21,20 +21,20 @@ use xsv_steps::{Ledger, Steps};
 fn end_stream<W: Sink, L: Ledger>(
     alloc: Global,
     asked: Asked,
-    mut listing: Listing,
-    place: Place,
+    listing: &mut Listing,
+    place: &mut Place,
     sink: &mut W,
     steps: &mut Steps<L>,
 ) -> Result<Ending, BreakOff>
-    requires { IsOpen place }
-    ensures answers { EndsAs result (W.taken sink.old) (W.taken sink.new) (to_tell asked place listing [] true) }
+    requires { IsOpen place.old }
+    ensures answers { EndsAs result (W.taken sink.old) (W.taken sink.new) (to_tell asked place.old listing.old [] true) }
     ensures writes { KeepsCount W.faults W.fault_bound sink.old sink.new (IsWriteFault result) }
     ensures steps { steps.old ≤ steps.new }
 {
     listing.finish();
-    match take_lines(alloc, asked, &mut listing, place, sink, steps) {
-        Ok(Progress::Waits(place)) => write_end(sink, listing.line_count(), &place),
-        Ok(Progress::Ends(ending)) => Ok(ending),
+    match take_lines(alloc, asked, listing, place, sink, steps) {
+        Ok(None) => write_end(sink, listing.line_count(), place),
+        Ok(Some(ending)) => Ok(ending),
         Err(why) => Err(why),
     }
 }
@@ -65,18 +65,22 @@ pub fn answer_stream<S: Source, W: Sink, L: Ledger>(
             asked,
             source,
             &mut listing,
-            stands,
+            &mut stands,
             &mut buf,
             room,
             sink,
             steps,
         ) {
-            Piece::Goes(next, count) => {
-                stands = next;
-                room -= count;
-            }
-            Piece::AtEnd(place) => {
-                return Status::of_stream(end_stream(alloc, asked, listing, place, sink, steps));
+            Piece::Goes(count) => room -= count,
+            Piece::AtEnd => {
+                return Status::of_stream(end_stream(
+                    alloc,
+                    asked,
+                    &mut listing,
+                    &mut stands,
+                    sink,
+                    steps,
+                ));
             }
             Piece::Failed => return Status::ReadFault,
             Piece::Ends(ended) => return Status::of_stream(ended),
