@@ -43,7 +43,7 @@ module _ (s : State) (more : Place → Told) (next : CommandReader → Commands)
   commanded_by false text = answered_is text None
 
   edits_turn : (line : ℕ) (it : Item) → more (turns.session_ended s) ≡ closing_told (verdict_told s) close
-      → turn_then (turns.in_edits line s it) more ≡ commands_told s (command_turns.turn_then (command_turns.outside line it) next close)
+      → turn_then (turns.turned asks.Session line (places.Edits s) it) more ≡ commands_told s (command_turns.turn_then (command_turns.outside line it) next close)
   edits_turn line (items.Command text) e = commanded_by (opens_block text) text
   edits_turn line items.End e = e
   edits_turn line it e = refl
@@ -52,7 +52,7 @@ module _ (s : State) (more : Place → Told) (next : CommandReader → Commands)
       ≡ commands_told s (next (reader_of (Some (record b { items = b.items ++ it ∷ [] }))))
   block_grows b it = h s (Some (record b { items = b.items ++ it ∷ [] }))
 
-  block_turn : (line : ℕ) (b : Block) (it : Item) → turn_then (turns.in_block line (record { session = s; line = b.line; items = b.items }) it) more
+  block_turn : (line : ℕ) (b : Block) (it : Item) → turn_then (turns.turned asks.Session line (place_of s (Some b)) it) more
       ≡ commands_told s (command_turns.turn_then (command_turns.within line b it) next close)
   block_turn line b items.Dot = answered_is b.line (Some b.items)
   block_turn line b (items.Start name) = block_grows b (items.Start name)

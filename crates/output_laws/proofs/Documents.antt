@@ -63,7 +63,7 @@ module _ (a : Asked) (t : Tables) (start : ℕ) (more : Place → Told) (reads :
 module _ (t : Tables) (line : ℕ) (r : DocumentReader) (more : Place → Told) (reads : DocumentReader → Opened) (edits : Commands) (close : Closing)
     (ended : (s : State) → more (turns.session_ended s) ≡ closing_told (verdict_told s) close) where
   assess_turn : ((q : DocumentReader) → more (document_place t q) ≡ opened_told Assess t (reads q)) → (it : Item)
-      → turn_then (turns.in_document asks.Assess line (section_of t r) it) more
+      → turn_then (turns.turned asks.Assess line (document_place t r) it) more
       ≡ opened_told Assess t (document_turns.turn_then (document_turns.turned Assess line r it) reads edits close)
   assess_turn h items.End = taken Assess t r.start more reads edits close (turns.tree_of r.builder) document_turns.ends (sections.closes close) turns.reported
       (λ d. refl) (λ s. ap (before (turns.report (known s))) (ended s))
@@ -76,7 +76,7 @@ module _ (t : Tables) (line : ℕ) (r : DocumentReader) (more : Place → Told) 
 
   session_turn : ((q : DocumentReader) → more (document_place t q) ≡ opened_told Session t (reads q))
       → ((s : State) → more (places.Edits s) ≡ commands_told s edits) → (it : Item)
-      → turn_then (turns.in_document asks.Session line (section_of t r) it) more
+      → turn_then (turns.turned asks.Session line (document_place t r) it) more
       ≡ opened_told Session t (document_turns.turn_then (document_turns.turned Session line r it) reads edits close)
   session_turn h c items.End = taken Session t r.start more reads edits close (turns.tree_of r.builder) document_turns.ends (sections.closes close)
       (λ s. turns.answered_first s turns.session_ended) (λ d. refl) (λ s. ap (before (made s.revision (code_total (known s)))) (ended s))

@@ -24,10 +24,10 @@ pieces-preserved g c =
     let old = c.pieces.invariant in
     let two = c.in-Goes.ensures.takes in
     let room = room_further c.args.asked (g.S.Source.rest c.args.source.now) (g.S.Source.rest c.pieces.source) _ (g.W.Sink.taken c.args.sink.now) (g.W.Sink.taken c.pieces.sink) _
-    c.pieces.stands c.pieces.listing c.in-Goes.next c.take_piece.new.listing c.in-Goes.count c.pieces.room two old.room in
+    c.pieces.stands c.pieces.listing c.take_piece.new.place c.take_piece.new.listing c.in-Goes.count c.pieces.room two old.room in
     record {
       stands = stands_further c.args.asked (g.S.Source.rest c.args.source.now) (g.S.Source.rest c.pieces.source) _ (g.W.Sink.taken c.args.sink.now) (g.W.Sink.taken c.pieces.sink) _
-          c.pieces.stands c.pieces.listing c.in-Goes.next c.take_piece.new.listing c.in-Goes.count old.stands two;
+          c.pieces.stands c.pieces.listing c.take_piece.new.place c.take_piece.new.listing c.in-Goes.count old.stands two;
       is_open = two.feeds.is_open;
       waits = two.feeds.waits;
       going = two.feeds.going;
