@@ -1,6 +1,7 @@
 -- What a turn of the code has done.
 use Rattle.std.specs.Prelude.{◌≡◌, ℕ, List, false, Option, Some, None, Result, IfOk}
 use Rattle.xsv_io.specs.Causes.{KeepsCount}
+use Rattle.open_document.specs.Answers as open_document
 use Rattle.edit_replies.specs.declared.break_off.BreakOff.{BreakOff}
 use Rattle.edit_replies.specs.Tells.{Wrote, IsWriteFault}
 use Rattle.stream_answers.specs.Turns.{Turned, goes, ends}
@@ -10,13 +11,13 @@ use Rattle.stream_answers.specs.declared.place.Place.TheVariants as places
 use Rattle.stream_answers.specs.declared.turn.Turn.{Turn}
 use Rattle.stream_answers.specs.declared.turn.Turn.TheVariants as turns
 
--- the session of a place is not closed
+-- the document of a place is not closed
 abbrev pub IsOpen : Place → Type 0
 IsOpen places.Fresh = Unit {0}
 IsOpen (places.Schema p) = Unit {0}
 IsOpen (places.Document p) = Unit {0}
-IsOpen (places.Edits s) = s.closed ≡ false
-IsOpen (places.Block b) = b.session.closed ≡ false
+IsOpen (places.Edits s) = open_document.IsOpen s
+IsOpen (places.Block b) = open_document.IsOpen b.document
 IsOpen (places.Ended verdict) = Unit {0}
 
 -- the text that is to be written

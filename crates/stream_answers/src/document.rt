@@ -1,20 +1,18 @@
 ghost use Rattle.std.specs.Prelude.{◌≡◌, false, IfOk};
-ghost use Rattle.session_model.specs.State.{known};
+ghost use Rattle.open_document.specs.Answers.{IsOpen};
 ghost use Rattle.stream_answers.specs.Turns as turns;
 ghost use Rattle.stream_answers.specs.Turning.{Moving};
-ghost use Rattle.text_sink.specs.Written.{Written};
 
-use crate::place::{DocumentSection, Verdict};
+use crate::place::DocumentSection;
 use crate::refusal::{misplaced, not_yet, refuse_tree};
 use crate::turn::Turn;
 use crate::{Asked, Place};
-use edit_replies::{BreakOff, write_made, write_total};
+use edit_replies::BreakOff;
 use item_listing::Item;
-use plain_session::PlainSession;
-use session_model::Session;
+use open_document::OpenDocument;
 use std::alloc::Global;
 use tree_rows::Row;
-use xsv_io::{Failed, Sink};
+use xsv_io::Sink;
 
 /// Whether some element has an attribute that is no binding.
 fn have_attributes(rows: &[Row]) -> bool
@@ -23,53 +21,31 @@ fn have_attributes(rows: &[Row]) -> bool
     rows.iter().any(|row| !row.attributes.as_slice().is_empty())
 }
 
-/// The verdict on the document of a session.
-pub fn verdict_of(session: &PlainSession) -> Verdict
-    requires { session.now.closed ≡ false }
-    ensures { result ≡ turns.session_verdict session.now }
+/// The stream ends with a report on the document.
+fn end_with_report<W: Sink>(document: &OpenDocument, sink: &mut W) -> Result<Turn, BreakOff>
+    requires { IsOpen document.now }
+    ensures { Moving W.taken W.faults W.fault_bound sink.old sink.new result (turns.reported document.now) }
 {
-    Verdict {
-        validity: session.root_validity(),
-        total: session.code_total(),
-    }
-}
-
-/// Writes the report on the document of a session.
-fn write_report<W: Sink>(session: &PlainSession, sink: &mut W) -> Result<(), Failed>
-    requires { session.now.closed ≡ false }
-    ensures written { Written W.taken W.faults W.fault_bound sink.old sink.new result (turns.report (known session.now)) }
-{
-    session.write_report(sink)?;
-    write_total(sink, session.code_total())
-}
-
-/// The stream ends with a report on the document of a session.
-fn end_with_report<W: Sink>(session: &PlainSession, sink: &mut W) -> Result<Turn, BreakOff>
-    requires { session.now.closed ≡ false }
-    ensures { Moving W.taken W.faults W.fault_bound sink.old sink.new result (turns.reported session.now) }
-{
-    match write_report(session, sink) {
-        Ok(()) => Ok(Turn::Goes(Place::Ended(Some(verdict_of(session))))),
-        Err(_) => Err(BreakOff::WriteFault),
-    }
+    document.write_report(sink)?;
+    Ok(Turn::Goes(Place::Ended(Some(document.verdict()))))
 }
 
 /// The stream ends with a session that has no edits.
-fn end_without_edits<W: Sink>(session: &PlainSession, sink: &mut W) -> Result<Turn, BreakOff>
-    requires { session.now.closed ≡ false }
-    ensures { Moving W.taken W.faults W.fault_bound sink.old sink.new result (turns.answered_first session.now turns.session_ended) }
+fn end_without_edits<W: Sink>(document: &OpenDocument, sink: &mut W) -> Result<Turn, BreakOff>
+    requires { IsOpen document.now }
+    ensures { Moving W.taken W.faults W.fault_bound sink.old sink.new result (turns.answered_first document.now turns.document_ended) }
 {
-    write_made(sink, session.revision(), session.code_total())?;
-    Ok(Turn::Goes(Place::Ended(Some(verdict_of(session)))))
+    document.write_first(sink)?;
+    Ok(Turn::Goes(Place::Ended(Some(document.verdict()))))
 }
 
 /// The edits of a session begin.
-fn begin_session<W: Sink>(session: PlainSession, sink: &mut W) -> Result<Turn, BreakOff>
-    requires { session.closed ≡ false }
-    ensures { Moving W.taken W.faults W.fault_bound sink.old sink.new result (turns.answered_first session (λ s. Place.Edits s)) }
+fn begin_session<W: Sink>(document: OpenDocument, sink: &mut W) -> Result<Turn, BreakOff>
+    requires { IsOpen document }
+    ensures { Moving W.taken W.faults W.fault_bound sink.old sink.new result (turns.answered_first document (λ s. Place.Edits s)) }
 {
-    write_made(sink, session.revision(), session.code_total())?;
-    Ok(Turn::Goes(Place::Edits(session)))
+    document.write_first(sink)?;
+    Ok(Turn::Goes(Place::Edits(document)))
 }
 
 /// The document section ends, and so does the stream.
@@ -97,11 +73,11 @@ fn end_document<W: Sink>(
     if have_attributes(tree.rows()) {
         return not_yet(sink);
     }
-    let session = PlainSession::open(alloc, schema, tree)?;
+    let document = OpenDocument::open(alloc, schema, tree)?;
     if matches!(asked, Asked::Assess) {
-        return end_with_report(&session, sink);
+        return end_with_report(&document, sink);
     }
-    end_without_edits(&session, sink)
+    end_without_edits(&document, sink)
 }
 
 /// The document section ends, and edits come.
@@ -124,7 +100,7 @@ fn begin_edits<W: Sink>(
     if have_attributes(tree.rows()) {
         return not_yet(sink);
     }
-    begin_session(PlainSession::open(alloc, schema, tree)?, sink)
+    begin_session(OpenDocument::open(alloc, schema, tree)?, sink)
 }
 
 /// Answers a word in the document section.

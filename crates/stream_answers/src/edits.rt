@@ -1,15 +1,15 @@
-ghost use Rattle.std.specs.Prelude.{◌≡◌, ◌≤◌, false};
+ghost use Rattle.std.specs.Prelude.{◌≡◌, ◌≤◌};
+ghost use Rattle.open_document.specs.Answers.{IsOpen};
 ghost use Rattle.stream_answers.specs.Turns as turns;
 ghost use Rattle.stream_answers.specs.Turning.{Moving};
 
-use crate::document::verdict_of;
 use crate::place::Block;
 use crate::refusal::misplaced;
 use crate::Place;
 use crate::turn::Turn;
-use edit_replies::{BreakOff, answer_line};
+use edit_replies::BreakOff;
 use item_listing::{Item, Items};
-use plain_session::PlainSession;
+use open_document::OpenDocument;
 use std::alloc::Global;
 use xs_names::Text;
 use xsv_io::Sink;
@@ -28,37 +28,37 @@ fn begins_block(line: &str) -> bool
 /// Answers a command, with the items of its block where it has one.
 fn answer<W: Sink, L: Ledger>(
     alloc: Global,
-    mut session: PlainSession,
+    mut document: OpenDocument,
     line: &Text,
     block: Option<Items>,
     sink: &mut W,
     steps: &mut Steps<L>,
 ) -> Result<Turn, BreakOff>
-    requires { session.closed ≡ false }
-    ensures moves { Moving W.taken W.faults W.fault_bound sink.old sink.new result (turns.answered session line.now block) }
+    requires { IsOpen document }
+    ensures moves { Moving W.taken W.faults W.fault_bound sink.old sink.new result (turns.answered document line.now block) }
     ensures steps { steps.old ≤ steps.new }
 {
-    answer_line(alloc, &mut session, line, block, sink, steps)?;
-    Ok(Turn::Goes(Place::Edits(session)))
+    document.answer(alloc, line, block, sink, steps)?;
+    Ok(Turn::Goes(Place::Edits(document)))
 }
 
 /// A command comes, which begins a block or is answered.
 fn take_command<W: Sink, L: Ledger>(
     alloc: Global,
-    session: PlainSession,
+    document: OpenDocument,
     line: Text,
     sink: &mut W,
     steps: &mut Steps<L>,
 ) -> Result<Turn, BreakOff>
-    requires { session.closed ≡ false }
-    ensures moves { Moving W.taken W.faults W.fault_bound sink.old sink.new result (turns.commanded session line) }
+    requires { IsOpen document }
+    ensures moves { Moving W.taken W.faults W.fault_bound sink.old sink.new result (turns.commanded document line) }
     ensures steps { steps.old ≤ steps.new }
 {
     if !begins_block(line.as_str()) {
-        return answer(alloc, session, &line, None, sink, steps);
+        return answer(alloc, document, &line, None, sink, steps);
     }
     Ok(Turn::Goes(Place::Block(Block {
-        session,
+        document,
         line,
         items: Items::new(alloc),
     })))
@@ -68,18 +68,18 @@ fn take_command<W: Sink, L: Ledger>(
 pub fn answer_edits<W: Sink, L: Ledger>(
     alloc: Global,
     line: u32,
-    session: PlainSession,
+    document: OpenDocument,
     item: Item,
     sink: &mut W,
     steps: &mut Steps<L>,
 ) -> Result<Turn, BreakOff>
-    requires { session.closed ≡ false }
-    ensures moves { Moving W.taken W.faults W.fault_bound sink.old sink.new result (turns.in_edits line session item) }
+    requires { IsOpen document }
+    ensures moves { Moving W.taken W.faults W.fault_bound sink.old sink.new result (turns.in_edits line document item) }
     ensures steps { steps.old ≤ steps.new }
 {
     match item {
-        Item::Command(text) => take_command(alloc, session, text, sink, steps),
-        Item::End => Ok(Turn::Goes(Place::Ended(Some(verdict_of(&session))))),
+        Item::Command(text) => take_command(alloc, document, text, sink, steps),
+        Item::End => Ok(Turn::Goes(Place::Ended(Some(document.verdict())))),
         _ => misplaced(sink, line),
     }
 }
@@ -93,18 +93,18 @@ pub fn answer_block<W: Sink, L: Ledger>(
     sink: &mut W,
     steps: &mut Steps<L>,
 ) -> Result<Turn, BreakOff>
-    requires { block.session.closed ≡ false }
+    requires { IsOpen block.document }
     ensures moves { Moving W.taken W.faults W.fault_bound sink.old sink.new result (turns.in_block line block item) }
     ensures steps { steps.old ≤ steps.new }
 {
     match item {
         Item::Dot => {
             let Block {
-                session,
+                document,
                 line,
                 items,
             } = block;
-            answer(alloc, session, &line, Some(items), sink, steps)
+            answer(alloc, document, &line, Some(items), sink, steps)
         }
         _ => misplaced(sink, line),
     }

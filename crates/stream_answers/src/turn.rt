@@ -8,12 +8,12 @@ use crate::document::answer_document;
 use crate::edits::{answer_block, answer_edits};
 use crate::ending::ending_of;
 use crate::part::take_part;
-use crate::place::Verdict;
 use crate::refusal::{Refusal, misplaced, write_refusal};
 use crate::schema::{answer_schema, begin_schemas};
 use crate::{Asked, Ending, Place};
 use edit_replies::{BreakOff, write_answer};
 use item_listing::{Item, Reason};
+use open_document::Verdict;
 use report_text::validity_word;
 use std::alloc::Global;
 use std::mem;
@@ -48,7 +48,7 @@ fn answer_word<W: Sink, L: Ledger>(
         Place::Fresh => begin_schemas(alloc, line, word, sink),
         Place::Schema(section) => answer_schema(alloc, asked, line, section, word, sink),
         Place::Document(section) => answer_document(alloc, asked, line, section, word, sink),
-        Place::Edits(session) => answer_edits(alloc, line, session, word, sink, steps),
+        Place::Edits(document) => answer_edits(alloc, line, document, word, sink, steps),
         Place::Block(block) => answer_block(alloc, line, block, word, sink, steps),
         Place::Ended(_) => misplaced(sink, line),
     }
