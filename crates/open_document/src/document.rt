@@ -1,5 +1,6 @@
-ghost use Rattle.std.specs.Prelude.{◌≡◌, ◌≤◌, false, IfOk, OnOk};
+ghost use Rattle.std.specs.Prelude.{◌≡◌, false, IfOk, OnOk};
 ghost use Rattle.text_sink.specs.Written.{Written};
+ghost use Rattle.session_model.specs.Counting.{Counts};
 ghost use Rattle.edit_replies.specs.Tells.{Tells};
 ghost use Rattle.open_document.specs.Answers as answers;
 
@@ -105,7 +106,7 @@ impl OpenDocument {
         requires { answers.IsOpen self.old }
         ensures tells { Tells W.taken W.faults W.fault_bound sink.old sink.new result (answers.answered self.old line.now block).text }
         ensures stands { OnOk result (self.new ≡ (answers.answered self.old line.now block).next) }
-        ensures steps { steps.old ≤ steps.new }
+        ensures steps { Counts steps.old steps.new (answers.answered self.old line.now block).cost }
     {
         answer_line(alloc, &mut self.session, line, block, sink, steps)
     }
