@@ -1,11 +1,15 @@
 -- A turn that was taken: the stream stands where it moved to.
-use Rattle.std.proofs.Common.{ℕ, List, Option, Some, None, Result, Ok, Err}
+use Rattle.std.proofs.Common.{◌≡◌, ℕ, List, Option, Some, None, Result, Ok, Err, refl, sym, subst}
+use Rattle.item_listing.specs.declared.item.Item.{Item}
+use Rattle.item_listing.specs.declared.item.Item.TheVariants as items
 use Rattle.edit_replies.specs.Tells.{Wrote, IsWriteFault}
 use Rattle.edit_replies.specs.declared.break_off.BreakOff.{BreakOff}
 use Rattle.edit_replies.specs.declared.break_off.BreakOff.TheVariants.{Memory, WriteFault}
-use Rattle.stream_answers.specs.Turns.{Turned, goes, ends}
+use Rattle.stream_answers.specs.Turns.{Turned, goes, ends, moved, misplaced, in_document}
 use Rattle.stream_answers.specs.Turning.{IsOpen, Moving, Turning, MovesTo, TurnsTo}
 use Rattle.stream_answers.specs.declared.ending.Ending.{Ending}
+use Rattle.stream_answers.specs.declared.place.Asked.{Asked}
+use Rattle.stream_answers.specs.declared.place.DocumentSection.{DocumentSection}
 use Rattle.stream_answers.specs.declared.place.Place.{Place}
 use Rattle.stream_answers.specs.declared.turn.Turn.{Turn}
 use Rattle.stream_answers.specs.declared.turn.Turn.TheVariants as turns
@@ -28,3 +32,11 @@ module _ {W : Type 0} (taken : W → Option (List ℕ)) (faults : W → ℕ) (bo
   pub moved_off : (why : BreakOff) → Moving taken faults bound old new (Err why) t → Turning taken faults bound old new q (Err why) t
   moved_off Memory m = record { wrote = m.wrote; counts = m.counts; turns = tt }
   moved_off WriteFault m = record { wrote = m.wrote; counts = m.counts; turns = tt }
+
+-- no other word stands in the document section
+module _ {W : Type 0} (taken : W → Option (List ℕ)) (faults : W → ℕ) (bound : W → Option ℕ) (old new : W) (result : Result Turn BreakOff) where
+  pub misplaced_in_document : (a : Asked) (line : ℕ) (p : DocumentSection) (it : Item) → (it ≡ items.End → ⊥) → (it ≡ items.Edits → ⊥)
+      → Moving taken faults bound old new result (misplaced line) → Moving taken faults bound old new result (in_document a line p it)
+  misplaced_in_document a line p items.End e d m = absurd (e refl)
+  misplaced_in_document a line p items.Edits e d m = absurd (d refl)
+  misplaced_in_document a line p it e d m = m
