@@ -1,5 +1,7 @@
-ghost use Rattle.std.specs.Prelude.{◌≡◌, ◌≤◌, false, OnOk};
+ghost use Rattle.std.specs.Prelude.{◌≡◌, false, OnOk};
 ghost use Rattle.edit_script.specs.Commands.{command};
+ghost use Rattle.session_model.specs.Counting.{Counts};
+ghost use Rattle.edit_replies.specs.Costs.{command_cost};
 ghost use Rattle.edit_replies.specs.Replies.{reply, standing_of, Stands};
 ghost use Rattle.edit_replies.specs.Tells.{Tells};
 
@@ -32,7 +34,7 @@ pub fn answer_line<S: Session, W: Sink, L: Ledger>(
         (reply (S.state session.old).tables (standing_of (S.state session.old)) (command line.now block)).text }
     ensures stands { OnOk result (Stands (S.state session.old) (S.state session.new)
         (reply (S.state session.old).tables (standing_of (S.state session.old)) (command line.now block))) }
-    ensures steps { steps.old ≤ steps.new }
+    ensures steps { Counts steps.old steps.new (command_cost (S.cost session.old) (command line.now block)) }
 {
     match read_command(alloc, line, block)? {
         Ok(Command::Change(edit)) => answer_change(session, &edit, sink, steps),

@@ -1,8 +1,9 @@
-ghost use Rattle.std.specs.Prelude.{◌≡◌, ◌≤◌, Some, true, false, OnOk};
+ghost use Rattle.std.specs.Prelude.{◌≡◌, Some, true, false, OnOk};
 ghost use Rattle.tree_edits.specs.Edits.{can_be_made};
 ghost use Rattle.tree_edits.specs.Tests.{edited};
 ghost use Rattle.session_model.specs.State.{known};
 ghost use Rattle.session_model.specs.Asking.{entry_of};
+ghost use Rattle.session_model.specs.Counting.{Counts};
 ghost use Rattle.tree_rows.specs.Kinds.{kind_of};
 ghost use Rattle.text_sink.specs.Parts.{parts_text};
 ghost use Rattle.text_sink.specs.Written.{Written};
@@ -121,7 +122,7 @@ pub fn answer_change<S: Session, W: Sink, L: Ledger>(
         (change_reply (S.state session.old).tables (standing_of (S.state session.old)) (edited (S.state session.old).document edit.now)).text }
     ensures stands { OnOk result (Stands (S.state session.old) (S.state session.new)
         (change_reply (S.state session.old).tables (standing_of (S.state session.old)) (edited (S.state session.old).document edit.now))) }
-    ensures steps { steps.old ≤ steps.new }
+    ensures steps { Counts steps.old steps.new (S.cost session.old edit.now) }
 {
     match session.apply(edit, steps) {
         Ok(()) => write_made(sink, session.revision(), session.code_total()),

@@ -6,8 +6,8 @@ use Rattle.item_listing.specs.declared.item.Item.{Item}
 use Rattle.tree_rows.specs.Forest.{Document}
 use Rattle.tree_rows.specs.Rows.{rows_of}
 use Rattle.assess_model.specs.Tables.{Tables}
-use Rattle.assess_model.specs.Assessment.{root_validity}
-use Rattle.session_model.specs.State.{State, known}
+use Rattle.open_document.specs.State.{OpenState}
+use Rattle.open_document.specs.Answers.{answered, verdict}
 use Rattle.stream_sections.specs.Sections as sections
 use Rattle.stream_sections.specs.Sections.{Opened}
 use Rattle.stream_sections.specs.Spelled.{whole, given, Order, SpellsCheck, SpellsStream}
@@ -22,7 +22,7 @@ use Rattle.stream_answers.specs.declared.place.Asked as answers_asked
 use Rattle.xsv_run.specs.Output.{Output, asked, output, output_by, output_of, told_of}
 use Rattle.xsv_run.specs.Statuses.{status_of}
 use Rattle.xsv_run.specs.declared.status.Status.TheVariants.{Valid}
-use Rattle.output_laws.specs.Sectioned.{asked_of, sections_told, stream_told, first_compiled, compiled_told, check_told, opened_told, opening, commands_told, reply_to, state_behind}
+use Rattle.output_laws.specs.Sectioned.{asked_of, sections_told, stream_told, first_compiled, compiled_told, check_told, opened_told, opening, commands_told}
 use Rattle.output_laws.specs.Complete.{Accepts, HasNoAttributes, replies, state_after, first_state, last_line, last_status, stream_text, answer}
 use Rattle.output_laws.proofs.Schemas.{sectioned}
 
@@ -44,18 +44,18 @@ check_answered law words bytes its all t asks_for reads spells accepts =
     output_is Check words bytes its asks_for reads ∙ ap (λ s. output_of (stream_told check_told s)) (law all its spells)
     ∙ ap output_of (compiled_first all t (λ x. check_told x sections.ended) accepts) ∙ ap (λ text. answer text Valid) (append-nil schema_ok)
 
-orders_told : (s : State) (orders : List Order) → commands_told s (given orders)
-    ≡ over (replies s orders ++ last_line (state_after s orders)) (ending_of (root_validity (known (state_after s orders))))
+orders_told : (s : OpenState) (orders : List Order) → commands_told s (given orders)
+    ≡ over (replies s orders ++ last_line (state_after s orders)) (ending_of (verdict (state_after s orders)).validity)
 orders_told s [] = refl
 orders_told s (o ∷ more) =
-    ap (before (reply_to s o.line o.block).text) (orders_told (state_behind s o.line o.block) more)
-    ∙ ap (λ text. over text (ending_of (root_validity (known (state_after s (o ∷ more))))))
-    (sym (append_assoc (reply_to s o.line o.block).text (replies (state_behind s o.line o.block) more) (last_line (state_after s (o ∷ more)))))
+    ap (before (answered s o.line o.block).text) (orders_told (answered s o.line o.block).next more)
+    ∙ ap (λ text. over text (ending_of (verdict (state_after s (o ∷ more))).validity))
+    (sym (append_assoc (answered s o.line o.block).text (replies (answered s o.line o.block).next more) (last_line (state_after s (o ∷ more)))))
 
 opened_is : (a : Asked) (t : Tables) (d : Document) (orders : List Order) → HasNoAttributes d
     → opened_told a t (sections.document d (given orders))
     ≡ over (opening a (first_state t d) ++ (replies (first_state t d) orders ++ last_line (state_after (first_state t d) orders)))
-    (ending_of (root_validity (known (state_after (first_state t d) orders))))
+    (ending_of (verdict (state_after (first_state t d) orders)).validity)
 opened_is a t d orders plain =
     ap (λ r. if r then over unsupported endings.Unsupported else before (opening a (first_state t d)) (commands_told (first_state t d) (given orders))) plain
     ∙ ap (before (opening a (first_state t d))) (orders_told (first_state t d) orders)

@@ -9,9 +9,8 @@ use Rattle.tree_building.specs.Building.{after}
 use Rattle.tree_building.specs.declared.building.Building.{Building}
 use Rattle.tree_building.specs.declared.fault.TreeFault.{TreeFault}
 use Rattle.assess_model.specs.Tables.{Tables}
-use Rattle.assess_model.specs.Assessment.{code_total}
-use Rattle.edit_replies.specs.Replies.{made}
-use Rattle.session_model.specs.State.{State, known}
+use Rattle.open_document.specs.State.{OpenState}
+use Rattle.open_document.specs.Answers as answers
 use Rattle.stream_answers.specs.Output.{Told, told, before, over, turn_then}
 use Rattle.stream_answers.specs.Turns as turns
 use Rattle.stream_answers.specs.declared.ending.Ending.TheVariants.{Unsupported}
@@ -43,14 +42,14 @@ accepted_by false next more rest e = e
 
 module _ (a : Asked) (t : Tables) (start : ℕ) (more : Place → Told) (reads : DocumentReader → Opened) (edits : Commands) (close : Closing) where
   -- the section ends, and its tree is taken
-  taken : (tree : Result Document TreeFault) (turn : Document → document_turns.Turned) (behind : Commands) (next : State → turns.Turned)
+  taken : (tree : Result Document TreeFault) (turn : Document → document_turns.Turned) (behind : Commands) (next : OpenState → turns.Turned)
       → ((d : Document) → document_turns.turn_then (turn d) reads edits close ≡ sections.document d behind)
-      → ((s : State) → turn_then (next s) more ≡ before (opening a s) (commands_told s behind))
-      → turn_then (turns.with_tree start tree (λ d. turns.accepted d (next (turns.session_on t (turns.opened d))))) more
+      → ((s : OpenState) → turn_then (next s) more ≡ before (opening a s) (commands_told s behind))
+      → turn_then (turns.with_tree start tree (λ d. turns.accepted d (next (answers.opened t d)))) more
       ≡ opened_told a t (document_turns.turn_then (sections.with_tree start tree document_turns.stops turn) reads edits close)
   taken (Ok d) turn behind next g h =
-      accepted_by (turns.has_attributes (rows_of 1 d.forest)) (next (turns.session_on t (turns.opened d))) more
-      (before (opening a (turns.session_on t (turns.opened d))) (commands_told (turns.session_on t (turns.opened d)) behind)) (h (turns.session_on t (turns.opened d)))
+      accepted_by (turns.has_attributes (rows_of 1 d.forest)) (next (answers.opened t d)) more
+      (before (opening a (answers.opened t d)) (commands_told (answers.opened t d) behind)) (h (answers.opened t d))
       ∙ ap (opened_told a t) (sym (g d))
   taken (Err fault) turn behind next g h = refl
 
@@ -61,12 +60,12 @@ module _ (a : Asked) (t : Tables) (start : ℕ) (more : Place → Told) (reads :
   grows (Err fault) h = refl
 
 module _ (t : Tables) (line : ℕ) (r : DocumentReader) (more : Place → Told) (reads : DocumentReader → Opened) (edits : Commands) (close : Closing)
-    (ended : (s : State) → more (turns.session_ended s) ≡ closing_told (verdict_told s) close) where
+    (ended : (s : OpenState) → more (turns.document_ended s) ≡ closing_told (verdict_told s) close) where
   assess_turn : ((q : DocumentReader) → more (document_place t q) ≡ opened_told Assess t (reads q)) → (it : Item)
-      → turn_then (turns.in_document asks.Assess line (section_of t r) it) more
+      → turn_then (turns.turned asks.Assess line (document_place t r) it) more
       ≡ opened_told Assess t (document_turns.turn_then (document_turns.turned Assess line r it) reads edits close)
   assess_turn h items.End = taken Assess t r.start more reads edits close (turns.tree_of r.builder) document_turns.ends (sections.closes close) turns.reported
-      (λ d. refl) (λ s. ap (before (turns.report (known s))) (ended s))
+      (λ d. refl) (λ s. ap (before (answers.report s)) (ended s))
   assess_turn h (items.Start name) = grows Assess t r.start more reads edits close (after r.builder (items.Start name)) h
   assess_turn h (items.Attr name value) = grows Assess t r.start more reads edits close (after r.builder (items.Attr name value)) h
   assess_turn h (items.Chars chars) = grows Assess t r.start more reads edits close (after r.builder (items.Chars chars)) h
@@ -75,13 +74,13 @@ module _ (t : Tables) (line : ℕ) (r : DocumentReader) (more : Place → Told) 
   assess_turn h it = refl
 
   session_turn : ((q : DocumentReader) → more (document_place t q) ≡ opened_told Session t (reads q))
-      → ((s : State) → more (places.Edits s) ≡ commands_told s edits) → (it : Item)
-      → turn_then (turns.in_document asks.Session line (section_of t r) it) more
+      → ((s : OpenState) → more (places.Edits s) ≡ commands_told s edits) → (it : Item)
+      → turn_then (turns.turned asks.Session line (document_place t r) it) more
       ≡ opened_told Session t (document_turns.turn_then (document_turns.turned Session line r it) reads edits close)
   session_turn h c items.End = taken Session t r.start more reads edits close (turns.tree_of r.builder) document_turns.ends (sections.closes close)
-      (λ s. turns.answered_first s turns.session_ended) (λ d. refl) (λ s. ap (before (made s.revision (code_total (known s)))) (ended s))
+      (λ s. turns.answered_first s turns.document_ended) (λ d. refl) (λ s. ap (before (answers.first_line s)) (ended s))
   session_turn h c items.Edits = taken Session t r.start more reads edits close (turns.tree_of r.builder) document_turns.edits edits
-      (λ s. turns.answered_first s (λ q. places.Edits q)) (λ d. refl) (λ s. ap (before (made s.revision (code_total (known s)))) (c s))
+      (λ s. turns.answered_first s (λ q. places.Edits q)) (λ d. refl) (λ s. ap (before (answers.first_line s)) (c s))
   session_turn h c (items.Start name) = grows Session t r.start more reads edits close (after r.builder (items.Start name)) h
   session_turn h c (items.Attr name value) = grows Session t r.start more reads edits close (after r.builder (items.Attr name value)) h
   session_turn h c (items.Chars chars) = grows Session t r.start more reads edits close (after r.builder (items.Chars chars)) h
@@ -93,7 +92,7 @@ assess_from : (t : Tables) (lines : ℕ) (r : DocumentReader) (its : listed.List
     → told asks.Assess lines (document_place t r) its ≡ opened_told Assess t (document_turns.read Assess lines r its)
 assess_from t lines r (listed.gives it more) =
     assess_turn t (lines + 1) r (λ p. told asks.Assess (lines + 1) p more) (λ q. document_turns.read Assess (lines + 1) q more)
-    (sections.commands (lines + 1) None more) (sections.closing (lines + 1) more) (λ s. ended_told asks.Assess (lines + 1) (Some (turns.session_verdict s)) more)
+    (sections.commands (lines + 1) None more) (sections.closing (lines + 1) more) (λ s. ended_told asks.Assess (lines + 1) (Some (answers.verdict s)) more)
     (λ q. assess_from t (lines + 1) q more) it
 assess_from t lines r (listed.refused fault) = refl
 assess_from t lines r listed.goes_on = refl
@@ -103,7 +102,7 @@ session_from : (t : Tables) (lines : ℕ) (r : DocumentReader) (its : listed.Lis
     → told asks.Session lines (document_place t r) its ≡ opened_told Session t (document_turns.read Session lines r its)
 session_from t lines r (listed.gives it more) =
     session_turn t (lines + 1) r (λ p. told asks.Session (lines + 1) p more) (λ q. document_turns.read Session (lines + 1) q more)
-    (sections.commands (lines + 1) None more) (sections.closing (lines + 1) more) (λ s. ended_told asks.Session (lines + 1) (Some (turns.session_verdict s)) more)
+    (sections.commands (lines + 1) None more) (sections.closing (lines + 1) more) (λ s. ended_told asks.Session (lines + 1) (Some (answers.verdict s)) more)
     (λ q. session_from t (lines + 1) q more) (λ s. edits_told (lines + 1) s more) it
 session_from t lines r (listed.refused fault) = refl
 session_from t lines r listed.goes_on = refl

@@ -96,7 +96,7 @@ module _ {Rest : Type 0} (a : Asked) (line : ℕ) (rest_told : Tables → Rest �
 
 schema_turn : {Rest : Type 0} (a : Asked) (line : ℕ) (rest_told : Tables → Rest → Told) (more : Place → Told) (reads : SchemaReader → Stream Rest) (rest : Rest) (whole : List SchemaSection) (s : Begun) (it : Item)
     → ((whole : List SchemaSection) (s : Begun) → more (schema_place whole s) ≡ stream_told rest_told (reads (record { sections = whole; begun = Some s }))) → ((t : Tables) → more (place_at a line t) ≡ rest_told t rest)
-    → turn_then (turns.in_schema (asked_of a) line (section_of whole s) it) more
+    → turn_then (turns.turned (asked_of a) line (schema_place whole s) it) more
     ≡ stream_told rest_told (schema_turns.turn_then (schema_turns.turned a line (record { sections = whole; begun = Some s }) it) reads rest)
 schema_turn a line rest_told more reads rest whole s (items.Start name) h e = schemas_grow a line rest_told more reads rest h e whole s (after s.builder (items.Start name))
 schema_turn a line rest_told more reads rest whole s (items.Attr name value) h e = schemas_grow a line rest_told more reads rest h e whole s (after s.builder (items.Attr name value))
@@ -122,7 +122,7 @@ schema_turn Session line rest_told more reads rest whole s (items.Command text) 
 
 fresh_turn : {Rest : Type 0} (a : Asked) (line : ℕ) (rest_told : Tables → Rest → Told) (more : Place → Told) (reads : SchemaReader → Stream Rest) (rest : Rest) (it : Item)
     → ((whole : List SchemaSection) (s : Begun) → more (schema_place whole s) ≡ stream_told rest_told (reads (record { sections = whole; begun = Some s }))) → ((t : Tables) → more (place_at a line t) ≡ rest_told t rest)
-    → turn_then (turns.in_fresh line it) more
+    → turn_then (turns.turned (asked_of a) line places.Fresh it) more
     ≡ stream_told rest_told (schema_turns.turn_then (schema_turns.turned a line schema_turns.unbegun it) reads rest)
 fresh_turn a line rest_told more reads rest (items.Start name) h e = refl
 fresh_turn a line rest_told more reads rest (items.Attr name value) h e = refl

@@ -3,17 +3,17 @@ use Rattle.std.specs.Prelude.{◌≡◌, ℕ, List, [], ◌∷◌, ◌++◌, fal
 use Rattle.tree_rows.specs.Forest.{Document}
 use Rattle.tree_rows.specs.Rows.{rows_of}
 use Rattle.assess_model.specs.Tables.{Tables}
-use Rattle.assess_model.specs.Assessment.{root_validity}
 use Rattle.first_form.specs.SchemaForm.{schema_tables}
-use Rattle.session_model.specs.State.{State, known}
+use Rattle.open_document.specs.State.{OpenState}
+use Rattle.open_document.specs.Answers.{answered, opened, verdict}
 use Rattle.stream_sections.specs.Spelled.{Order}
 use Rattle.stream_sections.specs.declared.asked.Asked.{Asked}
 use Rattle.stream_sections.specs.declared.schemas.SchemaSection.{SchemaSection}
-use Rattle.stream_answers.specs.Turns.{has_attributes, schema_ok, session_on, opened, session_verdict, end_line, ending_of}
+use Rattle.stream_answers.specs.Turns.{has_attributes, schema_ok, end_line, ending_of}
 use Rattle.xsv_run.specs.Statuses.{status_of}
 use Rattle.xsv_run.specs.Output.{Output}
 use Rattle.xsv_run.specs.declared.status.Status.{Status}
-use Rattle.output_laws.specs.Sectioned.{reply_to, state_behind, opening}
+use Rattle.output_laws.specs.Sectioned.{opening}
 
 -- the schema of the first section is accepted
 abbrev pub Accepts : List SchemaSection → Tables → Type 0
@@ -24,28 +24,28 @@ Accepts (s ∷ more) t = schema_tables (rows_of 1 s.tree.forest) ≡ Some t
 abbrev pub HasNoAttributes : Document → Type 0
 HasNoAttributes d = has_attributes (rows_of 1 d.forest) ≡ false
 
--- the replies to commands, and the session behind them
-abbrev pub replies : State → List Order → List ℕ
+-- the replies to commands, and the document behind them
+abbrev pub replies : OpenState → List Order → List ℕ
 replies s [] = []
-replies s (o ∷ more) = (reply_to s o.line o.block).text ++ replies (state_behind s o.line o.block) more
+replies s (o ∷ more) = (answered s o.line o.block).text ++ replies (answered s o.line o.block).next more
 
-abbrev pub state_after : State → List Order → State
+abbrev pub state_after : OpenState → List Order → OpenState
 state_after s [] = s
-state_after s (o ∷ more) = state_after (state_behind s o.line o.block) more
+state_after s (o ∷ more) = state_after (answered s o.line o.block).next more
 
--- the session on a document that was just opened
-abbrev pub first_state : Tables → Document → State
-first_state t d = session_on t (opened d)
+-- a document that was just opened
+abbrev pub first_state : Tables → Document → OpenState
+first_state t d = opened t d
 
-abbrev pub last_line : State → List ℕ
-last_line s = end_line (session_verdict s)
+abbrev pub last_line : OpenState → List ℕ
+last_line s = end_line (verdict s)
 
 -- valid or not, by the root's record
-abbrev pub last_status : State → Status
-last_status s = status_of (ending_of (root_validity (known s)))
+abbrev pub last_status : OpenState → Status
+last_status s = status_of (ending_of (verdict s).validity)
 
 -- all that is written for a stream with a document
-abbrev pub stream_text : Asked → State → List Order → List ℕ
+abbrev pub stream_text : Asked → OpenState → List Order → List ℕ
 stream_text a s orders = schema_ok ++ (opening a s ++ (replies s orders ++ last_line (state_after s orders)))
 
 -- a text, and the status of a run that has ended

@@ -4,11 +4,9 @@ use Rattle.item_listing.specs.Listed.{Listed}
 use Rattle.item_listing.specs.declared.item.Item.{Item}
 use Rattle.tree_rows.specs.Rows.{rows_of}
 use Rattle.assess_model.specs.Tables.{Tables}
-use Rattle.assess_model.specs.Assessment.{code_total, root_validity}
 use Rattle.first_form.specs.SchemaForm.{schema_tables}
-use Rattle.session_model.specs.State.{State, known}
-use Rattle.edit_script.specs.Commands as script
-use Rattle.edit_replies.specs.Replies.{Reply, reply, made, standing_of}
+use Rattle.open_document.specs.State.{OpenState}
+use Rattle.open_document.specs.Answers.{Answer, answered, opened, report, first_line, verdict}
 use Rattle.stream_sections.specs.Sections as sections
 use Rattle.stream_sections.specs.Sections.{Stop, Closing, Commands, Opened, Stream}
 use Rattle.stream_sections.specs.declared.asked.Asked.{Asked}
@@ -17,7 +15,7 @@ use Rattle.stream_sections.specs.declared.refusal.Refusal as section_refusal
 use Rattle.stream_sections.specs.declared.refusal.Refusal.TheVariants as reasons
 use Rattle.stream_sections.specs.declared.schemas.SchemaSection.{SchemaSection}
 use Rattle.stream_answers.specs.Output.{Told, before, over, stopped}
-use Rattle.stream_answers.specs.Turns.{has_attributes, schema_ok, unsupported, report, session_on, opened, session_verdict, end_line, ending_of}
+use Rattle.stream_answers.specs.Turns.{has_attributes, schema_ok, unsupported, end_line, ending_of}
 use Rattle.stream_answers.specs.declared.place.Asked as answers_asked
 use Rattle.stream_answers.specs.declared.place.Asked.TheVariants as asks
 use Rattle.stream_answers.specs.declared.refusal.Refusal.{Refusal}
@@ -47,33 +45,26 @@ closing_told last sections.ended = last
 closing_told last (sections.unclosed stop) = stop_told stop
 
 -- the last line, and the ending by the root
-abbrev pub verdict_told : State → Told
-verdict_told s = over (end_line (session_verdict s)) (ending_of (root_validity (known s)))
-
--- the reply to a command with its block, and the session behind it
-abbrev pub reply_to : State → List ℕ → Option (List Item) → Reply
-reply_to s line block = reply s.tables (standing_of s) (script.command line block)
-
-abbrev pub state_behind : State → List ℕ → Option (List Item) → State
-state_behind s line block = session_on s.tables (reply_to s line block).next
+abbrev pub verdict_told : OpenState → Told
+verdict_told s = over (end_line (verdict s)) (ending_of (verdict s).validity)
 
 -- the replies, one after another
-abbrev pub commands_told : State → Commands → Told
-commands_told s (sections.command line block more) = before (reply_to s line block).text (commands_told (state_behind s line block) more)
+abbrev pub commands_told : OpenState → Commands → Told
+commands_told s (sections.command line block more) = before (answered s line block).text (commands_told (answered s line block).next more)
 commands_told s (sections.closes closing) = closing_told (verdict_told s) closing
 commands_told s (sections.uncommanded stop) = stop_told stop
 
 -- what is written of the document that was opened: the report, or the first reply of a session
-abbrev pub opening : Asked → State → List ℕ
+abbrev pub opening : Asked → OpenState → List ℕ
 opening Check s = []
-opening Assess s = report (known s)
-opening Session s = made s.revision (code_total (known s))
+opening Assess s = report s
+opening Session s = first_line s
 
 -- the document, where no element has an attribute that is no binding
 abbrev pub opened_told : Asked → Tables → Opened → Told
 opened_told a t (sections.document d more) =
     if has_attributes (rows_of 1 d.forest) then over unsupported Unsupported
-    else before (opening a (session_on t (opened d))) (commands_told (session_on t (opened d)) more)
+    else before (opening a (opened t d)) (commands_told (opened t d) more)
 opened_told a t (sections.undocumented stop) = stop_told stop
 
 -- the schema is accepted, or not of the form that is accepted so far

@@ -1,3 +1,4 @@
 pub mod Finding
 pub mod Stocks
 pub mod Held
+pub mod Costs

@@ -82,7 +82,11 @@ impl PlainSession {
 }
 
 impl Session for PlainSession {
+    ghost use Rattle.plain_session.specs.Costs.{edit_cost};
+
     ghost state = { λ s. s };
+
+    ghost cost = { edit_cost };
 
     fn apply<L: Ledger>(&mut self, edit: &Edit, _steps: &mut Steps<L>) -> Result<(), SessionError> {
         if self.closed {

@@ -1,9 +1,11 @@
-ghost use Rattle.std.specs.Prelude.{◌≡◌, ◌≤◌, true, false, Option};
+ghost use Rattle.std.specs.Prelude.{◌≡◌, ℕ, true, false, Option};
 ghost use Rattle.std.specs.Option.{option_map};
 ghost use Rattle.tree_edits.specs.Edits.{can_be_made};
 ghost use Rattle.assess_model.specs.Assessment.{code_total, root_validity};
 ghost use Rattle.session_model.specs.State.{State, known};
 ghost use Rattle.session_model.specs.Applying.{Applies};
+ghost use Rattle.session_model.specs.Counting.{Counts, CountsRefused};
+ghost use Rattle.tree_edits.specs.declared.edit.Edit as edits;
 ghost use Rattle.session_model.specs.Asking.{entry_of};
 ghost use Rattle.tree_rows.specs.Kinds.{kind_of};
 
@@ -25,10 +27,13 @@ pub enum SessionError {
 }
 
 /// A document that is edited, with the records of its present tree. Contracts see the schema, the tree, the
-/// revision, and whether the session is closed. The records of a closed session are not stated.
+/// revision, whether the session is closed, and what an edit costs. The records of a closed session are not stated.
 pub trait Session {
     /// The schema, the tree, the revision, and whether the session is closed.
     ghost state: { Self → State };
+
+    /// How many steps an edit takes, at most.
+    ghost cost: { Self → edits.Edit → ℕ };
 
     /// Makes an edit, and adds one to the revision, which stays at its last value.
     ///
@@ -39,7 +44,8 @@ pub trait Session {
     fn apply<L: Ledger>(&mut self, edit: &Edit, steps: &mut Steps<L>) -> Result<(), SessionError>
         requires { can_be_made edit.now ≡ true }
         ensures applies { Applies (state self.old) edit.now result (state self.new) }
-        ensures steps { steps.old ≤ steps.new };
+        ensures steps { Counts steps.old steps.new (cost self.old edit.now) }
+        ensures refused { CountsRefused result steps.old steps.new };
 
     /// The record of an element, `None` where the number is of no element of the tree.
     fn element_record(&self, node: u32) -> Option<&ElementRecord>

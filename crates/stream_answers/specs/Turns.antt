@@ -15,15 +15,14 @@ use Rattle.tree_building.specs.Rules.{document_rules}
 use Rattle.tree_building.specs.declared.building.Building.{Building}
 use Rattle.tree_building.specs.declared.fault.TreeFault.{TreeFault}
 use Rattle.assess_model.specs.Tables.{Tables}
-use Rattle.assess_model.specs.Assessment.{Entry, assessment, code_total, root_validity}
 use Rattle.assess_model.specs.declared.record.Validity.{Validity}
 use Rattle.assess_model.specs.declared.record.Validity.TheVariants as validities
 use Rattle.first_form.specs.SchemaForm.{schema_tables}
-use Rattle.report_text.specs.Report.{record_lines}
 use Rattle.report_text.specs.Words.{validity_word}
-use Rattle.session_model.specs.State.{State, known}
-use Rattle.edit_script.specs.Commands.{command}
-use Rattle.edit_replies.specs.Replies.{Standing, Reply, made, reply, total_line}
+use Rattle.open_document.specs.State.{OpenState}
+use Rattle.open_document.specs.Answers as answers
+use Rattle.open_document.specs.Answers.{Answer}
+use Rattle.open_document.specs.declared.document.Verdict.{Verdict}
 use Rattle.stream_answers.specs.Refusals.{refusal_line, refusal_ending}
 use Rattle.stream_answers.specs.declared.schema.TheConstants.{MOST_SCHEMAS}
 use Rattle.stream_answers.specs.declared.place.Asked.{Asked}
@@ -33,7 +32,6 @@ use Rattle.stream_answers.specs.declared.place.DocumentSection.{DocumentSection}
 use Rattle.stream_answers.specs.declared.place.Place.{Place}
 use Rattle.stream_answers.specs.declared.place.Place.TheVariants as places
 use Rattle.stream_answers.specs.declared.place.SchemaSection.{SchemaSection}
-use Rattle.stream_answers.specs.declared.place.Verdict.{Verdict}
 use Rattle.stream_answers.specs.declared.refusal.Refusal.{Refusal}
 use Rattle.stream_answers.specs.declared.refusal.Refusal.TheVariants as refusals
 use Rattle.stream_answers.specs.declared.ending.Ending.{Ending}
@@ -133,15 +131,12 @@ document_in_schema Session line p = schemas_end p (document_begun line)
 abbrev pub schema_grown : SchemaSection → Item → Turned
 schema_grown p it = grown p.start (after p.builder it) (λ b. places.Schema (record p { builder = b }))
 
--- in a schema section
+-- a word in a schema section
 abbrev pub in_schema : Asked → ℕ → SchemaSection → Item → Turned
 in_schema a line p (items.Schema locations) = next_schema line p
 in_schema a line p items.End = end_in_schema a line p
 in_schema a line p items.Document = document_in_schema a line p
-in_schema a line p items.Edits = misplaced line
-in_schema a line p items.Dot = misplaced line
-in_schema a line p (items.Command text) = misplaced line
-in_schema a line p it = schema_grown p it
+in_schema a line p word = misplaced line
 
 -- an element has an attribute that is no binding
 abbrev pub has_attributes : List Row → Bool
@@ -150,34 +145,17 @@ has_attributes rows = list_any (λ row. not (length row.attributes == 0)) rows
 abbrev pub accepted : Document → Turned → Turned
 accepted d next = if has_attributes (rows_of 1 d.forest) then not_yet else next
 
-abbrev pub verdict_of : List Entry → Verdict
-verdict_of known = record { validity = root_validity known; total = code_total known }
+-- the stream has ended with this document
+abbrev pub document_ended : OpenState → Place
+document_ended s = places.Ended (Some (answers.verdict s))
 
--- the report: a line for each element, and how many codes there are
-abbrev pub report : List Entry → List ℕ
-report known = record_lines known ++ total_line (code_total known)
+-- the report on the document is written
+abbrev pub reported : OpenState → Turned
+reported s = goes (answers.report s) (document_ended s)
 
--- a session over the document, open
-abbrev pub session_on : Tables → Standing → State
-session_on t s = record { tables = t; document = s.document; revision = s.revision; closed = false }
-
-abbrev pub opened : Document → Standing
-opened d = record { document = d; revision = 0 }
-
-abbrev pub session_verdict : State → Verdict
-session_verdict s = verdict_of (known s)
-
--- the stream has ended with this session
-abbrev pub session_ended : State → Place
-session_ended s = places.Ended (Some (session_verdict s))
-
--- the report on the document of a session is written
-abbrev pub reported : State → Turned
-reported s = goes (report (known s)) (session_ended s)
-
--- the first reply of a session is written; edits follow, or the end
-abbrev pub answered_first : State → (State → Place) → Turned
-answered_first s place = goes (made s.revision (code_total (known s))) (place s)
+-- the first line of a session is written; edits follow, or the end
+abbrev pub answered_first : OpenState → (OpenState → Place) → Turned
+answered_first s place = goes (answers.first_line s) (place s)
 
 -- the document section ends, and its document is taken where no element has an attribute
 abbrev pub document_ends : DocumentSection → (Document → Turned) → Turned
@@ -185,11 +163,11 @@ document_ends p next = with_tree p.start (tree_of p.builder) (λ d. accepted d (
 
 abbrev pub end_in_document : Asked → ℕ → DocumentSection → Turned
 end_in_document Check line p = misplaced line
-end_in_document Assess line p = document_ends p (λ d. reported (session_on p.schema (opened d)))
-end_in_document Session line p = document_ends p (λ d. answered_first (session_on p.schema (opened d)) session_ended)
+end_in_document Assess line p = document_ends p (λ d. reported (answers.opened p.schema d))
+end_in_document Session line p = document_ends p (λ d. answered_first (answers.opened p.schema d) document_ended)
 
 abbrev pub edits_begin : DocumentSection → Turned
-edits_begin p = document_ends p (λ d. answered_first (session_on p.schema (opened d)) (λ s. places.Edits s))
+edits_begin p = document_ends p (λ d. answered_first (answers.opened p.schema d) (λ s. places.Edits s))
 
 -- a session may have edits
 abbrev pub edits_in_document : Asked → ℕ → DocumentSection → Turned
@@ -200,62 +178,70 @@ edits_in_document Session line p = edits_begin p
 abbrev pub document_grown : DocumentSection → Item → Turned
 document_grown p it = grown p.start (after p.builder it) (λ b. places.Document (record p { builder = b }))
 
--- in the document section
+-- a word in the document section
 abbrev pub in_document : Asked → ℕ → DocumentSection → Item → Turned
 in_document a line p items.End = end_in_document a line p
 in_document a line p items.Edits = edits_in_document a line p
-in_document a line p items.Document = misplaced line
-in_document a line p items.Dot = misplaced line
-in_document a line p (items.Schema locations) = misplaced line
-in_document a line p (items.Command text) = misplaced line
-in_document a line p it = document_grown p it
+in_document a line p word = misplaced line
 
 -- the first word is insert
 abbrev pub begins_block : List ℕ → Bool
 begins_block line = bytes_eq (before_first (λ b. b == 32) line) (codes "insert")
 
 -- a command with its block is answered
-abbrev pub answered_by : Tables → Reply → Turned
-answered_by t r = goes r.text (places.Edits (session_on t r.next))
+abbrev pub answered_by : Answer → Turned
+answered_by a = goes a.text (places.Edits a.next)
 
-abbrev pub answered : State → List ℕ → Option (List Item) → Turned
-answered s line block = answered_by s.tables (reply s.tables (record { document = s.document; revision = s.revision }) (command line block))
+abbrev pub answered : OpenState → List ℕ → Option (List Item) → Turned
+answered s line block = answered_by (answers.answered s line block)
 
-abbrev pub commanded : State → List ℕ → Turned
+abbrev pub commanded : OpenState → List ℕ → Turned
 commanded s line =
-    if begins_block line then goes [] (places.Block (record { session = s; line = line; items = [] })) else answered s line None
+    if begins_block line then goes [] (places.Block (record { document = s; line = line; items = [] })) else answered s line None
 
-abbrev pub in_edits : ℕ → State → Item → Turned
+-- a word or a command behind the document
+abbrev pub in_edits : ℕ → OpenState → Item → Turned
 in_edits line s (items.Command text) = commanded s text
-in_edits line s items.End = goes [] (session_ended s)
-in_edits line s it = misplaced line
+in_edits line s items.End = goes [] (document_ended s)
+in_edits line s word = misplaced line
 
 -- one more item of a block
 abbrev pub block_grown : Block → Item → Turned
 block_grown b it = goes [] (places.Block (record b { items = b.items ++ it ∷ [] }))
 
--- in a block, which a dot ends
+-- a word in a block, which a dot ends
 abbrev pub in_block : ℕ → Block → Item → Turned
-in_block line b items.Dot = answered b.session b.line (Some b.items)
-in_block line b items.Document = misplaced line
-in_block line b items.Edits = misplaced line
-in_block line b items.End = misplaced line
-in_block line b (items.Schema locations) = misplaced line
-in_block line b (items.Command text) = misplaced line
-in_block line b it = block_grown b it
+in_block line b items.Dot = answered b.document b.line (Some b.items)
+in_block line b word = misplaced line
 
 abbrev pub in_fresh : ℕ → Item → Turned
 in_fresh line (items.Schema locations) = goes [] (schema_begun line 1 None)
-in_fresh line it = misplaced line
+in_fresh line word = misplaced line
+
+-- a word or a command moves the stream
+abbrev pub moved : Asked → ℕ → Place → Item → Turned
+moved a line places.Fresh word = in_fresh line word
+moved a line (places.Schema p) word = in_schema a line p word
+moved a line (places.Document p) word = in_document a line p word
+moved a line (places.Edits s) word = in_edits line s word
+moved a line (places.Block b) word = in_block line b word
+moved a line (places.Ended verdict) word = misplaced line
+
+-- an item of a tree belongs to the section or the block that is read
+abbrev pub part_taken : ℕ → Place → Item → Turned
+part_taken line (places.Schema p) it = schema_grown p it
+part_taken line (places.Document p) it = document_grown p it
+part_taken line (places.Block b) it = block_grown b it
+part_taken line place it = misplaced line
 
 -- the item of the line of this number, where a stream stands here
 abbrev pub turned : Asked → ℕ → Place → Item → Turned
-turned a line places.Fresh it = in_fresh line it
-turned a line (places.Schema p) it = in_schema a line p it
-turned a line (places.Document p) it = in_document a line p it
-turned a line (places.Edits s) it = in_edits line s it
-turned a line (places.Block b) it = in_block line b it
-turned a line (places.Ended verdict) it = misplaced line
+turned a line place (items.Start name) = part_taken line place (items.Start name)
+turned a line place (items.Attr name value) = part_taken line place (items.Attr name value)
+turned a line place (items.Chars text) = part_taken line place (items.Chars text)
+turned a line place (items.Close name) = part_taken line place (items.Close name)
+turned a line place items.Instruction = part_taken line place items.Instruction
+turned a line place word = moved a line place word
 
 -- how a stream ends, by the root's validity
 abbrev pub ending_of : Validity → Ending

@@ -1,19 +1,18 @@
 ghost use Rattle.std.specs.Prelude.{◌≡◌, false, IfOk};
-ghost use Rattle.session_model.specs.State.{known};
+ghost use Rattle.open_document.specs.Answers.{IsOpen};
 ghost use Rattle.stream_answers.specs.Turns as turns;
-ghost use Rattle.stream_answers.specs.Turning.{Turning};
-ghost use Rattle.text_sink.specs.Written.{Written};
+ghost use Rattle.stream_answers.specs.Turning.{Moving};
 
-use crate::place::{DocumentSection, Verdict};
+use crate::place::DocumentSection;
 use crate::refusal::{misplaced, not_yet, refuse_tree};
-use crate::{Asked, Place, Turn};
-use edit_replies::{BreakOff, write_made, write_total};
+use crate::turn::Turn;
+use crate::{Asked, Place};
+use edit_replies::BreakOff;
 use item_listing::Item;
-use plain_session::PlainSession;
-use session_model::Session;
+use open_document::OpenDocument;
 use std::alloc::Global;
 use tree_rows::Row;
-use xsv_io::{Failed, Sink};
+use xsv_io::Sink;
 
 /// Whether some element has an attribute that is no binding.
 fn have_attributes(rows: &[Row]) -> bool
@@ -22,53 +21,31 @@ fn have_attributes(rows: &[Row]) -> bool
     rows.iter().any(|row| !row.attributes.as_slice().is_empty())
 }
 
-/// The verdict on the document of a session.
-pub fn verdict_of(session: &PlainSession) -> Verdict
-    requires { session.now.closed ≡ false }
-    ensures { result ≡ turns.session_verdict session.now }
+/// The stream ends with a report on the document.
+fn end_with_report<W: Sink>(document: &OpenDocument, sink: &mut W) -> Result<Turn, BreakOff>
+    requires { IsOpen document.now }
+    ensures { Moving W.taken W.faults W.fault_bound sink.old sink.new result (turns.reported document.now) }
 {
-    Verdict {
-        validity: session.root_validity(),
-        total: session.code_total(),
-    }
-}
-
-/// Writes the report on the document of a session.
-fn write_report<W: Sink>(session: &PlainSession, sink: &mut W) -> Result<(), Failed>
-    requires { session.now.closed ≡ false }
-    ensures written { Written W.taken W.faults W.fault_bound sink.old sink.new result (turns.report (known session.now)) }
-{
-    session.write_report(sink)?;
-    write_total(sink, session.code_total())
-}
-
-/// The stream ends with a report on the document of a session.
-fn end_with_report<W: Sink>(session: &PlainSession, sink: &mut W) -> Result<Turn, BreakOff>
-    requires { session.now.closed ≡ false }
-    ensures { Turning W.taken W.faults W.fault_bound sink.old sink.new result (turns.reported session.now) }
-{
-    match write_report(session, sink) {
-        Ok(()) => Ok(Turn::Goes(Place::Ended(Some(verdict_of(session))))),
-        Err(_) => Err(BreakOff::WriteFault),
-    }
+    document.write_report(sink)?;
+    Ok(Turn::Goes(Place::Ended(Some(document.verdict()))))
 }
 
 /// The stream ends with a session that has no edits.
-fn end_without_edits<W: Sink>(session: &PlainSession, sink: &mut W) -> Result<Turn, BreakOff>
-    requires { session.now.closed ≡ false }
-    ensures { Turning W.taken W.faults W.fault_bound sink.old sink.new result (turns.answered_first session.now turns.session_ended) }
+fn end_without_edits<W: Sink>(document: &OpenDocument, sink: &mut W) -> Result<Turn, BreakOff>
+    requires { IsOpen document.now }
+    ensures { Moving W.taken W.faults W.fault_bound sink.old sink.new result (turns.answered_first document.now turns.document_ended) }
 {
-    write_made(sink, session.revision(), session.code_total())?;
-    Ok(Turn::Goes(Place::Ended(Some(verdict_of(session)))))
+    document.write_first(sink)?;
+    Ok(Turn::Goes(Place::Ended(Some(document.verdict()))))
 }
 
 /// The edits of a session begin.
-fn begin_session<W: Sink>(session: PlainSession, sink: &mut W) -> Result<Turn, BreakOff>
-    requires { session.closed ≡ false }
-    ensures { Turning W.taken W.faults W.fault_bound sink.old sink.new result (turns.answered_first session (λ s. Place.Edits s)) }
+fn begin_session<W: Sink>(document: OpenDocument, sink: &mut W) -> Result<Turn, BreakOff>
+    requires { IsOpen document }
+    ensures { Moving W.taken W.faults W.fault_bound sink.old sink.new result (turns.answered_first document (λ s. Place.Edits s)) }
 {
-    write_made(sink, session.revision(), session.code_total())?;
-    Ok(Turn::Goes(Place::Edits(session)))
+    document.write_first(sink)?;
+    Ok(Turn::Goes(Place::Edits(document)))
 }
 
 /// The document section ends, and so does the stream.
@@ -79,7 +56,7 @@ fn end_document<W: Sink>(
     section: DocumentSection,
     sink: &mut W,
 ) -> Result<Turn, BreakOff>
-    ensures { Turning W.taken W.faults W.fault_bound sink.old sink.new result (turns.end_in_document asked line section) }
+    ensures { Moving W.taken W.faults W.fault_bound sink.old sink.new result (turns.end_in_document asked line section) }
 {
     let DocumentSection {
         schema,
@@ -96,11 +73,11 @@ fn end_document<W: Sink>(
     if have_attributes(tree.rows()) {
         return not_yet(sink);
     }
-    let session = PlainSession::open(alloc, schema, tree)?;
+    let document = OpenDocument::open(alloc, schema, tree)?;
     if matches!(asked, Asked::Assess) {
-        return end_with_report(&session, sink);
+        return end_with_report(&document, sink);
     }
-    end_without_edits(&session, sink)
+    end_without_edits(&document, sink)
 }
 
 /// The document section ends, and edits come.
@@ -109,7 +86,7 @@ fn begin_edits<W: Sink>(
     section: DocumentSection,
     sink: &mut W,
 ) -> Result<Turn, BreakOff>
-    ensures { Turning W.taken W.faults W.fault_bound sink.old sink.new result (turns.edits_begin section) }
+    ensures { Moving W.taken W.faults W.fault_bound sink.old sink.new result (turns.edits_begin section) }
 {
     let DocumentSection {
         schema,
@@ -123,29 +100,10 @@ fn begin_edits<W: Sink>(
     if have_attributes(tree.rows()) {
         return not_yet(sink);
     }
-    begin_session(PlainSession::open(alloc, schema, tree)?, sink)
+    begin_session(OpenDocument::open(alloc, schema, tree)?, sink)
 }
 
-/// One more item of the document's tree.
-fn grow<W: Sink>(section: DocumentSection, item: &Item, sink: &mut W) -> Result<Turn, BreakOff>
-    ensures { Turning W.taken W.faults W.fault_bound sink.old sink.new result (turns.document_grown section item.now) }
-{
-    let DocumentSection {
-        schema,
-        mut builder,
-        start,
-    } = section;
-    match builder.item(item)? {
-        Ok(()) => Ok(Turn::Goes(Place::Document(DocumentSection {
-            schema,
-            builder,
-            start,
-        }))),
-        Err(fault) => refuse_tree(sink, start, fault),
-    }
-}
-
-/// Answers an item in the document section.
+/// Answers a word in the document section.
 pub fn answer_document<W: Sink>(
     alloc: Global,
     asked: Asked,
@@ -154,7 +112,7 @@ pub fn answer_document<W: Sink>(
     item: Item,
     sink: &mut W,
 ) -> Result<Turn, BreakOff>
-    ensures { Turning W.taken W.faults W.fault_bound sink.old sink.new result (turns.in_document asked line section item) }
+    ensures { Moving W.taken W.faults W.fault_bound sink.old sink.new result (turns.in_document asked line section item) }
 {
     match item {
         Item::End => end_document(alloc, asked, line, section, sink),
@@ -162,7 +120,6 @@ pub fn answer_document<W: Sink>(
             Asked::Session => begin_edits(alloc, section, sink),
             Asked::Check | Asked::Assess => misplaced(sink, line),
         },
-        Item::Document | Item::Dot | Item::Schema(_) | Item::Command(_) => misplaced(sink, line),
-        item => grow(section, &item, sink),
+        _ => misplaced(sink, line),
     }
 }

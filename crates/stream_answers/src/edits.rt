@@ -1,15 +1,16 @@
-ghost use Rattle.std.specs.Prelude.{◌≡◌, ◌≤◌, false, IfOk};
+ghost use Rattle.std.specs.Prelude.{◌≡◌, ◌≤◌};
+ghost use Rattle.open_document.specs.Answers.{IsOpen};
 ghost use Rattle.stream_answers.specs.Turns as turns;
-ghost use Rattle.stream_answers.specs.Turning.{TurnsTo, Turning};
+ghost use Rattle.stream_answers.specs.Turning.{Moving};
 
-use crate::document::verdict_of;
+use crate::Place;
 use crate::place::Block;
 use crate::refusal::misplaced;
-use crate::{Place, Turn};
-use edit_replies::{BreakOff, answer_line};
+use crate::turn::Turn;
+use edit_replies::BreakOff;
 use item_listing::{Item, Items};
-use plain_session::PlainSession;
-use std::alloc::{AllocError, Global};
+use open_document::OpenDocument;
+use std::alloc::Global;
 use xs_names::Text;
 use xsv_io::Sink;
 use xsv_steps::{Ledger, Steps};
@@ -27,81 +28,63 @@ fn begins_block(line: &str) -> bool
 /// Answers a command, with the items of its block where it has one.
 fn answer<W: Sink, L: Ledger>(
     alloc: Global,
-    mut session: PlainSession,
+    mut document: OpenDocument,
     line: &Text,
     block: Option<Items>,
     sink: &mut W,
     steps: &mut Steps<L>,
 ) -> Result<Turn, BreakOff>
-    requires { session.closed ≡ false }
-    ensures turns { Turning W.taken W.faults W.fault_bound sink.old sink.new result (turns.answered session line.now block) }
+    requires { IsOpen document }
+    ensures moves { Moving W.taken W.faults W.fault_bound sink.old sink.new result (turns.answered document line.now block) }
     ensures steps { steps.old ≤ steps.new }
 {
-    answer_line(alloc, &mut session, line, block, sink, steps)?;
-    Ok(Turn::Goes(Place::Edits(session)))
+    document.answer(alloc, line, block, sink, steps)?;
+    Ok(Turn::Goes(Place::Edits(document)))
 }
 
 /// A command comes, which begins a block or is answered.
 fn take_command<W: Sink, L: Ledger>(
     alloc: Global,
-    session: PlainSession,
+    document: OpenDocument,
     line: Text,
     sink: &mut W,
     steps: &mut Steps<L>,
 ) -> Result<Turn, BreakOff>
-    requires { session.closed ≡ false }
-    ensures turns { Turning W.taken W.faults W.fault_bound sink.old sink.new result (turns.commanded session line) }
+    requires { IsOpen document }
+    ensures moves { Moving W.taken W.faults W.fault_bound sink.old sink.new result (turns.commanded document line) }
     ensures steps { steps.old ≤ steps.new }
 {
     if !begins_block(line.as_str()) {
-        return answer(alloc, session, &line, None, sink, steps);
+        return answer(alloc, document, &line, None, sink, steps);
     }
     Ok(Turn::Goes(Place::Block(Block {
-        session,
+        document,
         line,
         items: Items::new(alloc),
     })))
 }
 
-/// Answers an item in the edits section.
+/// Answers a word or a command in the edits section.
 pub fn answer_edits<W: Sink, L: Ledger>(
     alloc: Global,
     line: u32,
-    session: PlainSession,
+    document: OpenDocument,
     item: Item,
     sink: &mut W,
     steps: &mut Steps<L>,
 ) -> Result<Turn, BreakOff>
-    requires { session.closed ≡ false }
-    ensures turns { Turning W.taken W.faults W.fault_bound sink.old sink.new result (turns.in_edits line session item) }
+    requires { IsOpen document }
+    ensures moves { Moving W.taken W.faults W.fault_bound sink.old sink.new result (turns.in_edits line document item) }
     ensures steps { steps.old ≤ steps.new }
 {
     match item {
-        Item::Command(text) => take_command(alloc, session, text, sink, steps),
-        Item::End => Ok(Turn::Goes(Place::Ended(Some(verdict_of(&session))))),
+        Item::Command(text) => take_command(alloc, document, text, sink, steps),
+        Item::End => Ok(Turn::Goes(Place::Ended(Some(document.verdict())))),
         _ => misplaced(sink, line),
     }
 }
 
-/// One more item of a block.
-fn grow(block: Block, item: Item) -> Result<Turn, AllocError>
-    requires { block.session.closed ≡ false }
-    ensures { IfOk result (TurnsTo (turns.block_grown block item)) }
-{
-    let Block {
-        session,
-        line,
-        mut items,
-    } = block;
-    items.push(item)?;
-    Ok(Turn::Goes(Place::Block(Block {
-        session,
-        line,
-        items,
-    })))
-}
-
-/// Answers an item in a block.
+/// Answers a word in a block.
 pub fn answer_block<W: Sink, L: Ledger>(
     alloc: Global,
     line: u32,
@@ -110,22 +93,19 @@ pub fn answer_block<W: Sink, L: Ledger>(
     sink: &mut W,
     steps: &mut Steps<L>,
 ) -> Result<Turn, BreakOff>
-    requires { block.session.closed ≡ false }
-    ensures turns { Turning W.taken W.faults W.fault_bound sink.old sink.new result (turns.in_block line block item) }
+    requires { IsOpen block.document }
+    ensures moves { Moving W.taken W.faults W.fault_bound sink.old sink.new result (turns.in_block line block item) }
     ensures steps { steps.old ≤ steps.new }
 {
     match item {
         Item::Dot => {
             let Block {
-                session,
+                document,
                 line,
                 items,
             } = block;
-            answer(alloc, session, &line, Some(items), sink, steps)
+            answer(alloc, document, &line, Some(items), sink, steps)
         }
-        Item::Document | Item::Edits | Item::End | Item::Schema(_) | Item::Command(_) => {
-            misplaced(sink, line)
-        }
-        item => Ok(grow(block, item)?),
+        _ => misplaced(sink, line),
     }
 }

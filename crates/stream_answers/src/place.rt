@@ -1,6 +1,6 @@
-use assess_model::{Schema, Validity};
+use assess_model::Schema;
 use item_listing::Items;
-use plain_session::PlainSession;
+use open_document::{OpenDocument, Verdict};
 use plain_tree::{Builder, Tree};
 use xs_names::Text;
 
@@ -39,16 +39,9 @@ pub struct DocumentSection {
 /// A block of an edit script, with the items that have come.
 #[derive(Drop)]
 pub struct Block {
-    pub session: PlainSession,
+    pub document: OpenDocument,
     pub line: Text,
     pub items: Items,
-}
-
-/// What the last line tells of the document.
-#[derive(Clone, Copy, Debug, PartialEq, Eq)]
-pub struct Verdict {
-    pub validity: Validity,
-    pub total: u64,
 }
 
 /// Where a stream stands between two lines.
@@ -58,7 +51,7 @@ pub enum Place {
     Fresh,
     Schema(SchemaSection),
     Document(DocumentSection),
-    Edits(PlainSession),
+    Edits(OpenDocument),
     Block(Block),
     /// Behind the word `end`, with the verdict on the document where one was asked for.
     Ended(Option<Verdict>),

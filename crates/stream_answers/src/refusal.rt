@@ -1,10 +1,11 @@
-ghost use Rattle.std.specs.Prelude.{◌≡◌, IfOk};
+ghost use Rattle.std.specs.Prelude.{◌≡◌, ◌+◌, IfOk};
 ghost use Rattle.stream_answers.specs.Refusals as refusals;
 ghost use Rattle.stream_answers.specs.Turns as turns;
-ghost use Rattle.stream_answers.specs.Turning.{Turning};
+ghost use Rattle.stream_answers.specs.Turning.{Moving};
 ghost use Rattle.edit_replies.specs.Tells.{Tells};
 
-use crate::{Ending, Turn};
+use crate::Ending;
+use crate::turn::Turn;
 use edit_replies::{BreakOff, write_answer};
 use item_listing::Reason;
 use tag_names::NameReason;
@@ -144,7 +145,7 @@ pub fn write_refusal<W: Sink>(sink: &mut W, line: u64, refusal: Refusal) -> Resu
 
 /// A line that is refused ends the stream.
 pub fn refuse<W: Sink>(sink: &mut W, line: u64, refusal: Refusal) -> Result<Turn, BreakOff>
-    ensures { Turning W.taken W.faults W.fault_bound sink.old sink.new result (turns.refused line refusal) }
+    ensures { Moving W.taken W.faults W.fault_bound sink.old sink.new result (turns.refused line refusal) }
 {
     let ending = write_refusal(sink, line, refusal)?;
     Ok(Turn::Ends(ending))
@@ -152,22 +153,35 @@ pub fn refuse<W: Sink>(sink: &mut W, line: u64, refusal: Refusal) -> Result<Turn
 
 /// The item cannot stand where it does.
 pub fn misplaced<W: Sink>(sink: &mut W, line: u32) -> Result<Turn, BreakOff>
-    ensures { Turning W.taken W.faults W.fault_bound sink.old sink.new result (turns.misplaced line) }
+    ensures { Moving W.taken W.faults W.fault_bound sink.old sink.new result (turns.misplaced line) }
 {
     refuse(sink, line as u64, Refusal::BadSection)
 }
 
-/// A fault of the tree of a section that began at line `start`.
-pub fn refuse_tree<W: Sink>(sink: &mut W, start: u32, fault: TreeFault) -> Result<Turn, BreakOff>
-    ensures { Turning W.taken W.faults W.fault_bound sink.old sink.new result (turns.bad_tree start fault) }
+/// Writes a fault of the tree of a section that began at line `start`, and answers how the stream ended.
+pub fn write_tree_refusal<W: Sink>(
+    sink: &mut W,
+    start: u32,
+    fault: TreeFault,
+) -> Result<Ending, BreakOff>
+    ensures tells { Tells W.taken W.faults W.fault_bound sink.old sink.new result (refusals.refusal_line (start + 1 + fault.item) (Refusal.Tree fault.reason)) }
+    ensures ending { IfOk result (λ ending. ending ≡ refusals.refusal_ending (Refusal.Tree fault.reason)) }
 {
     let line = start as u64 + 1 + fault.item as u64;
-    refuse(sink, line, Refusal::Tree(fault.reason))
+    write_refusal(sink, line, Refusal::Tree(fault.reason))
+}
+
+/// A fault of the tree of a section that began at line `start` ends the stream.
+pub fn refuse_tree<W: Sink>(sink: &mut W, start: u32, fault: TreeFault) -> Result<Turn, BreakOff>
+    ensures { Moving W.taken W.faults W.fault_bound sink.old sink.new result (turns.bad_tree start fault) }
+{
+    let ending = write_tree_refusal(sink, start, fault)?;
+    Ok(Turn::Ends(ending))
 }
 
 /// The stream is not of the form that is accepted so far.
 pub fn not_yet<W: Sink>(sink: &mut W) -> Result<Turn, BreakOff>
-    ensures { Turning W.taken W.faults W.fault_bound sink.old sink.new result turns.not_yet }
+    ensures { Moving W.taken W.faults W.fault_bound sink.old sink.new result turns.not_yet }
 {
     write_answer(sink, &[Part::Text("unsupported NotYet\n")])?;
     Ok(Turn::Ends(Ending::Unsupported))

@@ -1,11 +1,12 @@
 ghost use Rattle.std.specs.Prelude.{◌≡◌, None, IfOk};
 ghost use Rattle.stream_answers.specs.Turns as turns;
-ghost use Rattle.stream_answers.specs.Turning.{IsOpen, Turning};
+ghost use Rattle.stream_answers.specs.Turning.{IsOpen, Moving};
 
 use crate::compile::{read_first, write_accepted};
 use crate::place::{DocumentSection, SchemaSection};
 use crate::refusal::{Refusal, misplaced, not_yet, refuse, refuse_tree};
-use crate::{Asked, Place, Turn};
+use crate::turn::Turn;
+use crate::{Asked, Place};
 use assess_model::Schema;
 use edit_replies::BreakOff;
 use item_listing::Item;
@@ -33,14 +34,14 @@ fn begin_schema(
     }))
 }
 
-/// Answers an item before the first section.
+/// Answers a word before the first section.
 pub fn begin_schemas<W: Sink>(
     alloc: Global,
     line: u32,
     item: Item,
     sink: &mut W,
 ) -> Result<Turn, BreakOff>
-    ensures { Turning W.taken W.faults W.fault_bound sink.old sink.new result (turns.in_fresh line item) }
+    ensures { Moving W.taken W.faults W.fault_bound sink.old sink.new result (turns.in_fresh line item) }
 {
     match item {
         Item::Schema(_) => Ok(Turn::Goes(begin_schema(alloc, line, 1, None)?)),
@@ -55,7 +56,7 @@ fn next_schema<W: Sink>(
     section: SchemaSection,
     sink: &mut W,
 ) -> Result<Turn, BreakOff>
-    ensures { Turning W.taken W.faults W.fault_bound sink.old sink.new result (turns.next_schema line section) }
+    ensures { Moving W.taken W.faults W.fault_bound sink.old sink.new result (turns.next_schema line section) }
 {
     let SchemaSection {
         count,
@@ -78,7 +79,7 @@ fn next_schema<W: Sink>(
 /// The schema is accepted, and the stream then stands here.
 fn accept<W: Sink>(place: Place, sink: &mut W) -> Result<Turn, BreakOff>
     requires { IsOpen place }
-    ensures { Turning W.taken W.faults W.fault_bound sink.old sink.new result (turns.goes turns.schema_ok place) }
+    ensures { Moving W.taken W.faults W.fault_bound sink.old sink.new result (turns.goes turns.schema_ok place) }
 {
     write_accepted(sink)?;
     Ok(Turn::Goes(place))
@@ -101,7 +102,7 @@ fn end_schemas<W: Sink>(
     section: SchemaSection,
     sink: &mut W,
 ) -> Result<Turn, BreakOff>
-    ensures { Turning W.taken W.faults W.fault_bound sink.old sink.new result (turns.schemas_end section (λ t. Place.Ended None)) }
+    ensures { Moving W.taken W.faults W.fault_bound sink.old sink.new result (turns.schemas_end section (λ t. Place.Ended None)) }
 {
     let SchemaSection {
         first,
@@ -125,7 +126,7 @@ fn begin_document<W: Sink>(
     section: SchemaSection,
     sink: &mut W,
 ) -> Result<Turn, BreakOff>
-    ensures { Turning W.taken W.faults W.fault_bound sink.old sink.new result (turns.schemas_end section (turns.document_begun line)) }
+    ensures { Moving W.taken W.faults W.fault_bound sink.old sink.new result (turns.schemas_end section (turns.document_begun line)) }
 {
     let SchemaSection {
         first,
@@ -142,28 +143,7 @@ fn begin_document<W: Sink>(
     }
 }
 
-/// One more item of a section's tree.
-fn grow<W: Sink>(section: SchemaSection, item: &Item, sink: &mut W) -> Result<Turn, BreakOff>
-    ensures { Turning W.taken W.faults W.fault_bound sink.old sink.new result (turns.schema_grown section item.now) }
-{
-    let SchemaSection {
-        count,
-        first,
-        mut builder,
-        start,
-    } = section;
-    match builder.item(item)? {
-        Ok(()) => Ok(Turn::Goes(Place::Schema(SchemaSection {
-            count,
-            first,
-            builder,
-            start,
-        }))),
-        Err(fault) => refuse_tree(sink, start, fault),
-    }
-}
-
-/// Answers an item in a schema section.
+/// Answers a word in a schema section.
 pub fn answer_schema<W: Sink>(
     alloc: Global,
     asked: Asked,
@@ -172,7 +152,7 @@ pub fn answer_schema<W: Sink>(
     item: Item,
     sink: &mut W,
 ) -> Result<Turn, BreakOff>
-    ensures { Turning W.taken W.faults W.fault_bound sink.old sink.new result (turns.in_schema asked line section item) }
+    ensures { Moving W.taken W.faults W.fault_bound sink.old sink.new result (turns.in_schema asked line section item) }
 {
     match item {
         Item::Schema(_) => next_schema(alloc, line, section, sink),
@@ -184,7 +164,6 @@ pub fn answer_schema<W: Sink>(
             Asked::Check => misplaced(sink, line),
             Asked::Assess | Asked::Session => begin_document(alloc, line, section, sink),
         },
-        Item::Edits | Item::Dot | Item::Command(_) => misplaced(sink, line),
-        item => grow(section, &item, sink),
+        _ => misplaced(sink, line),
     }
 }

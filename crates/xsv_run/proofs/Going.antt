@@ -1,5 +1,5 @@
 -- Lines and pieces, one after another.
-use Rattle.std.proofs.Common.{◌≡◌, ℕ, ◌+◌, ◌≤◌, List, [], ◌++◌, length, Bool, true, false, Option, Result, Ok, Err, refl, sym, ap, ◌∙◌, subst, append_assoc, length-append, arith, if◌then◌else◌}
+use Rattle.std.proofs.Common.{◌≡◌, ℕ, ◌+◌, ◌≤◌, List, [], ◌++◌, length, Bool, true, false, Option, Some, None, Result, Ok, Err, refl, sym, ap, ◌∙◌, subst, append_assoc, length-append, arith, if◌then◌else◌}
 use Rattle.std.proofs.KnownBytes.{Appends-nil, Appends-trans}
 use Rattle.item_listing.specs.State.{Reading}
 use Rattle.item_listing.specs.declared.past.Past.{Past}
@@ -14,8 +14,6 @@ use Rattle.edit_replies.specs.declared.break_off.BreakOff.{BreakOff}
 use Rattle.stream_answers.specs.declared.ending.Ending.{Ending}
 use Rattle.xsv_run.specs.Progress.{EndsAs, GoesOn, HasEnded, TakesNext, Progresses, Feeds, FeedsOn, to_tell}
 use Rattle.xsv_run.specs.declared.next.Next.TheVariants as nexts
-use Rattle.xsv_run.specs.declared.lines.Progress.{Progress}
-use Rattle.xsv_run.specs.declared.lines.Progress.TheVariants as progresses
 use Rattle.xsv_run.proofs.Telling.{ends_behind}
 
 before-nil : (t : Told) → t ≡ before [] t
@@ -62,11 +60,11 @@ module _ (a : Asked) (p : Place) (r f : Reading) (bytes : List ℕ) (past : f.pa
       → (more : List ℕ) (closed : Bool) → EndsAs e o n (to_tell a p r (bytes ++ more) closed)
   ends_fed o n e ended = λ more closed. subst (EndsAs e o n) (sym (same_told more closed)) (ended more closed)
 
-  pub fed_on : (s : Reading) (o n : Option (List ℕ)) (x : Result Progress BreakOff) → Progresses a p f o s n x → bytes_taken s ≡ bytes_taken r + length bytes → s.finished ≡ false
-      → FeedsOn a p r o bytes s n x
-  fed_on s o n (Ok (progresses.Waits q)) h counted going = feeds q s o n h.0 h.1 counted h.2 going
-  fed_on s o n (Ok (progresses.Ends ending)) h counted going = ends_fed o n (Ok ending) h
-  fed_on s o n (Err why) h counted going = ends_fed o n (Err why) h
+  pub fed_on : (q : Place) (s : Reading) (o n : Option (List ℕ)) (x : Result (Option Ending) BreakOff) → Progresses a p f o q s n x → bytes_taken s ≡ bytes_taken r + length bytes → s.finished ≡ false
+      → FeedsOn a p r o bytes q s n x
+  fed_on q s o n (Ok None) h counted going = feeds q s o n h.0 h.1 counted h.2 going
+  fed_on q s o n (Ok (Some ending)) h counted going = ends_fed o n (Ok ending) h
+  fed_on q s o n (Err why) h counted going = ends_fed o n (Err why) h
 
 -- a piece that came: the lines that were read are as before
 module _ (r f : Reading) (bytes : List ℕ) (going : r.finished ≡ false) (is : f ≡ fed r bytes) where
@@ -88,8 +86,8 @@ pub ended_behind : (e : Result Ending BreakOff) (m n : Option (List ℕ)) (place
 ended_behind e m n place count lines same ended = subst (λ k. EndsAs e m n (finished k place)) same ended
 
 -- no whole line is left
-pub waits_now : (a : Asked) (p q x : Place) (r s t : Reading) (o m n : Option (List ℕ)) → GoesOn a p r o q s m → TakesNext a q s m t n (Ok (nexts.Waits x)) → bytes_taken t ≤ MOST_BYTES
-    → Progresses a p r o t n (Ok (progresses.Waits x))
+pub waits_now : (a : Asked) (p q x : Place) (r s t : Reading) (o m n : Option (List ℕ)) → GoesOn a p r o q s m → TakesNext a q s m x t n (Ok nexts.Waits) → bytes_taken t ≤ MOST_BYTES
+    → Progresses a p r o x t n (Ok None)
 waits_now a p q x r s t o m n one two few =
     let on : GoesOn a p r o x t n =
     subst (λ v. GoesOn a p r o x t v) (sym two.2) (subst (λ v. GoesOn a p r o x v m) (sym two.1) (subst (λ v. GoesOn a p r o v s m) (sym two.0) one)) in

@@ -1,5 +1,5 @@
 -- An item that was answered.
-use Rattle.std.proofs.Common.{◌≡◌, ℕ, ◌+◌, List, Bool, Option, Some, Result, Ok, Err, IfOk, refl, sym, ap, ◌∙◌, subst}
+use Rattle.std.proofs.Common.{◌≡◌, ℕ, ◌+◌, List, Bool, Option, Some, None, Result, Ok, Err, IfOk, refl, sym, ap, ◌∙◌, subst}
 use Rattle.std.specs.Io.KnownBytes.{Appends}
 use Rattle.text_sink.proofs.Fronts.{front_before}
 use Rattle.item_listing.specs.State.{Reading}
@@ -18,27 +18,25 @@ use Rattle.stream_answers.specs.declared.ending.Ending.{Ending}
 use Rattle.stream_answers.specs.declared.place.Asked.{Asked}
 use Rattle.stream_answers.specs.declared.place.Place.{Place}
 use Rattle.stream_answers.specs.declared.refusal.Refusal.TheVariants as refusals
-use Rattle.stream_answers.specs.declared.turn.Turn.{Turn}
-use Rattle.stream_answers.specs.declared.turn.Turn.TheVariants as turns
 use Rattle.xsv_run.specs.Progress.{EndsAs, TakesItem, TakesNext, HasEnded, Holds, to_tell}
 use Rattle.xsv_run.specs.declared.next.Next.{Next}
 use Rattle.xsv_run.specs.declared.next.Next.TheVariants as nexts
 use Rattle.xsv_run.proofs.Telling.{front_none, front_broken}
 
 -- how a turn of the code is answered
-pub item_goes : (t : Turned) (a b : Option (List ℕ)) (place : Place) → Appends a b (said_of t) → TurnsTo t (turns.Goes place) → TakesItem t a b (Ok (nexts.Goes place))
-item_goes (goes said next) a b place h is = (h, is.0, is.1)
-item_goes (ends said ending) a b place h is = absurd is
+pub item_goes : (t : Turned) (q : Place) (a b : Option (List ℕ)) → Appends a b (said_of t) → TurnsTo t q None → TakesItem t q a b (Ok nexts.Goes)
+item_goes (goes said next) q a b h is = (h, is.0, is.1)
+item_goes (ends said ending) q a b h is = absurd is
 
-pub item_ends : (t : Turned) (a b : Option (List ℕ)) (ending : Ending) → Appends a b (said_of t) → TurnsTo t (turns.Ends ending) → TakesItem t a b (Ok (nexts.Ends ending))
-item_ends (goes said next) a b ending h is = absurd is
-item_ends (ends said was) a b ending h is = (h, is)
+pub item_ends : (t : Turned) (q : Place) (a b : Option (List ℕ)) (ending : Ending) → Appends a b (said_of t) → TurnsTo t q (Some ending) → TakesItem t q a b (Ok (nexts.Ends ending))
+item_ends (goes said next) q a b ending h is = absurd is
+item_ends (ends said was) q a b ending h is = (h, is)
 
-pub item_broken : (t : Turned) (a b : Option (List ℕ)) (why : BreakOff) → Wrote {T = Turn} (Err why) a b (said_of t) → TakesItem t a b (Err why)
-item_broken (goes said next) a b why h = front_broken Turn why a b said h
-item_broken (ends said ending) a b why h = front_broken Turn why a b said h
+pub item_broken : (t : Turned) (q : Place) (a b : Option (List ℕ)) (why : BreakOff) → Wrote {T = Option Ending} (Err why) a b (said_of t) → TakesItem t q a b (Err why)
+item_broken (goes said next) q a b why h = front_broken (Option Ending) why a b said h
+item_broken (ends said ending) q a b why h = front_broken (Option Ending) why a b said h
 
-module _ (a : Asked) (place : Place) (r s : Reading) (it : Item) (old new : Option (List ℕ))
+module _ (a : Asked) (place q : Place) (r s : Reading) (it : Item) (old new : Option (List ℕ))
     (reads : (more : List ℕ) (closed : Bool) → listed r more closed ≡ gives it (listed s more closed)) (line : s.past.lines ≡ r.past.lines + 1) where
   told_is : (more : List ℕ) (closed : Bool)
       → to_tell a place r more closed ≡ turn_then (turned a s.past.lines place it) (λ next. told a s.past.lines next (listed s more closed))
@@ -47,27 +45,27 @@ module _ (a : Asked) (place : Place) (r s : Reading) (it : Item) (old new : Opti
 
   told_by_turn : (t : Turned) → t ≡ turned a s.past.lines place it → (more : List ℕ) (closed : Bool)
       → to_tell a place r more closed ≡ turn_then t (λ next. told a s.past.lines next (listed s more closed))
-  told_by_turn t e more closed = told_is more closed ∙ ap (λ u. turn_then u (λ q. told a s.past.lines q (listed s more closed))) (sym e)
+  told_by_turn t e more closed = told_is more closed ∙ ap (λ u. turn_then u (λ p. told a s.past.lines p (listed s more closed))) (sym e)
 
-  next_by : (t : Turned) → t ≡ turned a s.past.lines place it → (n : Result Next BreakOff) → TakesItem t old new n → TakesNext a place r old s new n
-  next_by (goes said next) e (Ok (nexts.Goes p)) h = record {
+  next_by : (t : Turned) → t ≡ turned a s.past.lines place it → (n : Result Next BreakOff) → TakesItem t q old new n → TakesNext a place r old q s new n
+  next_by (goes said next) e (Ok nexts.Goes) h = record {
     said = said;
     written = h.0;
-    told_on = λ more closed. told_by_turn (goes said next) e more closed ∙ ap (λ q. before said (told a s.past.lines q (listed s more closed))) (sym h.1);
+    told_on = λ more closed. told_by_turn (goes said next) e more closed ∙ ap (λ p. before said (told a s.past.lines p (listed s more closed))) (sym h.1);
     is_open = h.2;
   }
-  next_by (goes said next) e (Ok (nexts.Waits p)) h = absurd h
+  next_by (goes said next) e (Ok nexts.Waits) h = absurd h
   next_by (goes said next) e (Ok (nexts.Ends ending)) h = absurd h
   next_by (goes said next) e (Err why) h = λ more closed.
       subst (EndsAs (Err why) old new) (sym (told_by_turn (goes said next) e more closed)) (front_before old new said _ h)
-  next_by (ends said ending) e (Ok (nexts.Goes p)) h = absurd h
-  next_by (ends said ending) e (Ok (nexts.Waits p)) h = absurd h
+  next_by (ends said ending) e (Ok nexts.Goes) h = absurd h
+  next_by (ends said ending) e (Ok nexts.Waits) h = absurd h
   next_by (ends said ending) e (Ok (nexts.Ends given)) h = λ more closed.
       subst (EndsAs (Ok given) old new) (sym (told_by_turn (ends said ending) e more closed)) (h.0, ap Some (sym h.1))
   next_by (ends said ending) e (Err why) h = λ more closed.
       subst (EndsAs (Err why) old new) (sym (told_by_turn (ends said ending) e more closed)) h
 
-  pub next_taken : (n : Result Next BreakOff) → TakesItem (turned a s.past.lines place it) old new n → TakesNext a place r old s new n
+  pub next_taken : (n : Result Next BreakOff) → TakesItem (turned a s.past.lines place it) q old new n → TakesNext a place r old q s new n
   next_taken n h = next_by (turned a s.past.lines place it) refl n h
 
 pub fault_ends : (a : Asked) (place : Place) (r : Reading) (fault : ListingFault) (old new : Option (List ℕ)) (e : Result Ending BreakOff)
@@ -80,30 +78,30 @@ pub memory_ends : (a : Asked) (place : Place) (r : Reading) (old : Option (List 
 memory_ends a place r old = λ more closed. front_none old _
 
 -- the next item was read and answered
-pub item_read : (a : Asked) (place : Place) (r s : Reading) (read : Result (Option Item) ListingFault) (it : Item) (line : ℕ) (old new : Option (List ℕ)) (n : Result Next BreakOff)
-    → read ≡ Ok (Some it) → ReadsOn r read s → Leaves r read s → line ≡ s.past.lines → TakesItem (turned a line place it) old new n → TakesNext a place r old s new n
-item_read a place r s read it line old new n is reads leaves same h =
-    let on = subst (λ q. ReadsOn r q s) is reads in
-    let left : s ≡ after r (Some it) = subst (λ q. Leaves r q s) is leaves in
-    next_taken a place r s it old new on (ap (λ (x : Reading). x.past.lines) left) n (subst (λ k. TakesItem (turned a k place it) old new n) same h)
+pub item_read : (a : Asked) (place q : Place) (r s : Reading) (read : Result (Option Item) ListingFault) (it : Item) (line : ℕ) (old new : Option (List ℕ)) (n : Result Next BreakOff)
+    → read ≡ Ok (Some it) → ReadsOn r read s → Leaves r read s → line ≡ s.past.lines → TakesItem (turned a line place it) q old new n → TakesNext a place r old q s new n
+item_read a place q r s read it line old new n is reads leaves same h =
+    let on = subst (λ x. ReadsOn r x s) is reads in
+    let left : s ≡ after r (Some it) = subst (λ x. Leaves r x s) is leaves in
+    next_taken a place q r s it old new on (ap (λ (x : Reading). x.past.lines) left) n (subst (λ k. TakesItem (turned a k place it) q old new n) same h)
 
 -- a line was refused
-refused_by : (a : Asked) (place : Place) (r : Reading) (fault : ListingFault) (old new : Option (List ℕ)) (n : Result Next BreakOff)
+refused_by : (a : Asked) (place q : Place) (r : Reading) (fault : ListingFault) (old new : Option (List ℕ)) (n : Result Next BreakOff)
     → ((more : List ℕ) (closed : Bool) → listed r more closed ≡ refused fault)
     → Wrote n old new (stopped fault.line (refusals.Line fault.reason)).text
-    → IfOk n (λ next. next ≡ nexts.Ends (refusal_ending (refusals.Line fault.reason))) → TakesNext a place r old r new n
-refused_by a place r fault old new (Ok next) reads h is =
-    subst (λ x. TakesNext a place r old r new (Ok x)) (sym is) (fault_ends a place r fault old new (Ok (refusal_ending (refusals.Line fault.reason))) reads (h, refl))
-refused_by a place r fault old new (Err why) reads h is = fault_ends a place r fault old new (Err why) reads (front_broken Next why old new _ h)
+    → IfOk n (λ next. next ≡ nexts.Ends (refusal_ending (refusals.Line fault.reason))) → TakesNext a place r old q r new n
+refused_by a place q r fault old new (Ok next) reads h is =
+    subst (λ x. TakesNext a place r old q r new (Ok x)) (sym is) (fault_ends a place r fault old new (Ok (refusal_ending (refusals.Line fault.reason))) reads (h, refl))
+refused_by a place q r fault old new (Err why) reads h is = fault_ends a place r fault old new (Err why) reads (front_broken Next why old new _ h)
 
-pub fault_read : (a : Asked) (place : Place) (r s : Reading) (read : Result (Option Item) ListingFault) (fault : ListingFault) (old new : Option (List ℕ)) (n : Result Next BreakOff)
+pub fault_read : (a : Asked) (place q : Place) (r s : Reading) (read : Result (Option Item) ListingFault) (fault : ListingFault) (old new : Option (List ℕ)) (n : Result Next BreakOff)
     → read ≡ Err fault → ReadsOn r read s → Leaves r read s
     → Wrote n old new (stopped fault.line (refusals.Line fault.reason)).text
-    → IfOk n (λ next. next ≡ nexts.Ends (refusal_ending (refusals.Line fault.reason))) → TakesNext a place r old s new n
-fault_read a place r s read fault old new n is reads leaves h ended =
-    let on = subst (λ q. ReadsOn r q s) is reads in
-    let left : s ≡ r = subst (λ q. Leaves r q s) is leaves in
-    subst (λ q. TakesNext a place r old q new n) (sym left) (refused_by a place r fault old new n on h ended)
+    → IfOk n (λ next. next ≡ nexts.Ends (refusal_ending (refusals.Line fault.reason))) → TakesNext a place r old q s new n
+fault_read a place q r s read fault old new n is reads leaves h ended =
+    let on = subst (λ x. ReadsOn r x s) is reads in
+    let left : s ≡ r = subst (λ x. Leaves r x s) is leaves in
+    subst (λ x. TakesNext a place r old q x new n) (sym left) (refused_by a place q r fault old new n on h ended)
 
 -- a line that is refused ends the stream
 pub holds_ended : (n : Result Next BreakOff) (r s : Reading) (ending : Ending) → IfOk n (λ next. next ≡ nexts.Ends ending) → IfOk n (Holds r s)

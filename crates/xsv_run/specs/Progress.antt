@@ -18,8 +18,6 @@ use Rattle.stream_answers.specs.declared.place.Place.TheVariants.{Fresh}
 use Rattle.xsv_run.specs.Output.{output_of, told_of}
 use Rattle.xsv_run.specs.declared.next.Next.{Next}
 use Rattle.xsv_run.specs.declared.next.Next.TheVariants as nexts
-use Rattle.xsv_run.specs.declared.lines.Progress.{Progress}
-use Rattle.xsv_run.specs.declared.lines.Progress.TheVariants as progresses
 use Rattle.xsv_run.specs.declared.piece.Piece.{Piece}
 use Rattle.xsv_run.specs.declared.piece.Piece.TheVariants as pieces
 
@@ -28,16 +26,16 @@ abbrev pub EndsAs : Result Ending BreakOff → Option (List ℕ) → Option (Lis
 EndsAs (Ok ending) old new t = Appends old new t.text × (t.ending ≡ Some ending)
 EndsAs (Err why) old new t = AppendsFront old new t.text
 
--- an item was answered as it turns, or the run broke off
-abbrev pub TakesItem : Turned → Option (List ℕ) → Option (List ℕ) → Result Next BreakOff → Type 0
-TakesItem (goes said next) old new (Ok (nexts.Goes place)) = Appends old new said × (place ≡ next) × IsOpen place
-TakesItem (goes said next) old new (Ok (nexts.Waits place)) = ⊥
-TakesItem (goes said next) old new (Ok (nexts.Ends given)) = ⊥
-TakesItem (goes said next) old new (Err why) = AppendsFront old new said
-TakesItem (ends said ending) old new (Ok (nexts.Goes place)) = ⊥
-TakesItem (ends said ending) old new (Ok (nexts.Waits place)) = ⊥
-TakesItem (ends said ending) old new (Ok (nexts.Ends given)) = Appends old new said × (given ≡ ending)
-TakesItem (ends said ending) old new (Err why) = AppendsFront old new said
+-- an item was answered as it turns, and the stream stands at the place; or the run broke off
+abbrev pub TakesItem : Turned → Place → Option (List ℕ) → Option (List ℕ) → Result Next BreakOff → Type 0
+TakesItem (goes said next) place old new (Ok nexts.Goes) = Appends old new said × (place ≡ next) × IsOpen place
+TakesItem (goes said next) place old new (Ok nexts.Waits) = ⊥
+TakesItem (goes said next) place old new (Ok (nexts.Ends given)) = ⊥
+TakesItem (goes said next) place old new (Err why) = AppendsFront old new said
+TakesItem (ends said ending) place old new (Ok nexts.Goes) = ⊥
+TakesItem (ends said ending) place old new (Ok nexts.Waits) = ⊥
+TakesItem (ends said ending) place old new (Ok (nexts.Ends given)) = Appends old new said × (given ≡ ending)
+TakesItem (ends said ending) place old new (Err why) = AppendsFront old new said
 
 -- what is still to be told when these bytes come, with none after them if closed
 abbrev pub to_tell : Asked → Place → Reading → List ℕ → Bool → Told
@@ -54,24 +52,24 @@ pub record GoesOn (a : Asked) (place : Place) (r : Reading) (old : Option (List 
 abbrev pub HasEnded : Asked → Place → Reading → Option (List ℕ) → Option (List ℕ) → Result Ending BreakOff → Type 0
 HasEnded a place r old new ended = (more : List ℕ) (closed : Bool) → EndsAs ended old new (to_tell a place r more closed)
 
--- one item was answered, or none is left, or the run has ended
-abbrev pub TakesNext : Asked → Place → Reading → Option (List ℕ) → Reading → Option (List ℕ) → Result Next BreakOff → Type 0
-TakesNext a place r old s new (Ok (nexts.Goes next)) = GoesOn a place r old next s new
-TakesNext a place r old s new (Ok (nexts.Waits next)) = (next ≡ place) × (s ≡ r) × (new ≡ old) × Waits r
-TakesNext a place r old s new (Ok (nexts.Ends ending)) = HasEnded a place r old new (Ok ending)
-TakesNext a place r old s new (Err why) = HasEnded a place r old new (Err why)
+-- one item was answered, and the stream stands at the next place; or none is left; or the run has ended
+abbrev pub TakesNext : Asked → Place → Reading → Option (List ℕ) → Place → Reading → Option (List ℕ) → Result Next BreakOff → Type 0
+TakesNext a place r old next s new (Ok nexts.Goes) = GoesOn a place r old next s new
+TakesNext a place r old next s new (Ok nexts.Waits) = (next ≡ place) × (s ≡ r) × (new ≡ old) × Waits r
+TakesNext a place r old next s new (Ok (nexts.Ends ending)) = HasEnded a place r old new (Ok ending)
+TakesNext a place r old next s new (Err why) = HasEnded a place r old new (Err why)
 
 -- fewer bytes are held where an item was answered, and no more than a stream has where none is left
 abbrev pub Holds : Reading → Reading → Next → Type 0
-Holds r s (nexts.Goes next) = length s.held < length r.held
-Holds r s (nexts.Waits next) = bytes_taken s ≤ MOST_BYTES
+Holds r s nexts.Goes = length s.held < length r.held
+Holds r s nexts.Waits = bytes_taken s ≤ MOST_BYTES
 Holds r s (nexts.Ends ending) = Unit {0}
 
--- all items were answered that are there, or the run has ended
-abbrev pub Progresses : Asked → Place → Reading → Option (List ℕ) → Reading → Option (List ℕ) → Result Progress BreakOff → Type 0
-Progresses a place r old s new (Ok (progresses.Waits next)) = GoesOn a place r old next s new × Waits s × (bytes_taken s ≤ MOST_BYTES)
-Progresses a place r old s new (Ok (progresses.Ends ending)) = HasEnded a place r old new (Ok ending)
-Progresses a place r old s new (Err why) = HasEnded a place r old new (Err why)
+-- all items were answered that are there, and the stream stands at the next place; or the run has ended
+abbrev pub Progresses : Asked → Place → Reading → Option (List ℕ) → Place → Reading → Option (List ℕ) → Result (Option Ending) BreakOff → Type 0
+Progresses a place r old next s new (Ok None) = GoesOn a place r old next s new × Waits s × (bytes_taken s ≤ MOST_BYTES)
+Progresses a place r old next s new (Ok (Some ending)) = HasEnded a place r old new (Ok ending)
+Progresses a place r old next s new (Err why) = HasEnded a place r old new (Err why)
 
 -- these bytes came and were answered, whatever comes behind them
 pub record Feeds (a : Asked) (place : Place) (r : Reading) (old : Option (List ℕ)) (bytes : List ℕ) (next : Place) (s : Reading) (new : Option (List ℕ)) : Type 0 where
@@ -85,11 +83,11 @@ pub record Feeds (a : Asked) (place : Place) (r : Reading) (old : Option (List �
   pub going : s.finished ≡ false
 
 -- these bytes came and were answered, whatever comes behind them, or the run has ended
-abbrev pub FeedsOn : Asked → Place → Reading → Option (List ℕ) → List ℕ → Reading → Option (List ℕ) → Result Progress BreakOff → Type 0
-FeedsOn a place r old bytes s new (Ok (progresses.Waits next)) = Feeds a place r old bytes next s new
-FeedsOn a place r old bytes s new (Ok (progresses.Ends ending)) =
+abbrev pub FeedsOn : Asked → Place → Reading → Option (List ℕ) → List ℕ → Place → Reading → Option (List ℕ) → Result (Option Ending) BreakOff → Type 0
+FeedsOn a place r old bytes next s new (Ok None) = Feeds a place r old bytes next s new
+FeedsOn a place r old bytes next s new (Ok (Some ending)) =
     (more : List ℕ) (closed : Bool) → EndsAs (Ok ending) old new (to_tell a place r (bytes ++ more) closed)
-FeedsOn a place r old bytes s new (Err why) =
+FeedsOn a place r old bytes next s new (Err why) =
     (more : List ℕ) (closed : Bool) → EndsAs (Err why) old new (to_tell a place r (bytes ++ more) closed)
 
 -- a piece was read and answered
@@ -107,24 +105,24 @@ pub record EndsPiece (a : Asked) (place : Place) (r : Reading) (rest_old old res
   pub answers : (more : List ℕ) (closed : Bool) → EndsAs ended old new (to_tell a place r (bytes ++ more) closed)
   pub few : bytes_taken r + length bytes ≤ MOST_BYTES + 1
 
-abbrev pub Pieces : Asked → Place → Reading → Option (List ℕ) → Option (List ℕ) → Reading → Option (List ℕ) → Option (List ℕ) → Piece → Type 0
-Pieces a place r rest_old old s rest_new new (pieces.Goes next count) = TakesPiece a place r rest_old old next s rest_new new count
-Pieces a place r rest_old old s rest_new new (pieces.AtEnd next) =
+abbrev pub Pieces : Asked → Place → Reading → Option (List ℕ) → Option (List ℕ) → Place → Reading → Option (List ℕ) → Option (List ℕ) → Piece → Type 0
+Pieces a place r rest_old old next s rest_new new (pieces.Goes count) = TakesPiece a place r rest_old old next s rest_new new count
+Pieces a place r rest_old old next s rest_new new pieces.AtEnd =
     (next ≡ place) × (s ≡ r) × (new ≡ old) × Consumes rest_old rest_new [] × IsAtEnd rest_new
-Pieces a place r rest_old old s rest_new new pieces.Failed = (s ≡ r) × (new ≡ old) × Keeps rest_old rest_new
-Pieces a place r rest_old old s rest_new new (pieces.Ends ended) = EndsPiece a place r rest_old old rest_new new ended
+Pieces a place r rest_old old next s rest_new new pieces.Failed = (s ≡ r) × (new ≡ old) × Keeps rest_old rest_new
+Pieces a place r rest_old old next s rest_new new (pieces.Ends ended) = EndsPiece a place r rest_old old rest_new new ended
 
 -- a write failed
 abbrev pub FailsWrite : Piece → Type 0
-FailsWrite (pieces.Goes next count) = ⊥
-FailsWrite (pieces.AtEnd next) = ⊥
+FailsWrite (pieces.Goes count) = ⊥
+FailsWrite pieces.AtEnd = ⊥
 FailsWrite pieces.Failed = ⊥
 FailsWrite (pieces.Ends ended) = IsWriteFault ended
 
 -- a read failed
 abbrev pub FailsRead : Piece → Type 0
-FailsRead (pieces.Goes next count) = ⊥
-FailsRead (pieces.AtEnd next) = ⊥
+FailsRead (pieces.Goes count) = ⊥
+FailsRead pieces.AtEnd = ⊥
 FailsRead pieces.Failed = Unit {0}
 FailsRead (pieces.Ends ended) = ⊥
 

@@ -11,17 +11,17 @@ ghost use Rattle.xsv_run.specs.declared.next.Next.TheVariants as nexts;
 use edit_replies::BreakOff;
 use item_listing::{Item, Listing, ListingFault};
 use std::alloc::Global;
-use stream_answers::{Asked, Ending, Place, Refusal, Turn, answer_item, write_refusal};
+use stream_answers::{Asked, Ending, Place, Refusal, answer_item, write_refusal};
 use xsv_io::Sink;
 use xsv_steps::{Ledger, Steps};
 
 /// What the next item has done.
-#[derive(Drop)]
+#[derive(Clone, Copy, Debug, PartialEq, Eq)]
 pub enum Next {
-    /// It was answered, and the stream stands here.
-    Goes(Place),
+    /// It was answered.
+    Goes,
     /// No whole line is left.
-    Waits(Place),
+    Waits,
     /// The stream has ended.
     Ends(Ending),
 }
@@ -31,19 +31,19 @@ fn take_item<W: Sink, L: Ledger>(
     alloc: Global,
     asked: Asked,
     line: u32,
-    place: Place,
+    place: &mut Place,
     item: Item,
     sink: &mut W,
     steps: &mut Steps<L>,
 ) -> Result<Next, BreakOff>
-    requires { IsOpen place }
-    ensures takes { TakesItem (turned asked line place item) (W.taken sink.old) (W.taken sink.new) result }
+    requires { IsOpen place.old }
+    ensures takes { TakesItem (turned asked line place.old item) place.new (W.taken sink.old) (W.taken sink.new) result }
     ensures writes { KeepsCount W.faults W.fault_bound sink.old sink.new (IsWriteFault result) }
     ensures steps { steps.old ≤ steps.new }
 {
     match answer_item(alloc, asked, line, place, item, sink, steps) {
-        Ok(Turn::Goes(next)) => Ok(Next::Goes(next)),
-        Ok(Turn::Ends(ending)) => Ok(Next::Ends(ending)),
+        Ok(None) => Ok(Next::Goes),
+        Ok(Some(ending)) => Ok(Next::Ends(ending)),
         Err(why) => Err(why),
     }
 }
@@ -59,17 +59,17 @@ fn refuse_line<W: Sink>(fault: ListingFault, sink: &mut W) -> Result<Next, Break
     }
 }
 
-/// Answers the next item that the listing gives.
+/// Answers the next item that the listing gives, where the stream stands at `place`.
 pub fn take_next<W: Sink, L: Ledger>(
     alloc: Global,
     asked: Asked,
     listing: &mut Listing,
-    place: Place,
+    place: &mut Place,
     sink: &mut W,
     steps: &mut Steps<L>,
 ) -> Result<Next, BreakOff>
-    requires { IsOpen place }
-    ensures takes { TakesNext asked place listing.old (W.taken sink.old) listing.new (W.taken sink.new) result }
+    requires { IsOpen place.old }
+    ensures takes { TakesNext asked place.old listing.old (W.taken sink.old) place.new listing.new (W.taken sink.new) result }
     ensures holds { IfOk result (Holds listing.old listing.new) }
     ensures counted { bytes_taken listing.new ≡ bytes_taken listing.old }
     ensures finished { listing.new.finished ≡ listing.old.finished }
@@ -79,7 +79,7 @@ pub fn take_next<W: Sink, L: Ledger>(
     match listing.next_item() {
         Err(_) => Err(BreakOff::Memory),
         Ok(Err(fault)) => refuse_line(fault, sink),
-        Ok(Ok(None)) => Ok(Next::Waits(place)),
+        Ok(Ok(None)) => Ok(Next::Waits),
         Ok(Ok(Some(item))) => {
             let line = listing.line_count();
             take_item(alloc, asked, line, place, item, sink, steps)

@@ -5,7 +5,7 @@ ghost use Rattle.edit_replies.specs.Tells.{IsWriteFault};
 ghost use Rattle.stream_answers.specs.Turning.{IsOpen};
 ghost use Rattle.xsv_run.specs.Progress.{FeedsOn, Pieces, FailsRead, FailsWrite};
 
-use crate::lines::{Progress, take_lines};
+use crate::lines::take_lines;
 use edit_replies::BreakOff;
 use item_listing::{Listing, MOST_BYTES};
 use std::alloc::Global;
@@ -17,12 +17,12 @@ use xsv_steps::{Ledger, Steps};
 pub const ENOUGH: usize = MOST_BYTES + 1;
 
 /// What a read has done.
-#[derive(Drop)]
+#[derive(Clone, Copy, Debug, PartialEq, Eq)]
 pub enum Piece {
-    /// So many bytes came and were answered, and the stream stands here.
-    Goes(Place, usize),
-    /// The source has ended, and the stream stands here.
-    AtEnd(Place),
+    /// So many bytes came and were answered.
+    Goes(usize),
+    /// The source has ended.
+    AtEnd,
     /// The read failed.
     Failed,
     /// The stream has ended, or the run was broken off.
@@ -34,14 +34,14 @@ fn take_bytes<W: Sink, L: Ledger>(
     alloc: Global,
     asked: Asked,
     listing: &mut Listing,
-    place: Place,
+    place: &mut Place,
     bytes: &[u8],
     sink: &mut W,
     steps: &mut Steps<L>,
-) -> Result<Progress, BreakOff>
-    requires open { IsOpen place }
+) -> Result<Option<Ending>, BreakOff>
+    requires open { IsOpen place.old }
     requires going { listing.old.finished ≡ false }
-    ensures takes { FeedsOn asked place listing.old (W.taken sink.old) bytes.now listing.new (W.taken sink.new) result }
+    ensures takes { FeedsOn asked place.old listing.old (W.taken sink.old) bytes.now place.new listing.new (W.taken sink.new) result }
     ensures writes { KeepsCount W.faults W.fault_bound sink.old sink.new (IsWriteFault result) }
     ensures steps { steps.old ≤ steps.new }
 {
@@ -57,29 +57,29 @@ pub fn take_piece<S: Source, W: Sink, L: Ledger>(
     asked: Asked,
     source: &mut S,
     listing: &mut Listing,
-    place: Place,
+    place: &mut Place,
     buf: &mut [u8],
     room: usize,
     sink: &mut W,
     steps: &mut Steps<L>,
 ) -> Piece
-    requires open { IsOpen place }
+    requires open { IsOpen place.old }
     requires going { listing.old.finished ≡ false }
     requires room { bytes_taken listing.old + room ≡ MOST_BYTES + 1 }
     requires some { 0 < room }
     requires buf { 0 < length buf.old }
-    ensures takes { Pieces asked place listing.old (S.rest source.old) (W.taken sink.old) listing.new (S.rest source.new) (W.taken sink.new) result }
+    ensures takes { Pieces asked place.old listing.old (S.rest source.old) (W.taken sink.old) place.new listing.new (S.rest source.new) (W.taken sink.new) result }
     ensures reads { KeepsCount S.faults S.fault_bound source.old source.new (FailsRead result) }
     ensures writes { KeepsCount W.faults W.fault_bound sink.old sink.new (FailsWrite result) }
     ensures steps { steps.old ≤ steps.new }
 {
     let most = room.min(buf.len());
     match source.read(&mut buf[..most]) {
-        Ok(0) => Piece::AtEnd(place),
+        Ok(0) => Piece::AtEnd,
         Ok(count) => {
             match take_bytes(alloc, asked, listing, place, &buf[..count], sink, steps) {
-                Ok(Progress::Waits(next)) => Piece::Goes(next, count),
-                Ok(Progress::Ends(ending)) => Piece::Ends(Ok(ending)),
+                Ok(None) => Piece::Goes(count),
+                Ok(Some(ending)) => Piece::Ends(Ok(ending)),
                 Err(why) => Piece::Ends(Err(why)),
             }
         }

@@ -6,7 +6,7 @@ pub returns-in-Ok-clause-takes : goal.returns-in-Ok-clause-takes
 returns-in-Ok-clause-takes g c =
     let r = c.args.listing.now in
     let f = c.feed.new.self in
-    fed_on c.args.asked c.args.place r f c.args.bytes.now (fed_past r f c.args.bytes.now c.requires.going c.in-Ok.ensures.ok) c.in-Ok.ensures.listed
-    c.take_lines.new.listing _ _ c.take_lines.result c.take_lines.ensures.progress
+    fed_on c.args.asked c.args.place.now r f c.args.bytes.now (fed_past r f c.args.bytes.now c.requires.going c.in-Ok.ensures.ok) c.in-Ok.ensures.listed
+    c.take_lines.new.place c.take_lines.new.listing _ _ c.take_lines.result c.take_lines.ensures.progress
     (c.take_lines.ensures.counted ∙ fed_counted r f c.args.bytes.now c.requires.going c.in-Ok.ensures.ok)
     (c.take_lines.ensures.finished ∙ fed_going r f c.args.bytes.now c.requires.going c.in-Ok.ensures.ok)

@@ -3,9 +3,9 @@ use Rattle.std.proofs.lemmas.List.{take-append-le}
 use Rattle.xsv_run.proofs.Streams.{ends_piece}
 use Rattle.xsv_run.proofs.piece.take_piece.Goals as goal
 
-pub returns-in-Ok-Ends-clause-takes : goal.returns-in-Ok-Ends-clause-takes
-returns-in-Ok-Ends-clause-takes g c =
-    ends_piece _ _ _ (take c.in-Ok.count c.read.new.into) _ _ _ _ _ (Ok c.in-Ok-Ends.ending) c.in-Ok.ensures.bytes.0 (take-append-le c.in-Ok.count c.read.new.into _ c.in-Ok.ensures.bound.0) (rw c.in-Ok-Ends.field-0-is at c.in-Ok-Ends.ensures.takes)
+pub returns-in-Ok-Some-clause-takes : goal.returns-in-Ok-Some-clause-takes
+returns-in-Ok-Some-clause-takes g c =
+    ends_piece _ _ _ (take c.in-Ok.count c.read.new.into) _ _ _ _ _ (Ok c.in-Ok-Some.ending) c.in-Ok.ensures.bytes.0 (take-append-le c.in-Ok.count c.read.new.into _ c.in-Ok.ensures.bound.0) (rw c.in-Ok-Some.field-0-is at c.in-Ok-Some.ensures.takes)
     (omega (arith, length-take c.in-Ok.count c.read.new.into, length-take c.min-most.result c.args.buf.now, c.min-most.ensures, c.in-Ok.ensures.bound, c.read.auto.into, c.requires.room))
 
 pub returns-in-Err-take_bytes-clause-takes : goal.returns-in-Err-take_bytes-clause-takes

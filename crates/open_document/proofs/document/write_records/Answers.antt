@@ -4,7 +4,7 @@ use Rattle.assess_model.specs.Assessment.{code_total}
 use Rattle.report_text.specs.Report.{record_lines}
 use Rattle.edit_replies.specs.Replies.{total_line}
 use Rattle.text_sink.proofs.Sequence.{written_then, written_short}
-use Rattle.stream_answers.proofs.document.write_report.Goals as goal
+use Rattle.open_document.proofs.document.write_records.Goals as goal
 
 pub returns-in_err-write_report : goal.returns-in_err-write_report
 returns-in_err-write_report g c = record {
