@@ -38,3 +38,16 @@ module _ {T : Type 0} where
   numbers_below build before (rep ∷ reps) zero n is = first-below before n (build rep) (flat_map build reps) is
   numbers_below build before (rep ∷ reps) (suc place) n is =
       omega (arith, numbers_below build (before + length (build rep)) reps place n is, length-append (build rep) (flat_map build reps))
+
+-- as many of one as of the other
+module _ {A X Y : Type 0} (f : A → List X) (g : A → List Y) (same : (a : A) → length (f a) ≡ length (g a)) where
+  pub same_length : (each : List A) → length (flat_map f each) ≡ length (flat_map g each)
+  same_length [] = refl
+  same_length (a ∷ each) = omega (arith, length-append (f a) (flat_map f each), length-append (g a) (flat_map g each), same a, same_length each)
+
+-- the same value for each
+pub same_values : {X Y V : Type 0} (v : V) (xs : List X) (ys : List Y) → length xs ≡ length ys → map (λ (x : X). v) xs ≡ map (λ (y : Y). v) ys
+same_values v [] [] long = refl
+same_values v [] (y ∷ ys) long = absurd (omega (arith, long))
+same_values v (x ∷ xs) [] long = absurd (omega (arith, long))
+same_values {X} {Y} {V} v (x ∷ xs) (y ∷ ys) long = ap (λ (vs : List V). v ∷ vs) (same_values v xs ys (omega (arith, long)))

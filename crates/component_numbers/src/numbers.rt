@@ -17,11 +17,7 @@ pub fn number_at<T: Copy>(numbers: &[Option<T>], place: usize) -> Option<T>
 }
 
 /// The number of the component that a name means in a symbol space, if it means one.
-pub fn number_named<T: Copy>(
-    numbers: &[Option<T>],
-    symbols: &Symbols,
-    name: NameId,
-) -> Option<T>
+pub fn number_named<T: Copy>(numbers: &[Option<T>], symbols: &Symbols, name: NameId) -> Option<T>
     ensures number { result ≡ spec.number_named numbers.now symbols.now name }
 {
     match symbols.first(name) {
