@@ -1,5 +1,5 @@
 -- Elements with their heads are the elements without, changed.
-use Rattle.std.proofs.Common.{◌≡◌, ◌⊎◌, inl, inr, ℕ, List, [], ◌∷◌, Option, None, Some, refl}
+use Rattle.std.proofs.Common.{inl, inr, ℕ, List, Option, None, Some, refl}
 use Rattle.xs_components.specs.Changes.{with_head}
 use Rattle.xs_components.specs.declared.common.TypeId.{TypeId}
 use Rattle.representations.specs.declared.parts.ElementRepresentation.{ElementRepresentation}

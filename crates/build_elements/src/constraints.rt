@@ -108,7 +108,14 @@ fn add_keyref(
         Represented::Keyref { name, refer } => match key_referred(source, keys, *refer) {
             None => Ok(None),
             Some(key) => {
-                add_constraint(alloc, parts, source, rep, *name, ConstraintKind::Keyref(key))
+                add_constraint(
+                    alloc,
+                    parts,
+                    source,
+                    rep,
+                    *name,
+                    ConstraintKind::Keyref(key),
+                )
             }
         },
         _ => Ok(None),

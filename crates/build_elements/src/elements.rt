@@ -10,9 +10,7 @@ use build_types::given_type;
 use component_numbers::number_at;
 use representations::{ElementRepresentation, Representation, Represented, Source};
 use std::alloc::{AllocError, Global};
-use xs_components::{
-    Components, ConstraintId, ConstraintIdList, ElementDecl, ElementId, TypeId,
-};
+use xs_components::{Components, ConstraintId, ConstraintIdList, ElementDecl, ElementId, TypeId};
 use xs_lists::Listed;
 use xs_names::NameId;
 

@@ -42,6 +42,10 @@ pub(crate) fn set_heads(parts: &mut Components, source: &Source, elements: &[Opt
     ensures { parts.new ≡ record parts.old { elements = record parts.old.elements { parts = changes with_head (spec.head_of source.now elements.now) parts.old.elements.parts elements.now source.now.reps.now } } }
 {
     for (place, rep) in source.reps.iter().enumerate() {
-        set_head(parts, number_at(elements, place), head_of(source, elements, rep));
+        set_head(
+            parts,
+            number_at(elements, place),
+            head_of(source, elements, rep),
+        );
     }
 }

@@ -25,11 +25,7 @@ fn path_of(
 }
 
 // The path of the selector at a place, if one stands there.
-fn selector_at(
-    alloc: Global,
-    source: &Source,
-    place: u32,
-) -> Result<Option<PathText>, AllocError>
+fn selector_at(alloc: Global, source: &Source, place: u32) -> Result<Option<PathText>, AllocError>
     ensures { IfOk result (λ found. found ≡ spec.selector_at source.now place) }
 {
     match rep_at(source.reps, place) {

@@ -1,5 +1,5 @@
-use Rattle.std.proofs.Common.{rules, ◌≡◌, ℕ, ◌+◌, ◌-◌, ◌<◌, length, List, [], ◌∷◌, ◌++◌, take, drop, set, sym, ap, ◌∙◌, subst, arith}
-use Rattle.std.proofs.lemmas.List.{append_assoc, length_push, length-append}
+use Rattle.std.proofs.Common.{rules, ◌≡◌, ◌+◌, ◌-◌, ◌<◌, length, List, [], ◌∷◌, ◌++◌, take, drop, set, sym, ap, ◌∙◌, arith}
+use Rattle.std.proofs.lemmas.List.{length_push, length-append}
 use Rattle.xs_components.specs.Tables.{Tables}
 use Rattle.xs_components.specs.declared.attr_group.AttrGroupDef.{AttrGroupDef}
 use Rattle.build_types.proofs.PutLaws.{put-step, rest-step, whole-step}

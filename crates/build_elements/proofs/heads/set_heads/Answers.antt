@@ -1,4 +1,4 @@
-use Rattle.std.proofs.Common.{◌≡◌, ℕ, ◌+◌, ◌<◌, Option, List, length, drop, ap, ◌∙◌, arith}
+use Rattle.std.proofs.Common.{ℕ, ◌+◌, Option, List, length, drop, ap, ◌∙◌, arith}
 use Rattle.xs_components.specs.Changes.{with_head}
 use Rattle.xs_components.specs.Tables.{Tables}
 use Rattle.xs_components.specs.declared.element.ElementDecl.{ElementDecl}
@@ -17,7 +17,7 @@ loop-place-preserved c =
     let old = c.loop-place.parts.elements.parts in
     let long = ap (λ (p : Tables). length p.elements.parts) c.set_head.ensures ∙ changed_at_length with_head old c.number_at.result c.head_of.result in
     let given = ap (λ (id : Option ℕ). changed_at with_head old id c.head_of.result) c.number_at.ensures.number
-        ∙ ap (λ (head : Option ℕ). changed_at with_head old (number_at numbers place) head) c.head_of.ensures in
+    ∙ ap (λ (head : Option ℕ). changed_at with_head old (number_at numbers place) head) c.head_of.ensures in
     record {
       there = λ at n is. omega (arith, long, c.loop-place.invariant.there at n is);
       parts = ap (λ (p : Tables). record p { elements = record p.elements { parts = changes with_head heads p.elements.parts (drop (place + 1) numbers) (drop (place + 1) reps) } }) c.set_head.ensures
