@@ -106,7 +106,7 @@ module _ (source : Source) (ids : List TypeId) (attributes groups particles : Li
     explicit-below (Some place) n is = unless-empty (is_empty_in source.reps.now particles (slice_get source.reps.now place)) place n is
 
     content-below : (is_simple : Bool) (place : ℕ) (head : ComplexTypeRepresentation) (rep : Representation)
-        → IfSome (effective_of (if is_simple then complex.simple_content source ids (holder source.reps.now rep).members else complex.complex_content source particles place head rep)) (λ n. n < count)
+        → IfSome (effective_of (if is_simple then complex.simple_content source ids attributes groups particles (holder source.reps.now rep).members else complex.complex_content source ids attributes groups particles place head rep)) (λ n. n < count)
     content-below true place head rep = tt
     content-below false place head rep =
         if-some (λ n. n < count) (effective_content source.reps.now particles place rep)

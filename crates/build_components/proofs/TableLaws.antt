@@ -32,6 +32,9 @@ complex_places rep = complex_places_by rep.form rep.at
 abbrev pub no_contents : {X : Type 0} → List X → List (Option ℕ)
 no_contents {X} parts = map (λ (part : X). None) parts
 
+abbrev unknown : ComplexType → Option ℕ
+unknown part = None
+
 abbrev pub with_types : Tables → List SimpleType → List ComplexType → Tables
 with_types t simples complexes = record t { simples = with_parts t.simples simples; complexes = with_parts t.complexes complexes; contents = t.contents ++ no_contents complexes }
 
@@ -46,7 +49,7 @@ more-types t s1 s2 c1 c2 =
     ap (λ (s : TableOf SimpleType). record t { simples = s; complexes = with_parts (with_parts t.complexes c1) c2; contents = (t.contents ++ no_contents c1) ++ no_contents c2 }) (with_parts_more t.simples s1 s2)
     ∙ ap (λ (c : TableOf ComplexType). record t { simples = with_parts t.simples (s1 ++ s2); complexes = c; contents = (t.contents ++ no_contents c1) ++ no_contents c2 }) (with_parts_more t.complexes c1 c2)
     ∙ ap (λ (l : List (Option ℕ)). record t { simples = with_parts t.simples (s1 ++ s2); complexes = with_parts t.complexes (c1 ++ c2); contents = l })
-    (append_assoc t.contents (no_contents c1) (no_contents c2) ∙ ap (λ (l : List (Option ℕ)). t.contents ++ l) (sym (map-append (λ (part : ComplexType). None) c1 c2)))
+    (append_assoc t.contents (no_contents c1) (no_contents c2) ∙ ap (λ (l : List (Option ℕ)). t.contents ++ l) (sym (map-append unknown c1 c2)))
 
 form-places : (form : Represented) (at : Place) (t : Tables) → place_for form at t ≡ with_types t (simple_places_by form at) (complex_places_by form at)
 form-places (forms.SimpleType name finals) at t = sym

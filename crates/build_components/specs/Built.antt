@@ -14,11 +14,11 @@ use Rattle.component_numbers.specs.Numbers.{numbers_of, with_parts}
 use Rattle.build_types.specs.Numbers.{type_ids}
 use Rattle.build_types.specs.SimpleTypes as simple
 use Rattle.build_attributes.specs.Declarations.{attributes_of}
-use Rattle.build_attributes.specs.Groups as groups
+use Rattle.build_attributes.specs.Groups as attr
 use Rattle.build_elements.specs.Constraints as constraints
 use Rattle.build_elements.specs.Elements as elements
 use Rattle.build_particles.specs.Groups as models
-use Rattle.build_particles.specs.Particles as particles
+use Rattle.build_particles.specs.Particles as terms
 use Rattle.build_complex.specs.Complexes as complex
 use Rattle.build_elements.specs.declared.constraints.ConstraintNumbers.{ConstraintNumbers}
 
@@ -31,7 +31,7 @@ module _ (source : Source) where
   attribute_numbers = numbers_of (attributes_of source types) 0 source.reps.now
 
   abbrev pub attr_group_numbers : List (Option ℕ)
-  attr_group_numbers = numbers_of groups.empty_groups 0 source.reps.now
+  attr_group_numbers = numbers_of attr.empty_groups 0 source.reps.now
 
   abbrev pub constraint_numbers : ConstraintNumbers
   constraint_numbers = constraints.constraint_numbers source 0
@@ -43,15 +43,15 @@ module _ (source : Source) where
   group_numbers = models.group_numbers 0 source.reps.now
 
   -- the particles with their numbers
-  abbrev pub particles : particles.Particles
-  particles = particles.particles source element_numbers group_numbers 0
+  abbrev pub particles : terms.Particles
+  particles = terms.particles source element_numbers group_numbers 0
 
   -- the components of each kind that others refer to
   abbrev pub attributes : List AttributeDecl
   attributes = flat_map (attributes_of source types) source.reps.now
 
   abbrev pub attr_groups : List AttrGroupDef
-  attr_groups = groups.attr_groups source attribute_numbers attr_group_numbers
+  attr_groups = attr.attr_groups source attribute_numbers attr_group_numbers
 
   abbrev pub complex_types : List ComplexType
   complex_types = complex.complex_types source types attribute_numbers attr_group_numbers particles.numbers

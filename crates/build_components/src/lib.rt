@@ -1,6 +1,6 @@
 //! The components of a schema set from what its documents represent.
 #![tactic(auto)]
 
-mod build;
+mod building;
 
-pub use build::build;
+pub use building::build;

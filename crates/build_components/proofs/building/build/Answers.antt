@@ -3,7 +3,7 @@ use Rattle.xs_components.specs.Tables.{Tables}
 use Rattle.component_circles.specs.References.{IsClosed}
 use Rattle.build_components.proofs.BuildLaws.{groups-needed, simples-needed, complexes-needed, built-is}
 use Rattle.build_components.proofs.ClosedLaws.{built-closed}
-use Rattle.build_components.proofs.build.build.Goals as goal
+use Rattle.build_components.proofs.building.build.Goals as goal
 
 pub build_attr_groups-requires : goal.build_attr_groups-requires
 build_attr_groups-requires c = record {
