@@ -1,7 +1,0 @@
-pub mod ListLaws
-pub mod ThereLaws
-pub mod TypeLaws
-pub mod ParticleLaws
-pub mod TableLaws
-pub mod ClosedLaws
-pub mod BuildLaws
