@@ -1,0 +1,7 @@
+//! Complex types from their representations.
+#![tactic(auto)]
+
+mod complexes;
+mod putting;
+
+pub use complexes::{ComplexNumbers, build_complexes};

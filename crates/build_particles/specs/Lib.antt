@@ -1,0 +1,5 @@
+pub mod Contents
+pub mod Terms
+pub mod Particles
+pub mod Groups
+pub mod Models
