@@ -1,0 +1,16 @@
+use Rattle.std.proofs.Common.{refl, ◌∙◌}
+use Rattle.order_maps.proofs.Mapping.{table_more, table_done}
+use Rattle.order_maps.proofs.tables.has_map.Goals as goal
+
+pub loop-behind-preserved : goal.loop-behind-preserved
+loop-behind-preserved g c = record {
+  count = c.turn.ensures.len ∙ c.loop-behind.invariant.count;
+  values = table_more (g.P.Pairs.restricts c.args.pairs.now) c.args.optional.now c.args.members c.loop-behind.behind _ _ c.loop-behind.row.items c.turn.new.row.items
+      c.loop-behind-test.true refl refl c.loop-behind.invariant.count c.loop-behind.invariant.values c.turn.ensures.values;
+}
+
+pub returns : goal.returns
+returns g c = record {
+  map = table_done (g.P.Pairs.restricts c.args.pairs.now) c.args.optional.now c.args.members c.loop-behind.behind c.loop-behind.row.items c.index.result.now
+      c.loop-behind-test.false c.loop-behind.invariant.count c.index.ensures c.loop-behind.invariant.values;
+}
