@@ -20,7 +20,7 @@ pub fn has_first_map<P: Pairs>(
     requires valid { P.is_valid pairs.now }
     requires members { members ≡ P.count pairs.now }
     requires base { length optional.now ≡ P.base_count pairs.now }
-    ensures map { IfOk result (λ fits. IsTrue fits ↔ HasFirstMap (λ i j. IsTrue (P.restricts pairs.now i j)) members optional.now) }
+    ensures map { IfOk result (λ fits. IsTrue fits ↔ HasFirstMap (P.restricts pairs.now) members optional.now) }
 {
     let mut taken = vec![in alloc; false; optional.len()]?;
     for member in 0..members {
@@ -40,7 +40,7 @@ pub fn each_restricts_some<P: Pairs>(pairs: &P, members: usize, base: usize) -> 
     requires valid { P.is_valid pairs.now }
     requires members { members ≡ P.count pairs.now }
     requires base { base ≡ P.base_count pairs.now }
-    ensures some { IsTrue result ↔ EachRestrictsSome (λ i j. IsTrue (P.restricts pairs.now i j)) members base }
+    ensures some { IsTrue result ↔ EachRestrictsSome (P.restricts pairs.now) members base }
 {
     for member in 0..members {
         let Some(_) = first_target(pairs, member, base) else {
@@ -55,8 +55,8 @@ fn first_target<P: Pairs>(pairs: &P, member: usize, base: usize) -> Option<usize
     requires valid { P.is_valid pairs.now }
     requires member { member < P.count pairs.now }
     requires base { base ≡ P.base_count pairs.now }
-    ensures { MatchOption result ((j : ℕ) → j < base → P.restricts pairs.now member j ≡ false)
-        (λ target. (target < base) × IsFirst (λ i j. IsTrue (P.restricts pairs.now i j)) member target) }
+    ensures { MatchOption result ((j : ℕ) → j < base → P.restricts pairs.now member j → ⊥)
+        (λ target. (target < base) × IsFirst (P.restricts pairs.now) member target) }
 {
     for j in 0..base {
         if pairs.pair(member, j) {

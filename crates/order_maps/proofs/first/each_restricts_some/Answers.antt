@@ -8,13 +8,13 @@ returns-in_default g c = record {
   some = (
     (λ h. absurd (false≢true h)),
     (λ all. let a = all c.loop-member.member c.loop-member-test.true in
-        absurd (false≢true (sym (rw c.in_default.is at c.first_target.ensures a.0 a.1) ∙ a.2))),
+        absurd ((rw c.in_default.is at c.first_target.ensures) a.0 a.1 a.2)),
   );
 }
 
 pub loop-member-preserved : goal.loop-member-preserved
 loop-member-preserved g c =
-    some_more (λ i. (j : ℕ) × (j < c.args.base) × IsTrue (g.P.Pairs.restricts c.args.pairs.now i j)) c.loop-member.member c.loop-member.invariant
+    some_more (λ i. (j : ℕ) × (j < c.args.base) × g.P.Pairs.restricts c.args.pairs.now i j) c.loop-member.member c.loop-member.invariant
     (c.in-Some.field-0, c.in-Some.ensures.0, c.in-Some.ensures.1.restricts)
 
 pub returns : goal.returns

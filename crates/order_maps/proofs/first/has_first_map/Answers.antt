@@ -9,15 +9,15 @@ loop-member-init g c =
     let all = c.in_ok-taken.ensures.items_if_clones_equal (λ y h. h) in
     record {
       len = rw all (length-replicate (length c.args.optional.now) false);
-      taking = ([], taking-first (λ i j. IsTrue (g.P.Pairs.restricts c.args.pairs.now i j)) (length c.args.optional.now) c.in_ok-taken.taken.items (none_taken (length c.args.optional.now) c.in_ok-taken.taken.items all));
+      taking = ([], taking-first (g.P.Pairs.restricts c.args.pairs.now) (length c.args.optional.now) c.in_ok-taken.taken.items (none_taken (length c.args.optional.now) c.in_ok-taken.taken.items all));
     }
 
 pub returns-in_default : goal.returns-in_default
 returns-in_default g c = record {
   map = (
     (λ h. absurd (false≢true h)),
-    (λ all. absurd (none-first (λ i j. IsTrue (g.P.Pairs.restricts c.args.pairs.now i j)) c.args.members c.loop-member.member (length c.args.optional.now) c.args.optional.now refl c.loop-member-test.true
-        (λ j l h. false≢true (sym (rw c.in_default.is at c.first_target.ensures j l) ∙ h)) all)),
+    (λ all. absurd (none-first (g.P.Pairs.restricts c.args.pairs.now) c.args.members c.loop-member.member (length c.args.optional.now) c.args.optional.now refl c.loop-member-test.true
+        (rw c.in_default.is at c.first_target.ensures) all)),
   );
 }
 
@@ -28,7 +28,7 @@ returns-then-index g c =
     record {
       map = (
         (λ h. absurd (false≢true h)),
-        (λ all. absurd (taken-twice (λ i j. IsTrue (g.P.Pairs.restricts c.args.pairs.now i j)) (length c.args.optional.now) c.loop-member.member c.in-Some.target c.loop-member.taken.items was.0 was.1
+        (λ all. absurd (taken-twice (g.P.Pairs.restricts c.args.pairs.now) (length c.args.optional.now) c.loop-member.member c.in-Some.target c.loop-member.taken.items was.0 was.1
             c.in-Some.ensures.0 c.in-Some.ensures.1 c.args.members c.args.optional.now c.loop-member-test.true
             (sym (at_place c.loop-member.taken.items c.in-Some.target c.index.result.now within c.index.ensures) ∙ c.if-index.true) all)),
       );
@@ -42,7 +42,7 @@ loop-member-preserved g c =
       len = length-set c.loop-member.taken.items c.in-Some.target _ ∙ c.loop-member.invariant.len;
       taking = (
         _,
-        taking-more (λ i j. IsTrue (g.P.Pairs.restricts c.args.pairs.now i j)) (length c.args.optional.now) c.loop-member.member c.in-Some.target c.loop-member.taken.items was.0 was.1
+        taking-more (g.P.Pairs.restricts c.args.pairs.now) (length c.args.optional.now) c.loop-member.member c.in-Some.target c.loop-member.taken.items was.0 was.1
             c.in-Some.ensures.0 c.in-Some.ensures.1 within
             (sym (at_place c.loop-member.taken.items c.in-Some.target c.index.result.now within c.index.ensures) ∙ c.if-index.false),
       );
@@ -53,6 +53,6 @@ returns g c =
     let was = c.loop-member.invariant.taking in
     let done : c.loop-member.member ≡ c.args.members = omega (arith, c.loop-member.auto.member-end) in
     record {
-      map = taking-done (λ i j. IsTrue (g.P.Pairs.restricts c.args.pairs.now i j)) c.args.members c.args.optional.now c.loop-member.taken.items was.0
+      map = taking-done (g.P.Pairs.restricts c.args.pairs.now) c.args.members c.args.optional.now c.loop-member.taken.items was.0
           (rw done at was.1) c.are_covered.result (rw c.deref.ensures.value at c.are_covered.ensures);
     }
