@@ -90,13 +90,19 @@ module _ (restricts : ℕ → ℕ → Type 0) (n : ℕ) where
 
   -- no member of the base is left
   fits_none : (i j : ℕ) → Fits i j [] ↔ (i ≡ n)
-  fits_none i j = ((λ h. none h.0 h.1), (λ e. ([], record {
-    each = omega arith;
-    keeps_order = rising_none;
-    low = λ k l. absurd (omega arith);
-    takes = λ k l. absurd (omega arith);
-    others = λ m l absent. absurd (omega arith);
-  })))
+  fits_none i j = (
+    (λ h. none h.0 h.1),
+    (λ e. (
+      [],
+      record {
+        each = omega arith;
+        keeps_order = rising_none;
+        low = λ k l. absurd (omega arith);
+        takes = λ k l. absurd (omega arith);
+        others = λ m l absent. absurd (omega arith);
+      },
+    )),
+  )
     where
       none : (targets : List ℕ) → IsMapFrom restricts n i j [] targets → i ≡ n
       none [] h = let e = h.each in omega arith
@@ -128,13 +134,16 @@ fits_is restricts n optional = (
     m.keeps_order,
     (λ j l absent. m.others j l (λ c. let z : 0 + j ≡ j = omega arith in absent (rw z at c))),
   )),
-  (λ h. let m = h.1 in (h.0, record {
-    each = (let e = m.each in omega arith);
-    keeps_order = h.2;
-    low = λ k l. omega arith;
-    takes = λ k l. (let a = m.takes k (let e = m.each in omega arith) in let z : k ≡ 0 + k = omega arith in (let b = a.0 in omega arith, subst (λ (y : ℕ). restricts y (get_or h.0 k 0)) z a.1));
-    others = λ j l absent. h.3 j l (λ c. let z : j ≡ 0 + j = omega arith in absent (rw z at c));
-  })),
+  (λ h. let m = h.1 in (
+    h.0,
+    record {
+      each = (let e = m.each in omega arith);
+      keeps_order = h.2;
+      low = λ k l. omega arith;
+      takes = λ k l. (let a = m.takes k (let e = m.each in omega arith) in let z : k ≡ 0 + k = omega arith in (let b = a.0 in omega arith, subst (λ (y : ℕ). restricts y (get_or h.0 k 0)) z a.1));
+      others = λ j l absent. h.3 j l (λ c. let z : j ≡ 0 + j = omega arith in absent (rw z at c));
+    },
+  )),
 )
 
 -- ---- the table, from one flag to the one before it
@@ -174,9 +183,9 @@ table_more restricts optional n behind j flag old new l e f count before turned 
     let later : IsTrue (get_or old (i + 1) false) ↔ Fits restricts n (suc i) (suc j) (drop (suc j) optional) = elim (cases_lt i n) [
       | inl m ↦ (let z : suc i ≡ i + 1 = omega arith in subst (λ (k : ℕ). IsTrue (get_or old k false) ↔ Fits restricts n (suc i) (suc j) (drop (suc j) optional)) z (was (suc i) m))
       | inr m ↦ (
-          (λ t. absurd (false≢true (sym (get_or_past old (i + 1) false (omega arith)) ∙ t))),
-          (λ t. absurd (fits_past restricts n (suc i) (suc j) (drop (suc j) optional) (omega arith) t)),
-        )
+        (λ t. absurd (false≢true (sym (get_or_past old (i + 1) false (omega arith)) ∙ t))),
+        (λ t. absurd (fits_past restricts n (suc i) (suc j) (drop (suc j) optional) (omega arith) t)),
+      )
     ] in
     let next = fits_next restricts n i j flag (drop (suc j) optional) in
     let turn = turned i (omega arith) in
