@@ -1,0 +1,4 @@
+pub mod TotalLaws
+pub mod MemberLaws
+pub mod GroupLaws
+pub mod CellLaws

@@ -1,0 +1,4 @@
+pub mod Trees
+pub mod Pointless
+pub mod Parts
+pub mod Forming
