@@ -71,7 +71,12 @@ module _ (t : NameTable) (ns : Nodes) {X : Type 0} (g : ℕ → X → Forest →
       by rest false q =
           let r = rest (sym (ap (λ b. b || has p next) q) ∙ h) in
           record {
-            at = r.at; name = r.name; bindings = r.bindings; attributes = r.attributes; children = r.children; next = r.next;
+            at = r.at;
+            name = r.name;
+            bindings = r.bindings;
+            attributes = r.attributes;
+            children = r.children;
+            next = r.next;
             same = λ key k. past_text key x n chars next (let o = d key in let w = r.few key in once_after n key next o (omega (arith, k, w))) ∙ r.same key k;
             shown = r.shown;
             below = r.below;
@@ -85,7 +90,12 @@ module _ (t : NameTable) (ns : Nodes) {X : Type 0} (g : ℕ → X → Forest →
       by inner rest true q e r =
           let k = eqb-true n p q in
           record {
-            at = x; name = name; bindings = bindings; attributes = attributes; children = children; next = next;
+            at = x;
+            name = name;
+            bindings = bindings;
+            attributes = attributes;
+            children = children;
+            next = next;
             same = λ key l. ap (λ m. g key x (element m name bindings attributes children next)) k;
             shown = subst (λ m. IsElement t ns m name bindings attributes children) k s.0;
             below = s.1;
@@ -94,7 +104,12 @@ module _ (t : NameTable) (ns : Nodes) {X : Type 0} (g : ℕ → X → Forest →
       by inner rest false q true r =
           let i = inner r in
           record {
-            at = i.at; name = i.name; bindings = i.bindings; attributes = i.attributes; children = i.children; next = i.next;
+            at = i.at;
+            name = i.name;
+            bindings = i.bindings;
+            attributes = i.attributes;
+            children = i.children;
+            next = i.next;
             same = λ key k.
                 let o = d key in let w = i.few key in let a = once_below n key children next o (omega (arith, k, w)) in
                 into key x n name bindings attributes children next a.0 a.1 ∙ i.same key k;
@@ -105,7 +120,12 @@ module _ (t : NameTable) (ns : Nodes) {X : Type 0} (g : ℕ → X → Forest →
       by inner rest false q false r =
           let i = rest (sym (ap (λ b. b || (has p children || has p next)) q ∙ ap (λ b. b || has p next) r) ∙ h) in
           record {
-            at = i.at; name = i.name; bindings = i.bindings; attributes = i.attributes; children = i.children; next = i.next;
+            at = i.at;
+            name = i.name;
+            bindings = i.bindings;
+            attributes = i.attributes;
+            children = i.children;
+            next = i.next;
             same = λ key k.
                 let o = d key in let w = i.few key in let a = once_beside n key children next o (omega (arith, k, w)) in
                 past key x n name bindings attributes children next a.0 a.1 ∙ i.same key k;
@@ -142,7 +162,12 @@ module _ (t : NameTable) (ns : Nodes) {X : Type 0} (g : ℕ → X → Forest →
       let self = if_one (p == p) (eq-eqb p p refl) in
       let a = once_below p c r.children r.next (omega (arith, oc, wc)) one in
       record {
-        at = r.at; name = r.name; bindings = r.bindings; attributes = r.attributes; children = r.children; next = r.next;
+        at = r.at;
+        name = r.name;
+        bindings = r.bindings;
+        attributes = r.attributes;
+        children = r.children;
+        next = r.next;
         own = r.same p (omega (arith, self));
         child = r.same c (omega (arith, one)) ∙ into c r.at p r.name r.bindings r.attributes r.children r.next a.0 a.1;
         shown = r.shown;

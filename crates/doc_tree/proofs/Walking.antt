@@ -90,7 +90,7 @@ module _ (t : NameTable) (ns : Nodes) (d : Document) (z : StandsFor t ns d) wher
   past_step p place c k =
       let r = past_child p place c k in
       let self : past_in p r.at (element p r.name r.bindings r.attributes r.children r.next) ≡ option_or (first_element r.next) r.at =
-          ap (λ b. if b then option_or (first_element r.next) r.at else (if has p r.children then past_in p (option_or (first_element r.next) r.at) r.children else past_in p r.at r.next)) (eq-eqb p p refl) in
+      ap (λ b. if b then option_or (first_element r.next) r.at else (if has p r.children then past_in p (option_or (first_element r.next) r.at) r.children else past_in p r.at r.next)) (eq-eqb p p refl) in
       r.child
       ∙ past_top t ns r.children (option_or (first_element r.next) r.at) place c r.below r.differ r.placed
       ∙ ap (λ l. option_or (find (is_element_at ns) (drop (place + 1) l)) (option_or (first_element r.next) r.at)) (sym r.are ∙ sym (ap children_by k.1))
@@ -109,7 +109,7 @@ module _ (t : NameTable) (ns : Nodes) (d : Document) (z : StandsFor t ns d) wher
   scope_step x p place c k =
       let r = scope_child x p place c k in
       let self : scope_in p r.at (element p r.name r.bindings r.attributes r.children r.next) ≡ r.bindings ++ r.at =
-          ap (λ b. if b then r.bindings ++ r.at else (if has p r.children then scope_in p (r.bindings ++ r.at) r.children else scope_in p r.at r.next)) (eq-eqb p p refl) in
+      ap (λ b. if b then r.bindings ++ r.at else (if has p r.children then scope_in p (r.bindings ++ r.at) r.children else scope_in p r.at r.next)) (eq-eqb p p refl) in
       r.child
       ∙ scope_top t ns r.children (r.bindings ++ r.at) place c r.below r.differ r.placed
       ∙ ap (λ l. map (binding_of t) (bindings_at ns c) ++ l) (sym (r.own ∙ self))

@@ -65,11 +65,7 @@ fn bind_all(scope: &mut Scope, bindings: &[NameBinding]) -> Result<(), AllocErro
 }
 
 /// Binds what the elements around a node bind, from the outermost on, and then what it binds itself.
-pub(crate) fn bind_above(
-    links: &NodeLinks,
-    node: u32,
-    scope: &mut Scope,
-) -> Result<(), AllocError>
+pub(crate) fn bind_above(links: &NodeLinks, node: u32, scope: &mut Scope) -> Result<(), AllocError>
     ensures tree { OnOk result ((t : NameTable) (d : Document) (it : Node) → StandsFor t links.now d → IsNode links.now node it → map (binding_in t) scope.new ≡ scope_in node (map (binding_in t) scope.old) d.forest) }
     ensures within { OnOk result ((t : NameTable) (d : Document) → StandsFor t links.now d → All (λ b. b.1 < length t.spaces) scope.old → All (λ b. b.1 < length t.spaces) scope.new) }
 {

@@ -28,11 +28,7 @@ fn place_of(attributes: &[NameAttribute], name: NameId) -> Option<usize>
 }
 
 /// Gives the attribute of this name a value; where there is none, it is put behind the others.
-fn write(
-    attributes: &mut Vec<NameAttribute>,
-    name: NameId,
-    value: Text,
-) -> Result<(), AllocError>
+fn write(attributes: &mut Vec<NameAttribute>, name: NameId, value: Text) -> Result<(), AllocError>
     ensures ok { OnOk result (attributes.new.items ≡ set_number name value attributes.old.items) }
     ensures err { OnErr result (attributes.new.items ≡ attributes.old.items) }
 {

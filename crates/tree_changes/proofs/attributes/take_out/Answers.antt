@@ -16,5 +16,5 @@ pub returns : goal.returns
 returns c =
     let xs = c.args.attributes.now.items in
     let p = position-Some (λ (a : NameAttribute). a.name == c.args.name) xs c.in-Some.place c.remove.result
-        (ap (position (λ (a : NameAttribute). a.name == c.args.name)) (sym c.as_slice.ensures.value) ∙ sym c.place_of.ensures ∙ c.in-Some.is) in
+    (ap (position (λ (a : NameAttribute). a.name == c.args.name)) (sym c.as_slice.ensures.value) ∙ sym c.place_of.ensures ∙ c.in-Some.is) in
     c.remove.ensures.items ∙ unset_is c.args.name xs c.in-Some.place c.remove.result p.0 p.1 p.2

@@ -9,7 +9,7 @@ pub returns-in-Some-clause-ok : goal.returns-in-Some-clause-ok
 returns-in-Some-clause-ok c =
     let new : NameAttribute = record { name = c.args.name; value = c.args.value } in let xs = c.args.attributes.now.items in
     let p = position-Some (λ (a : NameAttribute). a.name == c.args.name) xs c.in-Some.place new
-        (ap (position (λ (a : NameAttribute). a.name == c.args.name)) (sym c.as_slice.ensures.value) ∙ sym c.place_of.ensures ∙ c.in-Some.is) in
+    (ap (position (λ (a : NameAttribute). a.name == c.args.name)) (sym c.as_slice.ensures.value) ∙ sym c.place_of.ensures ∙ c.in-Some.is) in
     set_is c.args.name c.args.value xs c.in-Some.place new p.0 p.1 p.2
 
 pub returns-in_ok-push-in-None-clause-ok : goal.returns-in_ok-push-in-None-clause-ok
