@@ -1,23 +1,18 @@
 -- An element has other attributes.
-use Rattle.std.proofs.Common.{◌≡◌, ◌⊎◌, ℕ, ◌+◌, ◌<◌, ◌≤◌, zero, suc, List, [], ◌∷◌, length, map, get_or, ◌==◌, ◌||◌, Option, sym, ap, ◌∙◌, subst, Bool, true, false, Some, None, refl, inl, inr, arith}
+use Rattle.std.proofs.Common.{◌≡◌, ◌⊎◌, ℕ, ◌+◌, ◌<◌, ◌≤◌, suc, List, [], ◌∷◌, length, map, get_or, ◌==◌, Option, sym, ap, ◌∙◌, subst, Bool, true, false, Some, None, refl, inl, inr, arith}
 use Rattle.std.proofs.lemmas.Bool.{false≢true, or_cases, eqb-true}
 use Rattle.std.proofs.lemmas.List.{length-map, ext_get_or}
 use Rattle.xs_names.specs.Names.{NameTable}
 use Rattle.tree_rows.specs.Forest.{Document}
-use Rattle.tree_rows.specs.Whole.{IsNamed}
-use Rattle.tree_rows.specs.declared.row.Attribute.{Attribute}
-use Rattle.tree_rows.specs.declared.row.Binding.{Binding}
-use Rattle.tree_rows.specs.declared.row.NodeKind.TheVariants as kinds
 use Rattle.node_links.specs.Nodes.{Node, Nodes, node, IsNode, IsSound, Holds}
 use Rattle.node_links.proofs.Among.{same_or_other}
 use Rattle.node_links.specs.declared.content.Content.{Content}
 use Rattle.node_links.specs.declared.content.Content.TheVariants as contents
-use Rattle.node_links.specs.declared.content.Element.{Element}
 use Rattle.node_links.specs.declared.content.NameAttribute.{NameAttribute}
 use Rattle.tree_changes.specs.Stands.{StandsFor, HasNames, expanded_of, attribute_of, binding_of}
-use Rattle.tree_changes.specs.Held.{kind_at, attributes_in, attributes_by, attributes_at, bindings_in, bindings_by, bindings_at, has_number, set_number, unset_number, HasRoom}
+use Rattle.tree_changes.specs.Held.{attributes_in, attributes_by, attributes_at, bindings_in, bindings_by, bindings_at, has_number, set_number, unset_number, HasRoom}
 use Rattle.tree_changes.specs.Changes.{set_in, unset_in, with_attributes, attribute_set, attribute_unset}
-use Rattle.tree_changes.proofs.Holding.{IsElementOf, element_of, HoldsElement, element_stands, no_namespace}
+use Rattle.tree_changes.proofs.Holding.{element_of, HoldsElement, element_stands, no_namespace}
 use Rattle.tree_changes.proofs.Attributing.{set_map, unset_map, set_all, unset_all, names_set, names_unset, namespaces_set, namespaces_unset, length_set, length_unset}
 
 -- what an element of a document holds has its names in the table

@@ -1,14 +1,14 @@
 -- Attributes by the numbers of their names, and by the names.
-use Rattle.std.proofs.Common.{◌≡◌, ◌≢◌, ◌⊎◌, ℕ, zero, suc, ◌+◌, ◌<◌, ◌≤◌, List, [], ◌∷◌, ◌++◌, length, map, get_or, sym, ap, ◌∙◌, subst, Bool, true, false, ◌==◌, ◌||◌, ◌&&◌, if◌then◌else◌, Option, Some, None, refl, inl, inr, arith, All}
-use Rattle.std.specs.Prelude.{slice_get, slice_index_or, bytes_eq}
+use Rattle.std.proofs.Common.{◌≡◌, ℕ, zero, suc, ◌+◌, ◌<◌, ◌≤◌, List, [], ◌∷◌, ◌++◌, length, map, get_or, sym, ap, ◌∙◌, subst, Bool, true, false, ◌==◌, ◌||◌, ◌&&◌, if◌then◌else◌, Option, Some, None, refl, arith, All}
+use Rattle.std.specs.Prelude.{slice_index_or, bytes_eq}
 use Rattle.std.specs.List.{list_any, position, remove}
 use Rattle.std.proofs.Math.ListN.{set}
-use Rattle.std.proofs.lemmas.Bool.{and_parts, or_parts, or_from, or_left, or_right, eq-eqb, eqb-true, ne_eqb, false≢true, true≢false}
+use Rattle.std.proofs.lemmas.Bool.{and_parts, or_parts, or_from, or_left, eq-eqb, eqb-true, ne_eqb, false≢true, true≢false}
 use Rattle.std.proofs.lemmas.Iterator.Adapters.{position_from-zero}
 use Rattle.std.proofs.lemmas.List.Elements.{All-head, All-tail}
 use Rattle.std.proofs.lemmas.Option.{slice_get-get_or}
 use Rattle.std.proofs.lemmas.Slice.Eq.{bytes_eq-Decides}
-use Rattle.xs_names.specs.Names.{NameTable, absent_space, first_spaces, space_of, local_of}
+use Rattle.xs_names.specs.Names.{NameTable, absent_space, space_of, local_of}
 use Rattle.xs_names.specs.Names.{IsSound as AreNames}
 use Rattle.xs_names.proofs.NumberingLaws.{list_any-absent}
 use Rattle.tree_rows.specs.Naming.{same_space, same_name}

@@ -1,4 +1,4 @@
-use Rattle.std.proofs.Common.{◌≡◌, List, sym, ap, ◌∙◌, subst}
+use Rattle.std.proofs.Common.{List, sym, ap, ◌∙◌, subst}
 use Rattle.std.proofs.lemmas.Result.{on_ok_weaker, on_err_weaker}
 use Rattle.node_links.specs.Nodes.{Holds}
 use Rattle.node_links.specs.declared.content.Content.TheVariants as contents
