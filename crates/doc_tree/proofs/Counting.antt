@@ -1,12 +1,13 @@
 -- There are as many nodes by number as in the tree for which they stand.
 use Rattle.std.proofs.Common.{◌≡◌, ◌≢◌, ℕ, zero, suc, ◌+◌, ◌<◌, ◌≤◌, List, [], ◌∷◌, length, sym, ap, ◌∙◌, Bool, true, false, ◌==◌, if◌then◌else◌, Option, Some, None, Result, Ok, Err, OnOk, OnErr, refl, inl, inr, arith}
-use Rattle.std.proofs.lemmas.Bool.{eq-eqb, ne_eqb, cases_eq, false≢true}
+use Rattle.std.proofs.lemmas.Bool.{eq-eqb, ne_eqb, cases_eq, false≢true, or_parts, ltb-false}
+use Rattle.std.specs.Prelude.{nat_lt}
 use Rattle.xs_names.specs.Names.{NameTable}
 use Rattle.tree_rows.specs.Forest.{Forest, none, text, element, Document, count}
 use Rattle.tree_rows.specs.Whole.{times, AreNodes}
-use Rattle.tree_edits.specs.Edits.{Found, found, replaced, with_children}
-use Rattle.tree_edits.specs.Tests.{is_element, element_node}
-use Rattle.tree_edits.proofs.Keeping.{joins_at}
+use Rattle.tree_edits.specs.Edits.{Found, found, replaced, with_children, renumbered}
+use Rattle.tree_edits.specs.Tests.{is_element, element_node, with_nodes}
+use Rattle.tree_edits.proofs.Keeping.{joins_at, count-renumbered}
 use Rattle.tree_edits.proofs.Lying.{lies, count_changed}
 use Rattle.node_links.specs.Nodes.{Node, Nodes, node, IsNode, Holds}
 use Rattle.node_links.specs.declared.content.Content.{Content}
@@ -20,6 +21,7 @@ use Rattle.tree_changes.proofs.Changing.{own_below, is_over, placed}
 use Rattle.tree_changes.proofs.Holding.{HoldsElement}
 use Rattle.tree_changes.proofs.Lain.{at, lain, apart}
 use Rattle.tree_changes.proofs.Standing.{has_times, no_times}
+use Rattle.tree_planting.specs.Fits.{Fits}
 use Rattle.doc_tree.specs.Counted.{live_count}
 use Rattle.doc_tree.proofs.Answering.{no_such}
 
@@ -158,3 +160,18 @@ removed_is t old new d z key gone h g y =
     let c = counted t old d z in
     let e = counted t new (record d { forest = replaced key (λ node. none) d.forest }) y in
     omega (arith, a, b, c, e)
+
+-- a part of the tree was put in
+pub planted_count : (t u : NameTable) (old new : Nodes) (d : Document) → StandsFor t old d → (parent place : ℕ) (f : Forest) → Fits d parent place f → StandsFor u new (with_nodes d parent place f)
+    → live_count new ≡ live_count old + count f
+planted_count t u old new d z parent place f fits y =
+    let a = counted t old d z in let b = counted u new (with_nodes d parent place f) y in
+    let c = inserted_count d parent place (renumbered d.next_free f) fits.element in let e = count-renumbered d.next_free f in
+    omega (arith, a, b, c, e)
+
+pub room_for : (t : NameTable) (old : Nodes) (d : Document) → StandsFor t old d → (parent place : ℕ) (f : Forest) → Fits d parent place f → live_count old + count f ≤ 131072
+room_for t old d z parent place f fits =
+    let a = counted t old d z in
+    let b = or_parts (nat_lt 131072 (count d.forest + count f)) (nat_lt 4294967295 (d.next_free + count f)) fits.few in
+    let l = ltb-false 131072 (count d.forest + count f) b.0 in
+    omega (arith, a, l)

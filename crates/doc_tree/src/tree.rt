@@ -5,10 +5,13 @@ ghost use Rattle.std.specs.Option.{option_map, option_and_then, option_copied};
 
 use crate::above::{bind_above, element_past};
 use crate::contents::{attribute_in, count_bindings, kind_in, name_in, text_in};
-use node_links::{NameAttribute, NodeLinks};
+use node_links::NodeLinks;
+use plain_tree::Tree;
 use std::alloc::{AllocError, Global};
 use std::marker::Model;
 use tree_changes::{remove_node, rename_node, set_attribute, set_text, unset_attribute};
+use tree_planting::{add_text, insert_part, nodes_of};
+use tree_reading::read_tree;
 use tree_rows::NodeKind;
 use xs_names::{NameId, Names, Scope, Text};
 
@@ -42,14 +45,18 @@ impl DocTree {
     ghost use Rattle.plain_tree.specs.Putting.{bindings_of as plain_bindings};
     ghost use Rattle.tag_names.specs.Scopes.{binding_in, first_scope};
     ghost use Rattle.tree_edits.specs.Edits.{scope_in};
-    ghost use Rattle.tree_rows.specs.Forest.{Forest, Document, count};
+    ghost use Rattle.tree_rows.specs.Forest.{Forest, none, text as text_node, Document, count};
+    ghost use Rattle.tree_planting.specs.Fits.{Fits};
+    ghost use Rattle.tree_planting.specs.Planted.{Plants};
+    ghost use Rattle.xs_names.specs.Names.{Grown};
+    ghost use Rattle.xs_names.specs.Names.{IsSound as AreNames};
     ghost use Rattle.tree_rows.specs.Kinds.{kind_of};
     ghost use Rattle.xs_names.specs.Names.{NameTable};
     ghost use Rattle.tree_changes.specs.Held as held;
     ghost use Rattle.tree_changes.specs.Held.{parent_at, kind_at, attributes_at, bindings_at, has_number, set_number, unset_number, HasRoom};
     ghost use Rattle.tree_changes.specs.Changes.{renamed, attribute_set, attribute_unset};
     ghost use Rattle.tree_changes.specs.Parts.{IsOver, Prunes};
-    ghost use Rattle.tree_edits.specs.Tests.{made};
+    ghost use Rattle.tree_edits.specs.Tests.{made, with_nodes};
     ghost use Rattle.tree_edits.specs.declared.edit.Edit.TheVariants as edits;
     ghost use Rattle.tree_rows.specs.declared.row.NodeKind.TheVariants as kinds;
     ghost use Rattle.node_links.specs.declared.content.Content.TheVariants as contents;
@@ -59,6 +66,24 @@ impl DocTree {
     ghost use Rattle.tree_changes.specs.Stands.{StandsFor, expanded_of};
     ghost use Rattle.doc_tree.specs.Counted.{live_count};
     ghost use Rattle.doc_tree.specs.Following.{next_of};
+
+    /// A document of the nodes of a plain tree, which keep their numbers. Names that `names` lacks are added to it.
+    ///
+    /// # Errors
+    ///
+    /// `AllocError` is want of memory.
+    pub fn from_plain(alloc: Global, names: &mut Names, tree: &Tree) -> Result<DocTree, AllocError>
+        ensures stands { IfOk result (λ doc. StandsFor names.new doc tree.now) }
+        ensures grown { Grown names.old names.new }
+    {
+        let links = nodes_of(alloc, names, tree)?;
+        let count = tree.rows().len() as u32;
+        Ok(DocTree {
+            links,
+            count,
+            alloc,
+        })
+    }
 
     /// What a node is; `None` exactly where the number is of no node.
     pub fn live(&self, node: u32) -> Option<NodeKind>
@@ -196,6 +221,64 @@ impl DocTree {
         let mut scope = Scope::new(self.alloc)?;
         bind_above(&self.links, node, &mut scope)?;
         Ok(scope)
+    }
+
+    /// The plain tree of the document. Each node keeps its number.
+    ///
+    /// # Errors
+    ///
+    /// `AllocError` is want of memory.
+    pub fn to_plain(&self, names: &Names) -> Result<Tree, AllocError>
+        requires { (d : Document) × StandsFor names.now self.now d }
+        ensures tree { IfOk result (λ tree. (d : Document) → StandsFor names.now self.now d → tree ≡ d) }
+    {
+        read_tree(self.alloc, &self.links, names)
+    }
+
+    /// Puts the nodes of a plain tree below an element, before the child of this place, and answers the number of its root.
+    /// They get the numbers from the next free one on, in document order. Names that `names` lacks are added to it.
+    ///
+    /// # Errors
+    ///
+    /// `AllocError` is want of memory. The document is then as it was.
+    pub fn insert(
+        &mut self,
+        names: &mut Names,
+        parent: u32,
+        index: u32,
+        part: &Tree,
+    ) -> Result<u32, AllocError>
+        requires fits { (d : Document) × StandsFor names.old self.old d × Fits d parent index part.now.forest }
+        ensures tree { OnOk result ((d : Document) → StandsFor names.old self.old d → StandsFor names.new self.new (with_nodes d parent index part.now.forest)) }
+        ensures number { IfOk result (λ n. n ≡ length self.old) }
+        ensures change { OnOk result (Plants names.new self.old self.new parent index part.now.forest) }
+        ensures err { OnErr result (self.new ≡ self.old) }
+        ensures grown { Grown names.old names.new }
+        ensures names { AreNames names.new }
+        ensures sound { IsSound self.new }
+    {
+        let number = insert_part(self.alloc, &mut self.links, names, parent, index, part)?;
+        self.count += part.rows().len() as u32;
+        Ok(number)
+    }
+
+    /// Puts a text, which may be empty, below an element, before the child of this place, and answers its number, the next
+    /// free one. It stays apart from the texts beside it.
+    ///
+    /// # Errors
+    ///
+    /// `AllocError` is want of memory. All is then as it was.
+    pub fn add_text(&mut self, parent: u32, index: u32, text: Text) -> Result<u32, AllocError>
+        requires fits { (t : NameTable) × (d : Document) × StandsFor t self.old d × Fits d parent index (text_node 0 text none) }
+        ensures tree { OnOk result ((t : NameTable) (d : Document) → StandsFor t self.old d → StandsFor t self.new (made d (edits.AddText parent index text))) }
+        ensures number { IfOk result (λ n. n ≡ length self.old) }
+        ensures change { OnOk result ((t : NameTable) → Plants t self.old self.new parent index (text_node 0 text none)) }
+        ensures err { OnErr result (self.new ≡ self.old) }
+        ensures sound { IsSound self.new }
+    {
+        let number = add_text(&mut self.links, parent, index, text)?;
+        self.count += 1;
+        Ok(number)
     }
 
     /// Takes away a node that is not the root, with all that is below it. It takes no memory.
