@@ -87,7 +87,7 @@ impl DocTree {
 
     /// What a node is; `None` exactly where the number is of no node.
     pub fn live(&self, node: u32) -> Option<NodeKind>
-        ensures kind { result ≡ option_map (λ (it : Node). held.kind_in it.content) (nodes.node self.now node) }
+        ensures kind { result ≡ kind_at self.now node }
         ensures tree { (t : NameTable) (d : Document) → StandsFor t self.now d → result ≡ kind_of node d.forest }
         ensures sound { IsSound self.now }
     {
@@ -99,7 +99,7 @@ impl DocTree {
 
     /// The parent of a node; `None` exactly for the root, and where the number is of no node.
     pub fn parent(&self, node: u32) -> Option<u32>
-        ensures parent { result ≡ option_and_then (λ (it : Node). it.parent) (nodes.node self.now node) }
+        ensures parent { result ≡ parent_at self.now node }
         ensures tree { (t : NameTable) (d : Document) → StandsFor t self.now d → result ≡ parent_of node d.forest }
         ensures sound { IsSound self.now }
     {
