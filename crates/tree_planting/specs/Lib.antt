@@ -1,0 +1,4 @@
+pub mod Fits
+pub mod Planted
+pub mod Named
+pub mod inside
