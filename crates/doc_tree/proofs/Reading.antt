@@ -1,11 +1,11 @@
 -- The nodes of a tree, read by their numbers.
-use Rattle.std.proofs.Common.{◌≡◌, ◌≢◌, ◌⊎◌, ℕ, zero, suc, ◌+◌, ◌-◌, ◌<◌, List, [], ◌∷◌, length, map, sym, ap, ◌∙◌, subst, Bool, true, false, ◌==◌, ◌||◌, if◌then◌else◌, Option, Some, None, refl, inl, inr, arith}
+use Rattle.std.proofs.Common.{◌≡◌, ℕ, zero, suc, ◌-◌, List, [], ◌∷◌, sym, ap, ◌∙◌, subst, true, false, ◌==◌, ◌||◌, if◌then◌else◌, Option, Some, None, refl, inl, inr, arith}
 use Rattle.std.specs.Prelude.{slice_get}
-use Rattle.std.specs.Option.{option_map, option_and_then}
-use Rattle.std.proofs.lemmas.Bool.{or_parts, eqb-true, eq-eqb, ne_eqb, false≢true, true≢false}
-use Rattle.std.proofs.lemmas.Option.{same_Some, none-some}
+use Rattle.std.specs.Option.{option_map}
+use Rattle.std.proofs.lemmas.Bool.{or_parts, eqb-true, ne_eqb, false≢true, true≢false}
+use Rattle.std.proofs.lemmas.Option.{same_Some}
 use Rattle.xs_names.specs.Names.{NameTable}
-use Rattle.tree_rows.specs.Forest.{Forest, none, text, element, Document}
+use Rattle.tree_rows.specs.Forest.{Forest, none, text, element}
 use Rattle.tree_rows.specs.Kinds.{kind_of, first_kind}
 use Rattle.tree_rows.specs.declared.name.Expanded.{Expanded}
 use Rattle.tree_rows.specs.declared.row.Attribute.{Attribute}
@@ -17,7 +17,7 @@ use Rattle.tree_rows.specs.declared.row.NodeKind.TheVariants as kinds
 use Rattle.tree_edits.specs.Edits.{has}
 use Rattle.plain_tree.specs.Nodes.{first_of, node_at, number_at}
 use Rattle.plain_tree.specs.Nodes as plain
-use Rattle.node_links.specs.Nodes.{Node, Nodes, node, IsNode, Has, IsSound}
+use Rattle.node_links.specs.Nodes.{Node, Nodes, IsNode, Has, IsSound}
 use Rattle.tree_changes.specs.Stands.{firsts, IsText, IsElement, StandFor}
 use Rattle.doc_tree.specs.Readers.{parent_in}
 

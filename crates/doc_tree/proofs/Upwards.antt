@@ -1,8 +1,8 @@
 -- What a tree says of a node by what is above it, where something is carried downwards from parents to children.
-use Rattle.std.proofs.Common.{◌≡◌, ◌≢◌, ◌⊎◌, ℕ, zero, suc, ◌+◌, ◌<◌, ◌≤◌, List, [], ◌∷◌, ◌++◌, length, map, drop, sym, ap, ◌∙◌, subst, Bool, true, false, ◌==◌, ◌||◌, if◌then◌else◌, Option, Some, None, refl, inl, inr, arith}
+use Rattle.std.proofs.Common.{◌≡◌, ℕ, zero, suc, ◌+◌, ◌≤◌, List, [], ◌∷◌, ◌++◌, map, drop, sym, ap, ◌∙◌, subst, Bool, true, false, ◌==◌, ◌||◌, if◌then◌else◌, Option, Some, refl, arith}
 use Rattle.std.specs.Prelude.{slice_get, find}
 use Rattle.std.specs.Option.{option_or}
-use Rattle.std.proofs.lemmas.Bool.{or_cases, or_left, or_right, eq-eqb, ne_eqb, eqb-true, cases_eq, false≢true, false_from_ne_true}
+use Rattle.std.proofs.lemmas.Bool.{eq-eqb, eqb-true, false≢true, false_from_ne_true}
 use Rattle.std.proofs.lemmas.Option.{same_Some, none-some, slice_get_past}
 use Rattle.xs_names.specs.Names.{NameTable}
 use Rattle.tree_rows.specs.Forest.{Forest, none, text, element}
@@ -11,11 +11,11 @@ use Rattle.tree_rows.specs.declared.name.Expanded.{Expanded}
 use Rattle.tree_rows.specs.declared.row.Attribute.{Attribute}
 use Rattle.tree_rows.specs.declared.row.Binding.{Binding}
 use Rattle.tree_edits.specs.Edits.{has, scope_in}
-use Rattle.node_links.specs.Nodes.{Node, Nodes, node, IsNode, Has, is_element, is_element_by, is_element_at}
-use Rattle.tree_changes.specs.Stands.{firsts, IsText, IsElement, StandFor, binding_of}
+use Rattle.node_links.specs.Nodes.{Node, Nodes, node, IsNode, is_element, is_element_by, is_element_at}
+use Rattle.tree_changes.specs.Stands.{firsts, IsElement, StandFor, binding_of}
 use Rattle.tree_changes.specs.Held.{bindings_by, bindings_at, bindings_in}
-use Rattle.tree_changes.proofs.Standing.{if_one, has_times, no_times, absent_times, present_times}
-use Rattle.doc_tree.specs.Following.{first_element, past_in, next_in}
+use Rattle.tree_changes.proofs.Standing.{if_one, absent_times, present_times}
+use Rattle.doc_tree.specs.Following.{first_element, past_in}
 
 -- a number that comes once
 module _ (n key : ℕ) (children next : Forest) where

@@ -1,8 +1,6 @@
-use Rattle.std.proofs.Common.{◌≡◌, ◌<◌, ◌≤◌, ◌^◌, length, map, refl, sym, ap, ◌∙◌, subst, arith, lit<}
-use Rattle.std.specs.Option.{option_map}
+use Rattle.std.proofs.Common.{length, refl, sym, ap, arith}
 use Rattle.std.proofs.lemmas.List.{length-map}
 use Rattle.node_links.specs.Nodes.{node}
-use Rattle.node_links.specs.Nodes as links
 use Rattle.tree_changes.specs.Held as held
 use Rattle.tree_changes.specs.Stands.{binding_of}
 use Rattle.doc_tree.proofs.Answering.{bindings_are, few_bindings, by_bindings}

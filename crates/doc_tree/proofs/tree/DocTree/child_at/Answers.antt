@@ -1,9 +1,6 @@
-use Rattle.std.proofs.Common.{◌≡◌, length, Some, None, refl, sym, ap, ◌∙◌}
-use Rattle.std.specs.Option.{option_map, option_and_then, option_copied}
+use Rattle.std.proofs.Common.{refl, ap, ◌∙◌}
 use Rattle.std.specs.Prelude.{slice_get}
 use Rattle.node_links.specs.Nodes.{node}
-use Rattle.tree_changes.specs.Held as held
-use Rattle.tree_changes.specs.Stands.{expanded_of, attribute_of}
 use Rattle.doc_tree.proofs.Answering.{children_are, child_is}
 use Rattle.doc_tree.proofs.Walking.{if_child}
 use Rattle.doc_tree.proofs.tree.DocTree.child_at.Goals as goal

@@ -1,9 +1,5 @@
-use Rattle.std.proofs.Common.{◌≡◌, length, Some, None, refl, sym, ap, ◌∙◌}
-use Rattle.std.specs.Option.{option_map, option_and_then, option_copied}
-use Rattle.std.specs.Prelude.{slice_get}
+use Rattle.std.proofs.Common.{length, refl, ap, ◌∙◌}
 use Rattle.node_links.specs.Nodes.{node}
-use Rattle.tree_changes.specs.Held as held
-use Rattle.tree_changes.specs.Stands.{expanded_of, attribute_of}
 use Rattle.doc_tree.proofs.Answering.{children_are}
 use Rattle.doc_tree.proofs.tree.DocTree.child_count.Goals as goal
 

@@ -1,9 +1,7 @@
-use Rattle.std.proofs.Common.{◌≡◌, length, Some, None, refl, sym, ap, ◌∙◌}
-use Rattle.std.specs.Option.{option_map, option_and_then, option_copied}
-use Rattle.std.specs.Prelude.{slice_get}
+use Rattle.std.proofs.Common.{Some, refl, sym, ap, ◌∙◌}
+use Rattle.std.specs.Option.{option_map}
 use Rattle.node_links.specs.Nodes.{node}
 use Rattle.tree_changes.specs.Held as held
-use Rattle.tree_changes.specs.Stands.{expanded_of, attribute_of}
 use Rattle.doc_tree.proofs.Answering.{by_content, kind_is}
 use Rattle.doc_tree.proofs.tree.DocTree.live.Goals as goal
 

@@ -1,4 +1,4 @@
-use Rattle.std.proofs.Common.{◌≡◌, sym, ◌∙◌}
+use Rattle.std.proofs.Common.{sym, ◌∙◌}
 use Rattle.doc_tree.proofs.Walking.{next_found, next_past}
 use Rattle.doc_tree.proofs.tree.DocTree.next_element.Goals as goal
 

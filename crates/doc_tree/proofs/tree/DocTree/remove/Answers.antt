@@ -1,8 +1,7 @@
-use Rattle.std.proofs.Common.{◌≡◌, ◌≢◌, ◌+◌, None, sym, subst, arith}
+use Rattle.std.proofs.Common.{◌≢◌, None, sym, subst, arith}
 use Rattle.node_links.specs.Nodes.{Nodes}
 use Rattle.tree_changes.specs.Held.{parent_at}
 use Rattle.tree_changes.specs.Stands.{StandsFor}
-use Rattle.doc_tree.specs.Counted.{live_count}
 use Rattle.doc_tree.proofs.Counting.{removed_is}
 use Rattle.doc_tree.proofs.tree.DocTree.remove.Goals as goal
 
