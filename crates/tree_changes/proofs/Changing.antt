@@ -390,7 +390,7 @@ pub record IsPlaced (ns : Nodes) (n : ℕ) : Type 0 where
   pub place : ℕ
   pub at : IsChildAt ns parent place n
 
-some_place : (n : ℕ) (xs : List ℕ) → Has n xs → (i : ℕ) × (slice_get xs i ≡ Some n)
+pub some_place : (n : ℕ) (xs : List ℕ) → Has n xs → (i : ℕ) × (slice_get xs i ≡ Some n)
 some_place n [] h = absurd h
 some_place n (x ∷ xs) (inl e) = (0, ap Some e)
 some_place n (x ∷ xs) (inr h) = let r = some_place n xs h in (suc r.0, r.1)

@@ -256,7 +256,7 @@ holds_after old mid new key a b x there h k = record {
   others = λ m d. k.others m d ∙ h.others m d;
 }
 
-no_namespace : (t : NameTable) (n : ℕ) → AreNames t → n < length t.names → IsNamespace (expanded_of t n).namespace
+pub no_namespace : (t : NameTable) (n : ℕ) → AreNames t → n < length t.names → IsNamespace (expanded_of t n).namespace
 no_namespace t n sound l = by (space_of t n == absent_space) refl
   where
     first : slice_get t.spaces 0 ≡ Some []

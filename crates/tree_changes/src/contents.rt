@@ -39,7 +39,7 @@ fn element_name(links: &NodeLinks, number: u32) -> NameId
 }
 
 /// Takes out what an element holds; another element is left, which has only a name.
-fn take_element(alloc: Global, links: &mut NodeLinks, number: u32) -> Element
+pub(crate) fn take_element(alloc: Global, links: &mut NodeLinks, number: u32) -> Element
     requires { kind_at links.old number ≡ Some kinds.Element }
     ensures held { (it : Node) → IsNode links.old number it → it.content ≡ contents.Element result }
     ensures left { (left : Element) × Holds links.old links.new number (contents.Element left) }

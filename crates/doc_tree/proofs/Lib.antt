@@ -1,0 +1,5 @@
+pub mod Reading
+pub mod Answering
+pub mod Counting
+pub mod Upwards
+pub mod Walking

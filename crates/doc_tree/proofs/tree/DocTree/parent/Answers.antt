@@ -1,0 +1,9 @@
+use Rattle.std.proofs.Common.{refl, ◌∙◌}
+use Rattle.node_links.specs.Nodes.{node}
+use Rattle.doc_tree.proofs.Answering.{parent_is}
+use Rattle.doc_tree.proofs.tree.DocTree.parent.Goals as goal
+
+pub returns-clause-tree : goal.returns-clause-tree
+returns-clause-tree c = rw (← c.self.view_is) (λ t d z.
+    let ns = c.self.inside.links in let n = c.args.node in
+    c.parent.ensures.parent ∙ parent_is t ns d z n c.parent.ensures.sound (λ it h. (z.root it h).0) (node ns n) refl)

@@ -1,0 +1,3 @@
+pub mod Readers
+pub mod Following
+pub mod Counted
