@@ -21,15 +21,15 @@ use Rattle.document_representations.specs.Documents.{representations_from, docum
 module _ {K : Type 0} (p : K → Bool) where
   position-between : (i n : ℕ) (xs : List K) → position_from p i xs ≡ Some n → (i ≤ n) × (n < i + length xs)
   position-between i n [] e = absurd (cc)
-  position-between i n (x ∷ xs) e = by (p x) refl
+  position-between i n (x ∷ xs) e = by (p x) refl (position-between (i + 1) n xs)
     where
-      by : (b : Bool) → p x ≡ b → (i ≤ n) × (n < i + length (x ∷ xs))
-      by true is =
+      by : (b : Bool) → p x ≡ b → (position_from p (i + 1) xs ≡ Some n → (i + 1 ≤ n) × (n < i + 1 + length xs)) → (i ≤ n) × (n < i + length (x ∷ xs))
+      by true is on =
           let found : Some i ≡ Some n = sym (ap (λ c. cond c (Some i) (position_from p (i + 1) xs)) is) ∙ e in
           let same : i ≡ n = cc in
           (omega arith, omega arith)
-      by false is =
-          let rest = position-between (i + 1) n xs (sym (ap (λ c. cond c (Some i) (position_from p (i + 1) xs)) is) ∙ e) in
+      by false is on =
+          let rest = on (sym (ap (λ c. cond c (Some i) (position_from p (i + 1) xs)) is) ∙ e) in
           (omega (arith, rest.0), omega (arith, rest.1))
 
 -- what each of the values that a look-up finds has
@@ -41,7 +41,7 @@ found-all : (P : ℕ → Type 0) (f : ℕ → Option ℕ) → ((item n : ℕ) �
 found-all P f each [] = All-nil P
 found-all P f each (item ∷ items) = cons-all P (f item) (filter_map f items) (each item) (found-all P f each items)
 
-members_in : Option Representation → List ℕ
+abbrev members_in : Option Representation → List ℕ
 members_in None = []
 members_in (Some rep) = rep.members
 
@@ -98,4 +98,6 @@ module _ (t : NameTable) where
       k rep e
 
   pub set-behind : (ds : List SetDocument) → AreBehind (representations t ds)
-  set-behind ds place rep e = set-between 0 1 (length (representations t ds)) ds (omega arith) place rep e
+  set-behind ds place rep e =
+      let at : 0 + place ≡ place = omega arith in
+      subst (λ m. All (IsBetween m (length (representations t ds))) rep.members) at (set-between 0 1 (length (representations t ds)) ds (omega arith) place rep e)

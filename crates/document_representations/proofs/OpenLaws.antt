@@ -1,5 +1,5 @@
 -- An element more that opens a scope or none.
-use Rattle.std.proofs.Common.{◌≡◌, ℕ, suc, ◌+◌, ◌<◌, ◌==◌, ◌&&◌, Bool, true, false, List, [], ◌∷◌, ◌++◌, Option, Some, None, length, if◌then◌else◌, refl, sym, ap, subst, ◌∙◌, arith, length-append, eq-eqb}
+use Rattle.std.proofs.Common.{◌≡◌, ℕ, suc, ◌+◌, ◌<◌, ◌==◌, ◌&&◌, Bool, true, false, List, [], ◌∷◌, ◌++◌, Option, Some, None, length, if◌then◌else◌, refl, sym, ap, subst, ◌∙◌, arith, length-append, eq-eqb, eqb-true}
 use Rattle.std.specs.Option.{unwrap_or}
 use Rattle.std.proofs.lemmas.List.{append-nil, append_assoc}
 use Rattle.tree_rows.specs.declared.row.Binding.{Binding}
@@ -28,7 +28,7 @@ some-bindings (b ∷ bindings) h = refl
 
 pub no-bindings : (bindings : List Binding) → (length bindings == 0) ≡ true → has_some bindings ≡ false
 no-bindings [] h = refl
-no-bindings (b ∷ bindings) h = absurd (cc)
+no-bindings (b ∷ bindings) h = let none = eqb-true (length (b ∷ bindings)) 0 h in absurd (omega (arith, none))
 
 nearest-none : (above item : ℕ) (bindings : List Binding) → has_some bindings ≡ false → nearest above item bindings ≡ above
 nearest-none above item [] h = refl
@@ -39,11 +39,11 @@ pub opened-Grown : (t u : NameTable) (base : List (List (List ℕ × ℕ))) (bef
 opened-Grown t u base before opened scopes g is = record {
   begins = is.begins;
   places = is.places;
-  scopes = λ later h. is.scopes later (Grown-trans t u later g h);
+  all = λ later h. is.all later (Grown-trans t u later g h);
 }
 
 module _ (base : List (List (List ℕ × ℕ))) (before : List Shape) (shape : Shape) where
-  first : ℕ
+  abbrev first : ℕ
   first = length base
 
   place-closed : opens shape ≡ false → (item : ℕ) → scope_place first (shape ∷ before) item ≡ scope_place first before item
@@ -54,7 +54,7 @@ module _ (base : List (List (List ℕ × ℕ))) (before : List Shape) (shape : S
     open-none closed = record {
       begins = is.begins;
       places = λ item. is.places item ∙ sym (place-closed closed item);
-      scopes = λ later g. is.scopes later g ∙ ap (λ (xs : List (List (List ℕ × ℕ))). base ++ xs)
+      all = λ later g. is.all later g ∙ ap (λ (xs : List (List (List ℕ × ℕ))). base ++ xs)
           (sym (ap (λ o. scopes_in later before ++ (if o then bound later shape.bindings (scope_of later before shape.above) ∷ [] else [])) closed ∙ append-nil (scopes_in later before)));
     }
 
@@ -63,7 +63,7 @@ module _ (base : List (List (List ℕ × ℕ))) (before : List Shape) (shape : S
         ∙ ap (λ n. scope_place first (shape ∷ before) n) (sym (nearest-none shape.above shape.item shape.bindings closed))
 
     long : length scopes ≡ first + openings before
-    long = ap length (is.scopes t (Grown-refl t)) ∙ length-append base (scopes_in t before) ∙ ap (λ n. first + n) (length-scopes_in t before)
+    long = ap length (is.all t (Grown-refl t)) ∙ length-append base (scopes_in t before) ∙ ap (λ n. first + n) (length-scopes_in t before)
 
     pub place-some : opens shape ≡ true → length scopes ≡ scope_place first (shape ∷ before) (nearest shape.above shape.item shape.bindings)
     place-some some =
@@ -83,8 +83,8 @@ module _ (base : List (List (List ℕ × ℕ))) (before : List Shape) (shape : S
       places = λ item.
           ap (λ (o : Option ℕ). unwrap_or o 0) (put item) ∙ put-place (shape.item == item) place (found opened item)
           ∙ (λ j. if back j && shape.item == item then (at ∙ long) j else is.places item j);
-      scopes = λ later h.
-          let there = is.scopes later (Grown-trans t u later g h) in
+      all = λ later h.
+          let there = is.all later (Grown-trans t u later g h) in
           let above : scope_at scopes (opened_place opened shape.above) ≡ scope_of later before shape.above =
               (λ j. scope_at (there j) (is.places shape.above j)) ∙ scope_at-place later base is.begins before shape.above in
           let own = bound later shape.bindings (scope_of later before shape.above) in

@@ -8,6 +8,8 @@ use Rattle.std.proofs.lemmas.List.Elements.{All-push, All-weaker}
 use Rattle.xs_names.specs.Names.{NameTable, Grown}
 use Rattle.xs_names.proofs.GrownLaws.{Grown-trans}
 use Rattle.xs_names.specs.Scope.{first_scope}
+use Rattle.schema_shape.specs.declared.forms.Form.{Form}
+use Rattle.schema_shape.specs.declared.forms.Form.TheVariants as shapes
 use Rattle.schema_shape.specs.declared.forms.Shape.{Shape}
 use Rattle.schema_set.specs.declared.documents.SetDocument.{SetDocument}
 use Rattle.schema_names.specs.Naming.{naming_of}
@@ -41,12 +43,12 @@ module _ (t u : NameTable) (base : List (List (List ℕ × ℕ))) (whole : NameT
         target = subst (λ r. KnowsTarget u r) (sym reading) (λ later h. is.target later (Grown-trans t u later g h));
         opened = opened;
         members = members ∙ ap (λ n. reverse (all_members n left)) (sym long);
-        reps = λ later h.
+        made = λ later h.
             let rest = representations_from later old.reading.naming old.reading.defaults old.number (length base) (shape ∷ before) (length reps + 1) left in
             (λ j. (reps ++ rep ∷ []) ++ representations_from later (reading j).naming (reading j).defaults (number j) (length base) (shape ∷ before) (long j) left)
             ∙ append_snoc reps rep rest
             ∙ ap (λ (r : Representation). reps ++ r ∷ rest) (made later h)
-            ∙ is.reps later (Grown-trans t u later g h);
+            ∙ is.made later (Grown-trans t u later g h);
         imports = λ later h.
             ap (λ (xs : List ℕ). xs ++ imports_of later left) (imports later h)
             ∙ append_assoc old.imports (import_of later shape.form) (imports_of later left)
@@ -78,10 +80,10 @@ module _ (t : NameTable) (d : SetDocument) (reader : Reader) (reps : List Repres
     opened = record {
       begins = begins;
       places = λ item. ap (λ (o : Option ℕ). unwrap_or o 0) (none item);
-      scopes = λ later g. sym (append-nil scopes);
+      all = λ later g. sym (append-nil scopes);
     };
     members = members;
-    reps = λ later g j. reps ++ representations_from later (naming j) (defaults j) (number j) (length scopes) [] (length reps) (shapes_of d);
+    made = λ later g j. reps ++ representations_from later (naming j) (defaults j) (number j) (length scopes) [] (length reps) (shapes_of d);
     imports = λ later g j. no_imports j ++ imports_of later (shapes_of d);
     named = named;
   }
@@ -90,7 +92,36 @@ module _ (t : NameTable) (d : SetDocument) (reader : Reader) (reps : List Repres
 module _ (u : NameTable) (base : List (List (List ℕ × ℕ))) (whole : NameTable → List Representation) (imported : NameTable → List ℕ) (before : List Shape)
     (reader : Reader) (reps : List Representation) (scopes : List (List (List ℕ × ℕ))) (is : IsRead u base whole imported before [] reader reps scopes) where
   pub whole-reps : IsLasting u whole reps
-  whole-reps = λ later g. sym (append-nil reps) ∙ is.reps later g
+  whole-reps = λ later g. sym (append-nil reps) ∙ is.made later g
 
   pub whole-imports : IsLasting u imported reader.imports
   whole-imports = λ later g. sym (append-nil reader.imports) ∙ is.imports later g
+
+-- a form that is no import names no namespace
+pub no-import : (t : NameTable) (form : Form) → ((namespace location : Option (List ℕ)) → ¬ (form ≡ shapes.Import namespace location)) → import_of t form ≡ []
+no-import t (shapes.Import namespace location) = λ no. absurd (no namespace location refl)
+no-import t (shapes.Element e) = λ no. refl
+no-import t (shapes.Attribute e) = λ no. refl
+no-import t (shapes.ComplexType e) = λ no. refl
+no-import t (shapes.SimpleType name finals) = λ no. refl
+no-import t (shapes.Group name) = λ no. refl
+no-import t (shapes.AttributeGroup name) = λ no. refl
+no-import t (shapes.Identity kind name refer) = λ no. refl
+no-import t (shapes.Derivation by_extension base) = λ no. refl
+no-import t (shapes.GroupReference to occurs) = λ no. refl
+no-import t (shapes.AttributeGroupReference to) = λ no. refl
+no-import t (shapes.Any wildcard occurs) = λ no. refl
+no-import t (shapes.AnyAttribute wildcard) = λ no. refl
+no-import t (shapes.Restriction base) = λ no. refl
+no-import t (shapes.ItemType o) = λ no. refl
+no-import t (shapes.Union members) = λ no. refl
+no-import t (shapes.Schema schema) = λ no. refl
+no-import t (shapes.Include location) = λ no. refl
+no-import t (shapes.Redefine location) = λ no. refl
+no-import t (shapes.Selector path) = λ no. refl
+no-import t (shapes.Field path) = λ no. refl
+no-import t shapes.SimpleContent = λ no. refl
+no-import t (shapes.ComplexContent mixed) = λ no. refl
+no-import t (shapes.ModelGroup compositor occurs) = λ no. refl
+no-import t (shapes.Facet kind text fixed) = λ no. refl
+no-import t shapes.Nothing = λ no. refl

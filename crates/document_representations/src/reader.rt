@@ -1,21 +1,26 @@
-ghost use Rattle.std.specs.Prelude.{◌≡◌, [], ◌∷◌, ◌++◌, ℕ, List, reverse, OnOk, IfOk};
+ghost use Rattle.std.specs.Prelude.{◌≡◌, ◌+◌, ◌≤◌, [], ◌∷◌, ◌++◌, ℕ, List, None, length, reverse, OnOk, IfOk};
 ghost use Rattle.xs_names.specs.Names.{NameTable, Grown};
 ghost use Rattle.schema_shape.specs.declared.forms.Shape.{Shape};
 ghost use Rattle.schema_names.specs.Documents.{shape_table, shapes_table};
 ghost use Rattle.schema_names.specs.Forms.{form_table};
+ghost use Rattle.schema_names.specs.Naming.{with_space_of, naming_of, IsSpaceNumber};
 ghost use Rattle.representations.specs.declared.parts.Representation.{Representation};
 ghost use Rattle.representations.specs.Named as named;
 ghost use Rattle.form_representations.specs.Forms as forms;
 ghost use Rattle.form_representations.specs.Lasting.{IsLasting};
 ghost use Rattle.form_representations.specs.Wildcards.{KnowsTarget};
+ghost use Rattle.form_representations.specs.Methods.{defaults_of};
+ghost use Rattle.document_representations.specs.Members.{all_members};
 ghost use Rattle.document_representations.specs.Documents as spec;
-ghost use Rattle.document_representations.specs.inside.Building.{IsRead};
+ghost use Rattle.document_representations.specs.inside.Building.{found, IsRead};
 
 use crate::item_places::ItemPlaces;
+use crate::members::member_places;
 use crate::scope_list::open_scope;
 use form_representations::{Reading, occurs_in};
 use representations::{Representation, Represented};
 use schema_names::number_space;
+use schema_set::SetDocument;
 use schema_shape::{Form, Shape};
 use std::alloc::{AllocError, Global};
 use xs_components::{NsIdList, Place};
@@ -36,6 +41,37 @@ pub(crate) struct Reader {
 }
 
 impl Reader {
+    /// A document before its first element, where so many representations stand before its own.
+    pub(crate) fn of(
+        alloc: Global,
+        names: &mut Names,
+        document: &SetDocument<'_>,
+        first: u32,
+    ) -> Result<Reader, AllocError>
+        ensures table { OnOk result (names.new ≡ with_space_of names.old document.now.target) }
+        ensures number { IfOk result (λ reader. reader.number ≡ document.now.number) }
+        ensures naming { IfOk result (λ reader. reader.reading.naming ≡ naming_of document.now.target (spec.shapes_of document.now)) }
+        ensures defaults { IfOk result (λ reader. reader.reading.defaults ≡ defaults_of (spec.shapes_of document.now)) }
+        ensures target { IfOk result (λ reader. KnowsTarget names.new reader.reading) }
+        ensures space { IfOk result (λ reader. IsSpaceNumber names.new document.now.target reader.reading.target) }
+        ensures members { IfOk result (λ reader. reader.members ≡ reverse (all_members first (spec.shapes_of document.now))) }
+        ensures fits { IfOk result (λ _. first + length (spec.shapes_of document.now) ≤ u32.MAX) }
+        ensures opened { IfOk result (λ reader. (item : ℕ) → found reader.opened item ≡ None) }
+        ensures imports { IfOk result (λ reader. reader.imports ≡ []) }
+        ensures grown { Grown names.old names.new }
+    {
+        let shapes = document.shaped.shapes.as_slice();
+        let reading = Reading::of(names, &document.target, shapes)?;
+        let members = member_places(alloc, first, shapes)?;
+        Ok(Reader {
+            number: document.number,
+            reading,
+            members,
+            opened: ItemPlaces::new(alloc),
+            imports: Listed::new(alloc),
+        })
+    }
+
     // What an element represents. The namespace of an import is noted.
     fn form(
         &mut self,
@@ -56,7 +92,7 @@ impl Reader {
                 self.imports.push(number_space(names, namespace)?)?;
                 Ok(Represented::Nothing)
             }
-            _ => self.reading.represented(alloc, names, form),
+            _ => Ok(self.reading.represented(alloc, names, form)?),
         }
     }
 

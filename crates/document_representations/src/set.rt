@@ -7,10 +7,7 @@ ghost use Rattle.representations.specs.Named.{AreNamed};
 ghost use Rattle.form_representations.specs.Lasting.{IsLasting};
 ghost use Rattle.document_representations.specs.Documents as spec;
 
-use crate::item_places::ItemPlaces;
-use crate::members::member_places;
 use crate::reader::Reader;
-use form_representations::Reading;
 use representations::{Origin, Representation};
 use schema_set::SetDocument;
 use std::alloc::{AllocError, Global};
@@ -63,18 +60,14 @@ impl RepresentedSet {
         if first > u32::MAX as usize {
             return Err(AllocError);
         }
-        let members = member_places(alloc, first as u32, shapes)?;
-        let mut reader = Reader {
-            number: document.number,
-            reading: Reading::of(names, &document.target, shapes)?,
-            members,
-            opened: ItemPlaces::new(alloc),
-            imports: Listed::new(alloc),
-        };
+        let mut reader = Reader::of(alloc, names, document, first as u32)?;
         reader.add_all(alloc, names, shapes, &mut self.reps, &mut self.scopes)?;
+        let Reader {
+            reading, imports, ..
+        } = reader;
         self.origins.push(Origin {
-            target: reader.reading.target,
-            imports: reader.imports,
+            target: reading.target,
+            imports,
             end: first as u32 + shapes.len() as u32,
         })?;
         Ok(())

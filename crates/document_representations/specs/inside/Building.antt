@@ -30,7 +30,7 @@ scope_at scopes place = slice_index_or scopes place first_scope
 pub record IsOpened (t : NameTable) (base : List (List (List ℕ × ℕ))) (before : List Shape) (opened : ItemPlaces) (scopes : List (List (List ℕ × ℕ))) : Type 0 where
   pub begins : slice_get base 0 ≡ Some first_scope
   pub places : (item : ℕ) → opened_place opened item ≡ scope_place (length base) before item
-  pub scopes : IsLasting t (λ later. base ++ scopes_in later before) scopes
+  pub all : IsLasting t (λ later. base ++ scopes_in later before) scopes
 
 -- so much of a document is read: what is represented so far and what is to come are the whole
 pub record IsRead (t : NameTable) (base : List (List (List ℕ × ℕ))) (whole : NameTable → List Representation) (imported : NameTable → List ℕ)
@@ -38,7 +38,7 @@ pub record IsRead (t : NameTable) (base : List (List (List ℕ × ℕ))) (whole 
   pub target : KnowsTarget t reader.reading
   pub opened : IsOpened t base before reader.opened scopes
   pub members : reader.members ≡ reverse (all_members (length reps) left)
-  pub reps : (later : NameTable) → Grown t later
+  pub made : (later : NameTable) → Grown t later
       → reps ++ representations_from later reader.reading.naming reader.reading.defaults reader.number (length base) before (length reps) left ≡ whole later
   pub imports : (later : NameTable) → Grown t later → reader.imports ++ imports_of later left ≡ imported later
   pub named : AreNamed t reps

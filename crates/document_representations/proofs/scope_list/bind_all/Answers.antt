@@ -16,7 +16,7 @@ loop-binding-preserved c =
     let i = c.loop-binding.binding-index in
     let x = c.binding-item.result in
     let space : c.as_str.result.now ≡ x.namespace = search rules in
-    let prefix : c.as_str-2.result.now ≡ x.prefix = search rules in
+    let prefix : c.as_str-in-loop-binding.result.now ≡ x.prefix = search rules in
     let grown = c.in_ok-ns.ensures.grown in
     record {
       table = table-more bindings_table (λ b v. with_space v b.namespace) (λ b bs v. refl) xs i x t u _ c.loop-binding-test.true c.binding-item.is
