@@ -1,5 +1,5 @@
 -- One document more of a set is read.
-use Rattle.std.proofs.Common.{◌≡◌, ℕ, ◌+◌, List, [], ◌∷◌, ◌++◌, length, refl, sym, ap, ◌∙◌, length-append}
+use Rattle.std.proofs.Common.{◌≡◌, ℕ, zero, suc, ◌+◌, ◌≤◌, List, [], ◌∷◌, ◌++◌, length, drop, refl, sym, ap, ◌∙◌, arith, length-append}
 use Rattle.std.specs.Prelude.{Some, reverse, slice_get}
 use Rattle.std.specs.List.{flat_map}
 use Rattle.std.proofs.Math.Seq.{append_snoc}
@@ -50,3 +50,10 @@ module _ (t : NameTable) (d : SetDocument) (ds : List SetDocument) where
 pub first-stays : {X : Type 0} (xs ys : List X) (x : X) → slice_get xs 0 ≡ Some x → slice_get (xs ++ ys) 0 ≡ Some x
 first-stays [] ys x e = absurd (cc)
 first-stays (z ∷ xs) ys x e = e
+
+-- nothing is left of a list at its end
+pub drop-done : {X : Type 0} (xs : List X) (i : ℕ) → length xs ≤ i → drop i xs ≡ []
+drop-done [] zero l = refl
+drop-done [] (suc i) l = refl
+drop-done (x ∷ xs) zero l = absurd (omega arith)
+drop-done (x ∷ xs) (suc i) l = drop-done xs i (omega arith)

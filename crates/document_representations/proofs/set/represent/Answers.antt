@@ -1,5 +1,7 @@
 use Rattle.std.proofs.Common.{◌≡◌, ◌+◌, ◌++◌, Some, length, drop, refl, sym, ap, subst, ◌∙◌}
 use Rattle.std.specs.Prelude.{slice_get}
+use Rattle.std.proofs.lemmas.List.{append-nil}
+use Rattle.representations.specs.Behind.{AreBehind}
 use Rattle.std.specs.List.{flat_map}
 use Rattle.xs_names.specs.Scope.{first_scope}
 use Rattle.xs_names.proofs.GrownLaws.{Grown-refl, Grown-trans}
@@ -7,7 +9,8 @@ use Rattle.schema_names.specs.Documents.{document_table}
 use Rattle.form_representations.proofs.LastingLaws.{table-more}
 use Rattle.document_representations.specs.Documents.{set_table, shapes_of, document_scopes, representations_of, origins_of, representations, scopes, origins}
 use Rattle.document_representations.proofs.ReadLaws.{left-one}
-use Rattle.document_representations.proofs.SetLaws.{reps-step, scopes-step, origins-step, first-stays}
+use Rattle.document_representations.proofs.SetLaws.{reps-step, scopes-step, origins-step, first-stays, drop-done}
+use Rattle.document_representations.proofs.BehindLaws.{set-behind}
 use Rattle.document_representations.proofs.set.represent.Goals as goal
 
 pub loop-document-preserved : goal.loop-document-preserved
@@ -45,3 +48,33 @@ loop-document-preserved c =
       named = c.in_ok-add.ensures.named;
       grown = Grown-trans _ t u c.loop-document.invariant.grown grown;
     }
+
+pub returns-clause-reps : goal.returns-clause-reps
+returns-clause-reps c =
+    let t = c.loop-document.names in
+    let made = c.loop-document.made in
+    let ds = c.args.documents.now in
+    sym (append-nil made.reps)
+    ∙ ap (λ ys. made.reps ++ representations_of t (length made.reps) (length made.scopes) ys) (sym (drop-done ds c.loop-document.document-index c.loop-document-test.false))
+    ∙ c.loop-document.invariant.reps t (Grown-refl t)
+
+pub returns-clause-scopes : goal.returns-clause-scopes
+returns-clause-scopes c =
+    let t = c.loop-document.names in
+    let made = c.loop-document.made in
+    let ds = c.args.documents.now in
+    sym (append-nil made.scopes)
+    ∙ ap (λ ys. made.scopes ++ flat_map (document_scopes t) ys) (sym (drop-done ds c.loop-document.document-index c.loop-document-test.false))
+    ∙ c.loop-document.invariant.scopes t (Grown-refl t)
+
+pub returns-clause-origins : goal.returns-clause-origins
+returns-clause-origins c =
+    let t = c.loop-document.names in
+    let made = c.loop-document.made in
+    let ds = c.args.documents.now in
+    sym (append-nil made.origins)
+    ∙ ap (λ ys. made.origins ++ origins_of t (length made.reps) ys) (sym (drop-done ds c.loop-document.document-index c.loop-document-test.false))
+    ∙ c.loop-document.invariant.origins t (Grown-refl t)
+
+pub returns-clause-behind : goal.returns-clause-behind
+returns-clause-behind c = subst AreBehind (sym (returns-clause-reps c)) (set-behind c.loop-document.names c.args.documents.now)

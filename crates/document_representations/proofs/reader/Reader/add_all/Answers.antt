@@ -1,11 +1,13 @@
-use Rattle.std.proofs.Common.{◌≡◌, ◌+◌, ◌∷◌, take, drop, refl, sym, ap, subst, ◌∙◌}
+use Rattle.std.proofs.Common.{◌≡◌, ◌+◌, [], ◌∷◌, take, drop, refl, sym, ap, subst, ◌∙◌}
 use Rattle.std.specs.Prelude.{reverse}
 use Rattle.xs_names.proofs.GrownLaws.{Grown-trans}
 use Rattle.schema_names.specs.Documents.{shape_table, shapes_table}
 use Rattle.form_representations.specs.Wildcards.{KnowsTarget}
 use Rattle.form_representations.proofs.LastingLaws.{table-more}
 use Rattle.document_representations.specs.inside.Building.{IsRead}
+use Rattle.std.proofs.lemmas.List.{take_all}
 use Rattle.document_representations.proofs.ReadLaws.{left-one, before-one}
+use Rattle.document_representations.proofs.SetLaws.{drop-done}
 use Rattle.document_representations.proofs.reader.Reader.add_all.Goals as goal
 
 pub loop-shape-preserved : goal.loop-shape-preserved
@@ -32,3 +34,13 @@ loop-shape-preserved c =
       reading = c.in_ok-add.ensures.reading ∙ c.loop-shape.invariant.reading;
       grown = Grown-trans _ t u c.loop-shape.invariant.grown grown;
     }
+
+pub returns-clause-read : goal.returns-clause-read
+returns-clause-read c = λ base whole imported is.
+    let u = c.loop-shape.names in
+    let xs = c.args.shapes.now in
+    let i = c.loop-shape.shape-index in
+    let end = c.loop-shape-test.false in
+    let so_far = c.loop-shape.invariant.read base whole imported is in
+    subst (λ before. IsRead u base whole imported before [] c.loop-shape.self c.loop-shape.reps c.loop-shape.scopes) (ap reverse (take_all i xs end))
+    (subst (λ left. IsRead u base whole imported (reverse (take i xs)) left c.loop-shape.self c.loop-shape.reps c.loop-shape.scopes) (drop-done xs i end) so_far)
