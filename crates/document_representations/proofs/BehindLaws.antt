@@ -93,8 +93,8 @@ module _ (t : NameTable) where
       at-each (λ m (r : Representation). All (IsBetween m end) r.members) own more place
       (λ j r h. document-between (naming_of d.target shapes) (defaults_of shapes) d.number first [] place end shapes (omega arith) j r h)
       (λ j r h.
-          let on : place + length shapes + j ≡ place + length own + j = omega arith in
-          subst (λ m. All (IsBetween m end) r.members) on (set-between (place + length shapes) (first + openings (reverse shapes)) end ds (omega arith) j r h))
+      let on : place + length shapes + j ≡ place + length own + j = omega arith in
+      subst (λ m. All (IsBetween m end) r.members) on (set-between (place + length shapes) (first + openings (reverse shapes)) end ds (omega arith) j r h))
       k rep e
 
   pub set-behind : (ds : List SetDocument) → AreBehind (representations t ds)

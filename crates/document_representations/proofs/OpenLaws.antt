@@ -77,18 +77,18 @@ module _ (base : List (List (List ℕ × ℕ))) (before : List Shape) (shape : S
         → ((other : ℕ) → found new other ≡ (if shape.item == other then Some place else found opened other))
         → IsOpened u base (shape ∷ before) new (scopes ++ scope ∷ [])
     open-some u new place scope g some at made put =
-      let back : true ≡ opens shape = sym some in
-      record {
-      begins = is.begins;
-      places = λ item.
-          ap (λ (o : Option ℕ). unwrap_or o 0) (put item) ∙ put-place (shape.item == item) place (found opened item)
-          ∙ (λ j. if back j && shape.item == item then (at ∙ long) j else is.places item j);
-      all = λ later h.
-          let there = is.all later (Grown-trans t u later g h) in
-          let above : scope_at scopes (opened_place opened shape.above) ≡ scope_of later before shape.above =
+        let back : true ≡ opens shape = sym some in
+        record {
+          begins = is.begins;
+          places = λ item.
+              ap (λ (o : Option ℕ). unwrap_or o 0) (put item) ∙ put-place (shape.item == item) place (found opened item)
+              ∙ (λ j. if back j && shape.item == item then (at ∙ long) j else is.places item j);
+          all = λ later h.
+              let there = is.all later (Grown-trans t u later g h) in
+              let above : scope_at scopes (opened_place opened shape.above) ≡ scope_of later before shape.above =
               (λ j. scope_at (there j) (is.places shape.above j)) ∙ scope_at-place later base is.begins before shape.above in
-          let own = bound later shape.bindings (scope_of later before shape.above) in
-          (λ j. there j ++ (made later h ∙ ap (λ (s : List (List ℕ × ℕ)). bound later shape.bindings s) above) j ∷ [])
-          ∙ append_assoc base (scopes_in later before) (own ∷ [])
-          ∙ ap (λ o. base ++ (scopes_in later before ++ (if o then own ∷ [] else []))) (sym some);
-    }
+              let own = bound later shape.bindings (scope_of later before shape.above) in
+              (λ j. there j ++ (made later h ∙ ap (λ (s : List (List ℕ × ℕ)). bound later shape.bindings s) above) j ∷ [])
+              ∙ append_assoc base (scopes_in later before) (own ∷ [])
+              ∙ ap (λ o. base ++ (scopes_in later before ++ (if o then own ∷ [] else []))) (sym some);
+        }

@@ -28,10 +28,10 @@ module _ (t : NameTable) (d : SetDocument) (ds : List SetDocument) where
         → reps ++ representations_of t (length reps) first (d ∷ ds) ≡ all → more ++ representations_of t (length more) (length later) ds ≡ all
     reps-step scopes later all count is opened whole =
         let long : length later ≡ first + openings (reverse (shapes_of d)) =
-            ap length opened ∙ length-append scopes (document_scopes t d) ∙ (λ j. count j + length-scopes_in t (reverse (shapes_of d)) j) in
+        ap length opened ∙ length-append scopes (document_scopes t d) ∙ (λ j. count j + length-scopes_in t (reverse (shapes_of d)) j) in
         (λ j. is j ++ representations_of t (long-reps is j) (long j) ds)
         ∙ append_assoc reps (document_representations t (length reps) first d)
-          (representations_of t (length reps + length (shapes_of d)) (first + openings (reverse (shapes_of d))) ds)
+        (representations_of t (length reps + length (shapes_of d)) (first + openings (reverse (shapes_of d))) ds)
         ∙ whole
 
     pub origins-step : (origins later all : List Origin) → more ≡ reps ++ document_representations t (length reps) first d

@@ -32,11 +32,7 @@ fn copy_of(alloc: Global, scopes: &[Scope], place: u32) -> Result<Scope, AllocEr
 }
 
 // Puts bindings before those of a scope.
-fn bind_all(
-    names: &mut Names,
-    bindings: &[Binding],
-    scope: &mut Scope,
-) -> Result<(), AllocError>
+fn bind_all(names: &mut Names, bindings: &[Binding], scope: &mut Scope) -> Result<(), AllocError>
     ensures table { OnOk result (names.new ≡ bindings_table bindings.now names.old) }
     ensures bound { OnOk result (IsLasting names.new (λ t. spec.bound t bindings.now scope.old) scope.new) }
     ensures grown { Grown names.old names.new }

@@ -63,7 +63,9 @@ impl RepresentedSet {
         let mut reader = Reader::of(alloc, names, document, first as u32)?;
         reader.add_all(alloc, names, shapes, &mut self.reps, &mut self.scopes)?;
         let Reader {
-            reading, imports, ..
+            reading,
+            imports,
+            ..
         } = reader;
         self.origins.push(Origin {
             target: reading.target,

@@ -21,7 +21,7 @@ loop-left-preserved c =
       within = omega (arith, within);
       members = c.in_ok-push.ensures.ok
           ∙ members-more first i shapes shape b c.index-shapes-left.is (found c.loop-left.known) c.loop-left.members c.in_ok-places_of.field-0
-            (c.in_ok-places_of.ensures ∙ ap (λ items. filter_map (found c.loop-left.known) items) c.as_slice.ensures) known members;
+          (c.in_ok-places_of.ensures ∙ ap (λ items. filter_map (found c.loop-left.known) items) c.as_slice.ensures) known members;
       known = λ item.
           known-more first i shapes shape b c.index-shapes-left.is (found c.loop-left.known item) (found c.put.new.self item) item
           (c.in_ok-put.ensures item) (known item);

@@ -23,7 +23,7 @@ returns-clause-opened c = λ base before is.
     let same : c.as_slice.result.now ≡ scopes = search rules in
     let own : c.as_slice-2.result.now ≡ shape.bindings = search rules in
     let above : c.in_ok-scope.scope ≡ scope_at scopes (opened_place c.args.opened.now shape.above) =
-        c.in_ok-scope.ensures ∙ (λ j. scope_at (same j) (c.place_of-above.ensures j)) in
+    c.in_ok-scope.ensures ∙ (λ j. scope_at (same j) (c.place_of-above.ensures j)) in
     subst (IsOpened u base (shape ∷ before) c.put.new.self) (sym c.in_ok-push.ensures.ok)
     (open-some base before shape c.args.names.now c.args.opened.now scopes is u c.put.new.self c.len-place.result c.bind_all.new.scope
     c.in_ok-bind_all.ensures.grown some c.len-place.ensures

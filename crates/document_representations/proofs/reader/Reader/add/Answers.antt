@@ -26,7 +26,7 @@ returns-clause-read c = λ base whole imported before left is.
     let reading : new.reading ≡ old.reading = ap (λ (r : Reader). r.reading) two ∙ ap (λ (r : Reader). r.reading) one in
     let number : new.number ≡ old.number = ap (λ (r : Reader). r.number) two ∙ ap (λ (r : Reader). r.number) one in
     let stack : c.form.new.self.members ≡ reverse (all_members (length reps + 1) left) ++ places_of (length reps + 1) left shape.members ∷ [] =
-        ap (λ (r : Reader). r.members) one ∙ is.members ∙ next-members (length reps) shape left in
+    ap (λ (r : Reader). r.members) one ∙ is.members ∙ next-members (length reps) shape left in
     let taken = c.next_members-members.ensures.members (places_of (length reps + 1) left shape.members) (reverse (all_members (length reps + 1) left)) stack in
     let opened : new.opened ≡ c.open_scope.new.opened = ap (λ (r : Reader). r.opened) two ∙ ap (λ (r : Reader). r.opened) one in
     let imports : new.imports ≡ c.form.new.self.imports = ap (λ (r : Reader). r.imports) two in

@@ -22,11 +22,11 @@ returns-clause-reps c =
     let whole = λ (later : NameTable). reps ++ document_representations later (length reps) (length scopes) d in
     let imported = λ (later : NameTable). imports_of later (shapes_of d) in
     let start = start-read t d reader reps scopes c.in_ok-reader.ensures.target c.in_ok-reader.ensures.naming c.in_ok-reader.ensures.defaults c.in_ok-reader.ensures.number
-        c.in_ok-reader.ensures.opened c.in_ok-reader.ensures.imports
-        (c.in_ok-reader.ensures.members ∙ ap (λ n. reverse (all_members n (shapes_of d))) c.len-first.ensures)
-        c.requires.begins (named-Grown c.args.names.now t reps c.in_ok-reader.ensures.grown c.requires.named) in
+    c.in_ok-reader.ensures.opened c.in_ok-reader.ensures.imports
+    (c.in_ok-reader.ensures.members ∙ ap (λ n. reverse (all_members n (shapes_of d))) c.len-first.ensures)
+    c.requires.begins (named-Grown c.args.names.now t reps c.in_ok-reader.ensures.grown c.requires.named) in
     let end = c.in_ok-add_all.ensures.read scopes whole imported
-        (subst (λ ss. IsRead t scopes whole imported [] ss reader reps scopes) (sym same) start) in
+    (subst (λ ss. IsRead t scopes whole imported [] ss reader reps scopes) (sym same) start) in
     whole-reps u scopes whole imported (reverse c.as_slice-shapes.result.now) c.add_all.new.self c.add_all.new.reps c.add_all.new.scopes end
 
 pub returns-clause-scopes : goal.returns-clause-scopes
@@ -41,11 +41,11 @@ returns-clause-scopes c =
     let whole = λ (later : NameTable). reps ++ document_representations later (length reps) (length scopes) d in
     let imported = λ (later : NameTable). imports_of later (shapes_of d) in
     let start = start-read t d reader reps scopes c.in_ok-reader.ensures.target c.in_ok-reader.ensures.naming c.in_ok-reader.ensures.defaults c.in_ok-reader.ensures.number
-        c.in_ok-reader.ensures.opened c.in_ok-reader.ensures.imports
-        (c.in_ok-reader.ensures.members ∙ ap (λ n. reverse (all_members n (shapes_of d))) c.len-first.ensures)
-        c.requires.begins (named-Grown c.args.names.now t reps c.in_ok-reader.ensures.grown c.requires.named) in
+    c.in_ok-reader.ensures.opened c.in_ok-reader.ensures.imports
+    (c.in_ok-reader.ensures.members ∙ ap (λ n. reverse (all_members n (shapes_of d))) c.len-first.ensures)
+    c.requires.begins (named-Grown c.args.names.now t reps c.in_ok-reader.ensures.grown c.requires.named) in
     let end = c.in_ok-add_all.ensures.read scopes whole imported
-        (subst (λ ss. IsRead t scopes whole imported [] ss reader reps scopes) (sym same) start) in
+    (subst (λ ss. IsRead t scopes whole imported [] ss reader reps scopes) (sym same) start) in
     λ later h. end.opened.all later h ∙ ap (λ ss. scopes ++ scopes_in later (reverse ss)) same
 
 pub returns-clause-origins : goal.returns-clause-origins
@@ -60,14 +60,14 @@ returns-clause-origins c =
     let whole = λ (later : NameTable). reps ++ document_representations later (length reps) (length scopes) d in
     let imported = λ (later : NameTable). imports_of later (shapes_of d) in
     let start = start-read t d reader reps scopes c.in_ok-reader.ensures.target c.in_ok-reader.ensures.naming c.in_ok-reader.ensures.defaults c.in_ok-reader.ensures.number
-        c.in_ok-reader.ensures.opened c.in_ok-reader.ensures.imports
-        (c.in_ok-reader.ensures.members ∙ ap (λ n. reverse (all_members n (shapes_of d))) c.len-first.ensures)
-        c.requires.begins (named-Grown c.args.names.now t reps c.in_ok-reader.ensures.grown c.requires.named) in
+    c.in_ok-reader.ensures.opened c.in_ok-reader.ensures.imports
+    (c.in_ok-reader.ensures.members ∙ ap (λ n. reverse (all_members n (shapes_of d))) c.len-first.ensures)
+    c.requires.begins (named-Grown c.args.names.now t reps c.in_ok-reader.ensures.grown c.requires.named) in
     let end = c.in_ok-add_all.ensures.read scopes whole imported
-        (subst (λ ss. IsRead t scopes whole imported [] ss reader reps scopes) (sym same) start) in
+    (subst (λ ss. IsRead t scopes whole imported [] ss reader reps scopes) (sym same) start) in
     λ later h.
     let target = ap (λ (r : Reading). r.target) c.in_ok-add_all.ensures.reading
-        ∙ c.in_ok-reader.ensures.space later (Grown-trans t u later c.in_ok-add_all.ensures.grown h) in
+    ∙ c.in_ok-reader.ensures.space later (Grown-trans t u later c.in_ok-add_all.ensures.grown h) in
     let imports = whole-imports u scopes whole imported (reverse c.as_slice-shapes.result.now) c.add_all.new.self c.add_all.new.reps c.add_all.new.scopes end later h in
     c.in_ok-push.ensures.ok
     ∙ (λ j. c.args.self.now.origins ++ record { target = target j; imports = imports j; end = c.len-first.ensures j + length (same j) } ∷ [])
@@ -84,9 +84,9 @@ returns-clause-named c =
     let whole = λ (later : NameTable). reps ++ document_representations later (length reps) (length scopes) d in
     let imported = λ (later : NameTable). imports_of later (shapes_of d) in
     let start = start-read t d reader reps scopes c.in_ok-reader.ensures.target c.in_ok-reader.ensures.naming c.in_ok-reader.ensures.defaults c.in_ok-reader.ensures.number
-        c.in_ok-reader.ensures.opened c.in_ok-reader.ensures.imports
-        (c.in_ok-reader.ensures.members ∙ ap (λ n. reverse (all_members n (shapes_of d))) c.len-first.ensures)
-        c.requires.begins (named-Grown c.args.names.now t reps c.in_ok-reader.ensures.grown c.requires.named) in
+    c.in_ok-reader.ensures.opened c.in_ok-reader.ensures.imports
+    (c.in_ok-reader.ensures.members ∙ ap (λ n. reverse (all_members n (shapes_of d))) c.len-first.ensures)
+    c.requires.begins (named-Grown c.args.names.now t reps c.in_ok-reader.ensures.grown c.requires.named) in
     let end = c.in_ok-add_all.ensures.read scopes whole imported
-        (subst (λ ss. IsRead t scopes whole imported [] ss reader reps scopes) (sym same) start) in
+    (subst (λ ss. IsRead t scopes whole imported [] ss reader reps scopes) (sym same) start) in
     end.named
