@@ -1,5 +1,5 @@
 -- What an element of a schema document represents, by what it declares (Structures 3).
-use Rattle.std.specs.Prelude.{ℕ, ◌||◌, Bool, true, false, List, Option, None, Some}
+use Rattle.std.specs.Prelude.{ℕ, ◌||◌, Bool, true, false, List, Option, Some}
 use Rattle.std.specs.Option.{option_map, unwrap_or}
 use Rattle.tree_rows.specs.declared.name.Expanded.{Expanded}
 use Rattle.xs_names.specs.Names.{NameTable}

@@ -1,6 +1,6 @@
 -- The methods of `block` and `final`: where the attribute is not there, those of the schema element's blockDefault and finalDefault;
 -- and of these what fits the component.
-use Rattle.std.specs.Prelude.{false, List, [], ◌∷◌, Option, None, Some}
+use Rattle.std.specs.Prelude.{false, List, [], ◌∷◌, Option}
 use Rattle.std.specs.Option.{unwrap_or}
 use Rattle.xs_components.specs.declared.common.Methods.{Methods}
 use Rattle.schema_shape.specs.declared.forms.Form.{Form}

@@ -1,5 +1,5 @@
 -- Wildcards (Structures 3.10.2).
-use Rattle.std.specs.Prelude.{ℕ, List, Some, map}
+use Rattle.std.specs.Prelude.{ℕ, Some, map}
 use Rattle.xs_names.specs.Names.{NameTable, absent_space}
 use Rattle.xs_namespaces.specs.declared.constraint.NsConstraint.{NsConstraint}
 use Rattle.xs_namespaces.specs.declared.constraint.NsConstraint.TheVariants as constraints

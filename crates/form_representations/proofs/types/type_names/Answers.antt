@@ -1,6 +1,5 @@
-use Rattle.std.proofs.Common.{rules, ◌≡◌, ◌++◌, ◌∷◌, [], List, refl, sym, ap, subst}
+use Rattle.std.proofs.Common.{◌≡◌, ◌++◌, ◌∷◌, [], List, refl, sym, subst}
 use Rattle.std.specs.List.{flat_map}
-use Rattle.xs_names.specs.Names.{Grown}
 use Rattle.xs_names.proofs.GrownLaws.{Grown-trans}
 use Rattle.representations.specs.Named.{type_name as names_in, AreIn}
 use Rattle.representations.specs.declared.parts.TypeName.{TypeName}

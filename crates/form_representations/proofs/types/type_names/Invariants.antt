@@ -1,6 +1,6 @@
-use Rattle.std.proofs.Common.{◌≡◌, ◌++◌, drop, take, map}
+use Rattle.std.proofs.Common.{◌≡◌, drop, take}
 use Rattle.std.specs.List.{flat_map}
-use Rattle.xs_names.specs.Names.{NameTable, Grown}
+use Rattle.xs_names.specs.Names.{Grown}
 use Rattle.representations.specs.Named.{type_name, AreIn}
 use Rattle.schema_names.specs.Forms.{members_table}
 use Rattle.form_representations.specs.Lasting.{IsLasting}

@@ -1,4 +1,4 @@
-use Rattle.std.proofs.Common.{◌≡◌, ap, ◌∙◌}
+use Rattle.std.proofs.Common.{ap, ◌∙◌}
 use Rattle.xs_names.specs.Names.{Grown}
 use Rattle.xs_names.proofs.GrownLaws.{Grown-trans}
 use Rattle.representations.specs.declared.parts.Represented.TheVariants as made

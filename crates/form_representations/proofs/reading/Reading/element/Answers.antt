@@ -1,7 +1,7 @@
-use Rattle.std.proofs.Common.{◌≡◌, ◌++◌, ap, ◌∙◌}
+use Rattle.std.proofs.Common.{◌++◌, ap, ◌∙◌}
 use Rattle.xs_names.specs.Names.{Grown}
 use Rattle.xs_names.proofs.GrownLaws.{Grown-trans}
-use Rattle.representations.specs.Named.{given_name, given_type, AreIn}
+use Rattle.representations.specs.Named.{given_name, given_type}
 use Rattle.representations.specs.declared.parts.Represented.TheVariants as made
 use Rattle.schema_names.specs.Naming.{declared_number}
 use Rattle.form_representations.specs.Methods.{for_derivation, for_substitution}

@@ -1,4 +1,4 @@
-use Rattle.std.proofs.Common.{◌≡◌, sym, ap, ◌∙◌}
+use Rattle.std.proofs.Common.{sym, ap, ◌∙◌}
 use Rattle.xs_names.proofs.GrownLaws.{Grown-trans}
 use Rattle.representations.specs.declared.parts.Represented.TheVariants as made
 use Rattle.schema_shape.specs.declared.forms.IdentityKind.{IdentityKind}

@@ -1,5 +1,4 @@
-use Rattle.std.proofs.Common.{◌≡◌, sym, ◌∙◌}
-use Rattle.schema_shape.specs.declared.forms.Form.{Form}
+use Rattle.std.proofs.Common.{sym, ◌∙◌}
 use Rattle.form_representations.proofs.NamelessLaws.{HasNoNames, nameless-table, nameless-same}
 use Rattle.form_representations.proofs.reading.Reading.represented.Goals as goal
 

@@ -1,5 +1,5 @@
 use Rattle.std.proofs.Common.{◌≡◌, drop, take, map}
-use Rattle.xs_names.specs.Names.{NameTable, Grown}
+use Rattle.xs_names.specs.Names.{Grown}
 use Rattle.schema_names.specs.Forms.{tokens_table}
 use Rattle.form_representations.specs.Lasting.{IsLasting}
 use Rattle.form_representations.specs.Wildcards.{KnowsTarget, token_space}
