@@ -1,2 +1,4 @@
 pub mod Names
 pub mod Members
+pub mod Named
+pub mod Behind

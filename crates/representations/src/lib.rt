@@ -2,10 +2,12 @@
 #![tactic(auto)]
 
 mod members;
+mod origins;
 mod parts;
 mod source;
 
 pub use members::{first_type, is_type_at};
+pub use origins::Origin;
 pub use parts::{
     AttributeRepresentation, ComplexTypeRepresentation, ElementRepresentation, GivenValue,
     Representation, Represented, TypeName,

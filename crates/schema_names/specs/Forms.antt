@@ -12,7 +12,7 @@ use Rattle.schema_shape.specs.declared.forms.ElementForm.{ElementForm}
 use Rattle.schema_shape.specs.declared.forms.Form.{Form}
 use Rattle.schema_shape.specs.declared.forms.Form.TheVariants as forms
 use Rattle.schema_names.specs.declared.naming.Naming.{Naming}
-use Rattle.schema_names.specs.Naming.{with_declared, with_global, with_reference, with_reference_if}
+use Rattle.schema_names.specs.Naming.{with_space_of, with_declared, with_global, with_reference, with_reference_if}
 
 -- Structures 3.3.2: a local element is in the target namespace by form, else by the document's default
 abbrev pub element_table : Naming → ElementForm → NameTable → NameTable
@@ -47,6 +47,7 @@ spaces_table (spaces.These listed) t = tokens_table listed t
 
 -- the table with the names of a form
 abbrev pub form_table : Naming → Form → NameTable → NameTable
+form_table naming (forms.Import namespace location) t = with_space_of t namespace
 form_table naming (forms.Element form) t = element_table naming form t
 form_table naming (forms.Attribute form) t = attribute_table naming form t
 form_table naming (forms.ComplexType form) t = with_declared naming true form.name t

@@ -1,9 +1,9 @@
 ghost use Rattle.std.specs.Prelude.{◌≡◌, ◌||◌, true, OnOk};
 ghost use Rattle.std.specs.Option.{unwrap_or};
 ghost use Rattle.schema_names.specs.Forms as spec;
-ghost use Rattle.schema_names.specs.Naming.{with_declared, with_global, with_reference_if};
+ghost use Rattle.schema_names.specs.Naming.{with_space_of, with_declared, with_global, with_reference_if};
 
-use crate::naming::Naming;
+use crate::naming::{Naming, number_space};
 use schema_shape::{AttributeForm, ElementForm, Form, SpaceToken, Spaces};
 use std::alloc::AllocError;
 use tree_rows::Expanded;
@@ -85,6 +85,7 @@ impl Naming {
         ensures { OnOk result (names.new ≡ spec.form_table self.now form.now names.old) }
     {
         match form {
+            Form::Import { namespace, .. } => put_space(names, namespace),
             Form::Element(form) => self.element(names, form),
             Form::Attribute(form) => self.attribute(names, form),
             Form::ComplexType(form) => self.put(names, &form.name),
@@ -106,6 +107,14 @@ impl Naming {
             _ => Ok(()),
         }
     }
+}
+
+// A namespace.
+fn put_space(names: &mut Names, space: &Option<Text>) -> Result<(), AllocError>
+    ensures { OnOk result (names.new ≡ with_space_of names.old space.now) }
+{
+    number_space(names, space)?;
+    Ok(())
 }
 
 // The namespace that a word in the list of a wildcard names.

@@ -1,4 +1,4 @@
-ghost use Rattle.std.specs.Prelude.{◌≡◌, IfOk, OnOk};
+ghost use Rattle.std.specs.Prelude.{◌≡◌, ◌<◌, length, IfOk, IfSome, OnOk};
 ghost use Rattle.xs_names.specs.Names.{Grown};
 ghost use Rattle.schema_names.specs.Naming as spec;
 
@@ -75,6 +75,7 @@ fn space_text(space: &Option<Text>) -> &str
 pub fn number_space(names: &mut Names, space: &Option<Text>) -> Result<NsId, AllocError>
     ensures table { OnOk result (names.new ≡ spec.with_space_of names.old space.now) }
     ensures number { IfOk result (spec.IsSpaceNumber names.new space.now) }
+    ensures within { IfOk result (λ ns. ns < length names.new.spaces) }
     ensures grown { Grown names.old names.new }
 {
     let ns = names.namespace_id(space_text(space))?;
@@ -89,6 +90,7 @@ pub fn number_name(
 ) -> Result<NameId, AllocError>
     ensures table { OnOk result (names.new ≡ spec.with_expanded names.old space.now local.now) }
     ensures number { IfOk result (spec.IsNumber names.new space.now local.now) }
+    ensures within { IfOk result (λ name. name < length names.new.names) }
     ensures grown { Grown names.old names.new }
 {
     let ns = names.namespace_id(space_text(space))?;
@@ -106,6 +108,7 @@ impl Naming {
     ) -> Result<Option<NameId>, AllocError>
         ensures table { OnOk result (names.new ≡ spec.with_declared self.now in_target local.now names.old) }
         ensures number { IfOk result (spec.IsDeclared names.new self.now in_target local.now) }
+        ensures within { IfOk result (λ name. IfSome name (λ number. number < length names.new.names)) }
         ensures grown { Grown names.old names.new }
     {
         let Some(local) = local else {
@@ -122,6 +125,7 @@ impl Naming {
     pub fn declare_global(&self, names: &mut Names, local: &Text) -> Result<NameId, AllocError>
         ensures table { OnOk result (names.new ≡ spec.with_global self.now local.now names.old) }
         ensures number { IfOk result (spec.IsNumber names.new self.now.target local.now) }
+        ensures within { IfOk result (λ name. name < length names.new.names) }
         ensures grown { Grown names.old names.new }
     {
         number_name(names, &self.target, local)
@@ -131,6 +135,7 @@ impl Naming {
     pub fn refer(&self, names: &mut Names, name: &Expanded) -> Result<NameId, AllocError>
         ensures table { OnOk result (names.new ≡ spec.with_reference self.now name.now names.old) }
         ensures number { IfOk result (spec.IsReferred names.new self.now name.now) }
+        ensures within { IfOk result (λ name. name < length names.new.names) }
         ensures grown { Grown names.old names.new }
     {
         match &name.namespace {
@@ -153,6 +158,7 @@ impl Naming {
     ) -> Result<Option<NameId>, AllocError>
         ensures table { OnOk result (names.new ≡ spec.with_reference_if self.now name.now names.old) }
         ensures number { IfOk result (spec.IsReferredIf names.new self.now name.now) }
+        ensures within { IfOk result (λ name. IfSome name (λ number. number < length names.new.names)) }
         ensures grown { Grown names.old names.new }
     {
         match name {

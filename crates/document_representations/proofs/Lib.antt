@@ -1,0 +1,6 @@
+pub mod ScopeLaws
+pub mod OpenLaws
+pub mod MemberLaws
+pub mod BehindLaws
+pub mod ReadLaws
+pub mod SetLaws

@@ -1,0 +1,4 @@
+pub mod Members
+pub mod Scopes
+pub mod Documents
+pub mod inside
