@@ -1,0 +1,6 @@
+//! The components of a schema set from what its documents represent.
+#![tactic(auto)]
+
+mod building;
+
+pub use building::build;
