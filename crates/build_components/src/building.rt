@@ -1,14 +1,35 @@
-ghost use Rattle.std.specs.Prelude.{◌≡◌, IfOk};
+ghost use Rattle.std.specs.Prelude.{◌≡◌, IfOk, OnOk};
+ghost use Rattle.xs_components.specs.Tables.{no_tables};
 ghost use Rattle.build_components.specs.Built as spec;
 
-use build_attributes::{add_attributes, build_attr_groups, number_attr_groups};
-use build_complex::{ComplexNumbers, build_complexes};
-use build_elements::{add_constraints, build_elements};
-use build_particles::build_particles;
-use build_types::{build_simples, number_types};
+use crate::steps::{add_attribute_parts, add_element_parts, fill_types};
+use build_complex::ComplexNumbers;
+use build_types::number_types;
 use representations::Source;
 use std::alloc::{AllocError, Global};
 use xs_components::Components;
+
+// Fills empty tables.
+fn fill(alloc: Global, parts: &mut Components, source: &Source) -> Result<(), AllocError>
+    requires empty { parts.old ≡ no_tables }
+    ensures tables { OnOk result (parts.new ≡ spec.built source.now) }
+{
+    let type_ids = number_types(alloc, parts, source.reps)?;
+    let types = type_ids.as_slice();
+    let given = add_attribute_parts(alloc, parts, source, types)?;
+    let attributes = given.attributes.as_slice();
+    let groups = given.groups.as_slice();
+    let particle_ids = add_element_parts(alloc, parts, source, types)?;
+    let particles = particle_ids.as_slice();
+    let numbers = ComplexNumbers {
+        types,
+        attributes,
+        groups,
+        particles,
+    };
+    fill_types(alloc, parts, source, &numbers)?;
+    Ok(())
+}
 
 /// Builds all components of a schema set (Structures 3.15.1), by the rules of 1.0.
 ///
@@ -22,25 +43,6 @@ pub fn build(alloc: Global, source: &Source) -> Result<Components, AllocError>
     ensures tables { IfOk result (λ parts. parts ≡ spec.built source.now) }
 {
     let mut parts = Components::new(alloc)?;
-    let type_ids = number_types(alloc, &mut parts, source.reps)?;
-    let types = type_ids.as_slice();
-    let attribute_ids = add_attributes(alloc, &mut parts, source, types)?;
-    let attributes = attribute_ids.as_slice();
-    let group_ids = number_attr_groups(alloc, &mut parts, source.reps)?;
-    let groups = group_ids.as_slice();
-    build_attr_groups(alloc, &mut parts, source, attributes, groups)?;
-    let constraints = add_constraints(alloc, &mut parts, source)?;
-    let element_ids = build_elements(alloc, &mut parts, source, types, &constraints)?;
-    let elements = element_ids.as_slice();
-    let particle_ids = build_particles(alloc, &mut parts, source, elements)?;
-    let particles = particle_ids.as_slice();
-    build_simples(alloc, &mut parts, source, types)?;
-    let numbers = ComplexNumbers {
-        types,
-        attributes,
-        groups,
-        particles,
-    };
-    build_complexes(alloc, &mut parts, source, &numbers)?;
+    fill(alloc, &mut parts, source)?;
     Ok(parts)
 }

@@ -2,5 +2,6 @@
 #![tactic(auto)]
 
 mod building;
+mod steps;
 
 pub use building::build;

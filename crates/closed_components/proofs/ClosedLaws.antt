@@ -41,7 +41,7 @@ use Rattle.build_particles.specs.Groups as models
 use Rattle.build_particles.proofs.GroupLaws.{groups_one}
 use Rattle.build_complex.specs.Complexes as complex
 use Rattle.build_components.specs.Built as built
-use Rattle.build_components.proofs.BuildLaws.{attr-groups-many}
+use Rattle.build_components.proofs.StepLaws.{attr-groups-many}
 use Rattle.closed_components.proofs.ListLaws.{all-flat_map, all-option, all-one, all-at}
 use Rattle.closed_components.proofs.ThereLaws.{AreBelow, if-some, referred-below, first-below, either-below}
 use Rattle.closed_components.proofs.TypeLaws.{simples_total, complexes_total, types-there, meant-there, simples-there, RefersWell}
