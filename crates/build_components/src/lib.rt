@@ -1,0 +1,7 @@
+//! The components of a schema set from what its documents represent.
+#![tactic(auto)]
+
+mod building;
+mod steps;
+
+pub use building::build;

@@ -1,0 +1,5 @@
+pub mod ListLaws
+pub mod ThereLaws
+pub mod TypeLaws
+pub mod ParticleLaws
+pub mod ClosedLaws
