@@ -2,7 +2,7 @@
 use Rattle.std.specs.Prelude.{ℕ, ◌+◌, List, [], ◌++◌, Option, Some, None}
 use Rattle.item_listing.specs.Listed.{Listed, gives, refused, goes_on, done}
 use Rattle.item_listing.specs.declared.item.Reason.TheVariants.{EndMissing}
-use Rattle.stream_answers.specs.Turns.{Turned, goes, ends, turned, end_line, ending_of}
+use Rattle.stream_answers.specs.Turns.{Said, Turned, goes, ends, turned, end_line, ending_of}
 use Rattle.stream_answers.specs.Refusals.{refusal_line, refusal_ending}
 use Rattle.stream_answers.specs.declared.place.Asked.{Asked}
 use Rattle.stream_answers.specs.declared.place.Place.{Place}
@@ -12,18 +12,19 @@ use Rattle.stream_answers.specs.declared.refusal.Refusal.TheVariants as refusals
 use Rattle.stream_answers.specs.declared.ending.Ending.{Ending}
 use Rattle.stream_answers.specs.declared.ending.Ending.TheVariants.{Valid}
 
--- a text, and how the stream ended, where it has
+-- a text, how many steps it costs at most, and how the stream ended, where it has
 pub record Told : Type 0 where
   pub text : List ℕ
+  pub cost : ℕ
   pub ending : Option Ending
 
 -- a text before others
-abbrev pub before : List ℕ → Told → Told
-before said t = record { text = said ++ t.text; ending = t.ending }
+abbrev pub before : Said → Told → Told
+before said t = record { text = said.text ++ t.text; cost = said.cost + t.cost; ending = t.ending }
 
 -- the stream has ended
 abbrev pub over : List ℕ → Ending → Told
-over said ending = record { text = said; ending = Some ending }
+over said ending = record { text = said; cost = 0; ending = Some ending }
 
 -- a line is refused
 abbrev pub stopped : ℕ → Refusal → Told
@@ -43,5 +44,5 @@ turn_then (ends said ending) more = over said ending
 abbrev pub told : Asked → ℕ → Place → Listed → Told
 told a lines place (gives it more) = turn_then (turned a (lines + 1) place it) (λ next. told a (lines + 1) next more)
 told a lines place (refused fault) = stopped fault.line (refusals.Line fault.reason)
-told a lines place goes_on = record { text = []; ending = None }
+told a lines place goes_on = record { text = []; cost = 0; ending = None }
 told a lines place done = finished lines place

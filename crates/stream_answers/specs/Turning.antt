@@ -20,10 +20,14 @@ IsOpen (places.Edits s) = open_document.IsOpen s
 IsOpen (places.Block b) = open_document.IsOpen b.document
 IsOpen (places.Ended verdict) = Unit {0}
 
--- the text that is to be written
+-- the text that is to be written, and how many steps it costs at most
 abbrev pub said_of : Turned → List ℕ
-said_of (goes said next) = said
+said_of (goes said next) = said.text
 said_of (ends said ending) = said
+
+abbrev pub cost_of : Turned → ℕ
+cost_of (goes said next) = said.cost
+cost_of (ends said ending) = 0
 
 -- the stream stands where it is to, or has ended so
 abbrev pub TurnsTo : Turned → Place → Option Ending → Type 0

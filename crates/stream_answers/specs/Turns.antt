@@ -37,9 +37,21 @@ use Rattle.stream_answers.specs.declared.refusal.Refusal.TheVariants as refusals
 use Rattle.stream_answers.specs.declared.ending.Ending.{Ending}
 use Rattle.stream_answers.specs.declared.ending.Ending.TheVariants.{Valid, NotValid, Unsupported}
 
+-- a text that is written, and how many steps it costs at most
+pub record Said : Type 0 where
+  pub text : List ℕ
+  pub cost : ℕ
+
+-- a text that costs no step
+abbrev pub free : List ℕ → Said
+free text = record { text = text; cost = 0 }
+
+abbrev pub silent : Said
+silent = free []
+
 -- what a line makes of a place: something is written, and the stream stands elsewhere, or it ends
 pub data Turned : Type 0 where
-  goes : (said : List ℕ) (next : Place) → Turned
+  goes : (said : Said) (next : Place) → Turned
   ends : (said : List ℕ) (ending : Ending) → Turned
 
 -- the line of this number is refused
@@ -67,7 +79,7 @@ tree_of b = document (end_of b)
 
 -- one more item of a tree
 abbrev pub grown : ℕ → Built → (Built → Place) → Turned
-grown start (Ok b) place = goes [] (place (Ok b))
+grown start (Ok b) place = goes silent (place (Ok b))
 grown start (Err fault) place = bad_tree start fault
 
 -- the section ends, and its tree is taken
@@ -88,7 +100,7 @@ not_yet = ends unsupported Unsupported
 -- the schema sections have ended: the schema is that of the first
 abbrev pub compiled_by : Option Tables → (Tables → Place) → Turned
 compiled_by None place = not_yet
-compiled_by (Some t) place = goes schema_ok (place t)
+compiled_by (Some t) place = goes (free schema_ok) (place t)
 
 abbrev pub compiled : Document → (Tables → Place) → Turned
 compiled d place = compiled_by (schema_tables (rows_of 1 d.forest)) place
@@ -109,7 +121,7 @@ schema_begun line count first = places.Schema (record { count = count; first = f
 abbrev pub next_schema : ℕ → SchemaSection → Turned
 next_schema line p =
     if nat_le MOST_SCHEMAS p.count then refused line refusals.TooManySchemas
-    else with_tree p.start (tree_of p.builder) (λ d. goes [] (schema_begun line (p.count + 1) (Some (first_or p.first d))))
+    else with_tree p.start (tree_of p.builder) (λ d. goes silent (schema_begun line (p.count + 1) (Some (first_or p.first d))))
 
 -- the last schema section ends, and the schema is judged
 abbrev pub schemas_end : SchemaSection → (Tables → Place) → Turned
@@ -151,11 +163,11 @@ document_ended s = places.Ended (Some (answers.verdict s))
 
 -- the report on the document is written
 abbrev pub reported : OpenState → Turned
-reported s = goes (answers.report s) (document_ended s)
+reported s = goes (free (answers.report s)) (document_ended s)
 
 -- the first line of a session is written; edits follow, or the end
 abbrev pub answered_first : OpenState → (OpenState → Place) → Turned
-answered_first s place = goes (answers.first_line s) (place s)
+answered_first s place = goes (free (answers.first_line s)) (place s)
 
 -- the document section ends, and its document is taken where no element has an attribute
 abbrev pub document_ends : DocumentSection → (Document → Turned) → Turned
@@ -189,25 +201,28 @@ abbrev pub begins_block : List ℕ → Bool
 begins_block line = bytes_eq (before_first (λ b. b == 32) line) (codes "insert")
 
 -- a command with its block is answered
+abbrev pub said_by : Answer → Said
+said_by a = record { text = a.text; cost = a.cost }
+
 abbrev pub answered_by : Answer → Turned
-answered_by a = goes a.text (places.Edits a.next)
+answered_by a = goes (said_by a) (places.Edits a.next)
 
 abbrev pub answered : OpenState → List ℕ → Option (List Item) → Turned
 answered s line block = answered_by (answers.answered s line block)
 
 abbrev pub commanded : OpenState → List ℕ → Turned
 commanded s line =
-    if begins_block line then goes [] (places.Block (record { document = s; line = line; items = [] })) else answered s line None
+    if begins_block line then goes silent (places.Block (record { document = s; line = line; items = [] })) else answered s line None
 
 -- a word or a command behind the document
 abbrev pub in_edits : ℕ → OpenState → Item → Turned
 in_edits line s (items.Command text) = commanded s text
-in_edits line s items.End = goes [] (document_ended s)
+in_edits line s items.End = goes silent (document_ended s)
 in_edits line s word = misplaced line
 
 -- one more item of a block
 abbrev pub block_grown : Block → Item → Turned
-block_grown b it = goes [] (places.Block (record b { items = b.items ++ it ∷ [] }))
+block_grown b it = goes silent (places.Block (record b { items = b.items ++ it ∷ [] }))
 
 -- a word in a block, which a dot ends
 abbrev pub in_block : ℕ → Block → Item → Turned
@@ -215,7 +230,7 @@ in_block line b items.Dot = answered b.document b.line (Some b.items)
 in_block line b word = misplaced line
 
 abbrev pub in_fresh : ℕ → Item → Turned
-in_fresh line (items.Schema locations) = goes [] (schema_begun line 1 None)
+in_fresh line (items.Schema locations) = goes silent (schema_begun line 1 None)
 in_fresh line word = misplaced line
 
 -- a word or a command moves the stream

@@ -1,7 +1,8 @@
-ghost use Rattle.std.specs.Prelude.{◌≡◌, ◌≤◌};
+ghost use Rattle.std.specs.Prelude.{◌≡◌};
+ghost use Rattle.session_model.specs.Counting.{Counts};
 ghost use Rattle.open_document.specs.Answers.{IsOpen};
 ghost use Rattle.stream_answers.specs.Turns as turns;
-ghost use Rattle.stream_answers.specs.Turning.{Moving};
+ghost use Rattle.stream_answers.specs.Turning.{Moving, cost_of};
 
 use crate::place::Block;
 use crate::refusal::misplaced;
@@ -36,7 +37,7 @@ fn answer<W: Sink, L: Ledger>(
 ) -> Result<Turn, BreakOff>
     requires { IsOpen document }
     ensures moves { Moving W.taken W.faults W.fault_bound sink.old sink.new result (turns.answered document line.now block) }
-    ensures steps { steps.old ≤ steps.new }
+    ensures steps { Counts steps.old steps.new (cost_of (turns.answered document line.now block)) }
 {
     document.answer(alloc, line, block, sink, steps)?;
     Ok(Turn::Goes(Place::Edits(document)))
@@ -52,7 +53,7 @@ fn take_command<W: Sink, L: Ledger>(
 ) -> Result<Turn, BreakOff>
     requires { IsOpen document }
     ensures moves { Moving W.taken W.faults W.fault_bound sink.old sink.new result (turns.commanded document line) }
-    ensures steps { steps.old ≤ steps.new }
+    ensures steps { Counts steps.old steps.new (cost_of (turns.commanded document line)) }
 {
     if !begins_block(line.as_str()) {
         return answer(alloc, document, &line, None, sink, steps);
@@ -75,7 +76,7 @@ pub fn answer_edits<W: Sink, L: Ledger>(
 ) -> Result<Turn, BreakOff>
     requires { IsOpen document }
     ensures moves { Moving W.taken W.faults W.fault_bound sink.old sink.new result (turns.in_edits line document item) }
-    ensures steps { steps.old ≤ steps.new }
+    ensures steps { Counts steps.old steps.new (cost_of (turns.in_edits line document item)) }
 {
     match item {
         Item::Command(text) => take_command(alloc, document, text, sink, steps),
@@ -95,7 +96,7 @@ pub fn answer_block<W: Sink, L: Ledger>(
 ) -> Result<Turn, BreakOff>
     requires { IsOpen block.document }
     ensures moves { Moving W.taken W.faults W.fault_bound sink.old sink.new result (turns.in_block line block item) }
-    ensures steps { steps.old ≤ steps.new }
+    ensures steps { Counts steps.old steps.new (cost_of (turns.in_block line block item)) }
 {
     match item {
         Item::Dot => {

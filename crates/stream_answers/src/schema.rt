@@ -79,7 +79,7 @@ fn next_schema<W: Sink>(
 /// The schema is accepted, and the stream then stands here.
 fn accept<W: Sink>(place: Place, sink: &mut W) -> Result<Turn, BreakOff>
     requires { IsOpen place }
-    ensures { Moving W.taken W.faults W.fault_bound sink.old sink.new result (turns.goes turns.schema_ok place) }
+    ensures { Moving W.taken W.faults W.fault_bound sink.old sink.new result (turns.goes (turns.free turns.schema_ok) place) }
 {
     write_accepted(sink)?;
     Ok(Turn::Goes(place))

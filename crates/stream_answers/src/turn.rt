@@ -1,7 +1,8 @@
-ghost use Rattle.std.specs.Prelude.{◌≡◌, ◌≤◌, Some, IfOk};
+ghost use Rattle.std.specs.Prelude.{◌≡◌, Some, IfOk};
+ghost use Rattle.session_model.specs.Counting.{Counts};
 ghost use Rattle.stream_answers.specs.Output as output;
 ghost use Rattle.stream_answers.specs.Turns as turns;
-ghost use Rattle.stream_answers.specs.Turning.{IsOpen, Moving, Turning};
+ghost use Rattle.stream_answers.specs.Turning.{IsOpen, Moving, Turning, cost_of};
 ghost use Rattle.edit_replies.specs.Tells.{Tells};
 
 use crate::document::answer_document;
@@ -42,7 +43,7 @@ fn answer_word<W: Sink, L: Ledger>(
 ) -> Result<Turn, BreakOff>
     requires { IsOpen place }
     ensures moves { Moving W.taken W.faults W.fault_bound sink.old sink.new result (turns.moved asked line place word) }
-    ensures steps { steps.old ≤ steps.new }
+    ensures steps { Counts steps.old steps.new (cost_of (turns.moved asked line place word)) }
 {
     match place {
         Place::Fresh => begin_schemas(alloc, line, word, sink),
@@ -66,7 +67,7 @@ fn take_word<W: Sink, L: Ledger>(
 ) -> Result<Option<Ending>, BreakOff>
     requires { IsOpen place.old }
     ensures turns { Turning W.taken W.faults W.fault_bound sink.old sink.new place.new result (turns.moved asked line place.old word) }
-    ensures steps { steps.old ≤ steps.new }
+    ensures steps { Counts steps.old steps.new (cost_of (turns.moved asked line place.old word)) }
 {
     let stood = mem::replace(place, Place::Fresh);
     match answer_word(alloc, asked, line, stood, word, sink, steps)? {
@@ -96,7 +97,7 @@ pub fn answer_item<W: Sink, L: Ledger>(
 ) -> Result<Option<Ending>, BreakOff>
     requires { IsOpen place.old }
     ensures turns { Turning W.taken W.faults W.fault_bound sink.old sink.new place.new result (turns.turned asked line place.old item) }
-    ensures steps { steps.old ≤ steps.new }
+    ensures steps { Counts steps.old steps.new (cost_of (turns.turned asked line place.old item)) }
 {
     match item {
         Item::Start(_) | Item::Attr(..) | Item::Chars(_) | Item::Close(_) | Item::Instruction => {

@@ -5,7 +5,7 @@ ghost use Rattle.edit_replies.specs.Tells.{Tells, IsWriteFault};
 ghost use Rattle.stream_answers.specs.Refusals.{refusal_line, refusal_ending};
 ghost use Rattle.stream_answers.specs.Turns.{turned};
 ghost use Rattle.stream_answers.specs.Turning.{IsOpen};
-ghost use Rattle.xsv_run.specs.Progress.{TakesItem, TakesNext, Holds};
+ghost use Rattle.xsv_run.specs.Progress.{TakesItem, TakesNext, Holds, trace};
 ghost use Rattle.xsv_run.specs.declared.next.Next.TheVariants as nexts;
 
 use edit_replies::BreakOff;
@@ -37,7 +37,7 @@ fn take_item<W: Sink, L: Ledger>(
     steps: &mut Steps<L>,
 ) -> Result<Next, BreakOff>
     requires { IsOpen place.old }
-    ensures takes { TakesItem (turned asked line place.old item) place.new (W.taken sink.old) (W.taken sink.new) result }
+    ensures takes { TakesItem (turned asked line place.old item) place.new (trace (W.taken sink.old) steps.old) (trace (W.taken sink.new) steps.new) result }
     ensures writes { KeepsCount W.faults W.fault_bound sink.old sink.new (IsWriteFault result) }
     ensures steps { steps.old ≤ steps.new }
 {
@@ -69,7 +69,7 @@ pub fn take_next<W: Sink, L: Ledger>(
     steps: &mut Steps<L>,
 ) -> Result<Next, BreakOff>
     requires { IsOpen place.old }
-    ensures takes { TakesNext asked place.old listing.old (W.taken sink.old) place.new listing.new (W.taken sink.new) result }
+    ensures takes { TakesNext asked place.old listing.old (trace (W.taken sink.old) steps.old) place.new listing.new (trace (W.taken sink.new) steps.new) result }
     ensures holds { IfOk result (Holds listing.old listing.new) }
     ensures counted { bytes_taken listing.new ≡ bytes_taken listing.old }
     ensures finished { listing.new.finished ≡ listing.old.finished }

@@ -1,10 +1,11 @@
 ghost use Rattle.std.specs.Prelude.{◌≡◌, ◌+◌, ◌≤◌, [], IfSome, true};
 ghost use Rattle.item_listing.specs.declared.limits.TheConstants.{MOST_BYTES};
 ghost use Rattle.xsv_io.specs.Causes.{KeepsCount};
+ghost use Rattle.session_model.specs.Counting.{Counts};
 ghost use Rattle.edit_replies.specs.Tells.{IsWriteFault};
 ghost use Rattle.stream_answers.specs.Turning.{IsOpen};
 ghost use Rattle.xsv_run.specs.Output.{Answers, output_of, told_of};
-ghost use Rattle.xsv_run.specs.Progress.{EndsAs, StopsAt, to_tell};
+ghost use Rattle.xsv_run.specs.Progress.{EndsAs, StopsAt, to_tell, trace};
 ghost use Rattle.xsv_run.specs.Taking.{TakesAtMost};
 
 use crate::Status;
@@ -27,7 +28,7 @@ fn end_stream<W: Sink, L: Ledger>(
     steps: &mut Steps<L>,
 ) -> Result<Ending, BreakOff>
     requires { IsOpen place.old }
-    ensures answers { EndsAs result (W.taken sink.old) (W.taken sink.new) (to_tell asked place.old listing.old [] true) }
+    ensures answers { EndsAs result (trace (W.taken sink.old) steps.old) (trace (W.taken sink.new) steps.new) (to_tell asked place.old listing.old [] true) }
     ensures writes { KeepsCount W.faults W.fault_bound sink.old sink.new (IsWriteFault result) }
     ensures steps { steps.old ≤ steps.new }
 {
@@ -48,6 +49,7 @@ pub fn answer_stream<S: Source, W: Sink, L: Ledger>(
     steps: &mut Steps<L>,
 ) -> Status
     ensures output { IfSome (S.rest source.old) (λ bytes. Answers result (W.taken sink.old) (W.taken sink.new) (output_of (told_of asked bytes true))) }
+    ensures cost { IfSome (S.rest source.old) (λ bytes. Counts steps.old steps.new (told_of asked bytes true).cost) }
     ensures broken { result ≡ Status.ReadFault → StopsAt asked (S.rest source.old) (S.rest source.new) (W.taken sink.old) (W.taken sink.new) }
     ensures answered { result ≡ Status.Words → ⊥ }
     ensures few { TakesAtMost (MOST_BYTES + 1) (S.rest source.old) (S.rest source.new) }
