@@ -35,7 +35,7 @@ Agree more next = (s : OpenState) (b : Option Block) → more (place_of s b) ≡
 module _ (s : OpenState) (more : Place → Told) (next : CommandReader → Commands) (close : Closing) (h : Agree more next) where
   answered_is : (line : List ℕ) (block : Option (List Item))
       → turn_then (turns.answered s line block) more ≡ commands_told s (command_turns.turn_then (command_turns.gives line block) next close)
-  answered_is line block = ap (before (answered s line block).text) (h (answered s line block).next None)
+  answered_is line block = ap (before (turns.said_by (answered s line block))) (h (answered s line block).next None)
 
   commanded_by : (r : Bool) (text : List ℕ)
       → turn_then (if r then turns.goes [] (places.Block (record { document = s; line = text; items = [] })) else turns.answered s text None) more

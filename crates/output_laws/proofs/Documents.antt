@@ -44,12 +44,12 @@ module _ (a : Asked) (t : Tables) (start : ℕ) (more : Place → Told) (reads :
   -- the section ends, and its tree is taken
   taken : (tree : Result Document TreeFault) (turn : Document → document_turns.Turned) (behind : Commands) (next : OpenState → turns.Turned)
       → ((d : Document) → document_turns.turn_then (turn d) reads edits close ≡ sections.document d behind)
-      → ((s : OpenState) → turn_then (next s) more ≡ before (opening a s) (commands_told s behind))
+      → ((s : OpenState) → turn_then (next s) more ≡ before (turns.free (opening a s)) (commands_told s behind))
       → turn_then (turns.with_tree start tree (λ d. turns.accepted d (next (answers.opened t d)))) more
       ≡ opened_told a t (document_turns.turn_then (sections.with_tree start tree document_turns.stops turn) reads edits close)
   taken (Ok d) turn behind next g h =
       accepted_by (turns.has_attributes (rows_of 1 d.forest)) (next (answers.opened t d)) more
-      (before (opening a (answers.opened t d)) (commands_told (answers.opened t d) behind)) (h (answers.opened t d))
+      (before (turns.free (opening a (answers.opened t d))) (commands_told (answers.opened t d) behind)) (h (answers.opened t d))
       ∙ ap (opened_told a t) (sym (g d))
   taken (Err fault) turn behind next g h = refl
 
@@ -65,7 +65,7 @@ module _ (t : Tables) (line : ℕ) (r : DocumentReader) (more : Place → Told) 
       → turn_then (turns.turned asks.Assess line (document_place t r) it) more
       ≡ opened_told Assess t (document_turns.turn_then (document_turns.turned Assess line r it) reads edits close)
   assess_turn h items.End = taken Assess t r.start more reads edits close (turns.tree_of r.builder) document_turns.ends (sections.closes close) turns.reported
-      (λ d. refl) (λ s. ap (before (answers.report s)) (ended s))
+      (λ d. refl) (λ s. ap (before (turns.free (answers.report s))) (ended s))
   assess_turn h (items.Start name) = grows Assess t r.start more reads edits close (after r.builder (items.Start name)) h
   assess_turn h (items.Attr name value) = grows Assess t r.start more reads edits close (after r.builder (items.Attr name value)) h
   assess_turn h (items.Chars chars) = grows Assess t r.start more reads edits close (after r.builder (items.Chars chars)) h
@@ -78,9 +78,9 @@ module _ (t : Tables) (line : ℕ) (r : DocumentReader) (more : Place → Told) 
       → turn_then (turns.turned asks.Session line (document_place t r) it) more
       ≡ opened_told Session t (document_turns.turn_then (document_turns.turned Session line r it) reads edits close)
   session_turn h c items.End = taken Session t r.start more reads edits close (turns.tree_of r.builder) document_turns.ends (sections.closes close)
-      (λ s. turns.answered_first s turns.document_ended) (λ d. refl) (λ s. ap (before (answers.first_line s)) (ended s))
+      (λ s. turns.answered_first s turns.document_ended) (λ d. refl) (λ s. ap (before (turns.free (answers.first_line s))) (ended s))
   session_turn h c items.Edits = taken Session t r.start more reads edits close (turns.tree_of r.builder) document_turns.edits edits
-      (λ s. turns.answered_first s (λ q. places.Edits q)) (λ d. refl) (λ s. ap (before (answers.first_line s)) (c s))
+      (λ s. turns.answered_first s (λ q. places.Edits q)) (λ d. refl) (λ s. ap (before (turns.free (answers.first_line s))) (c s))
   session_turn h c (items.Start name) = grows Session t r.start more reads edits close (after r.builder (items.Start name)) h
   session_turn h c (items.Attr name value) = grows Session t r.start more reads edits close (after r.builder (items.Attr name value)) h
   session_turn h c (items.Chars chars) = grows Session t r.start more reads edits close (after r.builder (items.Chars chars)) h

@@ -60,7 +60,7 @@ place_next whole x line locations =
 module _ {Rest : Type 0} (a : Asked) (line : ℕ) (rest_told : Tables → Rest → Told) (more : Place → Told) (reads : SchemaReader → Stream Rest) (rest : Rest) (h : (whole : List SchemaSection) (s : Begun) → more (schema_place whole s) ≡ stream_told rest_told (reads (record { sections = whole; begun = Some s }))) (e : (t : Tables) → more (place_at a line t) ≡ rest_told t rest) where
   compiled_is : (found : Option Tables) → turn_then (turns.compiled_by found (place_at a line)) more ≡ compiled_told found (λ t. rest_told t rest)
   compiled_is None = refl
-  compiled_is (Some t) = ap (before turns.schema_ok) (e t)
+  compiled_is (Some t) = ap (before (turns.free turns.schema_ok)) (e t)
 
   first_is : (whole : List SchemaSection) (locations : List (List ℕ)) (d : Document)
       → turn_then (turns.compiled (turns.first_or (first_tree whole) d) (place_at a line)) more

@@ -1,5 +1,5 @@
 -- What is written for a whole stream of which no line is refused.
-use Rattle.std.specs.Prelude.{◌≡◌, ℕ, List, [], ◌∷◌, ◌++◌, false, Some}
+use Rattle.std.specs.Prelude.{◌≡◌, ℕ, ◌+◌, List, [], ◌∷◌, ◌++◌, false, Some}
 use Rattle.tree_rows.specs.Forest.{Document}
 use Rattle.tree_rows.specs.Rows.{rows_of}
 use Rattle.assess_model.specs.Tables.{Tables}
@@ -48,6 +48,11 @@ last_status s = status_of (ending_of (verdict s).validity)
 abbrev pub stream_text : Asked → OpenState → List Order → List ℕ
 stream_text a s orders = schema_ok ++ (opening a s ++ (replies s orders ++ last_line (state_after s orders)))
 
--- a text, and the status of a run that has ended
-abbrev pub answer : List ℕ → Status → Output
-answer text status = record { text = text; status = Some status }
+-- what the edits among the commands cost
+abbrev pub costs : OpenState → List Order → ℕ
+costs s [] = 0
+costs s (o ∷ more) = (answered s o.line o.block).cost + costs (answered s o.line o.block).next more
+
+-- a text, the steps that it costs at most, and the status of a run that has ended
+abbrev pub answer : List ℕ → ℕ → Status → Output
+answer text cost status = record { text = text; cost = cost; status = Some status }

@@ -15,7 +15,7 @@ use Rattle.stream_sections.specs.declared.refusal.Refusal as section_refusal
 use Rattle.stream_sections.specs.declared.refusal.Refusal.TheVariants as reasons
 use Rattle.stream_sections.specs.declared.schemas.SchemaSection.{SchemaSection}
 use Rattle.stream_answers.specs.Output.{Told, before, over, stopped}
-use Rattle.stream_answers.specs.Turns.{has_attributes, schema_ok, unsupported, end_line, ending_of}
+use Rattle.stream_answers.specs.Turns.{free, said_by, has_attributes, schema_ok, unsupported, end_line, ending_of}
 use Rattle.stream_answers.specs.declared.place.Asked as answers_asked
 use Rattle.stream_answers.specs.declared.place.Asked.TheVariants as asks
 use Rattle.stream_answers.specs.declared.refusal.Refusal.{Refusal}
@@ -37,7 +37,7 @@ refusal_of (reasons.Tree reason) = refusals.Tree reason
 -- a line is refused, or further items may come
 abbrev pub stop_told : Stop → Told
 stop_told (sections.refused spot) = stopped spot.line (refusal_of spot.refusal)
-stop_told sections.goes_on = record { text = []; ending = None }
+stop_told sections.goes_on = record { text = []; cost = 0; ending = None }
 
 -- behind the line `end`
 abbrev pub closing_told : Told → Closing → Told
@@ -50,7 +50,7 @@ verdict_told s = over (end_line (verdict s)) (ending_of (verdict s).validity)
 
 -- the replies, one after another
 abbrev pub commands_told : OpenState → Commands → Told
-commands_told s (sections.command line block more) = before (answered s line block).text (commands_told (answered s line block).next more)
+commands_told s (sections.command line block more) = before (said_by (answered s line block)) (commands_told (answered s line block).next more)
 commands_told s (sections.closes closing) = closing_told (verdict_told s) closing
 commands_told s (sections.uncommanded stop) = stop_told stop
 
@@ -64,13 +64,13 @@ opening Session s = first_line s
 abbrev pub opened_told : Asked → Tables → Opened → Told
 opened_told a t (sections.document d more) =
     if has_attributes (rows_of 1 d.forest) then over unsupported Unsupported
-    else before (opening a (opened t d)) (commands_told (opened t d) more)
+    else before (free (opening a (opened t d))) (commands_told (opened t d) more)
 opened_told a t (sections.undocumented stop) = stop_told stop
 
 -- the schema is accepted, or not of the form that is accepted so far
 abbrev pub compiled_told : Option Tables → (Tables → Told) → Told
 compiled_told None next = over unsupported Unsupported
-compiled_told (Some t) next = before schema_ok (next t)
+compiled_told (Some t) next = before (free schema_ok) (next t)
 
 -- the schema is that of the first section
 abbrev pub first_compiled : List SchemaSection → (Tables → Told) → Told
