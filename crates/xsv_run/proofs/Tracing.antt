@@ -16,11 +16,11 @@ use Rattle.xsv_run.specs.Progress.{Trace, Writes, WritesFront, all_of}
 pub counts_none : (n most : ℕ) → Counts n n most
 counts_none n most = record { later = omega arith; few = omega arith }
 
-counts_then : (a b c first then : ℕ) → Counts a b first → Counts b c then → Counts a c (first + then)
-counts_then a b c first then one two = record { later = omega (arith, one.later, two.later); few = omega (arith, one.few, two.few) }
+counts_then : (a b c x y : ℕ) → Counts a b x → Counts b c y → Counts a c (x + y)
+counts_then a b c x y one two = record { later = omega (arith, one.later, two.later); few = omega (arith, one.few, two.few) }
 
-counts_more : (a b first then : ℕ) → Counts a b first → Counts a b (first + then)
-counts_more a b first then one = record { later = one.later; few = omega (arith, one.few) }
+counts_more : (a b x y : ℕ) → Counts a b x → Counts a b (x + y)
+counts_more a b x y one = record { later = one.later; few = omega (arith, one.few) }
 
 pub counts_same : (n m : ℕ) → m ≡ n → Counts n m 0
 counts_same n m same = record { later = omega (arith, same); few = omega (arith, same) }
@@ -39,10 +39,10 @@ writes_then a b c said t one two = record {
 abbrev pub joined : Said → Said → Said
 joined one two = record { text = one.text ++ two.text; cost = one.cost + two.cost }
 
-pub writes_both : (a b c : Trace) (first then : Said) → Writes a b first → Writes b c then → Writes a c (joined first then)
-writes_both a b c first then one two = record {
-  wrote = Appends-trans a.taken b.taken c.taken first.text then.text one.wrote two.wrote;
-  counts = counts_then a.steps b.steps c.steps first.cost then.cost one.counts two.counts;
+pub writes_both : (a b c : Trace) (x y : Said) → Writes a b x → Writes b c y → Writes a c (joined x y)
+writes_both a b c x y one two = record {
+  wrote = Appends-trans a.taken b.taken c.taken x.text y.text one.wrote two.wrote;
+  counts = counts_then a.steps b.steps c.steps x.cost y.cost one.counts two.counts;
 }
 
 pub front_none : (a b : Option (List ℕ)) (text : List ℕ) → b ≡ a → AppendsFront a b text
