@@ -1,4 +1,5 @@
 ghost use Rattle.std.specs.Prelude.{◌≡◌, ◌+◌, ◌≤◌, [], IfSome, true};
+ghost use Rattle.item_listing.specs.State.{unread};
 ghost use Rattle.item_listing.specs.declared.limits.TheConstants.{MOST_BYTES};
 ghost use Rattle.xsv_io.specs.Causes.{KeepsCount};
 ghost use Rattle.session_model.specs.Counting.{Counts};
@@ -40,6 +41,51 @@ fn end_stream<W: Sink, L: Ledger>(
     }
 }
 
+/// Answers a stream of which nothing was read, line by line.
+fn take_pieces<S: Source, W: Sink, L: Ledger>(
+    alloc: Global,
+    asked: Asked,
+    source: &mut S,
+    listing: &mut Listing,
+    place: &mut Place,
+    sink: &mut W,
+    steps: &mut Steps<L>,
+) -> Status
+    requires unread { listing.old ≡ unread }
+    requires fresh { place.old ≡ Place.Fresh }
+    ensures output { IfSome (S.rest source.old) (λ bytes. Answers result (W.taken sink.old) (W.taken sink.new) (output_of (told_of asked bytes true))) }
+    ensures cost { IfSome (S.rest source.old) (λ bytes. Counts steps.old steps.new (told_of asked bytes true).cost) }
+    ensures broken { result ≡ Status.ReadFault → StopsAt asked (S.rest source.old) (S.rest source.new) (W.taken sink.old) (W.taken sink.new) }
+    ensures answered { result ≡ Status.Words → ⊥ }
+    ensures few { TakesAtMost (MOST_BYTES + 1) (S.rest source.old) (S.rest source.new) }
+    ensures reads { KeepsCount S.faults S.fault_bound source.old source.new (result ≡ Status.ReadFault) }
+    ensures writes { KeepsCount W.faults W.fault_bound sink.old sink.new (result ≡ Status.WriteFault) }
+    ensures steps { steps.old ≤ steps.new }
+{
+    let mut room = ENOUGH;
+    let mut buf = [0u8; 4096];
+    'pieces: loop {
+        match take_piece(
+            alloc,
+            asked,
+            source,
+            listing,
+            place,
+            &mut buf,
+            room,
+            sink,
+            steps,
+        ) {
+            Piece::Goes(count) => room -= count,
+            Piece::AtEnd => {
+                return Status::of_stream(end_stream(alloc, asked, listing, place, sink, steps));
+            }
+            Piece::Failed => return Status::ReadFault,
+            Piece::Ends(ended) => return Status::of_stream(ended),
+        }
+    }
+}
+
 /// Answers a stream, line by line.
 pub fn answer_stream<S: Source, W: Sink, L: Ledger>(
     alloc: Global,
@@ -57,35 +103,16 @@ pub fn answer_stream<S: Source, W: Sink, L: Ledger>(
     ensures writes { KeepsCount W.faults W.fault_bound sink.old sink.new (result ≡ Status.WriteFault) }
     ensures steps { steps.old ≤ steps.new }
 {
+    // They are held here, where there is one way out, and the loop only changes them.
     let mut listing = Listing::new(alloc);
-    let mut stands = Place::Fresh;
-    let mut room = ENOUGH;
-    let mut buf = [0u8; 4096];
-    'pieces: loop {
-        match take_piece(
-            alloc,
-            asked,
-            source,
-            &mut listing,
-            &mut stands,
-            &mut buf,
-            room,
-            sink,
-            steps,
-        ) {
-            Piece::Goes(count) => room -= count,
-            Piece::AtEnd => {
-                return Status::of_stream(end_stream(
-                    alloc,
-                    asked,
-                    &mut listing,
-                    &mut stands,
-                    sink,
-                    steps,
-                ));
-            }
-            Piece::Failed => return Status::ReadFault,
-            Piece::Ends(ended) => return Status::of_stream(ended),
-        }
-    }
+    let mut place = Place::Fresh;
+    take_pieces(
+        alloc,
+        asked,
+        source,
+        &mut listing,
+        &mut place,
+        sink,
+        steps,
+    )
 }

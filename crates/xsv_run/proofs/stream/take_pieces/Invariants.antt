@@ -4,12 +4,12 @@ use Rattle.item_listing.specs.Listing.{bytes_taken}
 use Rattle.item_listing.specs.Listed.{Waits}
 use Rattle.stream_answers.specs.Turning.{IsOpen}
 use Rattle.xsv_run.specs.Progress.{StandsAt, trace}
-use Rattle.xsv_run.proofs.stream.answer_stream.Given as goal
+use Rattle.xsv_run.proofs.stream.take_pieces.Given as goal
 
 abbrev pub invariant-pieces : goal.invariant-pieces
 invariant-pieces g l = record {
-  stands : StandsAt l.asked (g.S.Source.rest l.fn.source) (g.S.Source.rest l.source) (trace (g.W.Sink.taken l.fn.sink) l.fn.steps) (trace (g.W.Sink.taken l.sink) l.steps) l.stands l.listing;
-  is_open : IsOpen l.stands;
+  stands : StandsAt l.asked (g.S.Source.rest l.fn.source) (g.S.Source.rest l.source) (trace (g.W.Sink.taken l.fn.sink) l.fn.steps) (trace (g.W.Sink.taken l.sink) l.steps) l.place l.listing;
+  is_open : IsOpen l.place;
   waits : Waits l.listing;
   going : l.listing.finished ≡ false;
   room : bytes_taken l.listing + l.room ≡ MOST_BYTES + 1;

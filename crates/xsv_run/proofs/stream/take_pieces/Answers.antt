@@ -3,10 +3,10 @@ use Rattle.xsv_run.specs.Output.{told_of}
 use Rattle.xsv_run.specs.Progress.{trace}
 use Rattle.xsv_run.proofs.Telling.{answers_by, counted_by, not_words, not_read, write_failed, rose_later}
 use Rattle.xsv_run.proofs.Streams.{stands_first, unread_waits, stands_further, room_further, output_ends, few_ends, output_last, few_last, output_broken, answers_broken, counts_broken}
-use Rattle.xsv_run.proofs.stream.answer_stream.Goals as goal
+use Rattle.xsv_run.proofs.stream.take_pieces.Goals as goal
 
 pub pieces-init : goal.pieces-init
-pieces-init g c = rw c.new-listing.ensures (record {
+pieces-init g c = rw (c.requires.unread, c.requires.fresh) (record {
   stands = stands_first c.args.asked _ _;
   is_open = tt;
   waits = unread_waits;
@@ -25,10 +25,10 @@ pieces-preserved g c =
     let old = c.pieces.invariant in
     let two = c.in-Goes.ensures.takes in
     let room = room_further c.args.asked (g.S.Source.rest c.args.source.now) (g.S.Source.rest c.pieces.source) _ (trace (g.W.Sink.taken c.args.sink.now) c.args.steps.now) (trace (g.W.Sink.taken c.pieces.sink) c.pieces.steps) _
-    c.pieces.stands c.pieces.listing c.take_piece.new.place c.take_piece.new.listing c.in-Goes.count c.pieces.room two old.room in
+    c.pieces.place c.pieces.listing c.take_piece.new.place c.take_piece.new.listing c.in-Goes.count c.pieces.room two old.room in
     record {
       stands = stands_further c.args.asked (g.S.Source.rest c.args.source.now) (g.S.Source.rest c.pieces.source) _ (trace (g.W.Sink.taken c.args.sink.now) c.args.steps.now) (trace (g.W.Sink.taken c.pieces.sink) c.pieces.steps) _
-          c.pieces.stands c.pieces.listing c.take_piece.new.place c.take_piece.new.listing c.in-Goes.count old.stands two;
+          c.pieces.place c.pieces.listing c.take_piece.new.place c.take_piece.new.listing c.in-Goes.count old.stands two;
       is_open = two.feeds.is_open;
       waits = two.feeds.waits;
       going = two.feeds.going;
