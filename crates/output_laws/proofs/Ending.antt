@@ -7,7 +7,7 @@ use Rattle.stream_answers.specs.Output.{told, finished, turn_then}
 use Rattle.stream_answers.specs.Turns.{turned, misplaced}
 use Rattle.stream_answers.specs.declared.place.Asked.{Asked}
 use Rattle.stream_answers.specs.declared.place.Place.TheVariants as places
-use Rattle.stream_answers.specs.declared.place.Verdict.{Verdict}
+use Rattle.open_document.specs.declared.document.Verdict.{Verdict}
 use Rattle.stream_sections.specs.Sections as sections
 use Rattle.output_laws.specs.Sectioned.{closing_told}
 

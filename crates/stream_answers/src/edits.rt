@@ -4,9 +4,9 @@ ghost use Rattle.open_document.specs.Answers.{IsOpen};
 ghost use Rattle.stream_answers.specs.Turns as turns;
 ghost use Rattle.stream_answers.specs.Turning.{Moving, cost_of};
 
+use crate::Place;
 use crate::place::Block;
 use crate::refusal::misplaced;
-use crate::Place;
 use crate::turn::Turn;
 use edit_replies::BreakOff;
 use item_listing::{Item, Items};

@@ -66,15 +66,7 @@ fn take_pieces<S: Source, W: Sink, L: Ledger>(
     let mut buf = [0u8; 4096];
     'pieces: loop {
         match take_piece(
-            alloc,
-            asked,
-            source,
-            listing,
-            place,
-            &mut buf,
-            room,
-            sink,
-            steps,
+            alloc, asked, source, listing, place, &mut buf, room, sink, steps,
         ) {
             Piece::Goes(count) => room -= count,
             Piece::AtEnd => {
@@ -106,13 +98,5 @@ pub fn answer_stream<S: Source, W: Sink, L: Ledger>(
     // They are held here, where there is one way out, and the loop only changes them.
     let mut listing = Listing::new(alloc);
     let mut place = Place::Fresh;
-    take_pieces(
-        alloc,
-        asked,
-        source,
-        &mut listing,
-        &mut place,
-        sink,
-        steps,
-    )
+    take_pieces(alloc, asked, source, &mut listing, &mut place, sink, steps)
 }

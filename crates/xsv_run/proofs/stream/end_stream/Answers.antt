@@ -19,7 +19,7 @@ returns-in-Ok-Some-clause-answers g c =
     ends_last c.args.asked c.args.place.now c.args.listing.now c.finish.new.self (ap (λ (r : Reading). r.past) c.finish.ensures.finished) c.finish.ensures.listed
     _ _ (Ok c.in-Ok-Some.ending) (rw c.in-Ok-Some.field-0-is at c.in-Ok-Some.ensures.progress)
 
-pub returns-clause-answers : goal.returns-clause-answers
-returns-clause-answers g c =
+pub returns-in-Err-clause-answers : goal.returns-in-Err-clause-answers
+returns-in-Err-clause-answers g c =
     ends_last c.args.asked c.args.place.now c.args.listing.now c.finish.new.self (ap (λ (r : Reading). r.past) c.finish.ensures.finished) c.finish.ensures.listed
     _ _ (Err c.in-Err.why) c.in-Err.ensures.progress
