@@ -1,0 +1,2 @@
+mod Loosened
+mod Fitting
