@@ -22,10 +22,10 @@ loose b = record b { rules = block_rules }
 ok_is : {A : Type 0} (x y : A) → ◌≡◌ {A = Result A TreeFault} (Ok x) (Ok y) → x ≡ y
 ok_is x y e = cc
 
-then : (r s : Result Building TreeFault) (f : Building → Result Building TreeFault) → ((x : Building) → r ≡ Ok x → s ≡ Ok (loose x)) → ((b x : Building) → f b ≡ Ok x → f (loose b) ≡ Ok (loose x))
+goes_on : (r s : Result Building TreeFault) (f : Building → Result Building TreeFault) → ((x : Building) → r ≡ Ok x → s ≡ Ok (loose x)) → ((b x : Building) → f b ≡ Ok x → f (loose b) ≡ Ok (loose x))
     → (x : Building) → (r >>= f) ≡ Ok x → (s >>= f) ≡ Ok (loose x)
-then (Ok b) s f h g x e = ap (λ r. r >>= f) (h b refl) ∙ g b x e
-then (Err fault) s f h g x e = cc
+goes_on (Ok b) s f h g x e = ap (λ r. r >>= f) (h b refl) ∙ g b x e
+goes_on (Err fault) s f h g x e = cc
 
 tagged : (b : Building) (tag : Tag) (item : ℕ) (o : Option NameReason) (x : Building) → tag_by b tag item o ≡ Ok x → tag_by (loose b) tag item None ≡ Ok (loose x)
 tagged b tag item (Some reason) x e = cc
@@ -77,18 +77,18 @@ lines b (pending.Chars chars) name value x e = cc
 
 texts : (text : List ℕ) (b : Building) (p : Pending) (x : Building) → text_by text b p ≡ Ok x → text_by text (loose b) p ≡ Ok (loose x)
 texts text b pending.Nothing x e = begins text b x e
-texts text b (pending.Start tag item) x e = then (tag_closed_by b (pending.Start tag item)) (tag_closed_by (loose b) (pending.Start tag item)) (text_begun text) (closes_tag b (pending.Start tag item)) (begins text) x e
+texts text b (pending.Start tag item) x e = goes_on (tag_closed_by b (pending.Start tag item)) (tag_closed_by (loose b) (pending.Start tag item)) (text_begun text) (closes_tag b (pending.Start tag item)) (begins text) x e
 texts text b (pending.Chars chars) x e = goes _ x e
 
 ends : (name : List ℕ) (b x : Building) → ended name b ≡ Ok x → ended name (loose b) ≡ Ok (loose x)
 ends name b x e = on_both (closes name b.nest.elements) _ _ _ _ (goes _) (λ z k. cc) x e
 
 takes : (b : Building) (item : Item) (x : Building) → took b item ≡ Ok x → took (loose b) item ≡ Ok (loose x)
-takes b (items.Start name) x e = then (settled b) (settled (loose b)) (started name) (settles b b.pending) (starts name) x e
+takes b (items.Start name) x e = goes_on (settled b) (settled (loose b)) (started name) (settles b b.pending) (starts name) x e
 takes b (items.Attr name value) x e = lines b b.pending name value x e
 takes b (items.Chars text) x e = texts text b b.pending x e
-takes b (items.Close name) x e = then (settled b) (settled (loose b)) (ended name) (settles b b.pending) (ends name) x e
-takes b items.Instruction x e = then (tag_closed_by b b.pending) (tag_closed_by (loose b) b.pending) (λ y. Ok (counted y)) (closes_tag b b.pending) (λ y z k. goes (counted y) z k) x e
+takes b (items.Close name) x e = goes_on (settled b) (settled (loose b)) (ended name) (settles b b.pending) (ends name) x e
+takes b items.Instruction x e = goes_on (tag_closed_by b b.pending) (tag_closed_by (loose b) b.pending) (λ y. Ok (counted y)) (closes_tag b b.pending) (λ y z k. goes (counted y) z k) x e
 takes b (items.Schema locations) x e = cc
 takes b items.Document x e = cc
 takes b items.Edits x e = cc

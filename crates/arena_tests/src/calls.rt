@@ -1,238 +1,184 @@
-//! Calls of a document, each made beside that of the plain tree which it is to be.
+//! Edits of a document, each made beside that of the plain tree which it is to be.
 
-ghost use Rattle.std.specs.Prelude.{OnOk};
+ghost use Rattle.std.specs.Prelude.{◌≡◌, Ok, true, false, IfOk, OnOk, OnErr};
+ghost use Rattle.tree_rows.specs.Forest.{Document};
+ghost use Rattle.tag_names.specs.Scopes.{first_scope};
+ghost use Rattle.tree_building.specs.Building.{block};
+ghost use Rattle.tree_edits.specs.Edits.{can_be_made, scope_in};
+ghost use Rattle.tree_edits.specs.Tests.{edited};
+ghost use Rattle.tree_edits.specs.declared.edit.Edit.TheVariants as edits;
 ghost use Rattle.tree_changes.specs.Stands.{StandsFor};
 
-use crate::lines::items_of;
 use crate::shown::shown;
 use doc_tree::{DocTree, NodeKind};
-use plain_tree::{Edit, Tree, fragment, is_one_element};
+use item_listing::Item;
+use plain_tree::{Edit, Tree, fragment};
 use std::alloc::{AllocError, Global};
 use std::process::Abort;
-use xs_names::{Names, NsId, Text};
+use xs_names::{Names, Text};
 
-/// Sees that a document is this tree.
+/// Sees that the document is this tree.
 pub fn compare<A: Abort>(
     rt: &A,
     alloc: Global,
     names: &Names,
     doc: &DocTree,
     tree: &Tree,
-    without: Option<u32>,
 ) -> Result<(), AllocError>
-    requires { StandsFor names.now doc.now tree.now }
+    requires { (d : Document) × StandsFor names.now doc.now d }
 {
     let plain = doc.to_plain(names)?;
-    assert_eq!(rt;
-        shown(alloc, &plain, without)?,
-        shown(alloc, tree, without)?
-    );
+    let left = shown(alloc, &plain)?;
+    let right = shown(alloc, tree)?;
+    assert!(rt; left.as_str() == right.as_str());
     Ok(())
 }
 
-/// Puts a text. Where that fails, nothing has changed.
-pub fn put_text<A: Abort>(
+/// Makes an edit on the plain tree, and answers whether it could be made.
+fn is_made(alloc: Global, tree: &mut Tree, edit: &Edit) -> bool
+    requires { can_be_made edit.now ≡ true }
+    ensures made { result ≡ true → edited tree.old edit.now ≡ Ok tree.new }
+    ensures refused { result ≡ false → tree.new ≡ tree.old }
+{
+    match tree.apply_edit(alloc, edit) {
+        Ok(()) => true,
+        Err(_) => false,
+    }
+}
+
+/// The part that these items are below an element.
+fn part_of<A: Abort>(
     rt: &A,
     alloc: Global,
     names: &Names,
-    doc: &mut DocTree,
-    tree: &mut Tree,
+    doc: &DocTree,
     parent: u32,
-    index: u32,
-    text: &str,
-) -> Result<(), AllocError>
-    requires { StandsFor names.now doc.old tree.old }
-    ensures { OnOk result (StandsFor names.now doc.new tree.new) }
+    items: &[Item],
+) -> Result<Tree, AllocError>
+    requires { (d : Document) × StandsFor names.now doc.now d }
+    ensures { IfOk result (λ part. (d : Document) → StandsFor names.now doc.now d → part.forest ≡ block (scope_in parent first_scope d.forest) items.now) }
 {
-    let before = doc.to_plain(names)?;
-    let put = Text::new(alloc, text)?;
-    let edit = Edit::AddText {
-        parent,
-        index,
-        text: Text::new(alloc, text)?,
-    };
-    if tree.apply_edit(alloc, &edit).is_err() {
-        return Ok(());
-    }
-    match doc.add_text(parent, index, put) {
-        Ok(_) => Ok(()),
-        Err(error) => {
-            compare(rt, alloc, names, doc, &before, None)?;
-            Err(error)
-        }
+    assert!(rt; matches!(doc.live(parent), Some(NodeKind::Element)));
+    let scope = doc.scope_of(names, parent)?;
+    match fragment(alloc, names, &scope, items)? {
+        Ok(part) => Ok(part),
+        Err(_) => panic!(rt; "no part"),
     }
 }
 
-/// Takes a node away.
-pub fn remove(
+/// Puts the element of a block.
+fn put_part<A: Abort>(
+    rt: &A,
     alloc: Global,
+    names: &mut Names,
+    doc: &mut DocTree,
+    tree: &Tree,
+    parent: u32,
+    index: u32,
+    items: &[Item],
+) -> Result<(), AllocError>
+    requires { (d : Document) × StandsFor names.old doc.old d × (edited d (edits.Insert parent index items.now) ≡ Ok tree.now) }
+    ensures { OnOk result (StandsFor names.new doc.new tree.now) }
+{
+    let part = part_of(rt, alloc, names, doc, parent, items)?;
+    match doc.insert(names, parent, index, &part) {
+        Ok(_) => Ok(()),
+        Err(error) => Err(error),
+    }
+}
+
+/// Puts a text.
+fn put_text(
     names: &Names,
     doc: &mut DocTree,
-    tree: &mut Tree,
-    node: u32,
+    tree: &Tree,
+    parent: u32,
+    index: u32,
+    text: Text,
 ) -> Result<(), AllocError>
-    requires { StandsFor names.now doc.old tree.old }
-    ensures { OnOk result (StandsFor names.now doc.new tree.new) }
+    requires { (d : Document) × StandsFor names.now doc.old d × (edited d (edits.AddText parent index text) ≡ Ok tree.now) }
+    ensures { OnOk result (StandsFor names.now doc.new tree.now) }
 {
-    let edit = Edit::Remove { node };
-    if doc.parent(node).is_none() || tree.apply_edit(alloc, &edit).is_err() {
-        return Ok(());
+    match doc.add_text(parent, index, text) {
+        Ok(_) => Ok(()),
+        Err(error) => Err(error),
     }
-    doc.remove(node);
-    Ok(())
 }
 
 /// Gives a text other characters.
-pub fn write_text(
-    alloc: Global,
+fn write_text<A: Abort>(
+    rt: &A,
     names: &Names,
     doc: &mut DocTree,
-    tree: &mut Tree,
+    tree: &Tree,
     node: u32,
-    text: &str,
-) -> Result<(), AllocError>
-    requires { StandsFor names.now doc.old tree.old }
-    ensures { OnOk result (StandsFor names.now doc.new tree.new) }
+    text: Text,
+)
+    requires { (d : Document) × StandsFor names.now doc.old d × (edited d (edits.SetText node text) ≡ Ok tree.now) }
+    ensures { StandsFor names.now doc.new tree.now }
 {
-    let put = Text::new(alloc, text)?;
-    let edit = Edit::SetText {
-        node,
-        text: Text::new(alloc, text)?,
-    };
-    if doc.live(node) != Some(NodeKind::Chars) || tree.apply_edit(alloc, &edit).is_err() {
-        return Ok(());
-    }
-    doc.set_text(node, put);
-    Ok(())
+    assert!(rt; matches!(doc.live(node), Some(NodeKind::Chars)));
+    doc.set_text(node, text);
 }
 
-/// Puts the element of a block. Where that fails, nothing has changed.
-pub fn put_part<A: Abort>(
+/// Takes a node away.
+fn remove<A: Abort>(rt: &A, names: &Names, doc: &mut DocTree, tree: &Tree, node: u32)
+    requires { (d : Document) × StandsFor names.now doc.old d × (edited d (edits.Remove node) ≡ Ok tree.now) }
+    ensures { StandsFor names.now doc.new tree.now }
+{
+    assert!(rt; doc.parent(node).is_some());
+    doc.remove(node);
+}
+
+/// Makes an edit that the plain tree has made.
+fn make<A: Abort>(
     rt: &A,
     alloc: Global,
     names: &mut Names,
     doc: &mut DocTree,
-    tree: &mut Tree,
-    parent: u32,
-    index: u32,
-    lines: &[&str],
+    tree: &Tree,
+    edit: Edit,
 ) -> Result<(), AllocError>
-    requires { StandsFor names.old doc.old tree.old }
-    ensures { OnOk result (StandsFor names.new doc.new tree.new) }
+    requires { (d : Document) × StandsFor names.old doc.old d × (edited d edit ≡ Ok tree.now) }
+    ensures { OnOk result (StandsFor names.new doc.new tree.now) }
 {
-    let items = items_of(alloc, lines)?;
-    if doc.live(parent) != Some(NodeKind::Element) || !is_one_element(alloc, items.as_slice())? {
-        return Ok(());
-    }
-    let scope = doc.scope_of(names, parent)?;
-    let Ok(part) = fragment(alloc, names, &scope, items.as_slice())? else {
-        return Ok(());
-    };
-    let before = doc.to_plain(names)?;
-    let edit = Edit::Insert {
-        parent,
-        index,
-        items,
-    };
-    if tree.apply_edit(alloc, &edit).is_err() {
-        return Ok(());
-    }
-    match doc.insert(names, parent, index, &part) {
-        Ok(_) => Ok(()),
-        Err(error) => {
-            compare(rt, alloc, names, doc, &before, None)?;
-            Err(error)
+    match edit {
+        Edit::Insert {
+            parent,
+            index,
+            items,
+        } => put_part(rt, alloc, names, doc, tree, parent, index, items.as_slice()),
+        Edit::AddText {
+            parent,
+            index,
+            text,
+        } => put_text(names, doc, tree, parent, index, text),
+        Edit::SetText { node, text } => {
+            write_text(rt, names, doc, tree, node, text);
+            Ok(())
+        }
+        Edit::Remove { node } => {
+            remove(rt, names, doc, tree, node);
+            Ok(())
         }
     }
 }
 
-/// Gives an element another name, and sees that no other node is another.
-pub fn rename<A: Abort>(
+/// Makes an edit on both, where it can be made.
+pub fn make_edit<A: Abort>(
     rt: &A,
     alloc: Global,
     names: &mut Names,
     doc: &mut DocTree,
     tree: &mut Tree,
-    node: u32,
-    local: &str,
+    edit: Edit,
 ) -> Result<(), AllocError>
-    requires { StandsFor names.old doc.old tree.old }
+    requires can { can_be_made edit ≡ true }
+    requires stands { StandsFor names.old doc.old tree.old }
     ensures { OnOk result (StandsFor names.new doc.new tree.new) }
 {
-    let name = names.intern(NsId::ABSENT, local)?;
-    if doc.live(node) != Some(NodeKind::Element) {
-        return Ok(());
+    if is_made(alloc, tree, &edit) {
+        return make(rt, alloc, names, doc, tree, edit);
     }
-    doc.rename(node, name);
-    let plain = doc.to_plain(names)?;
-    assert_eq!(rt;
-        shown(alloc, &plain, Some(node))?,
-        shown(alloc, tree, Some(node))?
-    );
-    assert!(rt;
-        plain
-            .name(node)
-            .is_some_and(|it| it.local.as_str() == local)
-    );
-    *tree = plain;
-    Ok(())
-}
-
-/// Gives an attribute of an element a value, and sees that no other node is another. Where that fails, nothing has changed.
-pub fn set_attr<A: Abort>(
-    rt: &A,
-    alloc: Global,
-    names: &mut Names,
-    doc: &mut DocTree,
-    tree: &mut Tree,
-    node: u32,
-    local: &str,
-    value: &str,
-) -> Result<(), AllocError>
-    requires { StandsFor names.old doc.old tree.old }
-    ensures { OnOk result (StandsFor names.new doc.new tree.new) }
-{
-    let name = names.intern(NsId::ABSENT, local)?;
-    let put = Text::new(alloc, value)?;
-    if doc.live(node) != Some(NodeKind::Element)
-        || doc.attr_at(node, 20).is_some()
-        || doc.binding_count(node) > 20
-    {
-        return Ok(());
-    }
-    doc.set_attr(node, name, put)?;
-    let plain = doc.to_plain(names)?;
-    assert_eq!(rt;
-        shown(alloc, &plain, Some(node))?,
-        shown(alloc, tree, Some(node))?
-    );
-    *tree = plain;
-    Ok(())
-}
-
-/// Takes the attribute of a place away, and sees that the attributes behind it move up.
-pub fn unset_attr<A: Abort>(
-    rt: &A,
-    alloc: Global,
-    names: &Names,
-    doc: &mut DocTree,
-    tree: &mut Tree,
-    node: u32,
-    place: u32,
-) -> Result<(), AllocError>
-    requires { StandsFor names.now doc.old tree.old }
-    ensures { OnOk result (StandsFor names.now doc.new tree.new) }
-{
-    let name = match doc.attr_at(node, place) {
-        Some((name, _)) => name,
-        None => return Ok(()),
-    };
-    doc.unset_attr(node, name);
-    let plain = doc.to_plain(names)?;
-    assert_eq!(rt;
-        shown(alloc, &plain, Some(node))?,
-        shown(alloc, tree, Some(node))?
-    );
-    *tree = plain;
     Ok(())
 }

@@ -27,13 +27,11 @@ fn write_row(alloc: Global, out: &mut String, row: &Row) -> Result<(), AllocErro
     Ok(())
 }
 
-/// The nodes of a tree and its next free number. Where a number is given, its node is left out.
-pub fn shown(alloc: Global, tree: &Tree, without: Option<u32>) -> Result<String, AllocError> {
+/// The nodes of a tree and its next free number.
+pub fn shown(alloc: Global, tree: &Tree) -> Result<String, AllocError> {
     let mut out = String::new(alloc);
     for row in tree.rows() {
-        if without != Some(row.number) {
-            write_row(alloc, &mut out, row)?;
-        }
+        write_row(alloc, &mut out, row)?;
     }
     write!(out, "{}", tree.next_free())?;
     Ok(out)
