@@ -53,6 +53,39 @@ abbrev pub patterns_behind : List (List (List ℕ)) → List (List ℕ) → List
 patterns_behind base [] = base
 patterns_behind base (pattern ∷ patterns) = base ++ (pattern ∷ patterns) ∷ []
 
+-- with the white space, the lengths and the digits of the step
+abbrev pub with_counts : FacetList → List ReadFacet → FacetList
+with_counts base facets = record base {
+  white_space = behind base.white_space (handling_of facets);
+  length = behind base.length (count_of kinds.Length facets);
+  min_length = behind base.min_length (count_of kinds.MinLength facets);
+  max_length = behind base.max_length (count_of kinds.MaxLength facets);
+  total_digits = behind base.total_digits (count_of kinds.TotalDigits facets);
+  fraction_digits = behind base.fraction_digits (count_of kinds.FractionDigits facets);
+}
+
+-- with the upper bounds of the step
+abbrev pub with_upper : FacetList → List ReadFacet → FacetList
+with_upper base facets = record base {
+  max_inclusive = bound_behind base.max_inclusive (has_upper facets) kinds.MaxInclusive facets;
+  max_exclusive = bound_behind base.max_exclusive (has_upper facets) kinds.MaxExclusive facets;
+}
+
+-- with the lower bounds of the step
+abbrev pub with_lower : FacetList → List ReadFacet → FacetList
+with_lower base facets = record base {
+  min_inclusive = bound_behind base.min_inclusive (has_lower facets) kinds.MinInclusive facets;
+  min_exclusive = bound_behind base.min_exclusive (has_lower facets) kinds.MinExclusive facets;
+}
+
+-- with the enumeration of the step
+abbrev pub with_values : FacetList → List Value → FacetList
+with_values base values = record base { enumeration = enumeration_behind base.enumeration values }
+
+-- with the patterns of the step
+abbrev pub with_patterns : FacetList → List (List ℕ) → FacetList
+with_patterns base patterns = record base { patterns = patterns_behind base.patterns patterns }
+
 -- what is in force behind the step
 abbrev pub merged : FacetList → ReadStep → FacetList
 merged base step = record {

@@ -1,5 +1,5 @@
 //! What is in force behind a step of restriction.
-ghost use Rattle.std.specs.Prelude.{◌≡◌, IfOk};
+ghost use Rattle.std.specs.Prelude.{◌≡◌, IfOk, OnOk};
 ghost use Rattle.facet_rules.specs.First.{first_fault};
 ghost use Rattle.facet_rules.specs.Rules.{step_rules, outcome_of, judged_of};
 ghost use Rattle.facet_rules.specs.Merge as spec;
@@ -13,7 +13,6 @@ use facet_checks::{Alternatives, Bound, Count, FacetList, Handling, ValueList};
 use std::alloc::AllocError;
 use xs_codes::Fault;
 use xs_components::FacetKind;
-use xs_lists::Listed;
 
 /// The facets in force behind a step of restriction: those of the step, and of the base's those that the step has not. The
 /// patterns of the step are added to those of the base; its bound of a side replaces both of the base's; its enumeration
@@ -66,29 +65,87 @@ fn first_of_faults(base: &FacetList, facets: &[ReadFacet]) -> Option<Fault>
 }
 
 // What the step and its base make.
-fn merged(base: FacetList, step: ReadStep) -> Result<FacetList, AllocError>
+fn merged(mut base: FacetList, step: ReadStep) -> Result<FacetList, AllocError>
     ensures { IfOk result (λ made. made ≡ spec.merged base step) }
 {
-    let facets = step.facets.as_slice();
-    let upper = has_upper(facets);
-    let lower = has_lower(facets);
-    Ok(FacetList {
-        white_space: handling_behind(base.white_space, handling_of(facets)),
-        length: count_behind(base.length, count_of(facets, FacetKind::Length)),
-        min_length: count_behind(base.min_length, count_of(facets, FacetKind::MinLength)),
-        max_length: count_behind(base.max_length, count_of(facets, FacetKind::MaxLength)),
-        total_digits: count_behind(base.total_digits, count_of(facets, FacetKind::TotalDigits)),
-        fraction_digits: count_behind(
-            base.fraction_digits,
-            count_of(facets, FacetKind::FractionDigits),
-        ),
-        max_inclusive: bound_behind(base.max_inclusive, upper, facets, FacetKind::MaxInclusive)?,
-        max_exclusive: bound_behind(base.max_exclusive, upper, facets, FacetKind::MaxExclusive)?,
-        min_inclusive: bound_behind(base.min_inclusive, lower, facets, FacetKind::MinInclusive)?,
-        min_exclusive: bound_behind(base.min_exclusive, lower, facets, FacetKind::MinExclusive)?,
-        enumeration: enumeration_behind(base.enumeration, step.values),
-        patterns: patterns_behind(base.patterns, step.patterns)?,
-    })
+    let ReadStep {
+        facets,
+        patterns,
+        values,
+    } = step;
+    put_step(&mut base, facets.as_slice(), patterns, values)?;
+    Ok(base)
+}
+
+// Puts a step behind its base, which is the base no longer. In place, since a list of facets that is moved field by field
+// takes long to prove.
+fn put_step(
+    base: &mut FacetList,
+    facets: &[ReadFacet],
+    patterns: Alternatives,
+    values: ValueList,
+) -> Result<(), AllocError>
+    ensures { OnOk result (base.new ≡ spec.with_patterns (spec.with_values (spec.with_lower (spec.with_upper (spec.with_counts base.old facets.now) facets.now) facets.now) values) patterns) }
+{
+    put_counts(base, facets);
+    put_upper(base, facets)?;
+    put_lower(base, facets)?;
+    put_values(base, values);
+    put_patterns(base, patterns)
+}
+
+fn put_counts(base: &mut FacetList, facets: &[ReadFacet])
+    ensures { base.new ≡ spec.with_counts base.old facets.now }
+{
+    base.white_space = handling_behind(base.white_space, handling_of(facets));
+    base.length = count_behind(base.length, count_of(facets, FacetKind::Length));
+    base.min_length = count_behind(base.min_length, count_of(facets, FacetKind::MinLength));
+    base.max_length = count_behind(base.max_length, count_of(facets, FacetKind::MaxLength));
+    base.total_digits = count_behind(base.total_digits, count_of(facets, FacetKind::TotalDigits));
+    base.fraction_digits = count_behind(
+        base.fraction_digits,
+        count_of(facets, FacetKind::FractionDigits),
+    );
+}
+
+// A bound of the step replaces both bounds of its side.
+fn put_upper(base: &mut FacetList, facets: &[ReadFacet]) -> Result<(), AllocError>
+    ensures { OnOk result (base.new ≡ spec.with_upper base.old facets.now) }
+{
+    if has_upper(facets) {
+        base.max_inclusive = own_bound(facets, FacetKind::MaxInclusive)?;
+        base.max_exclusive = own_bound(facets, FacetKind::MaxExclusive)?;
+    }
+    Ok(())
+}
+
+fn put_lower(base: &mut FacetList, facets: &[ReadFacet]) -> Result<(), AllocError>
+    ensures { OnOk result (base.new ≡ spec.with_lower base.old facets.now) }
+{
+    if has_lower(facets) {
+        base.min_inclusive = own_bound(facets, FacetKind::MinInclusive)?;
+        base.min_exclusive = own_bound(facets, FacetKind::MinExclusive)?;
+    }
+    Ok(())
+}
+
+// The step's enumeration, if it has one, in place of the base's.
+fn put_values(base: &mut FacetList, own: ValueList)
+    ensures { base.new ≡ spec.with_values base.old own }
+{
+    if !own.is_empty() {
+        base.enumeration = Some(own);
+    }
+}
+
+// The step's patterns, if it has some, behind the base's.
+fn put_patterns(base: &mut FacetList, own: Alternatives) -> Result<(), AllocError>
+    ensures { OnOk result (base.new ≡ spec.with_patterns base.old own) }
+{
+    if !own.is_empty() {
+        base.patterns.push(own)?;
+    }
+    Ok(())
 }
 
 // The step's, else the base's.
@@ -146,40 +203,4 @@ fn own_bound(facets: &[ReadFacet], kind: FacetKind) -> Result<Option<Bound>, All
         value: value.clone()?,
         fixed: facet.fixed,
     }))
-}
-
-// The step's bound of a kind where it replaces those of the base's side, else the base's.
-fn bound_behind(
-    base: Option<Bound>,
-    replaced: bool,
-    facets: &[ReadFacet],
-    kind: FacetKind,
-) -> Result<Option<Bound>, AllocError>
-    ensures { IfOk result (λ bound. bound ≡ spec.bound_behind base replaced kind facets.now) }
-{
-    if replaced {
-        own_bound(facets, kind)
-    } else {
-        Ok(base)
-    }
-}
-
-// The step's enumeration, if it has one, else the base's.
-fn enumeration_behind(base: Option<ValueList>, own: ValueList) -> Option<ValueList>
-    ensures { result ≡ spec.enumeration_behind base own }
-{
-    if own.is_empty() { base } else { Some(own) }
-}
-
-// The base's patterns, and then the step's, if it has some.
-fn patterns_behind(
-    mut base: Listed<Alternatives>,
-    own: Alternatives,
-) -> Result<Listed<Alternatives>, AllocError>
-    ensures { IfOk result (λ steps. steps ≡ spec.patterns_behind base own) }
-{
-    if !own.is_empty() {
-        base.push(own)?;
-    }
-    Ok(base)
 }

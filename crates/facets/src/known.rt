@@ -1,5 +1,6 @@
 //! What is defined of a type, and what judging a step by it comes to.
-ghost use Rattle.std.specs.Prelude.{◌≡◌, IfOk};
+ghost use Rattle.std.specs.Prelude.{◌≡◌, IfOk, None};
+ghost use Rattle.facet_rules.specs.Rules.{judged_of};
 ghost use Rattle.facets.specs.Facets as spec;
 
 use crate::Facets;
@@ -38,15 +39,20 @@ pub(crate) fn judged_step(
     ensures { IfOk result (λ judged. judged ≡ spec.judged_by base known step) }
 {
     match known {
-        Known::Neither => {
-            let by_none = judge(FacetList::new(alloc), step)?;
-            Ok(Judged {
-                fault: by_none.fault,
-                facets: None,
-            })
-        }
+        Known::Neither => judged_alone(FacetList::new(alloc), step),
         _ => judged_whole(base, step),
     }
+}
+
+// By no facets of a base: the fault alone.
+fn judged_alone(none: FacetList, step: ReadStep) -> Result<Judged, AllocError>
+    ensures { IfOk result (λ judged. judged ≡ record { fault = (judged_of none step).fault; facets = None }) }
+{
+    let by_none = judge(none, step)?;
+    Ok(Judged {
+        fault: by_none.fault,
+        facets: None,
+    })
 }
 
 fn judged_whole(base: Facets, step: ReadStep) -> Result<Judged, AllocError>

@@ -38,6 +38,13 @@ abbrev pub list_facets : Option Facets → Known → TypeFacets
 list_facets None item = record { facets = list_of_any; known = knowns.Facets }
 list_facets (Some facets) item = record { facets = facets; known = made_from item }
 
+-- a list of items for which this is in force, with its first fault
+abbrev pub list_by : Tables → Place → TypeId → TypeFacets → JudgedType
+list_by t at item of = record {
+  of = list_facets (list_of of.facets) of.known;
+  fault = first_from no_fault (item_rules t at item (is_some (list_of of.facets)));
+}
+
 module _ (look : TypeId → TypeFacets) where
   abbrev pub members_behind : Members → List TypeId → Members
   members_behind front [] = front
@@ -58,10 +65,7 @@ module _ (t : Tables) (look : TypeId → TypeFacets) (at : Place) where
       × (made ≡ record { of = judged.of; fault = first_from judged.fault (base_rules t at base) })
 
   abbrev pub list_made : TypeId → JudgedType
-  list_made item = record {
-    of = list_facets (list_of (look item).facets) (look item).known;
-    fault = first_from no_fault (item_rules t at item (is_some (list_of (look item).facets)));
-  }
+  list_made item = list_by t at item (look item)
 
   abbrev pub union_made : List TypeId → JudgedType
   union_made members = record { of = union_facets look members; fault = first_from no_fault (members_rules t at members) }

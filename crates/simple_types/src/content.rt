@@ -7,7 +7,7 @@ ghost use Rattle.simple_types.specs.Forms as forms;
 ghost use Rattle.simple_types.specs.Judging as spec;
 ghost use Rattle.simple_types.specs.Lookup as look;
 
-use crate::filling::unknown_types;
+use crate::filling::{put_at, unknown_types};
 use crate::forms::judged_step;
 use crate::lookup::{entry_at, looked_up};
 use crate::{JudgedType, TypeFacets};
@@ -68,7 +68,7 @@ fn fill_contents(
 {
     for x in order {
         let judged = judged_content(alloc, parts, simples, table, *x)?;
-        table[*x as usize] = judged;
+        put_at(table, *x, judged);
     }
     Ok(())
 }

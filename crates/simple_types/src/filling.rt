@@ -1,5 +1,5 @@
 //! The simple types, judged in the order of their ranks.
-ghost use Rattle.std.specs.Prelude.{◌≡◌, ◌<◌, length, IfOk, OnOk};
+ghost use Rattle.std.specs.Prelude.{◌≡◌, ◌<◌, length, set, IfOk, OnOk};
 ghost use Rattle.xs_references.specs.Order.{IsOrder};
 ghost use Rattle.xs_references.specs.Ranked.{IsRanked};
 ghost use Rattle.simple_types.specs.Judging as spec;
@@ -52,9 +52,17 @@ fn fill_simples(
 {
     for x in order {
         let judged = judged_number(alloc, parts, table, *x)?;
-        table[*x as usize] = judged;
+        put_at(table, *x, judged);
     }
     Ok(())
+}
+
+// Puts what judging a type came to into its place.
+pub(crate) fn put_at(table: &mut [JudgedType], number: u32, judged: JudgedType)
+    requires there { number < length table.old }
+    ensures { table.new ≡ set table.old number judged }
+{
+    table[number as usize] = judged;
 }
 
 // The simple type of a number, judged.

@@ -1,5 +1,8 @@
 //! A simple type, judged by those that it is made of.
-ghost use Rattle.std.specs.Prelude.{◌≡◌, IfOk};
+ghost use Rattle.std.specs.Prelude.{◌≡◌, IfOk, unwrap_or};
+ghost use Rattle.facets.specs.Making as making;
+ghost use Rattle.facets.specs.Source.{list_of};
+ghost use Rattle.facets.specs.declared.known.Known.TheVariants as knowns;
 ghost use Rattle.simple_validity.specs.SimpleValidity as validity;
 ghost use Rattle.simple_types.specs.Lookup.{looked_up as spec_looked_up};
 ghost use Rattle.simple_types.specs.Forms as spec;
@@ -66,19 +69,14 @@ pub(crate) fn judged_step(
 }
 
 // What a step leaves in force.
-fn left_behind(behind: TypeFacets, made: Option<Facets>) -> TypeFacets
+fn left_behind(mut behind: TypeFacets, made: Option<Facets>) -> TypeFacets
     ensures { result ≡ spec.left_behind behind made }
 {
     match made {
-        Some(facets) => TypeFacets {
-            facets,
-            known: behind.known,
-        },
-        None => TypeFacets {
-            facets: behind.facets,
-            known: Known::Neither,
-        },
+        Some(facets) => behind.facets = facets,
+        None => behind.known = Known::Neither,
     }
+    behind
 }
 
 fn judged_list(
@@ -91,28 +89,42 @@ fn judged_list(
     ensures { IfOk result (λ judged. judged ≡ spec.list_made parts.now (spec_looked_up table.now) at item.now) }
 {
     let of = looked_up(alloc, table, item)?;
-    let made = Facets::list_of(alloc, &of.facets)?;
-    let fault = note_item(parts, at, item, made.is_some());
-    Ok(JudgedType {
-        of: list_facets(alloc, made, of.known)?,
-        fault,
-    })
+    judged_list_of(alloc, parts, at, item, &of)
 }
 
-// What is in force for a list of items of which so much is known.
-fn list_facets(alloc: Global, made: Option<Facets>, item: Known) -> Result<TypeFacets, AllocError>
-    ensures { IfOk result (λ of. of ≡ spec.list_facets made item) }
+// A list of items for which this is in force.
+fn judged_list_of(
+    alloc: Global,
+    parts: &Components,
+    at: Place,
+    item: &TypeId,
+    of: &TypeFacets,
+) -> Result<JudgedType, AllocError>
+    ensures { IfOk result (λ judged. judged ≡ spec.list_by parts.now at item.now of.now) }
 {
-    match made {
-        Some(facets) => Ok(TypeFacets {
-            facets,
-            known: made_from(item),
+    match Facets::list_of(alloc, &of.facets)? {
+        Some(facets) => Ok(JudgedType {
+            of: TypeFacets {
+                facets,
+                known: made_from(of.known),
+            },
+            fault: note_item(parts, at, item, true),
         }),
-        None => Ok(TypeFacets {
-            facets: list_of_any(alloc)?,
-            known: Known::Facets,
+        None => Ok(JudgedType {
+            of: unread_list(alloc)?,
+            fault: note_item(parts, at, item, false),
         }),
     }
+}
+
+// A list whose items cannot be listed.
+fn unread_list(alloc: Global) -> Result<TypeFacets, AllocError>
+    ensures { IfOk result (λ of. of ≡ record { facets = validity.list_of_any; known = knowns.Facets }) }
+{
+    Ok(TypeFacets {
+        facets: list_of_any(alloc)?,
+        known: Known::Facets,
+    })
 }
 
 // The facets of a list, whatever its items are.
@@ -120,9 +132,16 @@ fn list_of_any(alloc: Global) -> Result<Facets, AllocError>
     ensures { IfOk result (λ facets. facets ≡ validity.list_of_any) }
 {
     let any = Facets::of_builtin(alloc, Builtin::AnySimpleType);
-    match Facets::list_of(alloc, &any)? {
+    list_or_item(alloc, &any)
+}
+
+// The list of items of a type, else that type.
+fn list_or_item(alloc: Global, item: &Facets) -> Result<Facets, AllocError>
+    ensures { IfOk result (λ facets. facets ≡ unwrap_or (list_of item.now) item.now) }
+{
+    match Facets::list_of(alloc, item)? {
         Some(facets) => Ok(facets),
-        None => Ok(any),
+        None => item.try_clone(alloc),
     }
 }
 
@@ -169,15 +188,47 @@ fn union_facets(
 ) -> Result<TypeFacets, AllocError>
     ensures { IfOk result (λ of. of ≡ spec.union_facets (spec_looked_up table.now) members.now) }
 {
-    let mut all = Members::new(alloc);
-    let mut known = Known::Whole;
+    let mut union = UnionParts {
+        all: Members::new(alloc),
+        known: Known::Whole,
+    };
     for member in members {
-        let of = looked_up(alloc, table, member)?;
-        all = all.with(alloc, &of.facets)?;
-        known = made_from_both(known, of.known);
+        union = with_member(alloc, table, union, member)?;
     }
     Ok(TypeFacets {
-        facets: Facets::union_of(alloc, all),
+        facets: Facets::union_of(alloc, union.all),
+        known: union.known,
+    })
+}
+
+// The members of a union so far, and what is known of it.
+#[derive(Drop)]
+struct UnionParts {
+    all: Members,
+    known: Known,
+}
+
+// A union with one member more.
+fn with_member(
+    alloc: Global,
+    table: &[JudgedType],
+    union: UnionParts,
+    member: &TypeId,
+) -> Result<UnionParts, AllocError>
+    ensures all { IfOk result (λ made. made.all ≡ making.with_member union.all (spec_looked_up table.now member.now).facets) }
+    ensures known { IfOk result (λ made. made.known ≡ validity.made_from_both union.known (spec_looked_up table.now member.now).known) }
+{
+    let of = looked_up(alloc, table, member)?;
+    with_facets(alloc, union, &of)
+}
+
+fn with_facets(alloc: Global, union: UnionParts, of: &TypeFacets) -> Result<UnionParts, AllocError>
+    ensures all { IfOk result (λ made. made.all ≡ making.with_member union.all of.now.facets) }
+    ensures known { IfOk result (λ made. made.known ≡ validity.made_from_both union.known of.now.known) }
+{
+    let known = made_from_both(union.known, of.known);
+    Ok(UnionParts {
+        all: union.all.with(alloc, &of.facets)?,
         known,
     })
 }

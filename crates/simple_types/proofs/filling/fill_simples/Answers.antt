@@ -17,10 +17,10 @@ loop-x-preserved c =
     let x = get_or c.args.order.now c.loop-x.x-index 0 in
     let made = c.in_ok-judged.judged in
     let there : x < length c.loop-x.table = rw inv.len (All-get_or (λ y. y < length parts.simples.parts) c.args.order.now c.loop-x.x-index 0 c.loop-x-test.true c.requires.order.there) in
-    record {
+    rw c.put_at.ensures (record {
       len = length-set c.loop-x.table x made ∙ inv.len;
       known = entries-more (IsSimpleAt parts) parts.simples.ranks (λ table x y v made low is. simple-stable parts c.requires.ranked table x y v made low is) (length parts.simples.parts) c.args.order.now c.loop-x.x-index x c.loop-x.table made c.requires.order c.loop-x-test.true refl there c.in_ok-judged.ensures inv.known;
-    }
+    })
 
 pub returns : goal.returns
 returns c = record {
