@@ -1,6 +1,6 @@
 -- The test of derivation tells the relation.
 use Rattle.std.proofs.Common.{◌≡◌, ℕ, zero, suc, ◌+◌, ◌<◌, ◌⊎◌, inl, inr, ◌↔◌, Bool, true, false, ◌&&◌, ◌||◌, Option, None, Some, List, refl, sym, ap, subst, ◌∙◌, arith}
-use Rattle.std.specs.Prelude.{Contains, All, IfSome, IsTrue, not}
+use Rattle.std.specs.Prelude.{Contains, All, IfSome, IfOk, IsTrue, Result, Ok, Err, not}
 use Rattle.std.specs.List.{list_any}
 use Rattle.std.proofs.lemmas.Bool.{true≢false, and_parts, or_left, or_right}
 use Rattle.std.proofs.lemmas.List.Elements.{All-contains}
@@ -119,3 +119,8 @@ derives-answer t excluded sub base ranked s b answer tells = of answer (derives 
     of true false p q = sym (q.1 (p.0 refl))
     of false true p q = p.1 (q.0 refl)
     of false false p q = refl
+
+pub answer-tested : {E : Type 0} (t : Tables) (excluded : Methods) (sub base : TypeId) → IsRanked t → IsType t sub → IsType t base → (result : Result Bool E) →
+    IfOk result (λ answer. IsTrue answer ↔ Derives t excluded sub base) → IfOk result (λ answer. answer ≡ derives t excluded sub base)
+answer-tested t excluded sub base ranked s b (Ok answer) tells = derives-answer t excluded sub base ranked s b answer tells
+answer-tested t excluded sub base ranked s b (Err e) tells = tt

@@ -11,12 +11,12 @@ use Rattle.type_derives.specs.Within.{AreSimple}
 
 -- The components of a schema set, and what was found of them: references go to parts of lower rank, what a simple type is made of is
 -- simple, and the types that element declarations name are there.
-pub record IsView (t : Tables) (d : DeclarationTable) (named : Spaces) : Type 0 where
+pub record IsView (t : Tables) (d : DeclarationTable) (spaces : Spaces) : Type 0 where
   pub ranked : IsRanked t
   pub simple : AreSimple t
   pub types : (n : ℕ) (part : ElementDecl) → slice_get t.elements.parts n ≡ Some part → IfSome part.of (IsType t)
   pub declarations : AreDeclarationsOf t d
-  pub named : named ≡ spaces_of t
+  pub named : spaces ≡ spaces_of t
 
 -- the namespaces of a scope have names
 abbrev pub AreKnown : NameTable → List (List ℕ × ℕ) → Type 0

@@ -5,6 +5,7 @@ ghost use Rattle.std.specs.Option.{option_map};
 ghost use Rattle.elem_governing.specs.Governing as spec;
 ghost use Rattle.elem_governing.specs.View.{IsView, AreKnown};
 
+use crate::local_types::declared_type;
 use crate::{Governing, Mode, SchemaView, XsiType, xsi_type};
 use std::alloc::{AllocError, Global};
 use xs_components::{ElementId, Particle, Process, Term, TermId, TypeId};
@@ -77,13 +78,9 @@ fn governed(
     ensures { IfOk result (λ pair. pair ≡ spec.governed view.now.names.now view.now.parts.now mode declaration (option_map (λ x. x.now) xsi.entry) scope.now) }
 {
     if mode == Mode::Skip {
-        return Ok(Governing {
-            declaration: None,
-            of: None,
-            mode,
-        });
+        return Ok(skipped());
     }
-    let of = governing_type(alloc, view, declaration, xsi, scope)?;
+    let of = governing_type(alloc, view, &declaration, xsi, scope)?;
     Ok(Governing {
         declaration,
         of: Some(of),
@@ -91,34 +88,45 @@ fn governed(
     })
 }
 
+// What governs an element that is skipped: nothing.
+fn skipped() -> Governing
+    ensures { result ≡ spec.skipped }
+{
+    Governing {
+        declaration: None,
+        of: None,
+        mode: Mode::Skip,
+    }
+}
+
 // The type that governs an element with this declaration, if any.
 fn governing_type(
     alloc: Global,
     view: &SchemaView<'_>,
-    declaration: Option<ElementId>,
+    declaration: &Option<ElementId>,
     xsi: Option<&Text>,
     scope: &Scope,
 ) -> Result<TypeId, AllocError>
     requires view { IsView view.now.parts.now view.now.declarations.now view.now.named.now }
     requires scope { AreKnown view.now.names.now scope.now }
-    ensures { IfOk result (λ of. of ≡ spec.governing_type view.now.names.now view.now.parts.now declaration (option_map (λ x. x.now) xsi.entry) scope.now) }
+    ensures { IfOk result (λ of. of ≡ spec.governing_type view.now.names.now view.now.parts.now declaration.now (option_map (λ x. x.now) xsi.entry) scope.now) }
 {
-    match xsi_type(alloc, view, declaration, xsi, scope)? {
+    match xsi_type(alloc, view, *declaration, xsi, scope)? {
         XsiType::Governs(of) => Ok(of),
         XsiType::Absent | XsiType::NotQName | XsiType::Unresolved | XsiType::NotDerived => {
-            Ok(declared_type(view, declaration))
+            Ok(type_declared(view, declaration))
         }
     }
 }
 
 // The type of a declaration, anyType without one.
-fn declared_type(view: &SchemaView<'_>, declaration: Option<ElementId>) -> TypeId
+fn type_declared(view: &SchemaView<'_>, declaration: &Option<ElementId>) -> TypeId
     requires view { IsView view.now.parts.now view.now.declarations.now view.now.named.now }
-    ensures { result ≡ spec.declared_type view.now.parts.now declaration }
+    ensures { result ≡ spec.declared_type view.now.parts.now declaration.now }
 {
     match declaration {
         None => TypeId::AnyType,
-        Some(element) => view.declarations.type_of(element),
+        Some(element) => declared_type(view, *element),
     }
 }
 

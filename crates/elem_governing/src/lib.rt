@@ -3,12 +3,13 @@
 
 mod derivation;
 mod govern;
+mod laws;
 mod local_types;
 mod pairs;
 mod view;
 
-pub use derivation::derivation_is_tested;
 pub use govern::{govern_child, govern_root};
+pub use laws::derivation_is_tested;
 pub use local_types::{XsiType, xsi_type};
 pub use pairs::{Governing, Mode};
 pub use view::SchemaView;

@@ -3,12 +3,13 @@
 ghost use Rattle.std.specs.Prelude.{◌≡◌, IfOk, slice_get};
 ghost use Rattle.std.specs.Option.{option_map};
 ghost use Rattle.xs_references.specs.Heights.{IsType};
+ghost use Rattle.element_types.specs.Types.{type_of};
 ghost use Rattle.elem_governing.specs.LocalType as spec;
 ghost use Rattle.elem_governing.specs.View.{IsView, AreKnown};
 
 use crate::SchemaView;
+use crate::derivation::is_derived;
 use std::alloc::{AllocError, Global};
-use type_derives::derives;
 use white_space::{WhiteSpace, normalized};
 use xs_components::{Components, ElementId, Methods, TypeId};
 use xs_names::{Scope, Text, split_qname};
@@ -87,7 +88,7 @@ fn by_type(
     requires there { IsType view.now.parts.now of }
     ensures { IfOk result (λ said. said ≡ spec.said_of (spec.may_govern view.now.parts.now declaration of) of) }
 {
-    if may_govern(alloc, view, declaration, of)? {
+    if may_govern(alloc, view, declaration, &of)? {
         Ok(XsiType::Governs(of))
     } else {
         Ok(XsiType::NotDerived)
@@ -99,21 +100,30 @@ fn may_govern(
     alloc: Global,
     view: &SchemaView<'_>,
     declaration: Option<ElementId>,
-    of: TypeId,
+    of: &TypeId,
 ) -> Result<bool, AllocError>
     requires view { IsView view.now.parts.now view.now.declarations.now view.now.named.now }
-    requires there { IsType view.now.parts.now of }
-    ensures { IfOk result (λ answer. answer ≡ spec.may_govern view.now.parts.now declaration of) }
+    requires there { IsType view.now.parts.now of.now }
+    ensures { IfOk result (λ answer. answer ≡ spec.may_govern view.now.parts.now declaration of.now) }
 {
     let Some(element) = declaration else {
         return Ok(true);
     };
-    let declared = view.declarations.type_of(element);
+    let declared = declared_type(view, element);
     let excluded = both(
         declaration_blocks(view.parts, element),
         type_blocks(view.parts, &declared),
     );
-    derives(alloc, view.parts, of, declared, &excluded)
+    is_derived(alloc, view.parts, *of, declared, &excluded)
+}
+
+/// The type of a declaration.
+pub(crate) fn declared_type(view: &SchemaView<'_>, element: ElementId) -> TypeId
+    requires view { IsView view.now.parts.now view.now.declarations.now view.now.named.now }
+    ensures of { result ≡ type_of view.now.parts.now element }
+    ensures there { IsType view.now.parts.now result }
+{
+    view.declarations.type_of(element)
 }
 
 // No methods.
