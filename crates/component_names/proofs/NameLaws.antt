@@ -1,8 +1,10 @@
 -- A place that has a name is one of the places.
-use Rattle.std.proofs.Common.{◌≡◌, ℕ, suc, ◌+◌, ◌<◌, ◌≤◌, ◌==◌, List, [], ◌∷◌, Bool, true, false, Option, None, Some, length, map, refl, sym, ap, ◌∙◌, arith}
+use Rattle.std.proofs.Common.{◌≡◌, ◌≢◌, inl, inr, length-append, ℕ, suc, ◌+◌, ◌<◌, ◌≤◌, ◌==◌, List, [], ◌∷◌, Bool, true, false, Option, None, Some, length, map, refl, sym, ap, ◌∙◌, arith}
 use Rattle.std.specs.Prelude.{IfSome, IfNone, if◌then◌else◌}
 use Rattle.std.specs.Option.{option_or}
 use Rattle.std.proofs.lemmas.List.{length-map}
+use Rattle.std.proofs.lemmas.Bool.{cases_eq}
+use Rattle.xs_names.specs.Names.{NameTable, IsSound, absent_space, first_spaces}
 use Rattle.xs_components.specs.Tables.{Tables}
 use Rattle.symbol_spaces.specs.Symbols.{if_named, first_from, first_place}
 use Rattle.component_names.specs.Named.{attribute_names, attribute_with, top_name, spaces_of, Spaces}
@@ -47,3 +49,10 @@ attribute-found t named name place (Some id) e there past is =
 pub attribute-there : (place count : ℕ) (found : Option ℕ) → IfSome found (λ id. (id ≡ place) × (place < count)) → IfSome found (λ id. id < count)
 attribute-there place count None there = tt
 attribute-there place count (Some id) there = let e = there.0 in let l = there.1 in omega arith
+
+-- the namespace of a name is one of the table's
+pub space-known : (t : NameTable) (space : ℕ) → IsSound t → (space ≢ absent_space → space < length t.spaces) → space < length t.spaces
+space-known t space sound known = elim (cases_eq space 0) [
+  | inl e ↦ (let many : length t.spaces ≡ length first_spaces + length sound.begins.0 = ap length sound.begins.1 ∙ length-append first_spaces sound.begins.0 in omega arith)
+  | inr other ↦ known other
+]

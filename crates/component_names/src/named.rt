@@ -1,8 +1,9 @@
 //! Components at the top of schema documents, found by their names.
 
-ghost use Rattle.std.specs.Prelude.{◌≡◌, ◌<◌, ◌++◌, length, map, slice_index_or, bytes_eq, [], IfSome, IfOk, OnOk};
+ghost use Rattle.std.specs.Prelude.{◌≡◌, ◌≢◌, ◌<◌, ◌++◌, length, map, slice_index_or, bytes_eq, [], IfSome, IfOk, OnOk};
 ghost use Rattle.component_names.specs.Named as spec;
 ghost use Rattle.schema_grammar.specs.Names.{schema_namespace};
+ghost use Rattle.xs_names.specs.Names.{absent_space};
 ghost use Rattle.xs_references.specs.Heights.{IsType};
 
 use crate::own::own_type;
@@ -75,14 +76,15 @@ impl ComponentNames {
         space: NsId,
         local: &str,
     ) -> Option<TypeId>
-        requires space { space < length names.now.spaces }
+        requires space { space ≢ absent_space → space < length names.now.spaces }
         ensures of { self.now ≡ spec.spaces_of parts.now → result ≡ spec.named_type names.now parts.now space local.now }
         ensures there { IfSome result (IsType parts.now) }
     {
+        let number = names.lookup(space, local);
         if is_schema_space(names, space) {
             return own_type(local);
         }
-        match names.lookup(space, local) {
+        match number {
             None => None,
             Some(name) => self.type_with(parts, name),
         }

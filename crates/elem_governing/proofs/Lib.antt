@@ -1,3 +1,4 @@
 pub mod SameLaws
 pub mod DerivedLaws
 pub mod DeclaredLaws
+pub mod ScopeLaws
