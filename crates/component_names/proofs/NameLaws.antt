@@ -1,5 +1,5 @@
 -- A place that has a name is one of the places.
-use Rattle.std.proofs.Common.{◌≡◌, ◌≢◌, inl, inr, length-append, ℕ, suc, ◌+◌, ◌<◌, ◌≤◌, ◌==◌, List, [], ◌∷◌, Bool, true, false, Option, None, Some, length, map, refl, sym, ap, ◌∙◌, arith}
+use Rattle.std.proofs.Common.{◌≡◌, ◌≢◌, inl, inr, length-append, ℕ, suc, ◌+◌, ◌<◌, ◌≤◌, ◌==◌, List, [], ◌∷◌, Bool, true, false, Option, None, Some, length, sym, ap, ◌∙◌, arith}
 use Rattle.std.specs.Prelude.{IfSome, IfNone, if◌then◌else◌}
 use Rattle.std.specs.Option.{option_or}
 use Rattle.std.proofs.lemmas.List.{length-map}

@@ -1,13 +1,12 @@
 -- The test of derivation tells the relation.
-use Rattle.std.proofs.Common.{◌≡◌, ℕ, zero, suc, ◌+◌, ◌<◌, ◌⊎◌, inl, inr, ◌↔◌, Bool, true, false, ◌&&◌, ◌||◌, Option, None, Some, List, refl, sym, ap, subst, ◌∙◌, arith}
-use Rattle.std.specs.Prelude.{Contains, All, IfSome, IfOk, IsTrue, Result, Ok, Err, not}
-use Rattle.std.specs.List.{list_any}
+use Rattle.std.proofs.Common.{◌≡◌, ℕ, zero, suc, ◌<◌, ◌⊎◌, inl, inr, ◌↔◌, Bool, true, false, ◌&&◌, ◌||◌, Option, None, Some, refl, sym, ap, subst, ◌∙◌, arith}
+use Rattle.std.specs.Prelude.{IfSome, IfOk, IsTrue, Result, Ok, Err, not}
 use Rattle.std.proofs.lemmas.Bool.{true≢false, and_parts, or_left, or_right}
 use Rattle.std.proofs.lemmas.List.Elements.{All-contains}
 use Rattle.xs_components.specs.Tables.{Tables}
 use Rattle.xs_components.specs.declared.common.Methods.{Methods}
 use Rattle.xs_components.specs.declared.common.TypeId.{TypeId}
-use Rattle.xs_references.specs.Descent.{after_turns, along, AsksLower}
+use Rattle.xs_references.specs.Descent.{after_turns, AsksLower}
 use Rattle.xs_references.specs.Heights.{type_height, IsType, IsLower}
 use Rattle.xs_references.specs.Ranked.{IsRanked}
 use Rattle.xs_references.proofs.DescentLaws.{along-is}

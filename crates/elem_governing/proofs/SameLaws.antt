@@ -1,5 +1,5 @@
 -- Types that are the same; tests of members.
-use Rattle.std.proofs.Common.{◌≡◌, ℕ, ◌⊎◌, inl, inr, Bool, true, false, List, [], ◌∷◌, ◌==◌, Some, refl, sym, ap, ◌∙◌, arith, eq-eqb, eqb-true}
+use Rattle.std.proofs.Common.{◌≡◌, inl, inr, Bool, true, false, List, [], ◌∷◌, Some, refl, sym, ap, ◌∙◌, arith, eq-eqb, eqb-true}
 use Rattle.std.specs.Prelude.{Contains, All}
 use Rattle.std.specs.List.{list_any}
 use Rattle.std.proofs.lemmas.Bool.{true≢false}
@@ -8,9 +8,9 @@ use Rattle.std.proofs.lemmas.List.Elements.{All-head, All-tail, Contains-append_
 use Rattle.xs_codes.specs.declared.builtin.Builtin.{Builtin as Built}
 use Rattle.xs_components.specs.declared.common.TypeId.{TypeId}
 use Rattle.xs_components.specs.declared.common.TypeId.TheVariants.{AnyType, Builtin, Simple, Complex}
-use Rattle.simple_values.specs.Builtins.{name_of, named}
+use Rattle.simple_values.specs.Builtins.{name_of}
 use Rattle.simple_values.proofs.Named.{named_is}
-use Rattle.elem_governing.specs.Derived.{same_builtin, same_type}
+use Rattle.elem_governing.specs.Derived.{same_type}
 
 some-same : {X : Type 0} (a b : X) → Some a ≡ Some b → a ≡ b
 some-same a b e = cc

@@ -9,14 +9,14 @@ use Rattle.xs_components.specs.declared.common.TypeId.{TypeId}
 use Rattle.xs_components.specs.declared.common.TypeId.TheVariants.{AnyType}
 use Rattle.xs_components.specs.declared.particle.Particle.{Particle}
 use Rattle.xs_components.specs.declared.particle.Term.{Term}
-use Rattle.xs_components.specs.declared.particle.Term.TheVariants.{Element, Any, Group, Sequence, Choice, All}
+use Rattle.xs_components.specs.declared.particle.Term.TheVariants.{Element, Any}
 use Rattle.element_types.specs.Types.{type_of, global_of, given_declaration}
 use Rattle.elem_governing.specs.LocalType.{xsi_type}
 use Rattle.elem_governing.specs.declared.pairs.Governing.{Governing}
 use Rattle.elem_governing.specs.declared.pairs.Mode.{Mode}
 use Rattle.elem_governing.specs.declared.pairs.Mode.TheVariants.{Strict, Lax, Skip}
 use Rattle.elem_governing.specs.declared.local_types.XsiType.{XsiType}
-use Rattle.elem_governing.specs.declared.local_types.XsiType.TheVariants.{Absent, NotQName, Unresolved, NotDerived, Governs}
+use Rattle.elem_governing.specs.declared.local_types.XsiType.TheVariants.{Governs}
 
 -- the type of a declaration; without one anyType (Structures 5.2)
 abbrev pub declared_type : Tables → Option ℕ → TypeId

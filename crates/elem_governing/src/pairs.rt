@@ -5,9 +5,9 @@ use xs_components::{ElementId, TypeId};
 /// How strictly an element is assessed (Structures 3.10.1, 5.2).
 #[derive(Clone, Copy, Debug, PartialEq, Eq)]
 pub enum Mode {
-    /// There is a declaration for it, or a type that xsi:type names.
+    /// There must be a declaration for it, or a type that xsi:type names.
     Strict,
-    /// It is assessed as far as there is one.
+    /// It is assessed as far as there is one or the other.
     Lax,
     /// It is not assessed, nor is anything in it.
     Skip,
