@@ -28,12 +28,12 @@ code-later false code other others at = at
 
 -- what is not true is false
 false-from : (b : Bool) → (b ≡ true → ⊥) → b ≡ false
-false-from true no = absurd (no refl)
-false-from false no = refl
+false-from true never = absurd (never refl)
+false-from false never = refl
 
 true-from : (b : Bool) → (not b ≡ true → ⊥) → b ≡ true
-true-from true no = refl
-true-from false no = absurd (no refl)
+true-from true never = refl
+true-from false never = absurd (never refl)
 
 module _ (t : NameTable) (origins : List Origin) (reps : List Representation) (none : IsLeast (IsBroken t origins reps) None) where
   module _ (place : ℕ) (rep : Representation) (at : slice_get reps place ≡ Some rep) where

@@ -14,15 +14,15 @@ first-has [] i name p is = absurd (none-some p is)
 first-has (None ∷ names) i name p is =
     let rest = first-has names (suc i) name p is in
     (suc rest.0, omega (arith, rest.1), rest.2)
-first-has (Some own ∷ names) i name p is = by (own == name) refl
+first-has (Some own ∷ names) i name p is = by (own == name) refl (first-has names (suc i) name p)
   where
-    by : (here : Bool) → (own == name) ≡ here → (k : ℕ) × (p ≡ i + k) × (slice_index_or (Some own ∷ names) k None ≡ Some name)
-    by true same =
+    by : (here : Bool) → (own == name) ≡ here → (first_from names (suc i) name ≡ Some p → (k : ℕ) × (p ≡ suc i + k) × (slice_index_or names k None ≡ Some name))
+        → (k : ℕ) × (p ≡ i + k) × (slice_index_or (Some own ∷ names) k None ≡ Some name)
+    by true same later =
         let found : Some i ≡ Some p = sym (ap (λ (here : Bool). or-rest here i (first_from names (suc i) name)) same) ∙ is in
         (zero, omega (arith, same_Some i p found), ap (λ (n : ℕ). Some n) (eqb-true own name same))
-    by false other =
-        let later : first_from names (suc i) name ≡ Some p = sym (ap (λ (here : Bool). or-rest here i (first_from names (suc i) name)) other) ∙ is in
-        let rest = first-has names (suc i) name p later in
+    by false other later =
+        let rest = later (sym (ap (λ (here : Bool). or-rest here i (first_from names (suc i) name)) other) ∙ is) in
         (suc rest.0, omega (arith, rest.1), rest.2)
 
 -- a name that stands at a place is found there or before
@@ -35,13 +35,12 @@ first-found (None ∷ names) i name (suc k) is =
 first-found (Some own ∷ names) i name zero is =
     let same : (own == name) ≡ true = eq-eqb own name (same_Some own name is) in
     (i, ap (λ (here : Bool). or-rest here i (first_from names (suc i) name)) same, omega arith)
-first-found (Some own ∷ names) i name (suc k) is = by (own == name) refl
+first-found (Some own ∷ names) i name (suc k) is = by (own == name) refl (first-found names (suc i) name k is)
   where
-    by : (here : Bool) → (own == name) ≡ here → (p : ℕ) × (first_from (Some own ∷ names) i name ≡ Some p) × (p ≤ i + suc k)
-    by true same = (i, ap (λ (here : Bool). or-rest here i (first_from names (suc i) name)) same, omega arith)
-    by false other =
-        let rest = first-found names (suc i) name k is in
-        (rest.0, ap (λ (here : Bool). or-rest here i (first_from names (suc i) name)) other ∙ rest.1, omega (arith, rest.2))
+    by : (here : Bool) → (own == name) ≡ here → (p : ℕ) × (first_from names (suc i) name ≡ Some p) × (p ≤ suc i + k) → (p : ℕ) × (first_from (Some own ∷ names) i name ≡ Some p) × (p ≤ i + suc k)
+    by true same rest = (i, ap (λ (here : Bool). or-rest here i (first_from names (suc i) name)) same, omega arith)
+    by false other rest = (
+        rest.0, ap (λ (here : Bool). or-rest here i (first_from names (suc i) name)) other ∙ rest.1, omega (arith, rest.2))
 
 module _ {A : Type 0} (f : A → Option ℕ) where
   -- what has a name in a list that is made of another comes of an item of it

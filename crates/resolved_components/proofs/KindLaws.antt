@@ -31,23 +31,23 @@ simple-at simples complexes (rep ∷ reps) (suc place) is = simple-at (simples +
 
 -- a type that is no complex type is a simple one
 other-kind : (form : Represented) → is_type form ≡ true → is_complex_type form ≡ false → is_simple_type form ≡ true
-other-kind (forms.SimpleType name finals) is no = refl
-other-kind (forms.ComplexType head) is no = absurd (cc)
-other-kind _ is no = is
+other-kind (forms.SimpleType name finals) is never = refl
+other-kind (forms.ComplexType head) is never = absurd (cc)
+other-kind _ is never = is
 
 one-kind : (found : Option Representation) → is_type_in found ≡ true → is_kind_in is_complex_type found ≡ false → is_kind_in is_simple_type found ≡ true
-one-kind None is no = is
-one-kind (Some rep) is no = other-kind rep.form is no
+one-kind None is never = is
+one-kind (Some rep) is never = other-kind rep.form is never
 
 -- what is found by a test, if something passes it
 pub any-found : {A : Type 0} (test : A → Bool) (xs : List A) → list_any test xs ≡ true → (x : A) × (find test xs ≡ Some x)
 any-found test [] is = absurd (cc)
-any-found {A} test (x ∷ xs) is = by (test x) refl
+any-found {A} test (x ∷ xs) is = by (test x) refl (any-found test xs)
   where
-    by : (here : Bool) → test x ≡ here → (y : A) × (find test (x ∷ xs) ≡ Some y)
-    by true e = (x, ap (λ (here : Bool). cond here (Some x) (find test xs)) e)
-    by false e =
-        let rest = any-found test xs (sym (ap (λ (here : Bool). here || list_any test xs) e) ∙ is) in
+    by : (here : Bool) → test x ≡ here → (list_any test xs ≡ true → (y : A) × (find test xs ≡ Some y)) → (y : A) × (find test (x ∷ xs) ≡ Some y)
+    by true e later = (x, ap (λ (here : Bool). cond here (Some x) (find test xs)) e)
+    by false e later =
+        let rest = later (sym (ap (λ (here : Bool). here || list_any test xs) e) ∙ is) in
         (rest.0, ap (λ (here : Bool). cond here (Some x) (find test xs)) e ∙ rest.1)
 
 module _ (reps : List Representation) where
@@ -57,18 +57,19 @@ module _ (reps : List Representation) where
   -- of members without complex types the first type is simple
   pub first-simple : (members : List ℕ) → list_any (is_kind_at is_complex_type reps) members ≡ false → IfSome (find (is_type_at reps) members) IsSimplePlace
   first-simple [] plain = tt
-  first-simple (member ∷ members) plain = by (is_type_at reps member) refl
+  first-simple (member ∷ members) plain = by (is_type_at reps member) refl (first-simple members)
     where
       parts : (is_kind_at is_complex_type reps member ≡ false) × (list_any (is_kind_at is_complex_type reps) members ≡ false)
       parts = or_parts (is_kind_at is_complex_type reps member) (list_any (is_kind_at is_complex_type reps) members) plain
 
-      by : (here : Bool) → is_type_at reps member ≡ here → IfSome (find (is_type_at reps) (member ∷ members)) IsSimplePlace
-      by true e =
+      by : (here : Bool) → is_type_at reps member ≡ here
+          → (list_any (is_kind_at is_complex_type reps) members ≡ false → IfSome (find (is_type_at reps) members) IsSimplePlace) → IfSome (find (is_type_at reps) (member ∷ members)) IsSimplePlace
+      by true e rest =
           subst (λ (here : Bool). IfSome (cond here (Some member) (find (is_type_at reps) members)) IsSimplePlace) (sym e)
           (one-kind (slice_get reps member) e parts.0)
-      by false e =
+      by false e rest =
           subst (λ (here : Bool). IfSome (cond here (Some member) (find (is_type_at reps) members)) IsSimplePlace) (sym e)
-          (first-simple members parts.1)
+          (rest parts.1)
 
   -- a type among these is simple
   pub type-simple : (place : ℕ) → is_type_at reps place ≡ true → is_kind_at is_complex_type reps place ≡ false → IsSimplePlace place

@@ -1,0 +1,5 @@
+//! Try.
+#![tactic(auto)]
+
+/// Nothing.
+pub fn nothing() {}
