@@ -1,8 +1,9 @@
 -- Whatever the components of a schema set refer to is there.
-use Rattle.std.proofs.Common.{◌≡◌, ℕ, ◌<◌, List, Option, None, map, length, refl, sym, subst, arith}
+use Rattle.std.proofs.Common.{◌≡◌, ℕ, ◌<◌, List, [], ◌∷◌, Option, None, map, length, refl, sym, subst, arith}
 use Rattle.std.specs.Prelude.{All, IfSome}
 use Rattle.std.specs.List.{flat_map}
 use Rattle.std.proofs.lemmas.List.{length-append}
+use Rattle.std.proofs.lemmas.List.Elements.{All-nil}
 use Rattle.xs_components.specs.Changes.{with_particle, with_head}
 use Rattle.xs_components.specs.Tables.{Tables}
 use Rattle.xs_components.specs.declared.common.Place.{Place}
@@ -97,7 +98,7 @@ module _ (source : Source) where
       )
 
   attributes-below : AreBelow (length all.attributes.parts) (built.attribute_numbers source)
-  attributes-below place n is = numbers_below (attributes_of source (built.types source)) 0 reps place n is
+  attributes-below place n is = omega (arith, numbers_below (attributes_of source (built.types source)) 0 reps place n is)
 
   attr-groups-below : AreBelow (length all.attr_groups.parts) (built.attr_group_numbers source)
   attr-groups-below place n is =

@@ -63,7 +63,7 @@ module _ (source : Source) where
   keys-below place n is = omega (arith, numbers_below (keys_of source) 0 source.reps.now place n is, length-append (keys source) (keyrefs source numbers))
 
   keyrefs-below : AreBelow count (constraint_numbers source 0).keyrefs
-  keyrefs-below place n is = omega (arith, numbers_below (keyrefs_of source numbers) (length (keys source)) source.reps.now place n is, length-append (keys source) (keyrefs source numbers))
+  keyrefs-below place n is = omega (arith, numbers_below (keyrefs_of source numbers) (0 + length (keys source)) source.reps.now place n is, length-append (keys source) (keyrefs source numbers))
 
   pub constraints-there : (members : List ℕ) → All (λ n. n < count) (constraints_in (constraint_numbers source 0) members)
   constraints-there members =

@@ -95,7 +95,7 @@ module _ (source : Source) (elements groups known : List (Option ℕ)) (Q : Term
   term-has each forms.All place members = each.all members
   term-has each _ place members = tt
 
-  pub place-has : Each-kind → (place : ℕ) (rep : Representation) → All (λ (part : Particle). Q part.term) (particles_of source elements groups known place rep)
+  place-has : Each-kind → (place : ℕ) (rep : Representation) → All (λ (part : Particle). Q part.term) (particles_of source elements groups known place rep)
   place-has each place rep = particles-have (each.sequence []) place rep (term-has each rep.form place rep.members)
 
 module _ (source : Source) (elements groups : List (Option ℕ)) where

@@ -1,5 +1,0 @@
-//! Try.
-#![tactic(auto)]
-
-/// Nothing.
-pub fn nothing() {}
