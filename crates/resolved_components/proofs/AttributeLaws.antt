@@ -4,7 +4,6 @@ use Rattle.std.specs.List.{list_all}
 use Rattle.std.specs.Option.{unwrap_or}
 use Rattle.std.proofs.lemmas.Bool.{and_parts}
 use Rattle.std.proofs.lemmas.List.Elements.{All-nil}
-use Rattle.std.proofs.lemmas.List.Folds.{list_all-append}
 use Rattle.xs_codes.specs.declared.builtin.Builtin.TheVariants.{AnySimpleType}
 use Rattle.xs_components.specs.declared.attribute.AttributeDecl.{AttributeDecl}
 use Rattle.xs_components.specs.declared.common.TypeId.{TypeId}
@@ -16,9 +15,8 @@ use Rattle.representations.specs.declared.parts.Represented.TheVariants as forms
 use Rattle.representations.specs.declared.parts.Representation.{Representation}
 use Rattle.representations.specs.declared.source.Source.{Source}
 use Rattle.representations.specs.Names.{spaces_of}
-use Rattle.reference_faults.specs.declared.reference.Reference.TheVariants.{ToAttribute}
-use Rattle.reference_faults.specs.References.{one_or_none, simple_references_if}
-use Rattle.reference_faults.specs.Resolution.{kinds_of, resolves}
+use Rattle.reference_faults.specs.References.{attribute_references, simple_references_if}
+use Rattle.reference_faults.specs.Resolution.{kinds_of, is_named, resolves}
 use Rattle.build_types.specs.Types.{given_type}
 use Rattle.build_attributes.specs.Declarations.{declaration, declared, attributes_by, attributes_of}
 use Rattle.build_components.specs.Built as built
@@ -41,13 +39,19 @@ module _ (source : Source) (spaces : source.spaces.now ≡ spaces_of source.reps
   or-any None is = refl
   or-any (Some of) is = is
 
+  -- the type that an attribute names is found
+  type-found : (attribute : AttributeRepresentation) → are_found reps (forms.Attribute attribute) ≡ true → list_all (resolves (spaces_of reps) (kinds_of reps)) (simple_references_if attribute.of) ≡ true
+  type-found attribute found = by attribute.reference found
+    where
+      by : (reference : Option ℕ) → list_all (resolves (spaces_of reps) (kinds_of reps)) (attribute_references (record attribute { reference = reference })) ≡ true
+          → list_all (resolves (spaces_of reps) (kinds_of reps)) (simple_references_if attribute.of) ≡ true
+      by None is = is
+      by (Some name) is = (and_parts (is_named (spaces_of reps).attributes name) (list_all (resolves (spaces_of reps) (kinds_of reps)) (simple_references_if attribute.of)) is).1
+
   type-simple : (attribute : AttributeRepresentation) (members : List ℕ) → IsShaped reps members (forms.Attribute attribute) → are_found reps (forms.Attribute attribute) ≡ true
       → is_simple (unwrap_or (given_type source ids attribute.of members) (Builtin AnySimpleType)) ≡ true
   type-simple attribute members shape found =
-      let test = resolves (spaces_of reps) (kinds_of reps) in
-      let parts = and_parts (list_all test (one_or_none ToAttribute attribute.reference)) (list_all test (simple_references_if attribute.of))
-          (sym (list_all-append test (one_or_none ToAttribute attribute.reference) (simple_references_if attribute.of)) ∙ found) in
-      or-any (given_type source ids attribute.of members) (given-simple source spaces resolved shaped attribute.of members parts.1 (shape.plain refl))
+      or-any (given_type source ids attribute.of members) (given-simple source spaces resolved shaped attribute.of members (type-found attribute found) (shape.plain refl))
 
   unless-prohibited : (is : Bool) (part : AttributeDecl) → HasSimple part → All HasSimple (if is then [] else part ∷ [])
   unless-prohibited true part has = All-nil HasSimple

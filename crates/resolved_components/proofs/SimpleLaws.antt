@@ -1,5 +1,5 @@
 -- What a simple type is made of is simple.
-use Rattle.std.proofs.Common.{◌≡◌, ℕ, zero, suc, Bool, true, false, ◌&&◌, List, [], ◌∷◌, ◌++◌, Option, None, Some, All, IfSome, find, map, slice_get, if◌then◌else◌, refl, sym, ap, subst, ◌∙◌}
+use Rattle.std.proofs.Common.{◌≡◌, ℕ, zero, suc, Bool, true, false, ◌&&◌, List, [], ◌∷◌, ◌++◌, Option, None, Some, All, IfSome, find, map, slice_get, if◌then◌else◌, refl, sym, ap, subst, ◌∙◌, true≢false}
 use Rattle.std.specs.List.{list_all, list_any, flat_map}
 use Rattle.std.specs.Option.{option_map, unwrap_or}
 use Rattle.std.proofs.lemmas.Bool.{and_parts, or_parts}
@@ -22,7 +22,6 @@ use Rattle.representations.specs.declared.source.Source.{Source}
 use Rattle.representations.specs.declared.source.SymbolSpaces.{SymbolSpaces}
 use Rattle.representations.specs.Members.{is_type_at}
 use Rattle.representations.specs.Names.{spaces_of}
-use Rattle.reference_faults.specs.declared.reference.Reference.TheVariants.{ToAnyTypeAsSimple, ToSimpleType}
 use Rattle.reference_faults.specs.References.{simple_references, simple_references_if}
 use Rattle.reference_faults.specs.Resolution.{kinds_of, is_named, resolves}
 use Rattle.build_types.specs.Types.{type_at, meant_type, child_type, given_type}
@@ -66,7 +65,7 @@ module _ (source : Source) (spaces : source.spaces.now ≡ spaces_of source.reps
   Resolve name = list_all (resolves (spaces_of reps) (kinds_of reps)) (simple_references name) ≡ true
 
   meant-simple : (name : TypeName) → Resolve name → IsSimple (meant_type source ids name)
-  meant-simple names.AnyType is = absurd (cc)
+  meant-simple names.AnyType is = absurd (true≢false (sym is))
   meant-simple (names.Builtin of) is = refl
   meant-simple (names.Named name) is = by-name name (and_parts (is_named (kinds_of reps).simples name) true is).0
 
@@ -147,4 +146,4 @@ module _ (source : Source) (spaces : source.spaces.now ≡ spaces_of source.reps
 
 -- this is known by the simple types alone
 pub alike-simple : (t other : Tables) → other.simples.parts ≡ t.simples.parts → AreSimple t → AreSimple other
-alike-simple t other same simple = record { named = λ n part at. simple.named n part (sym (ap (λ (parts : List SimpleType). slice_get parts n) same) ∙ at) }
+alike-simple t other same one = record { named = λ n part at. one.named n part (sym (ap (λ (parts : List SimpleType). slice_get parts n) same) ∙ at) }

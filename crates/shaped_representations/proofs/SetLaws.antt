@@ -34,8 +34,7 @@ use Rattle.shaped_representations.proofs.ShapeLaws.{element-shaped}
 -- a document that is of a tree is walked whole
 answered : (number : ℕ) (es : List Construct) (fault : Option Broken) (schema : ShapedSchema) → answer number es fault ≡ Ok schema → (fault ≡ None) × (schema.shapes ≡ shapes es)
 answered number es None schema is =
-    let same : record { shapes = shapes es } ≡ schema = ok-same (record { shapes = shapes es }) schema is in
-    (refl, sym (ap (λ (s : ShapedSchema). s.shapes) same))
+    (refl, sym (ap (λ (s : ShapedSchema). s.shapes) (ok-same (record { shapes = shapes es }) schema is)))
   where
     ok-same : (one other : ShapedSchema) → ◌≡◌ {A = Result ShapedSchema Fault} (Ok one) (Ok other) → one ≡ other
     ok-same one other e = cc
@@ -113,12 +112,12 @@ module _ (t : NameTable) (reps : List Representation) where
       let later = place + length list in
       let next = first + openings (reverse list) in
       let more = representations_of t later next ds in
-      let many = length-from naming defaults d.number first [] place list in
+      let many : length own ≡ length list = length-from naming defaults d.number first [] place list in
       let laid = from-laid naming defaults d.number first [] place place list (λ m r is. stand m r (front-stands own more m r is)) in
       let here = document-shaped naming defaults d.number first [] place list (document-walked d (All-head IsOfTree d ds of)) laid in
       let there = set-shaped later next ds (All-tail IsOfTree d ds of)
           (λ m r is.
-          let on : place + (length own + m) ≡ later + m = omega (arith, many) in
+          let on : place + (length own + m) ≡ place + length list + m = omega (arith, many) in
           ap (λ (p : ℕ). slice_get reps p) (sym on) ∙ stand (length own + m) r (back-stands own more m ∙ is)) in
       both (λ (r : Representation). IsShaped reps r.members r.form) own more here there n rep at
 

@@ -76,8 +76,8 @@ module _ (t : NameTable) (naming : Naming) (defaults : Defaults) (reps : List Re
 
   first-made : (kind : Kind) (class : Class) (apart : (tag : Tag) → is_in class tag ≡ true → is_in c.Annotation tag ≡ false) (is_kind : Represented → Bool) → contents kind ≡ annotated class ∷ []
       → ((tag : Tag) → is_in class tag ≡ true → Becomes t naming defaults kind is_kind tag) → IsRight kind scope attributes children → ArePlaced kind → is_kind_in is_kind (first_member reps list) ≡ true
-  first-made kind class apart is_kind has becomes right placed =
-      let first = first-child class apart kind (child_tags children) has right.children_right in
+  first-made kind class apart is_kind grammar becomes fine placed =
+      let first = first-child class apart kind (child_tags children) grammar fine.children_right in
       let kid = uncons (kids children) first.0 first.1 (sym (names-are children) ∙ first.2) in
       let tag : is_in class kid.0.1 ≡ true = ap (λ (x : Tag). is_in class x) kid.3 ∙ first.3 in
       let all : All (IsPlaced t naming defaults reps look kind) (kid.0 ∷ kid.1) = subst (All (IsPlaced t naming defaults reps look kind)) kid.2 placed in
@@ -85,14 +85,14 @@ module _ (t : NameTable) (naming : Naming) (defaults : Defaults) (reps : List Re
       ∙ members-first t naming defaults reps look kind is_kind kid.0 kid.1 all (becomes kid.0.1 tag)
 
   made : (kind : Kind) → Right kind → ArePlaced kind → is_simple_type (form kind) ≡ true → is_kind_in is_variety (first_member reps list) ≡ true
-  made k.TopSimpleType right placed is = first-made k.TopSimpleType c.Variety variety-apart is_variety refl (top-variety t naming defaults) (right refl refl) placed
-  made k.LocalSimpleType right placed is = first-made k.LocalSimpleType c.Variety variety-apart is_variety refl (local-variety t naming defaults) (right refl refl) placed
-  made _ right placed is = absurd (true≢false (sym is))
+  made k.TopSimpleType fine placed is = first-made k.TopSimpleType c.Variety variety-apart is_variety refl (top-variety t naming defaults) (fine refl refl) placed
+  made k.LocalSimpleType fine placed is = first-made k.LocalSimpleType c.Variety variety-apart is_variety refl (local-variety t naming defaults) (fine refl refl) placed
+  made _ fine placed is = absurd (true≢false (sym is))
 
   derived : (kind : Kind) → Right kind → ArePlaced kind → is_content (form kind) ≡ true → is_kind_in is_derivation (first_member reps list) ≡ true
-  derived k.SimpleContent right placed is = first-made k.SimpleContent c.Derivation derivation-apart is_derivation refl (simple-derivation t naming defaults) (right refl refl) placed
-  derived k.ComplexContent right placed is = first-made k.ComplexContent c.Derivation derivation-apart is_derivation refl (complex-derivation t naming defaults) (right refl refl) placed
-  derived _ right placed is = absurd (true≢false (sym is))
+  derived k.SimpleContent fine placed is = first-made k.SimpleContent c.Derivation derivation-apart is_derivation refl (simple-derivation t naming defaults) (fine refl refl) placed
+  derived k.ComplexContent fine placed is = first-made k.ComplexContent c.Derivation derivation-apart is_derivation refl (complex-derivation t naming defaults) (fine refl refl) placed
+  derived _ fine placed is = absurd (true≢false (sym is))
 
   -- a name that is not there
   no-restriction-name : (name : Option Expanded) → names_no_type (forms.Restriction (type_name_if t naming name)) ≡ true → name ≡ None
@@ -103,32 +103,32 @@ module _ (t : NameTable) (naming : Naming) (defaults : Defaults) (reps : List Re
   no-list-name None is = refl
   no-list-name (Some name) is = absurd (true≢false (sym is))
 
-  simple-child : (given : Bool) → given ≡ false → same given (list_any (is_in c.SimpleType) (child_tags children)) ≡ false → list_any (is_in c.SimpleType) (child_tags children) ≡ true
+  simple-child : (there : Bool) → there ≡ false → same there (list_any (is_in c.SimpleType) (child_tags children)) ≡ false → list_any (is_in c.SimpleType) (child_tags children) ≡ true
   simple-child true is differ = absurd (true≢false is)
   simple-child false is differ = same-false (list_any (is_in c.SimpleType) (child_tags children)) differ
 
   given : (kind : Kind) → Right kind → ArePlaced kind → names_no_type (form kind) ≡ true → list_any (is_type_at reps) list ≡ true
-  given k.Restriction right placed is =
-      let fine = right refl refl in
-      let missing = no-base scope attributes fine.values (no-restriction-name (name_of an.Base scope attributes) is) in
-      let child = simple-child (has an.Base attributes) missing fine.base in
+  given k.Restriction fine placed is =
+      let here = fine refl refl in
+      let missing = no-base scope attributes here.values (no-restriction-name (name_of an.Base scope attributes) is) in
+      let child = simple-child (has an.Base attributes) missing here.base in
       members-type t naming defaults reps look k.Restriction (restriction-type t naming defaults) (kids children) placed (sym (kids-simple children) ∙ child)
-  given k.List right placed is =
-      let fine = right refl refl in
-      let missing = no-item scope attributes fine.values (no-list-name (name_of an.ItemType scope attributes) is) in
-      let child = simple-child (has an.ItemType attributes) missing fine.item in
+  given k.List fine placed is =
+      let here = fine refl refl in
+      let missing = no-item scope attributes here.values (no-list-name (name_of an.ItemType scope attributes) is) in
+      let child = simple-child (has an.ItemType attributes) missing here.item in
       members-type t naming defaults reps look k.List (list-type t naming defaults) (kids children) placed (sym (kids-simple children) ∙ child)
-  given _ right placed is = absurd (true≢false (sym is))
+  given _ fine placed is = absurd (true≢false (sym is))
 
   plain : (kind : Kind) → Right kind → ArePlaced kind → may_hold_complex (form kind) ≡ false → list_any (is_kind_at is_complex_type reps) list ≡ false
-  plain kind right placed is =
+  plain kind fine placed is =
       let holds = may-hold t naming defaults kind scope attributes is in
       let other = not-ignored kind holds in
-      let fine = right other.0 other.1 in
-      members-plain t naming defaults reps look kind (kids children) placed (kids-plain children (tags-plain kind (child_tags children) holds fine.children_right))
+      let here = fine other.0 other.1 in
+      members-plain t naming defaults reps look kind (kids children) placed (kids-plain children (tags-plain kind (child_tags children) holds here.children_right))
 
   pub kind-shaped : (kind : Kind) → Right kind → ArePlaced kind → IsShaped reps list (form kind)
-  kind-shaped kind right placed = record { made = made kind right placed; given = given kind right placed; derived = derived kind right placed; plain = plain kind right placed }
+  kind-shaped kind fine placed = record { made = made kind fine placed; given = given kind fine placed; derived = derived kind fine placed; plain = plain kind fine placed }
 
 -- an element, laid behind which are those that come after it
 pub element-shaped : (t : NameTable) (naming : Naming) (defaults : Defaults) (reps : List Representation) (place : ℕ) (behind : List Shape) → AreLaid t naming defaults reps place behind

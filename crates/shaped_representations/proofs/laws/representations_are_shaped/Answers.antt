@@ -1,5 +1,5 @@
 use Rattle.shaped_representations.proofs.SetLaws.{all-shaped}
 use Rattle.shaped_representations.proofs.laws.representations_are_shaped.Goals as goal
 
-pub returns-clause-shaped : goal.returns-clause-shaped
-returns-clause-shaped c = all-shaped
+pub returns : goal.returns
+returns c = all-shaped
