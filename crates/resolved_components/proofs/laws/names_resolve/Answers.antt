@@ -2,4 +2,4 @@ use Rattle.resolved_components.proofs.FaultLaws.{are-resolved}
 use Rattle.resolved_components.proofs.laws.names_resolve.Goals as goal
 
 pub returns : goal.returns
-returns c = are-resolved
+returns c = record { resolved = are-resolved }
