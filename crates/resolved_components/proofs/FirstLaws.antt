@@ -40,7 +40,10 @@ first-found (Some own ∷ names) i name (suc k) is = by (own == name) refl (firs
     by : (here : Bool) → (own == name) ≡ here → (p : ℕ) × (first_from names (suc i) name ≡ Some p) × (p ≤ suc i + k) → (p : ℕ) × (first_from (Some own ∷ names) i name ≡ Some p) × (p ≤ i + suc k)
     by true same rest = (i, ap (λ (here : Bool). or-rest here i (first_from names (suc i) name)) same, omega arith)
     by false other rest = (
-        rest.0, ap (λ (here : Bool). or-rest here i (first_from names (suc i) name)) other ∙ rest.1, omega (arith, rest.2))
+      rest.0,
+      ap (λ (here : Bool). or-rest here i (first_from names (suc i) name)) other ∙ rest.1,
+      omega (arith, rest.2),
+    )
 
 module _ {A : Type 0} (f : A → Option ℕ) where
   -- what has a name in a list that is made of another comes of an item of it

@@ -95,7 +95,7 @@ module _ (reps : List Representation) where
         let found = first-found types 0 name k here in
         let once : is_later_one types k ≡ false = (or_parts (is_later_one types k) _ (resolved.once k rep at)).0 in
         let not_before : nat_lt found.0 k ≡ false =
-            sym (ap (λ (o : Option ℕ). is_before o k) found.1) ∙ sym (ap (λ (o : Option ℕ). is_earlier types o k) here) ∙ once in
+        sym (ap (λ (o : Option ℕ). is_before o k) found.1) ∙ sym (ap (λ (o : Option ℕ). is_earlier types o k) here) ∙ once in
         let same : found.0 ≡ k = omega (arith, found.2, ltb-false found.0 k not_before) in
         (k, found.1 ∙ ap (λ (p : ℕ). Some p) same, ap (λ (o : Option Representation). is_kind_in is_simple_type o) at ∙ of.1)
 

@@ -99,7 +99,7 @@ module _ (source : Source) (spaces : source.spaces.now ≡ spaces_of source.reps
   named-members (name ∷ list) is =
       let test = resolves (spaces_of reps) (kinds_of reps) in
       let parts = and_parts (list_all test (simple_references name)) (list_all test (flat_map simple_references list))
-          (sym (list_all-append test (simple_references name) (flat_map simple_references list)) ∙ is) in
+      (sym (list_all-append test (simple_references name) (flat_map simple_references list)) ∙ is) in
       All-cons IsSimple (meant_type source ids name) (simple.named_types source ids list) (meant-simple name parts.0) (named-members list parts.1)
 
   at-member : (here : Bool) (place : ℕ) → is_type_at reps place ≡ here → is_kind_at is_complex_type reps place ≡ false → All IsSimple (if here then type_at ids place ∷ [] else [])
