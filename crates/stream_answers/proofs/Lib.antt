@@ -1,2 +1,2 @@
-pub mod Schemas
-pub mod Moved
+pub mod Readers
+pub mod Sectioned
