@@ -1,5 +1,5 @@
 -- What is written place by place is what is written section by section.
-use Rattle.std.proofs.Common.{◌≡◌, ℕ, ◌+◌, List, [], ◌∷◌, Bool, true, false, Option, Some, None, if◌then◌else◌, refl, ap, ◌∙◌}
+use Rattle.std.proofs.Common.{◌≡◌, ℕ, ◌+◌, List, [], ◌∷◌, Bool, true, false, Option, Some, None, if◌then◌else◌, refl, ap, ◌∙◌, arith}
 use Rattle.item_listing.specs.Listed as listed
 use Rattle.tree_rows.specs.Forest.{Document}
 use Rattle.tree_rows.specs.Rows.{rows_of}
@@ -23,6 +23,12 @@ use Rattle.stream_answers.specs.declared.ending.Ending.TheVariants.{Unsupported}
 use Rattle.stream_answers.specs.declared.place.Place.{Place}
 use Rattle.stream_answers.specs.declared.place.Place.TheVariants as places
 
+-- nothing is written first
+before_silent : (t : Told) → before silent t ≡ t
+before_silent t =
+    let none : 0 + t.cost ≡ t.cost = omega arith in
+    ap (λ (k : ℕ). record { text = t.text; cost = k; ending = t.ending }) none
+
 -- behind the line `end`
 ended_are : (a : Asked) (lines : ℕ) (v : Option Verdict) (its : listed.Listed)
     → told a lines (places.Ended v) its ≡ closing_told (last_told v) (sections.closing lines its)
@@ -36,9 +42,9 @@ command_step : (a : Asked) (line : ℕ) (s : OpenState) (t : command_turns.Turne
     → ((q : OpenState) (r : CommandReader) → told a line (commands_place q r) more ≡ commands_told q (command_turns.read line r more))
     → turn_then (commands_turned s t) (λ p. told a line p more)
     ≡ commands_told s (command_turns.turn_then t (λ next. command_turns.read line next more) (sections.closing line more))
-command_step a line s (command_turns.goes next) more h = h s next
+command_step a line s (command_turns.goes next) more h = before_silent (told a line (commands_place s next) more) ∙ h s next
 command_step a line s (command_turns.gives text block) more h = ap (before (said_by (answered s text block))) (h (answered s text block).next no_block)
-command_step a line s command_turns.ends more h = ended_are a line (Some (verdict s)) more
+command_step a line s command_turns.ends more h = before_silent (told a line (document_ended s) more) ∙ ended_are a line (Some (verdict s)) more
 command_step a line s (command_turns.stops stop) more h = refl
 
 commands_are : (a : Asked) (lines : ℕ) (s : OpenState) (r : CommandReader) (its : listed.Listed)
@@ -60,7 +66,7 @@ module _ (law : (lines : ℕ) (its : listed.Listed) → command_turns.read lines
       → ((r : DocumentReader) → told a line (document_place t r) more ≡ opened_told a t (document_turns.read a line r more))
       → turn_then (document_turned a t turn) (λ p. told a line p more)
       ≡ opened_told a t (document_turns.turn_then turn (λ next. document_turns.read a line next more) (sections.commands line None more) (sections.closing line more))
-  document_step a line t (document_turns.goes next) more h = h next
+  document_step a line t (document_turns.goes next) more h = before_silent (told a line (document_place t next) more) ∙ h next
   document_step a line t (document_turns.edits d) more h =
       accepted_is (has_attributes (rows_of 1 d.forest)) (goes (free (opening a (opened t d))) (commands_place (opened t d) no_block)) (λ p. told a line p more)
       (before (free (opening a (opened t d))) (commands_told (opened t d) (sections.commands line None more)))
@@ -91,7 +97,7 @@ module _ {Rest : Type 0} (a : Asked) (rest : ℕ → listed.Listed → Rest) (re
       → ((r : SchemaReader) → told a line (places.Schemas r) more ≡ stream_told rest_told (schema_turns.read a rest line r more))
       → turn_then (schemas_turned a line turn) (λ p. told a line p more)
       ≡ stream_told rest_told (schema_turns.turn_then turn (λ next. schema_turns.read a rest line next more) (rest line more))
-  schemas_step line (schema_turns.goes next) more h = h next
+  schemas_step line (schema_turns.goes next) more h = before_silent (told a line (places.Schemas next) more) ∙ h next
   schemas_step line (schema_turns.ends all) more h = compiled_is line (first_tables all) more
   schemas_step line (schema_turns.stops stop) more h = refl
 

@@ -17,8 +17,10 @@ use Rattle.xsv_run.specs.declared.next.Next.TheVariants as nexts
 use Rattle.xsv_run.proofs.Tracing.{writes_none, writes_both, joined}
 use Rattle.xsv_run.proofs.Telling.{ends_behind}
 
-before-nil : (t : Told) → t ≡ before silent t
-before-nil t = refl
+pub before-nil : (t : Told) → t ≡ before silent t
+before-nil t =
+    let none : t.cost ≡ 0 + t.cost = omega arith in
+    ap (λ (k : ℕ). record { text = t.text; cost = k; ending = t.ending }) none
 
 pub before-before : (said more : Said) (t : Told) → before said (before more t) ≡ before (joined said more) t
 before-before said more t =

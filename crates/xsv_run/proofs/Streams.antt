@@ -19,7 +19,7 @@ use Rattle.xsv_run.specs.Output.{Answers, output_of, told_of}
 use Rattle.xsv_run.specs.inside.Progress.{Trace, WritesFront, all_of, EndsAs, TakesPiece, EndsPiece, StandsAt, StopsAt, to_tell}
 use Rattle.xsv_run.proofs.Tracing.{writes_none, writes_both, front_whole, joined}
 use Rattle.xsv_run.proofs.Telling.{ends_behind}
-use Rattle.xsv_run.proofs.Going.{before-before}
+use Rattle.xsv_run.proofs.Going.{before-nil, before-before}
 
 pub unread_waits : Waits unread
 unread_waits = (λ e. refl, λ e. cc)
@@ -31,7 +31,7 @@ stands_first law a rest o = record {
   said = silent;
   consumed = Consumes-nil rest;
   written = writes_none o;
-  told_on = λ more closed. sym (law a (listed unread more closed));
+  told_on = λ more closed. sym (law a (listed unread more closed)) ∙ before-nil (to_tell a unbegun unread more closed);
   counted = refl;
 }
 

@@ -7,7 +7,7 @@ use Rattle.xsv_run.proofs.stream.take_pieces.Goals as goal
 
 pub pieces-init : goal.pieces-init
 pieces-init g c = rw (c.requires.unread, c.requires.unbegun) (record {
-  stands = stands_first c.places_answer_sections.ensures c.args.asked _ _;
+  stands = stands_first c.places_answer_sections.ensures.sectioned c.args.asked _ _;
   is_open = tt;
   waits = unread_waits;
   going = refl;
