@@ -1,23 +1,20 @@
 -- Streams of which no line is refused.
-use Rattle.std.proofs.Common.{◌≡◌, ℕ, List, [], ◌∷◌, ◌++◌, true, false, Option, Some, refl, sym, ap, ◌∙◌, append_assoc, append-nil, if◌then◌else◌}
-use Rattle.item_listing.specs.Listed.{Listed, listed}
+use Rattle.std.proofs.Common.{◌≡◌, ℕ, List, [], ◌∷◌, ◌++◌, true, Option, Some, refl, sym, ap, ◌∙◌, append_assoc, append-nil, if◌then◌else◌}
+use Rattle.item_listing.specs.Listed.{listed}
 use Rattle.item_listing.specs.State.{unread}
 use Rattle.item_listing.specs.declared.item.Item.{Item}
 use Rattle.tree_rows.specs.Forest.{Document}
-use Rattle.tree_rows.specs.Rows.{rows_of}
 use Rattle.assess_model.specs.Tables.{Tables}
 use Rattle.open_document.specs.State.{OpenState}
 use Rattle.open_document.specs.Answers.{answered, verdict}
 use Rattle.stream_sections.specs.Sections as sections
-use Rattle.stream_sections.specs.Sections.{Opened}
 use Rattle.stream_sections.specs.Spelled.{whole, given, Order, SpellsCheck, SpellsStream}
 use Rattle.stream_sections.specs.declared.asked.Asked.{Asked}
 use Rattle.stream_sections.specs.declared.asked.Asked.TheVariants.{Check, Assess, Session}
 use Rattle.stream_sections.specs.declared.schemas.SchemaSection.{SchemaSection}
-use Rattle.stream_answers.specs.Output.{Told, free, before, over, said_by, schema_ok, ending_of, has_attributes, unsupported, sections_told, stream_told, compiled_told, first_tables, check_told, opened_told, opening, commands_told}
+use Rattle.stream_answers.specs.Output.{Told, free, before, over, said_by, schema_ok, ending_of, unsupported, sections_told, stream_told, compiled_told, first_tables, check_told, opened_told, opening, commands_told}
 use Rattle.stream_answers.specs.declared.ending.Ending.TheVariants as endings
-use Rattle.xsv_run.specs.Output.{Output, asked, output, output_by, output_of, told_of}
-use Rattle.xsv_run.specs.Statuses.{status_of}
+use Rattle.xsv_run.specs.Output.{asked, output, output_by, output_of}
 use Rattle.xsv_run.specs.declared.status.Status.TheVariants.{Valid}
 use Rattle.output_laws.specs.Complete.{Accepts, HasNoAttributes, replies, state_after, first_state, costs, last_line, last_status, stream_text, answer}
 

@@ -1,5 +1,5 @@
 -- An item that was taken: the stream stands where it moved to, or has ended.
-use Rattle.std.proofs.Common.{◌≡◌, ℕ, List, [], Option, Some, None, Result, Ok, IfOk, refl, sym, subst, le_refl}
+use Rattle.std.proofs.Common.{◌≡◌, ℕ, List, [], Option, Some, Result, Ok, IfOk, refl, sym, subst, le_refl}
 use Rattle.std.proofs.KnownBytes.{Appends-nil}
 use Rattle.edit_replies.specs.Tells.{Tells}
 use Rattle.edit_replies.specs.declared.break_off.BreakOff.{BreakOff}

@@ -1,5 +1,5 @@
 -- What a reader was to do, by what it has done.
-use Rattle.std.proofs.Common.{◌≡◌, ℕ, List, Option, Some, None, refl, sym, ap, ◌∙◌, subst}
+use Rattle.std.proofs.Common.{◌≡◌, ℕ, List, Option, refl, sym, ap, ◌∙◌}
 use Rattle.item_listing.specs.declared.item.Item.{Item}
 use Rattle.tree_rows.specs.Forest.{Document}
 use Rattle.stream_sections.specs.Sections.{refused, goes_on}

@@ -1,14 +1,12 @@
 -- What is written place by place is what is written section by section.
-use Rattle.std.proofs.Common.{◌≡◌, ℕ, ◌+◌, List, [], ◌∷◌, Bool, true, false, Option, Some, None, if◌then◌else◌, refl, ap, ◌∙◌, arith}
+use Rattle.std.proofs.Common.{◌≡◌, ℕ, ◌+◌, Bool, true, false, Option, Some, None, if◌then◌else◌, refl, ap, ◌∙◌, arith}
 use Rattle.item_listing.specs.Listed as listed
-use Rattle.tree_rows.specs.Forest.{Document}
 use Rattle.tree_rows.specs.Rows.{rows_of}
 use Rattle.assess_model.specs.Tables.{Tables}
 use Rattle.open_document.specs.State.{OpenState}
 use Rattle.open_document.specs.Answers.{answered, opened, verdict}
 use Rattle.open_document.specs.declared.document.Verdict.{Verdict}
 use Rattle.stream_sections.specs.Sections as sections
-use Rattle.stream_sections.specs.Sections.{Stream}
 use Rattle.stream_sections.specs.inside.CommandTurns as command_turns
 use Rattle.stream_sections.specs.inside.DocumentTurns as document_turns
 use Rattle.stream_sections.specs.inside.SchemaTurns as schema_turns

@@ -3,7 +3,6 @@ use Rattle.std.specs.Prelude.{ℕ, ◌+◌, List, [], ◌∷◌, ◌++◌, Bool,
 use Rattle.std.specs.List.{list_any}
 use Rattle.std.specs.Fmt.{decimal}
 use Rattle.item_listing.specs.Listed.{Listed}
-use Rattle.tree_rows.specs.Forest.{Document}
 use Rattle.tree_rows.specs.Rows.{rows_of}
 use Rattle.tree_rows.specs.declared.row.Row.{Row}
 use Rattle.assess_model.specs.Tables.{Tables}

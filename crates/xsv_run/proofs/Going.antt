@@ -1,5 +1,5 @@
 -- Lines and pieces, one after another.
-use Rattle.std.proofs.Common.{◌≡◌, ℕ, ◌+◌, ◌≤◌, List, [], ◌++◌, length, Bool, true, false, Option, Some, None, Result, Ok, Err, refl, sym, ap, ◌∙◌, subst, append_assoc, length-append, arith, if◌then◌else◌}
+use Rattle.std.proofs.Common.{◌≡◌, ℕ, ◌+◌, ◌≤◌, List, [], ◌++◌, length, Bool, true, false, Option, Some, None, Result, Ok, Err, sym, ap, ◌∙◌, subst, append_assoc, length-append, arith, if◌then◌else◌}
 use Rattle.item_listing.specs.State.{Reading}
 use Rattle.item_listing.specs.declared.past.Past.{Past}
 use Rattle.item_listing.specs.declared.limits.TheConstants.{MOST_BYTES}

@@ -1,5 +1,5 @@
 -- What an item does where a stream stands at a place, and what is written for all that come.
-use Rattle.std.specs.Prelude.{ℕ, ◌+◌, List, [], Option, Some, None, if◌then◌else◌}
+use Rattle.std.specs.Prelude.{ℕ, ◌+◌, [], Option, Some, None, if◌then◌else◌}
 use Rattle.item_listing.specs.Listed as listed
 use Rattle.item_listing.specs.declared.item.Item.{Item}
 use Rattle.tree_rows.specs.Forest.{Document}
