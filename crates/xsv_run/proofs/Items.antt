@@ -58,7 +58,7 @@ module _ (a : Asked) (place q : Place) (r s : Reading) (it : Item) (old new : Tr
   next_by (goes said next) e (Ok nexts.Waits) h = absurd h
   next_by (goes said next) e (Ok (nexts.Ends ending)) h = absurd h
   next_by (goes said next) e (Err why) h = λ more closed.
-      subst (EndsAs (Err why) old new) (sym (told_by_turn (goes said next) e more closed)) (front_more old new said _ h)
+      subst (EndsAs (Err why) old new) (sym (told_by_turn (goes said next) e more closed)) (front_more old new said (told a s.past.lines next (listed s more closed)) h)
   next_by (ends last) e (Ok nexts.Goes) h = absurd h
   next_by (ends last) e (Ok nexts.Waits) h = absurd h
   next_by (ends last) e (Ok (nexts.Ends given)) h = λ more closed. subst (EndsAs (Ok given) old new) (sym (told_by_turn (ends last) e more closed)) h
