@@ -1,5 +1,5 @@
 -- Streams of which no line is refused.
-use Rattle.std.proofs.Common.{◌≡◌, ℕ, List, [], ◌∷◌, ◌++◌, true, Option, Some, refl, sym, ap, ◌∙◌, append_assoc, append-nil, if◌then◌else◌}
+use Rattle.std.proofs.Common.{◌≡◌, ℕ, List, [], ◌∷◌, ◌++◌, true, Option, Some, refl, sym, ap, ◌∙◌, append_assoc, append-nil, if◌then◌else◌, ◌+◌, arith}
 use Rattle.item_listing.specs.Listed.{listed}
 use Rattle.item_listing.specs.State.{unread}
 use Rattle.item_listing.specs.declared.item.Item.{Item}
@@ -35,8 +35,14 @@ check_answered law words bytes its all t asks_for reads spells accepts =
     ∙ ap output_of (compiled_first all t (λ x. check_told x sections.ended) accepts) ∙ ap (λ text. answer text 0 Valid) (append-nil schema_ok)
 
 -- the stream has ended, with what its commands cost
-ended_at : List ℕ → ℕ → OpenState → Told
+abbrev ended_at : List ℕ → ℕ → OpenState → Told
 ended_at text cost s = record { text = text; cost = cost; ending = Some (ending_of (verdict s).validity) }
+
+-- a text before that costs no step
+free_first : (text more : List ℕ) (cost : ℕ) (s : OpenState) → before (free text) (ended_at more cost s) ≡ ended_at (text ++ more) cost s
+free_first text more cost s =
+    let same : 0 + cost ≡ cost = omega arith in
+    ap (λ k. ended_at (text ++ more) k s) same
 
 orders_told : (s : OpenState) (orders : List Order) → commands_told s (given orders)
     ≡ ended_at (replies s orders ++ last_line (state_after s orders)) (costs s orders) (state_after s orders)
@@ -53,6 +59,8 @@ opened_is : (a : Asked) (t : Tables) (d : Document) (orders : List Order) → Ha
 opened_is a t d orders plain =
     ap (λ r. if r then over unsupported endings.Unsupported else before (free (opening a (first_state t d))) (commands_told (first_state t d) (given orders))) plain
     ∙ ap (before (free (opening a (first_state t d)))) (orders_told (first_state t d) orders)
+    ∙ free_first (opening a (first_state t d)) (replies (first_state t d) orders ++ last_line (state_after (first_state t d) orders))
+    (costs (first_state t d) orders) (state_after (first_state t d) orders)
 
 with_document_is : (a : Asked) (t : Tables) (d : Document) (orders : List Order) (all : List SchemaSection) → Accepts all t → HasNoAttributes d
     → output_of (stream_told (opened_told a) (sections.schemas all (sections.document d (given orders))))
@@ -60,6 +68,8 @@ with_document_is : (a : Asked) (t : Tables) (d : Document) (orders : List Order)
 with_document_is a t d orders all accepts plain =
     ap output_of (compiled_first all t (λ x. opened_told a x (sections.document d (given orders))) accepts)
     ∙ ap (λ x. output_of (before (free schema_ok) x)) (opened_is a t d orders plain)
+    ∙ ap output_of (free_first schema_ok (opening a (first_state t d) ++ (replies (first_state t d) orders ++ last_line (state_after (first_state t d) orders)))
+    (costs (first_state t d) orders) (state_after (first_state t d) orders))
 
 module _ (law : (a : Asked) (all : List SchemaSection) (d : Document) (orders : List Order) (its : List Item) → SpellsStream a all d orders its
     → sections.with_document a (whole its) ≡ sections.schemas all (sections.document d (given orders))) where

@@ -29,7 +29,7 @@ pieces-preserved g c =
     c.pieces.place c.pieces.listing c.take_piece.new.place c.take_piece.new.listing c.in-Goes.count c.pieces.room two old.room in
     record {
       stands = stands_further c.args.asked (g.S.Source.rest c.args.source.now) (g.S.Source.rest c.pieces.source) (g.S.Source.rest c.take_piece.new.source)
-    (trace (g.W.Sink.taken c.args.sink.now) c.args.steps.now) (trace (g.W.Sink.taken c.pieces.sink) c.pieces.steps) (trace (g.W.Sink.taken c.take_piece.new.sink) c.take_piece.new.steps)
+          (trace (g.W.Sink.taken c.args.sink.now) c.args.steps.now) (trace (g.W.Sink.taken c.pieces.sink) c.pieces.steps) (trace (g.W.Sink.taken c.take_piece.new.sink) c.take_piece.new.steps)
           c.pieces.place c.pieces.listing c.take_piece.new.place c.take_piece.new.listing c.in-Goes.count old.stands two;
       is_open = two.feeds.is_open;
       waits = two.feeds.waits;
