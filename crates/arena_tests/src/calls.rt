@@ -17,6 +17,17 @@ use std::alloc::{AllocError, Global};
 use std::process::Abort;
 use xs_names::{Names, Text};
 
+/// The tree that a document is.
+pub fn plain_of(names: &Names, doc: &DocTree) -> Result<Tree, AllocError>
+    requires { (d : Document) × StandsFor names.now doc.now d }
+    ensures { IfOk result (λ tree. StandsFor names.now doc.now tree) }
+{
+    match doc.to_plain(names) {
+        Ok(tree) => Ok(tree),
+        Err(error) => Err(error),
+    }
+}
+
 /// Sees that the document is this tree.
 pub fn compare<A: Abort>(
     rt: &A,
@@ -26,7 +37,7 @@ pub fn compare<A: Abort>(
 ) -> Result<(), AllocError>
     requires { (d : Document) × StandsFor names.now doc.now d }
 {
-    let plain = doc.to_plain(names)?;
+    let plain = plain_of(names, doc)?;
     assert!(rt; is_same_tree(&plain, tree));
     Ok(())
 }
@@ -188,7 +199,7 @@ pub fn make_edit<A: Abort>(
     requires stands { StandsFor names.old doc.old tree.old }
     ensures { OnOk result (StandsFor names.new doc.new tree.new) }
 {
-    let before = doc.to_plain(names)?;
+    let before = plain_of(names, doc)?;
     assert!(rt; is_same_tree(&before, tree));
     if !is_made(alloc, tree, edit) {
         return Ok(false);

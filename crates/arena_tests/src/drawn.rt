@@ -122,12 +122,12 @@ fn make_changes<A: Abort>(
     requires { StandsFor names.old doc.old tree.old }
 {
     let mut random = Random { state: 31 };
-    let mut tally = [0; 7];
+    let mut tally = [0u32; 7];
     for number in 0..count {
         let kind = drawn_kind(&mut random, doc);
         let made = make_change(rt, alloc, names, spaces, doc, tree, &mut random, kind)?;
         if let Some(most) = tally.get_mut(kind as usize) {
-            *most += u32::from(made);
+            *most = most.wrapping_add(u32::from(made));
         }
         if number % 100 == 99 {
             compare(rt, names, doc, tree)?;
@@ -137,16 +137,33 @@ fn make_changes<A: Abort>(
     Ok(tally)
 }
 
+/// Makes so many drawn changes on the document of a tree.
+fn change_tree<A: Abort>(
+    rt: &A,
+    alloc: Global,
+    names: &mut Names,
+    tree: &mut Tree,
+    count: u32,
+) -> Result<Tally, AllocError> {
+    let spaces = Spaces::number_all(names)?;
+    let mut doc = DocTree::from_plain(alloc, names, tree)?;
+    make_changes(rt, alloc, names, &spaces, &mut doc, tree, count)
+}
+
+/// The tree of the document of the tests.
+fn first_tree<A: Abort>(rt: &A, alloc: Global) -> Result<Tree, AllocError> {
+    let items = items_of(alloc, &DOCUMENT)?;
+    match read_tree(alloc, items.as_slice())? {
+        Ok(tree) => Ok(tree),
+        Err(_) => panic!(rt; "no tree"),
+    }
+}
+
 /// Makes so many drawn changes on a document.
 fn change_document<A: Abort>(rt: &A, alloc: Global, count: u32) -> Result<Tally, AllocError> {
-    let items = items_of(alloc, &DOCUMENT)?;
-    let Ok(mut tree) = read_tree(alloc, items.as_slice())? else {
-        panic!(rt; "no tree");
-    };
+    let mut tree = first_tree(rt, alloc)?;
     let mut names = Names::new(alloc)?;
-    let spaces = Spaces::number_all(&mut names)?;
-    let mut doc = DocTree::from_plain(alloc, &mut names, &tree)?;
-    make_changes(rt, alloc, &mut names, &spaces, &mut doc, &mut tree, count)
+    change_tree(rt, alloc, &mut names, &mut tree, count)
 }
 
 /// Holds whichever allocation fails: `rt try --test --fail-alloc N`.

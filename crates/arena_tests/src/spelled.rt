@@ -7,14 +7,14 @@ use std::alloc::AllocError;
 use xs_names::{NameId, Names, NsId, Text};
 
 /// A name by its texts; the absent namespace is the empty text.
-#[derive(Clone, Copy, Debug)]
+#[derive(Clone, Copy)]
 pub struct Spelled {
     pub space: &'static str,
     pub local: &'static str,
 }
 
 /// What an element is given.
-#[derive(Clone, Copy, Debug)]
+#[derive(Clone, Copy)]
 pub enum Gift {
     /// Another name.
     Name(Spelled),
@@ -53,7 +53,7 @@ pub const NAMES: [Spelled; 6] = [
 ];
 
 /// The numbers of the namespaces in all documents of the tests.
-#[derive(Clone, Copy, Debug)]
+#[derive(Clone, Copy)]
 pub struct Spaces {
     u: NsId,
     v: NsId,
