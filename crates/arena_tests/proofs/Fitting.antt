@@ -1,6 +1,7 @@
 -- What an edit that was made leaves, and what an element may be given.
 use Rattle.std.proofs.Common.{◌≡◌, ℕ, ◌+◌, ◌<◌, ◌≤◌, ◌^◌, List, length, get_or, ◌==◌, true, inl, inr, Option, Some, None, Result, Ok, Err, refl, sym, ap, ◌∙◌, subst, eq-eqb, arith}
 use Rattle.std.specs.Prelude.{slice_get, nat_lt}
+use Rattle.std.specs.Option.{option_map}
 use Rattle.std.proofs.lemmas.Bool.{ltb-true}
 use Rattle.std.proofs.lemmas.List.{length-map}
 use Rattle.std.proofs.lemmas.List.Folds.{list_any_at}
@@ -48,8 +49,11 @@ has_room t ns d z n count name none is few =
     inr (omega (arith, here, own, less))
 
 -- the attribute of a place is one of its name
-pub is_there : (xs : List NameAttribute) (i : ℕ) (x : NameAttribute) → slice_get xs i ≡ Some x → has_number x.name xs ≡ true
+is_there : (xs : List NameAttribute) (i : ℕ) (x : NameAttribute) → slice_get xs i ≡ Some x → has_number x.name xs ≡ true
 is_there xs i x e =
     let l = slice_get_within xs i x e in
     let k = same_Some (get_or xs i x) x (sym (slice_get-get_or xs i x l) ∙ e) in
     list_any_at (λ (a : NameAttribute). a.name == x.name) xs i x l (ap (λ (a : NameAttribute). a.name == x.name) k ∙ eq-eqb x.name x.name refl)
+
+pub pair_is_there : {X : Type 0} (f : X → NameAttribute) (xs : List NameAttribute) (i : ℕ) (o : Option X) → option_map f o ≡ slice_get xs i → (x : X) → o ≡ Some x → has_number (f x).name xs ≡ true
+pair_is_there f xs i o e x k = is_there xs i (f x) (sym e ∙ ap (option_map f) k)
