@@ -22,7 +22,7 @@ use Rattle.representations.specs.declared.source.Source.{Source}
 use Rattle.build_types.specs.Types.{type_at, given_type}
 use Rattle.build_attributes.specs.Declarations.{declaration, declared, attributes_by, attributes_of}
 use Rattle.build_attributes.specs.Groups.{attr_groups_by, attr_groups_of, attr_groups}
-use Rattle.build_attributes.specs.Members.{meant_declaration, use_of, used, uses_by, uses_in, uses, group_by, group_at, groups_referred, prohibited, wildcard}
+use Rattle.build_attributes.specs.Members.{meant_declaration, use_of, uses_by, uses_in, uses, group_by, group_at, groups_referred, prohibited, wildcard}
 use Rattle.closed_components.proofs.ListLaws.{all-flat_map, all-option, all-one}
 use Rattle.closed_components.proofs.ThereLaws.{AreBelow, named-below, referred-below}
 use Rattle.closed_components.proofs.TypeLaws.{named-there}

@@ -1,5 +1,5 @@
 -- Whatever the components of a schema set refer to is there.
-use Rattle.std.proofs.Common.{◌≡◌, ℕ, ◌<◌, List, [], ◌∷◌, Option, None, map, length, refl, sym, subst, arith}
+use Rattle.std.proofs.Common.{◌≡◌, ℕ, ◌<◌, List, [], ◌∷◌, Option, None, length, refl, sym, subst, arith}
 use Rattle.std.specs.Prelude.{All, IfSome}
 use Rattle.std.specs.List.{flat_map}
 use Rattle.std.proofs.lemmas.List.{length-append}
@@ -11,7 +11,6 @@ use Rattle.xs_components.specs.declared.common.TypeId.{TypeId}
 use Rattle.xs_components.specs.declared.attribute.AttributeDecl.{AttributeDecl}
 use Rattle.xs_components.specs.declared.attr_group.AttrGroupDef.{AttrGroupDef}
 use Rattle.xs_components.specs.declared.complex.ComplexType.{ComplexType}
-use Rattle.xs_components.specs.declared.constraint.Constraint.{Constraint}
 use Rattle.xs_components.specs.declared.element.ElementDecl.{ElementDecl}
 use Rattle.xs_components.specs.declared.group.GroupDef.{GroupDef}
 use Rattle.xs_components.specs.declared.particle.Particle.{Particle}
@@ -28,7 +27,6 @@ use Rattle.build_types.specs.SimpleTypes as simple
 use Rattle.build_types.specs.Numbers.{simples_in}
 use Rattle.build_attributes.specs.Declarations.{attributes_of}
 use Rattle.build_attributes.specs.Groups as attr
-use Rattle.build_attributes.specs.Members.{groups_referred}
 use Rattle.build_elements.specs.Constraints.{constraints as all_constraints}
 use Rattle.build_elements.specs.Elements as elements
 use Rattle.build_elements.proofs.HeadLaws.{heads_one}

@@ -1,7 +1,6 @@
 -- The keys that keyrefs refer to, and the identity constraints of elements, are there.
-use Rattle.std.proofs.Common.{◌≡◌, ℕ, ◌+◌, ◌<◌, List, [], ◌∷◌, Option, None, Some, length, refl, arith, ◌++◌}
+use Rattle.std.proofs.Common.{◌≡◌, ℕ, ◌+◌, ◌<◌, List, Option, None, Some, length, refl, arith, ◌++◌}
 use Rattle.std.specs.Prelude.{All, IfSome}
-use Rattle.std.specs.List.{flat_map}
 use Rattle.std.specs.Option.{option_to_list}
 use Rattle.std.proofs.lemmas.List.{length-append}
 use Rattle.std.proofs.lemmas.List.Elements.{All-nil, All-append}
@@ -16,7 +15,7 @@ use Rattle.representations.specs.declared.source.Source.{Source}
 use Rattle.component_numbers.specs.Numbers.{number_at}
 use Rattle.component_numbers.proofs.NumberLaws.{numbers_below}
 use Rattle.build_elements.specs.Paths.{selector, fields}
-use Rattle.build_elements.specs.Constraints.{selecting, constraints_of, keys_by, keys_of, keys, key_referred, referring, keyrefs_by, keyrefs_of, keyrefs, key_numbers, constraints, constraint_numbers}
+use Rattle.build_elements.specs.Constraints.{selecting, keys_by, keys_of, keys, key_referred, referring, keyrefs_by, keyrefs_of, keyrefs, key_numbers, constraints, constraint_numbers}
 use Rattle.build_elements.specs.Elements.{constraint_at, constraints_in}
 use Rattle.closed_components.specs.There.{referred_key}
 use Rattle.closed_components.proofs.ListLaws.{all-flat_map, all-option, all-one}

@@ -1,5 +1,5 @@
 -- The types of attributes are simple.
-use Rattle.std.proofs.Common.{◌≡◌, ℕ, Bool, true, false, List, [], ◌∷◌, Option, None, Some, All, IfSome, slice_get, if◌then◌else◌, refl, sym, ◌∙◌}
+use Rattle.std.proofs.Common.{◌≡◌, ℕ, Bool, true, false, List, [], ◌∷◌, Option, None, Some, All, IfSome, if◌then◌else◌, refl}
 use Rattle.std.specs.List.{list_all}
 use Rattle.std.specs.Option.{unwrap_or}
 use Rattle.std.proofs.lemmas.Bool.{and_parts}
@@ -23,7 +23,7 @@ use Rattle.build_components.specs.Built as built
 use Rattle.closed_components.proofs.ListLaws.{all-one}
 use Rattle.resolved_components.specs.Resolved.{AreResolved, are_found}
 use Rattle.resolved_components.specs.Shaped.{IsShaped, AreShaped}
-use Rattle.resolved_components.proofs.SimpleLaws.{IsSimple, all-places, given-simple}
+use Rattle.resolved_components.proofs.SimpleLaws.{all-places, given-simple}
 
 module _ (source : Source) (spaces : source.spaces.now ≡ spaces_of source.reps.now) (resolved : AreResolved source.reps.now) (shaped : AreShaped source.reps.now) where
   abbrev reps : List Representation

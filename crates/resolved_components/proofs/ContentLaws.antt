@@ -1,5 +1,5 @@
 -- The types that stand in simple content are simple.
-use Rattle.std.proofs.Common.{◌≡◌, ℕ, zero, suc, Bool, true, false, List, [], ◌∷◌, ◌++◌, Option, None, Some, All, IfSome, slice_get, if◌then◌else◌, refl, sym, subst}
+use Rattle.std.proofs.Common.{◌≡◌, ℕ, zero, suc, Bool, true, false, List, [], ◌∷◌, Option, None, Some, All, IfSome, slice_get, if◌then◌else◌, refl, sym, subst}
 use Rattle.std.specs.Option.{option_and_then, unwrap_or}
 use Rattle.std.proofs.lemmas.List.Elements.{All-nil, All-append}
 use Rattle.xs_components.specs.Tables.{Tables}
@@ -23,7 +23,7 @@ use Rattle.resolved_components.specs.Resolved.{AreResolved}
 use Rattle.resolved_components.specs.Shaped.{IsShaped, AreShaped, is_derivation, may_hold_complex, is_kind_in}
 use Rattle.resolved_components.specs.Simple.{AreTypesSimple}
 use Rattle.resolved_components.proofs.KindLaws.{first-stands}
-use Rattle.resolved_components.proofs.SimpleLaws.{IsSimple, ArePlain, child-simple, are-simple}
+use Rattle.resolved_components.proofs.SimpleLaws.{ArePlain, child-simple, are-simple}
 use Rattle.resolved_components.proofs.AttributeLaws.{HasSimple, attributes-simple}
 
 derivation-plain : (form : Represented) → is_derivation form ≡ true → may_hold_complex form ≡ false

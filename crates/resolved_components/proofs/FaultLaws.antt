@@ -1,9 +1,7 @@
 -- Where no fault is found, names stand once and references resolve.
-use Rattle.std.proofs.Common.{◌≡◌, inl, ℕ, zero, suc, ◌<◌, Bool, true, false, not, List, [], ◌∷◌, None, Some, Contains, slice_get, length, refl, sym, subst, arith}
-use Rattle.std.specs.Prelude.{if◌then◌else◌}
-use Rattle.std.specs.List.{list_all}
+use Rattle.std.proofs.Common.{◌≡◌, inl, ℕ, zero, suc, Bool, true, false, not, List, None, Some, Contains, slice_get, refl, arith}
 use Rattle.xs_codes.specs.declared.code.Code.{Code}
-use Rattle.xs_codes.specs.declared.code.Code.TheVariants.{SchPropsCorrect2, NoXmlns, NoXsi, SrcResolve, SrcResolve4}
+use Rattle.xs_codes.specs.declared.code.Code.TheVariants.{SchPropsCorrect2, NoXmlns, NoXsi, SrcResolve}
 use Rattle.xs_names.specs.Names.{NameTable}
 use Rattle.xs_faults.specs.Least.{IsLeast}
 use Rattle.representations.specs.declared.parts.Representation.{Representation}
@@ -11,10 +9,9 @@ use Rattle.representations.specs.Names.{spaces_of}
 use Rattle.reference_faults.specs.declared.imports.Origin.{Origin}
 use Rattle.reference_faults.specs.Attributes.{attribute_name, is_xmlns, is_xsi}
 use Rattle.reference_faults.specs.Doubles.{is_double}
-use Rattle.reference_faults.specs.Faults.{IsBroken, name_fault, code_if, codes_of, reference_codes, is_lost, is_foreign}
+use Rattle.reference_faults.specs.Faults.{IsBroken, name_fault, code_if, codes_of, is_lost}
 use Rattle.reference_faults.specs.Imports.{origin_at}
-use Rattle.reference_faults.specs.References.{references}
-use Rattle.reference_faults.specs.Resolution.{kinds_of, resolves}
+use Rattle.reference_faults.specs.Resolution.{kinds_of}
 use Rattle.resolved_components.specs.Resolved.{AreResolved, are_found}
 
 -- a code that is broken is among the codes

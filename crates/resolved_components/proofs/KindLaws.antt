@@ -1,5 +1,5 @@
 -- Simple types by places, names and members.
-use Rattle.std.proofs.Common.{◌≡◌, ℕ, zero, suc, ◌+◌, ◌≤◌, Bool, true, false, ◌||◌, cond, List, [], ◌∷◌, Option, None, Some, IfSome, find, is_some, slice_get, slice_index_or, refl, sym, ap, subst, ◌∙◌, ltb-false, nat_lt, arith}
+use Rattle.std.proofs.Common.{◌≡◌, ℕ, zero, suc, ◌+◌, Bool, true, false, ◌||◌, cond, List, [], ◌∷◌, Option, None, Some, IfSome, find, is_some, slice_get, slice_index_or, refl, sym, ap, subst, ◌∙◌, ltb-false, nat_lt, arith}
 use Rattle.std.specs.List.{list_any}
 use Rattle.std.proofs.lemmas.Bool.{or_parts}
 use Rattle.std.proofs.lemmas.Option.{none-some}

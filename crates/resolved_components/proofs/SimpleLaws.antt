@@ -1,5 +1,5 @@
 -- What a simple type is made of is simple.
-use Rattle.std.proofs.Common.{◌≡◌, ℕ, zero, suc, Bool, true, false, ◌&&◌, List, [], ◌∷◌, ◌++◌, Option, None, Some, All, IfSome, find, map, slice_get, if◌then◌else◌, refl, sym, ap, subst, ◌∙◌, true≢false}
+use Rattle.std.proofs.Common.{◌≡◌, ℕ, zero, suc, Bool, true, false, List, [], ◌∷◌, Option, None, Some, All, IfSome, find, slice_get, if◌then◌else◌, refl, sym, ap, subst, ◌∙◌, true≢false}
 use Rattle.std.specs.List.{list_all, list_any, flat_map}
 use Rattle.std.specs.Option.{option_map, unwrap_or}
 use Rattle.std.proofs.lemmas.Bool.{and_parts, or_parts}
@@ -29,7 +29,7 @@ use Rattle.build_types.specs.SimpleTypes as simple
 use Rattle.build_components.specs.Built as built
 use Rattle.closed_components.proofs.ListLaws.{all-one, all-at}
 use Rattle.resolved_components.specs.Resolved.{AreResolved, are_found}
-use Rattle.resolved_components.specs.Shaped.{IsShaped, AreShaped, is_simple_type, is_complex_type, is_variety, names_no_type, is_kind_in, is_kind_at}
+use Rattle.resolved_components.specs.Shaped.{IsShaped, AreShaped, is_complex_type, is_variety, names_no_type, is_kind_in, is_kind_at}
 use Rattle.resolved_components.proofs.KindLaws.{IsSimplePlace, simple-at, any-found, first-simple, type-simple, first-stands, named-simple}
 
 -- what is made of each of some items is so, where the place of the item is known
