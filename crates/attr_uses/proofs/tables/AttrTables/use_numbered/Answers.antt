@@ -1,5 +1,4 @@
-use Rattle.std.proofs.Common.{◌^◌, ◌<◌, arith, sym, ap, ◌∙◌}
-use Rattle.attr_uses.specs.Tables.{entry_for}
+use Rattle.std.proofs.Common.{◌^◌, ◌<◌, arith, sym, ◌∙◌}
 use Rattle.attr_uses.proofs.ReadLaws.{named-by}
 use Rattle.attr_uses.proofs.tables.AttrTables.use_numbered.Goals as goal
 
