@@ -21,9 +21,9 @@ use Rattle.elem_governing.specs.declared.pairs.Governing.{Governing}
 use Rattle.elem_governing.specs.declared.local_types.XsiType.{XsiType}
 use Rattle.elem_governing.specs.declared.local_types.XsiType.TheVariants.{Absent, NotQName, Unresolved, NotDerived, Governs}
 use Rattle.element_codes.specs.Facts.{is_fixed, is_strict, is_skipped, governs, has_elements, is_bare, governing_content}
-use Rattle.element_codes.specs.Texts.{text_used, fixed_value}
-use Rattle.element_codes.specs.declared.texts.TextOutcome.{TextOutcome}
-use Rattle.element_codes.specs.declared.texts.TextOutcome.TheVariants.{NotRead, Invalid, Valid}
+use Rattle.element_codes.specs.Used.{text_used, fixed_value}
+use Rattle.element_codes.specs.declared.outcome.TextOutcome.{TextOutcome}
+use Rattle.element_codes.specs.declared.outcome.TextOutcome.TheVariants.{NotRead, Invalid, Valid}
 
 abbrev pub found : Code → Found
 found code = record { code = code; place = 0 }

@@ -1,5 +1,4 @@
 pub mod Facts
-pub mod Texts
-pub mod Source
+pub mod Used
 pub mod Codes
 pub mod Records

@@ -6,7 +6,6 @@ use Rattle.xs_codes.specs.declared.fault.Found.{Found}
 use Rattle.xs_components.specs.Tables.{Tables}
 use Rattle.xs_components.specs.declared.common.ValueConstraint.{ValueConstraint}
 use Rattle.xs_components.specs.declared.element.ElementDecl.{ElementDecl}
-use Rattle.simple_values.specs.declared.value.Value.{Value}
 use Rattle.assess_records.specs.declared.outcome.Validity.{Validity}
 use Rattle.assess_records.specs.declared.outcome.Validity.TheVariants as validities
 use Rattle.assess_records.specs.declared.outcome.Attempted.{Attempted}
@@ -19,9 +18,9 @@ use Rattle.instance_names.specs.Instance.{instance_text}
 use Rattle.instance_names.specs.declared.InstanceAttribute.TheVariants.{Nil}
 use Rattle.elem_governing.specs.declared.pairs.Governing.{Governing}
 use Rattle.elem_governing.specs.declared.local_types.XsiType.{XsiType}
-use Rattle.element_codes.specs.declared.texts.TextOutcome.{TextOutcome}
+use Rattle.element_codes.specs.declared.outcome.TextOutcome.{TextOutcome}
 use Rattle.element_codes.specs.Facts.{declaration_of, constraint_of, is_strictly_assessed, is_nil, is_taken}
-use Rattle.element_codes.specs.Texts.{source_of, IsTextOutcome, value_in}
+use Rattle.element_codes.specs.Used.{source_of}
 use Rattle.element_codes.specs.Codes.{local_codes}
 
 -- ---- [validity] and [validation attempted]
@@ -104,11 +103,3 @@ module _ (names : NameTable) (t : Tables) (g : Governing) (shape : ElementShape)
     -- the record of an element, by the records of its attributes
     abbrev pub element_record : List AttrRecord → ElementRecord
     element_record attrs = record_with g said shape attrs taken all_codes
-
--- The record and the value of an element, by what governs it, what xsi:type says on it, its shape, the records of its attributes and
--- the names of the required attributes that are missing (Structures 3.3.4, 3.3.5).
-pub record IsElementJudged (names : NameTable) (t : Tables) (g : Governing) (said : XsiType) (shape : ElementShape) (attrs : List AttrRecord) (missing : List ℕ) (element : ElementRecord) (value : Option Value) : Type 0 where
-  pub outcome : TextOutcome
-  pub text : IsTextOutcome t g.of (nil names t g shape) (constraint names t g shape) shape outcome
-  pub record_is : element ≡ element_record names t g shape said missing outcome attrs
-  pub value_is : value ≡ value_in outcome

@@ -5,7 +5,7 @@ ghost use Rattle.std.specs.Option.{option_copied};
 ghost use Rattle.element_codes.specs.Codes as spec;
 
 use crate::facts::{governs, has_elements, is_bare, is_fixed, is_skipped, is_strict};
-use crate::texts::TextOutcome;
+use crate::outcome::TextOutcome;
 use assess_records::{Codes, ElementShape};
 use content_types::ContentType;
 use elem_governing::{Governing, XsiType};

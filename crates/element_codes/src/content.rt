@@ -6,7 +6,7 @@ ghost use Rattle.element_codes.specs.Codes as spec;
 
 use crate::codes::push_if;
 use crate::facts::has_elements;
-use crate::texts::TextOutcome;
+use crate::outcome::TextOutcome;
 use assess_records::{Codes, ElementShape, NamedText};
 use content_types::ContentType;
 use instance_names::instance_attribute;

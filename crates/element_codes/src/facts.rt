@@ -117,7 +117,7 @@ fn has_children(counts: &ChildCounts) -> bool
 }
 
 /// Whether there are child elements.
-pub(crate) fn has_elements(shape: &ElementShape) -> bool
+pub fn has_elements(shape: &ElementShape) -> bool
     ensures { result ≡ spec.has_elements shape.now }
 {
     has_children(&shape.counts)
@@ -171,7 +171,7 @@ pub(crate) fn is_nil(
 }
 
 /// Whether the element takes the text of the value constraint.
-pub(crate) fn is_taken(
+pub fn is_taken(
     nil: bool,
     constraint: Option<&ValueConstraint>,
     shape: &ElementShape,

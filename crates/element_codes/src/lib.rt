@@ -1,14 +1,15 @@
-//! The codes of an element by itself, and its record (Structures 3.3.4, 3.3.5, 3.4.4).
+//! The codes of an element by itself, and its record (Structures 3.3.4, 3.3.5, 3.4.4), by what its text comes to.
 #![tactic(auto)]
 
 mod codes;
 mod content;
+mod element;
 mod facts;
-mod judged;
-mod outcomes;
+mod outcome;
 mod records;
-mod texts;
+mod used;
 
-pub use facts::{ElementInput, ElementSource};
-pub use judged::{JudgedElement, judge_element};
-pub use texts::TextOutcome;
+pub use element::{ElementFacts, element_record, facts_of};
+pub use facts::{ElementInput, ElementSource, has_elements, is_taken};
+pub use outcome::TextOutcome;
+pub use used::{fixed_value, scope_used, text_used};

@@ -17,7 +17,7 @@ use Rattle.instance_names.specs.declared.InstanceAttribute.TheVariants.{TypeName
 use Rattle.elem_governing.specs.Governing.{skipped, govern_root, govern_child}
 use Rattle.elem_governing.specs.LocalType.{xsi_type}
 use Rattle.elem_governing.specs.declared.pairs.Governing.{Governing}
-use Rattle.element_codes.specs.Records.{IsElementJudged}
+use Rattle.elem_assess.specs.Judged.{IsElementJudged}
 use Rattle.set_assessment.specs.Numbered.{Scope, Head, head_of, heads, names_of, named_texts, scope_in, characters, shape_of}
 use Rattle.set_assessment.specs.Attribution.{SchemaSet, content_particle, AreTerms}
 
@@ -55,10 +55,17 @@ abbrev pub other_pairs : List Governing → List Governing
 other_pairs [] = []
 other_pairs (g ∷ gs) = gs
 
+-- the records of an element's attributes, each with the value of its text, where that is valid by a simple type; and the names of the
+-- required attributes that it lacks
+pub record AttrFindings : Type 0 where
+  pub records : List AttrRecord
+  pub values : List (Option Value)
+  pub missing : List ℕ
+
 -- What is said elsewhere of an element: the records of its attributes with their values and the required attributes that it lacks, by
 -- its governing type, its scope and its attributes; and the codes of the identity constraints and of the ids of the element of a number.
-pub record Beside : Type 1 where
-  pub AreAttributes : Option TypeId → Scope → List NamedText → List AttrRecord → List (Option Value) → List ℕ → Type 0
+pub record Beside : Type 0 where
+  pub attributes : Option TypeId → Scope → List NamedText → AttrFindings
   pub identity : ℕ → List Found
   pub ids : ℕ → List Found
 
@@ -71,9 +78,9 @@ module _ (s : SchemaSet) (b : Beside) where
 
   -- the record and the value of an element with this shape, and those of its attributes
   pub record AreJudged (shape : ElementShape) (own : Entry) : Type 0 where
-    pub missing : List ℕ
-    pub attributes : b.AreAttributes own.governing.of shape.scope shape.attrs own.attrs own.attr_values missing
-    pub judged : IsElementJudged s.names s.parts own.governing (xsi_type s.names s.parts own.governing.declaration (instance_text s.names shape.attrs TypeName) shape.scope) shape own.attrs missing own.element own.value
+    pub attrs_are : own.attrs ≡ (b.attributes own.governing.of shape.scope shape.attrs).records
+    pub attr_values_are : own.attr_values ≡ (b.attributes own.governing.of shape.scope shape.attrs).values
+    pub judged : IsElementJudged s.names s.parts own.governing (xsi_type s.names s.parts own.governing.declaration (instance_text s.names shape.attrs TypeName) shape.scope) shape own.attrs (b.attributes own.governing.of shape.scope shape.attrs).missing own.element own.value
 
   -- an element with this head, these attributes and children: what governs it is given; its child elements are attributed to the
   -- terms of its type's content model, all at once by their names, and have these governing pairs; how many of them are of each

@@ -9,34 +9,14 @@ use Rattle.simple_values.specs.declared.value.Value.{Value}
 use Rattle.facets.specs.Trying.{Scope}
 use Rattle.simple_validity.specs.Trees.{type_tree}
 use Rattle.simple_types.specs.SimpleTypes.{IsValueOf}
-use Rattle.assess_records.specs.declared.outcome.ValueSource.{ValueSource}
-use Rattle.assess_records.specs.declared.outcome.ValueSource.TheVariants.{Given, Schema}
 use Rattle.assess_records.specs.declared.shape.ElementShape.{ElementShape}
 use Rattle.content_types.specs.ContentTypes.{content_of}
 use Rattle.content_types.specs.declared.ContentType.{ContentType}
 use Rattle.content_types.specs.declared.ContentType.TheVariants.{SimpleType, Empty, SimpleContent, ElementOnly, Mixed}
-use Rattle.element_codes.specs.declared.texts.TextOutcome.{TextOutcome}
-use Rattle.element_codes.specs.declared.texts.TextOutcome.TheVariants.{NotRead, Invalid, Valid}
+use Rattle.element_codes.specs.declared.outcome.TextOutcome.{TextOutcome}
+use Rattle.element_codes.specs.declared.outcome.TextOutcome.TheVariants.{NotRead, Invalid, Valid}
 use Rattle.element_codes.specs.Facts.{is_taken, has_elements}
-
--- the source of the text
-abbrev pub source_of : Bool → ValueSource
-source_of taken = if taken then Schema else Given
-
--- the characters of the element, or those of the constraint that are taken
-abbrev pub text_used : Bool → Option ValueConstraint → ElementShape → List ℕ
-text_used taken None shape = shape.text
-text_used taken (Some constraint) shape = if taken then constraint.text else shape.text
-
--- the text of a constraint is read in the scope of the schema element that carries it
-abbrev pub scope_used : Bool → Option ValueConstraint → ElementShape → Scope
-scope_used taken None shape = shape.scope
-scope_used taken (Some constraint) shape = if taken then constraint.scope else shape.scope
-
--- the fixed value that the element's own text has to come to
-abbrev pub fixed_value : Bool → Option ValueConstraint → Option ValueConstraint
-fixed_value taken None = None
-fixed_value taken (Some constraint) = if constraint.fixed && not taken then Some constraint else None
+use Rattle.element_codes.specs.Used.{text_used, scope_used, fixed_value}
 
 -- a type of elements whose text is read by a simple type
 abbrev pub is_simple_content : ContentType → Bool
@@ -81,8 +61,3 @@ IsTextOutcome t None nil constraint shape outcome = outcome ≡ NotRead
 IsTextOutcome t (Some of) nil constraint shape outcome =
     IsReadIf (is_read (content_of t of) nil shape) t of (is_taken nil constraint shape) constraint shape outcome
 
--- the value of a text that is valid
-abbrev pub value_in : TextOutcome → Option Value
-value_in NotRead = None
-value_in (Invalid code) = None
-value_in (Valid value met) = Some value

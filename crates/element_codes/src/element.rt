@@ -1,4 +1,4 @@
-//! The record of an element.
+//! The record of an element, by what its text comes to.
 
 ghost use Rattle.std.specs.Prelude.{◌≡◌, ◌<◌, ◌++◌, All, length, IfOk, OnOk};
 ghost use Rattle.std.specs.Option.{option_copied};
@@ -7,7 +7,6 @@ ghost use Rattle.content_types.specs.ContentTypes.{AreContentsOf};
 ghost use Rattle.element_codes.specs.Codes.{local_codes};
 ghost use Rattle.element_codes.specs.Facts.{governing_content};
 ghost use Rattle.element_codes.specs.Records as spec;
-ghost use Rattle.element_codes.specs.Source.{IsSource};
 
 use crate::codes::{push_declaration_codes, push_fixed_codes, push_nil_codes, push_type_codes};
 use crate::content::push_governed_codes;
@@ -15,34 +14,30 @@ use crate::facts::{
     ElementInput, ElementSource, constraint_of, declaration_of, is_nil, is_strictly_assessed,
     is_taken,
 };
-use crate::outcomes::{fixed_value, source_of, text_outcome, text_used};
+use crate::outcome::TextOutcome;
 use crate::records::{any_invalid, attempted_of, validity_of};
-use crate::texts::TextOutcome;
+use crate::used::{fixed_value, source_of, text_used};
 use assess_records::{Codes, ElementRecord};
 use content_types::{ContentType, ContentTypes};
 use instance_names::{InstanceAttribute, instance_text};
-use simple_types::SimpleTypes;
-use simple_values::Value;
 use std::alloc::{AllocError, Global};
 use xs_codes::Found;
 use xs_components::{ElementDecl, TypeId, ValueConstraint};
 use xs_names::Text;
 
-/// What is found out about an element, and the value of its text, where that is valid by a simple type.
-#[derive(Debug, Drop)]
-pub struct JudgedElement {
-    pub element: ElementRecord,
-    pub value: Option<Value>,
-}
-
-// What the codes of an element go by, beside what its text comes to.
+/// What the codes of an element go by, beside what its text comes to.
 #[derive(Clone, Copy)]
-struct Facts<'a> {
-    decl: Option<&'a ElementDecl>,
-    constraint: Option<&'a ValueConstraint>,
-    xsi: Option<&'a Text>,
-    nil: bool,
-    taken: bool,
+pub struct ElementFacts<'a> {
+    /// The declaration that governs it.
+    pub decl: Option<&'a ElementDecl>,
+    /// The value constraint of the declaration.
+    pub constraint: Option<&'a ValueConstraint>,
+    /// The text of xsi:nil.
+    pub xsi: Option<&'a Text>,
+    /// Whether it is nil.
+    pub nil: bool,
+    /// Whether it takes the text of the value constraint.
+    pub taken: bool,
 }
 
 // The content type of the governing type, if one governs.
@@ -60,7 +55,7 @@ fn push_local_codes(
     codes: &mut Codes,
     source: ElementSource<'_>,
     input: ElementInput<'_>,
-    facts: Facts<'_>,
+    facts: ElementFacts<'_>,
     outcome: &TextOutcome,
 ) -> Result<(), AllocError>
     requires named { All (λ a. a.name < length source.names.now.names) input.shape.now.attrs }
@@ -109,7 +104,7 @@ fn all_codes(
     alloc: Global,
     source: ElementSource<'_>,
     input: ElementInput<'_>,
-    facts: Facts<'_>,
+    facts: ElementFacts<'_>,
     outcome: &TextOutcome,
 ) -> Result<Codes, AllocError>
     requires named { All (λ a. a.name < length source.names.now.names) input.shape.now.attrs }
@@ -142,12 +137,16 @@ fn record_of(input: ElementInput<'_>, taken: bool, codes: Codes) -> ElementRecor
     }
 }
 
-// What the codes of an element go by.
-fn facts_of<'a>(
+/// What the codes of an element go by.
+///
+/// # Errors
+///
+/// `AllocError` is want of memory.
+pub fn facts_of<'a>(
     alloc: Global,
     source: ElementSource<'a>,
     input: ElementInput<'a>,
-) -> Result<Facts<'a>, AllocError>
+) -> Result<ElementFacts<'a>, AllocError>
     requires named { All (λ a. a.name < length source.names.now.names) input.shape.now.attrs }
     ensures decl { IfOk result (λ facts. option_copied facts.decl ≡ spec.decl source.entry.names.now source.entry.parts.now input.entry.governing.now input.entry.shape.now) }
     ensures constraint { IfOk result (λ facts. option_copied facts.constraint ≡ spec.constraint source.entry.names.now source.entry.parts.now input.entry.governing.now input.entry.shape.now) }
@@ -164,7 +163,7 @@ fn facts_of<'a>(
     );
     let nil = is_nil(alloc, decl, xsi)?;
     let taken = is_taken(nil, constraint, input.shape);
-    Ok(Facts {
+    Ok(ElementFacts {
         decl,
         constraint,
         xsi,
@@ -173,36 +172,27 @@ fn facts_of<'a>(
     })
 }
 
-/// The record of an element, and the value of its text, where that is valid by a simple type (Structures 3.3.4, 3.3.5,
-/// 3.4.4). The names of its attributes are numbers of the table of names.
+/// The record of an element by what its text comes to (Structures 3.3.4, 3.3.5, 3.4.4), where the facts are those of the element.
 ///
 /// # Errors
 ///
 /// `AllocError` is want of memory.
-pub fn judge_element(
+pub fn element_record(
     alloc: Global,
     source: ElementSource<'_>,
-    types: &mut SimpleTypes,
     input: ElementInput<'_>,
-) -> Result<JudgedElement, AllocError>
-    requires source { IsSource source.parts.now source.contents.now types.old }
+    facts: ElementFacts<'_>,
+    outcome: &TextOutcome,
+) -> Result<ElementRecord, AllocError>
     requires named { All (λ a. a.name < length source.names.now.names) input.shape.now.attrs }
-    ensures judged { IfOk result (λ judged. spec.IsElementJudged source.entry.names.now source.entry.parts.now input.entry.governing.now input.entry.said.now input.entry.shape.now input.entry.attrs.now input.entry.missing.now judged.element judged.value) }
-    ensures same { types.new ≡ types.old }
+    requires contents { AreContentsOf source.parts.now source.contents.now }
+    requires decl { option_copied facts.decl ≡ spec.decl source.names.now source.parts.now input.governing.now input.shape.now }
+    requires constraint { option_copied facts.constraint ≡ spec.constraint source.names.now source.parts.now input.governing.now input.shape.now }
+    requires xsi { option_copied facts.xsi ≡ spec.nil_text source.names.now source.parts.now input.governing.now input.shape.now }
+    requires nil { facts.nil ≡ spec.nil source.names.now source.parts.now input.governing.now input.shape.now }
+    requires taken { facts.taken ≡ spec.taken source.names.now source.parts.now input.governing.now input.shape.now }
+    ensures { IfOk result (λ made. made ≡ spec.element_record source.entry.names.now source.entry.parts.now input.entry.governing.now input.entry.shape.now input.entry.said.now input.entry.missing.now outcome.now input.entry.attrs.now) }
 {
-    let facts = facts_of(alloc, source, input)?;
-    let outcome = text_outcome(
-        alloc,
-        source,
-        types,
-        input.governing.of,
-        facts.nil,
-        facts.constraint,
-        input.shape,
-    )?;
-    let codes = all_codes(alloc, source, input, facts, &outcome)?;
-    Ok(JudgedElement {
-        element: record_of(input, facts.taken, codes),
-        value: outcome.into_value(),
-    })
+    let codes = all_codes(alloc, source, input, facts, outcome)?;
+    Ok(record_of(input, facts.taken, codes))
 }

@@ -5,37 +5,14 @@ ghost use Rattle.std.specs.Option.{option_copied};
 ghost use Rattle.xs_components.specs.Tables.{Tables};
 ghost use Rattle.xs_references.specs.Ranked.{IsRanked};
 ghost use Rattle.simple_types.specs.SimpleTypes.{AreTypesOf, IsWhole};
-ghost use Rattle.element_codes.specs.Texts as spec;
+ghost use Rattle.elem_assess.specs.Texts as spec;
 
+use element_codes::TextOutcome;
 use simple_types::SimpleTypes;
 use simple_values::{Value, same};
 use std::alloc::{AllocError, Global};
-use xs_codes::Code;
 use xs_components::{TypeId, ValueConstraint};
 use xs_names::Scope;
-
-/// What the text of an element comes to by its governing type.
-#[derive(Debug, Drop)]
-pub enum TextOutcome {
-    /// It is not read: the type is neither simple nor has simple content, or the element has child elements or is nil.
-    NotRead,
-    /// It is not valid, for this code.
-    Invalid(Code),
-    /// A value, and whether it is the fixed one, where the element's own text has to be that.
-    Valid { value: Value, met: bool },
-}
-
-impl TextOutcome {
-    /// The value of a text that is valid.
-    pub fn into_value(self) -> Option<Value>
-        ensures { result ≡ spec.value_in self }
-    {
-        match self {
-            TextOutcome::Valid { value, .. } => Some(value),
-            TextOutcome::NotRead | TextOutcome::Invalid(_) => None,
-        }
-    }
-}
 
 // What a text comes to by a type, and by a fixed value, which is read in the scope of its schema element.
 pub(crate) fn read_text(
