@@ -143,8 +143,11 @@ stuck_codes None = []
 stuck_codes (Some place) = record { code = CvcComplexType2_4; place = place } ∷ []
 
 -- cvc-complex-type.4 (Structures 3.4.4): once for each required attribute that is missing.
+abbrev pub missing_code : ℕ → Found
+missing_code name = found CvcComplexType4
+
 abbrev pub missing_codes : List ℕ → List Found
-missing_codes missing = map (λ name. found CvcComplexType4) missing
+missing_codes missing = map missing_code missing
 
 -- a nil element has no content to be judged
 abbrev pub filled_codes : Bool → ContentType → ElementShape → List ℕ → TextOutcome → List Found

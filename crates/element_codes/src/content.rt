@@ -124,15 +124,22 @@ fn push_stuck_code(codes: &mut Codes, stuck: Option<u32>) -> Result<(), AllocErr
     }
 }
 
+// The code of a required attribute that is missing.
+fn missing_code(_name: NameId) -> Found
+    ensures { result ≡ spec.missing_code _name }
+{
+    Found {
+        code: Code::CvcComplexType4,
+        place: 0,
+    }
+}
+
 // One code for each required attribute that is missing.
 fn push_missing_codes(codes: &mut Codes, missing: &[NameId]) -> Result<(), AllocError>
     ensures { OnOk result (codes.new ≡ codes.old ++ spec.missing_codes missing.now) }
 {
-    for _name in missing {
-        codes.push(Found {
-            code: Code::CvcComplexType4,
-            place: 0,
-        })?;
+    for name in missing {
+        codes.push(missing_code(*name))?;
     }
     Ok(())
 }
