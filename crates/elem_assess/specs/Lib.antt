@@ -1,3 +1,2 @@
-pub mod Texts
-pub mod Source
-pub mod Judged
+pub mod Set
+pub mod Local

@@ -1,8 +1,6 @@
-//! The assessment of one element by itself (Structures 3.3.4, 3.3.5, 3.4.4).
+//! The assessment of one element and its attributes by themselves (Structures 3.3.4, 3.3.5, 3.4.4).
 #![tactic(auto)]
 
-mod judged;
-mod outcomes;
-mod texts;
+mod local;
 
-pub use judged::{JudgedElement, judge_element};
+pub use local::{AssessSet, Judged, local};

@@ -70,13 +70,16 @@ abbrev pub is_abstract_part : Option ComplexType → Bool
 is_abstract_part None = false
 is_abstract_part (Some part) = part.is_abstract
 
+abbrev pub is_abstract_complex : Tables → TypeId → Bool
+is_abstract_complex t AnyType = false
+is_abstract_complex t (Builtin kind) = false
+is_abstract_complex t (Simple id) = false
+is_abstract_complex t (Complex id) = is_abstract_part (slice_get t.complexes.parts id)
+
 -- cvc-type.2 (Structures 3.3.4): the governing type is abstract.
 abbrev pub is_abstract_type : Tables → Option TypeId → Bool
 is_abstract_type t None = false
-is_abstract_type t (Some AnyType) = false
-is_abstract_type t (Some (Builtin kind)) = false
-is_abstract_type t (Some (Simple id)) = false
-is_abstract_type t (Some (Complex id)) = is_abstract_part (slice_get t.complexes.parts id)
+is_abstract_type t (Some of) = is_abstract_complex t of
 
 abbrev pub type_codes : Tables → Governing → XsiType → List Found
 type_codes t g said = code_of (said_unless_skipped g said) ++ code_if (is_abstract_type t g.of) CvcType2

@@ -75,15 +75,26 @@ fn push_some(codes: &mut Codes, code: Option<Code>) -> Result<(), AllocError>
     }
 }
 
+fn is_abstract_complex(parts: &Components, of: TypeId) -> bool
+    ensures { result ≡ spec.is_abstract_complex parts.now of }
+{
+    match of {
+        TypeId::AnyType => false,
+        TypeId::Builtin(_) => false,
+        TypeId::Simple(_) => false,
+        TypeId::Complex(id) => match parts.complexes().get(id.number() as usize) {
+            None => false,
+            Some(part) => part.is_abstract,
+        },
+    }
+}
+
 fn is_abstract_type(parts: &Components, of: Option<TypeId>) -> bool
     ensures { result ≡ spec.is_abstract_type parts.now of }
 {
     match of {
-        Some(TypeId::Complex(id)) => match parts.complexes().get(id.number() as usize) {
-            None => false,
-            Some(part) => part.is_abstract,
-        },
-        _ => false,
+        None => false,
+        Some(of) => is_abstract_complex(parts, of),
     }
 }
 

@@ -1,6 +1,8 @@
 //! [validity] and [validation attempted] of an element (Structures 3.3.5).
 
 ghost use Rattle.std.specs.Prelude.{◌≡◌};
+ghost use Rattle.std.specs.List.{list_any, list_all};
+ghost use Rattle.assess_records.specs.declared.record.AttrRecord.{AttrRecord};
 ghost use Rattle.element_codes.specs.Records as spec;
 
 use assess_records::{Attempted, AttrRecord, ChildCounts, Codes, Validity};
@@ -35,25 +37,46 @@ fn is_untried(attempted: Attempted) -> bool
     }
 }
 
+fn is_any_invalid(attrs: &[AttrRecord]) -> bool
+    ensures { result ≡ list_any (λ (a : AttrRecord). spec.is_invalid a.validity) attrs.now }
+{
+    attrs.iter().any(|a| is_invalid(a.validity))
+}
+
 /// Whether an attribute or a child element is invalid.
 pub(crate) fn any_invalid(attrs: &[AttrRecord], counts: &ChildCounts) -> bool
     ensures { result ≡ spec.any_invalid attrs.now counts.now }
 {
-    attrs.iter().any(|a| is_invalid(a.validity)) || counts.invalid != 0
+    let invalid = is_any_invalid(attrs);
+    invalid || counts.invalid != 0
+}
+
+fn are_full(attrs: &[AttrRecord]) -> bool
+    ensures { result ≡ list_all (λ (a : AttrRecord). spec.is_full a.attempted) attrs.now }
+{
+    attrs.iter().all(|a| is_full(a.attempted))
+}
+
+fn are_untried(attrs: &[AttrRecord]) -> bool
+    ensures { result ≡ list_all (λ (a : AttrRecord). spec.is_untried a.attempted) attrs.now }
+{
+    attrs.iter().all(|a| is_untried(a.attempted))
 }
 
 // Whether all attributes and child elements were assessed in full.
 fn all_full(attrs: &[AttrRecord], counts: &ChildCounts) -> bool
     ensures { result ≡ spec.all_full attrs.now counts.now }
 {
-    attrs.iter().all(|a| is_full(a.attempted)) && (counts.partial == 0 && counts.untried == 0)
+    let full = are_full(attrs);
+    full && (counts.partial == 0 && counts.untried == 0)
 }
 
 // Whether none of them was assessed at all.
 fn all_untried(attrs: &[AttrRecord], counts: &ChildCounts) -> bool
     ensures { result ≡ spec.all_untried attrs.now counts.now }
 {
-    attrs.iter().all(|a| is_untried(a.attempted)) && (counts.full == 0 && counts.partial == 0)
+    let untried = are_untried(attrs);
+    untried && (counts.full == 0 && counts.partial == 0)
 }
 
 /// [validity], by the codes, by whether the element is strictly assessed, and by what is below it.

@@ -50,7 +50,7 @@ module _ (s : SchemaSet) (b : Beside) (r : Readers) (ks : ℕ → Kept) where
     shape-is =
         ap (λ h. shape_of h (named_texts s.names (r.attributes number)) (r.chars number) (ks number).stuck (ks number).counts (b.identity number) (b.ids number))
         (head-is scope number name bindings attributes children read scoped) ∙
-        (ap (λ as. shape_of (head_of s.names scope name bindings attributes) (named_texts s.names as) (r.chars number) (ks number).stuck (ks number).counts (b.identity number) (b.ids number))
+        (ap (λ given. shape_of (head_of s.names scope name bindings attributes) (named_texts s.names given) (r.chars number) (ks number).stuck (ks number).counts (b.identity number) (b.ids number))
         read.attributes_are ∙
         (ap (λ cs. shape_of (head_of s.names scope name bindings attributes) (named_texts s.names attributes) cs (ks number).stuck (ks number).counts (b.identity number) (b.ids number))
         read.chars_are ∙

@@ -2,3 +2,4 @@ pub mod Numbered
 pub mod Attribution
 pub mod Assessment
 pub mod Local
+pub mod Stub

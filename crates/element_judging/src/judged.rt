@@ -1,8 +1,8 @@
 //! The record of an element.
 
 ghost use Rattle.std.specs.Prelude.{◌≡◌, ◌<◌, All, length, IfOk};
-ghost use Rattle.elem_assess.specs.Judged as spec;
-ghost use Rattle.elem_assess.specs.Source.{IsSource};
+ghost use Rattle.element_judging.specs.Judged as spec;
+ghost use Rattle.element_judging.specs.Source.{IsSource};
 
 use crate::outcomes::text_outcome;
 use assess_records::ElementRecord;

@@ -2,8 +2,8 @@
 
 ghost use Rattle.std.specs.Prelude.{◌≡◌, IfOk};
 ghost use Rattle.std.specs.Option.{option_copied};
-ghost use Rattle.elem_assess.specs.Texts as spec;
-ghost use Rattle.elem_assess.specs.Source.{IsSource};
+ghost use Rattle.element_judging.specs.Texts as spec;
+ghost use Rattle.element_judging.specs.Source.{IsSource};
 
 use crate::texts::read_text;
 use assess_records::ElementShape;

@@ -5,7 +5,7 @@ ghost use Rattle.std.specs.Option.{option_copied};
 ghost use Rattle.xs_components.specs.Tables.{Tables};
 ghost use Rattle.xs_references.specs.Ranked.{IsRanked};
 ghost use Rattle.simple_types.specs.SimpleTypes.{AreTypesOf, IsWhole};
-ghost use Rattle.elem_assess.specs.Texts as spec;
+ghost use Rattle.element_judging.specs.Texts as spec;
 
 use element_codes::TextOutcome;
 use simple_types::SimpleTypes;

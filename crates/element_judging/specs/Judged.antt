@@ -11,7 +11,7 @@ use Rattle.elem_governing.specs.declared.local_types.XsiType.{XsiType}
 use Rattle.element_codes.specs.declared.outcome.TextOutcome.{TextOutcome}
 use Rattle.element_codes.specs.Used.{value_in}
 use Rattle.element_codes.specs.Records.{nil, constraint, element_record}
-use Rattle.elem_assess.specs.Texts.{IsTextOutcome}
+use Rattle.element_judging.specs.Texts.{IsTextOutcome}
 
 -- The record and the value of an element, by what governs it, what xsi:type says on it, its shape, the records of its attributes and
 -- the names of the required attributes that are missing (Structures 3.3.4, 3.3.5).

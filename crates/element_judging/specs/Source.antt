@@ -7,7 +7,7 @@ use Rattle.simple_types.specs.SimpleTypes.{AreTypesOf, IsWhole}
 use Rattle.simple_types.specs.declared.types.SimpleTypes.{SimpleTypes}
 use Rattle.content_types.specs.ContentTypes.{AreContentsOf, content_of}
 use Rattle.content_types.specs.declared.ContentType.{ContentType}
-use Rattle.elem_assess.specs.Texts.{is_simple_content}
+use Rattle.element_judging.specs.Texts.{is_simple_content}
 
 -- References go to parts of lower rank; the content types and the simple types were found of these components; and the literals of
 -- every type with simple content are known.
