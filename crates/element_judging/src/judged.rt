@@ -40,7 +40,7 @@ pub fn judge_element(
         alloc,
         source,
         types,
-        input.governing.of,
+        &input.governing.of,
         facts.nil,
         facts.constraint,
         input.shape,

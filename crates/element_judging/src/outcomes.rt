@@ -37,19 +37,19 @@ pub(crate) fn text_outcome(
     alloc: Global,
     source: ElementSource<'_>,
     types: &mut SimpleTypes,
-    of: Option<TypeId>,
+    of: &Option<TypeId>,
     nil: bool,
     constraint: Option<&ValueConstraint>,
     shape: &ElementShape,
 ) -> Result<TextOutcome, AllocError>
     requires source { IsSource source.parts.now source.contents.now types.old }
-    ensures outcome { IfOk result (spec.IsTextOutcome source.entry.parts.now of nil (option_copied constraint.entry) shape.now) }
+    ensures outcome { IfOk result (spec.IsTextOutcome source.entry.parts.now of.now nil (option_copied constraint.entry) shape.now) }
     ensures same { types.new ≡ types.old }
 {
     let Some(of) = of else {
         return Ok(TextOutcome::NotRead);
     };
-    if !is_read(source.contents.content_of(of), nil, shape) {
+    if !is_read(source.contents.content_of(*of), nil, shape) {
         return Ok(TextOutcome::NotRead);
     }
     let taken = is_taken(nil, constraint, shape);

@@ -18,15 +18,15 @@ use xs_names::Scope;
 pub(crate) fn read_text(
     alloc: Global,
     types: &mut SimpleTypes,
-    of: TypeId,
+    of: &TypeId,
     fixed: Option<&ValueConstraint>,
     text: &str,
     scope: &Scope,
 ) -> Result<TextOutcome, AllocError>
-    ensures read { (t : Tables) → IsRanked t → AreTypesOf t types.old → IsWhole types.old of → IfOk result (spec.IsRead t of (option_copied fixed.entry) scope.now text.now) }
+    ensures read { (t : Tables) → IsRanked t → AreTypesOf t types.old → IsWhole types.old of.now → IfOk result (spec.IsRead t of.now (option_copied fixed.entry) scope.now text.now) }
     ensures same { types.new ≡ types.old }
 {
-    match types.validate(alloc, of, text, scope)? {
+    match types.validate(alloc, *of, text, scope)? {
         Err(code) => Ok(TextOutcome::Invalid(code)),
         Ok(value) => {
             let met = is_met(alloc, types, of, fixed, &value)?;
@@ -39,17 +39,17 @@ pub(crate) fn read_text(
 fn is_met(
     alloc: Global,
     types: &mut SimpleTypes,
-    of: TypeId,
+    of: &TypeId,
     fixed: Option<&ValueConstraint>,
     value: &Value,
 ) -> Result<bool, AllocError>
-    ensures met { (t : Tables) → IsRanked t → AreTypesOf t types.old → IsWhole types.old of → IfOk result (spec.IsMet t of (option_copied fixed.entry) value.now) }
+    ensures met { (t : Tables) → IsRanked t → AreTypesOf t types.old → IsWhole types.old of.now → IfOk result (spec.IsMet t of.now (option_copied fixed.entry) value.now) }
     ensures same { types.new ≡ types.old }
 {
     let Some(fixed) = fixed else {
         return Ok(true);
     };
-    match types.validate(alloc, of, fixed.text.as_str(), &fixed.scope)? {
+    match types.validate(alloc, *of, fixed.text.as_str(), &fixed.scope)? {
         Ok(fixed) => Ok(same(value, &fixed)),
         Err(_) => Ok(false),
     }

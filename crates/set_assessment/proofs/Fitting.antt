@@ -1,6 +1,7 @@
 -- Records that fit one another from each element to its child elements are the assessment.
 use Rattle.std.proofs.Common.{◌≡◌, ℕ, inl, inr, List, [], ◌∷◌, Option, refl, sym, ap, subst, ◌∙◌}
 use Rattle.std.specs.Prelude.{All, map, ◌⊎◌}
+use Rattle.std.proofs.lemmas.List.Elements.{All-head, All-tail}
 use Rattle.xs_names.specs.Scope.{first_scope}
 use Rattle.tree_rows.specs.Forest.{Forest, none, text, element}
 use Rattle.tree_rows.specs.declared.name.Expanded.{Expanded}
@@ -30,8 +31,8 @@ module _ (s : SchemaSet) (b : Beside) (r : Readers) (ks : ℕ → Kept) where
   heads-are scope none read scoped = refl
   heads-are scope (text number chars next) read scoped = heads-are scope next read scoped
   heads-are scope (element number name bindings attributes children next) read scoped =
-      ap (λ h. h ∷ map (head_at s b r ks) (element_numbers next)) (head-is scope number name bindings attributes children read.0 scoped.0) ∙
-      ap (λ hs. head_of s.names scope name bindings attributes ∷ hs) (heads-are scope next read.2 scoped.1)
+      ap (λ h. h ∷ map (head_at s b r ks) (element_numbers next)) (head-is scope number name bindings attributes children read.0 (All-head (IsScoped s b r ks scope) number (element_numbers next) scoped)) ∙
+      ap (λ hs. head_of s.names scope name bindings attributes ∷ hs) (heads-are scope next read.2 (All-tail (IsScoped s b r ks scope) number (element_numbers next) scoped))
 
   records-are : (f : Forest) → map (record_at s b r ks) (element_numbers f) ≡ sibling_records (kept_entries ks f)
   records-are none = refl
@@ -82,11 +83,11 @@ module _ (s : SchemaSet) (b : Beside) (r : Readers) (ks : ℕ → Kept) where
   assessed (text number chars next) scope read settled scoped = assessed next scope read settled scoped
   assessed (element number name bindings attributes children next) scope read settled scoped =
       let own = settled number (inl refl) in
-      let inner = inner-scoped scope number name bindings attributes children read.0 scoped.0 own in
+      let inner = inner-scoped scope number name bindings attributes children read.0 (All-head (IsScoped s b r ks scope) number (element_numbers next) scoped) own in
       ((ks number).found, map (pair_at s b r ks) (element_numbers children), kept_entries ks children, kept_entries ks next, refl,
-      entry-fits scope number name bindings attributes children read.0 scoped.0 own (heads-are (scope_in s.names bindings scope) children read.1 inner),
+      entry-fits scope number name bindings attributes children read.0 (All-head (IsScoped s b r ks scope) number (element_numbers next) scoped) own (heads-are (scope_in s.names bindings scope) children read.1 inner),
       assessed children (scope_in s.names bindings scope) read.1 (λ n has. settled n (inr (inl has))) inner,
-      assessed next scope read.2 (λ n has. settled n (inr (inr has))) scoped.1)
+      assessed next scope read.2 (λ n has. settled n (inr (inr has))) (All-tail (IsScoped s b r ks scope) number (element_numbers next) scoped))
 
   pub assessment : (f : Forest) → AreRead r f → ((n : ℕ) → HasElement n f → IsSettled s b r ks n) → AreRoots s b r ks f → IsAssessment s b f (kept_entries ks f)
   assessment f read settled roots =

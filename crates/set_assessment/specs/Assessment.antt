@@ -17,7 +17,7 @@ use Rattle.instance_names.specs.declared.InstanceAttribute.TheVariants.{TypeName
 use Rattle.elem_governing.specs.Governing.{skipped, govern_root, govern_child}
 use Rattle.elem_governing.specs.LocalType.{xsi_type}
 use Rattle.elem_governing.specs.declared.pairs.Governing.{Governing}
-use Rattle.set_assessment.specs.Stub.{IsElementJudged}
+use Rattle.element_judging.specs.Judged.{IsElementJudged}
 use Rattle.set_assessment.specs.Numbered.{Scope, Head, head_of, heads, names_of, named_texts, scope_in, characters, shape_of}
 use Rattle.set_assessment.specs.Attribution.{SchemaSet, content_particle, AreTerms}
 

@@ -2,4 +2,3 @@ pub mod Numbered
 pub mod Attribution
 pub mod Assessment
 pub mod Local
-pub mod Stub
