@@ -1,0 +1,4 @@
+pub mod SameLaws
+pub mod DerivedLaws
+pub mod DeclaredLaws
+pub mod ScopeLaws
