@@ -1,6 +1,7 @@
 //! The record of an element.
 
-ghost use Rattle.std.specs.Prelude.{◌≡◌, ◌<◌, All, length, IfOk};
+ghost use Rattle.std.specs.Prelude.{◌≡◌, ◌<◌, All, length, IfOk, IfSome};
+ghost use Rattle.xs_references.specs.Heights.{IsType};
 ghost use Rattle.element_judging.specs.Judged as spec;
 ghost use Rattle.element_judging.specs.Source.{IsSource};
 
@@ -19,7 +20,8 @@ pub struct JudgedElement {
 }
 
 /// The record of an element, and the value of its text, where that is valid by a simple type (Structures 3.3.4, 3.3.5,
-/// 3.4.4). The names of its attributes are numbers of the table of names.
+/// 3.4.4). The names of its attributes are numbers of the table of names, and the
+/// type that governs it is there.
 ///
 /// # Errors
 ///
@@ -31,6 +33,7 @@ pub fn judge_element(
     input: ElementInput<'_>,
 ) -> Result<JudgedElement, AllocError>
     requires source { IsSource source.parts.now source.contents.now types.old }
+    requires there { IfSome input.governing.now.of (IsType source.parts.now) }
     requires named { All (λ a. a.name < length source.names.now.names) input.shape.now.attrs }
     ensures judged { IfOk result (λ judged. spec.IsElementJudged source.entry.names.now source.entry.parts.now input.entry.governing.now input.entry.said.now input.entry.shape.now input.entry.attrs.now input.entry.missing.now judged.element judged.value) }
     ensures same { types.new ≡ types.old }

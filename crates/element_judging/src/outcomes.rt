@@ -1,6 +1,7 @@
 //! What the text of an element comes to.
 
-ghost use Rattle.std.specs.Prelude.{◌≡◌, IfOk};
+ghost use Rattle.std.specs.Prelude.{◌≡◌, IfOk, IfSome};
+ghost use Rattle.xs_references.specs.Heights.{IsType};
 ghost use Rattle.std.specs.Option.{option_copied};
 ghost use Rattle.element_judging.specs.Texts as spec;
 ghost use Rattle.element_judging.specs.Source.{IsSource};
@@ -43,6 +44,7 @@ pub(crate) fn text_outcome(
     shape: &ElementShape,
 ) -> Result<TextOutcome, AllocError>
     requires source { IsSource source.parts.now source.contents.now types.old }
+    requires there { IfSome of.now (IsType source.parts.now) }
     ensures outcome { IfOk result (spec.IsTextOutcome source.entry.parts.now of.now nil (option_copied constraint.entry) shape.now) }
     ensures same { types.new ≡ types.old }
 {

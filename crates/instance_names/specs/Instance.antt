@@ -1,5 +1,5 @@
 -- The attributes of the namespace of schema instances: xsi:type, xsi:nil and the two locations (Structures 2.6, 3.2.7).
-use Rattle.std.specs.Prelude.{ℕ, Bool, true, false, List, [], ◌∷◌, Option, None, Some, slice_index_or, bytes_eq, codes, if◌then◌else◌, refl, ◌≡◌}
+use Rattle.std.specs.Prelude.{ℕ, Bool, true, false, List, [], ◌∷◌, Option, None, Some, slice_index_or, bytes_eq, codes, if◌then◌else◌}
 use Rattle.xs_names.specs.Names.{NameTable, space_of, local_of}
 use Rattle.assess_records.specs.declared.shape.NamedText.{NamedText}
 use Rattle.instance_names.specs.declared.InstanceAttribute.{InstanceAttribute}
