@@ -1,5 +1,5 @@
 -- What the text of an element comes to by its governing type (Structures 3.3.4, cvc-elt.5).
-use Rattle.std.specs.Prelude.{◌≡◌, ℕ, Bool, true, false, not, ◌&&◌, List, Option, None, Some, Result, Ok, Err, if◌then◌else◌}
+use Rattle.std.specs.Prelude.{◌≡◌, ℕ, Bool, true, false, not, ◌&&◌, List, Option, None, Some, Result, Ok, Err}
 use Rattle.xs_codes.specs.declared.code.Code.{Code}
 use Rattle.xs_components.specs.Tables.{Tables}
 use Rattle.xs_components.specs.declared.common.TypeId.{TypeId}
