@@ -53,13 +53,25 @@ declaration_codes g said decl = code_if (is_undeclared g said) CvcElt1 ++ code_i
 
 -- ---- the governing type
 
--- cvc-elt.4.1 (Structures 3.3.4): xsi:type is no QName. cvc-elt.4.2: it names no type. cvc-elt.4.3: it names a type that does not
--- derive from the declared one without the methods that are blocked.
+-- cvc-elt.4.1 (Structures 3.3.4): xsi:type is no QName.
+abbrev pub no_name_code : Code
+no_name_code = CvcElt4_1
+
+-- cvc-elt.4.2 (Structures 3.3.4): xsi:type names no type.
+abbrev pub no_type_code : Code
+no_type_code = CvcElt4_2
+
+-- cvc-elt.4.3 (Structures 3.3.4): xsi:type names a type that does not derive from the declared one without the methods that are
+-- blocked.
+abbrev pub not_derived_code : Code
+not_derived_code = CvcElt4_3
+
+-- the code of what xsi:type says
 abbrev pub said_code : XsiType → Option Code
 said_code Absent = None
-said_code NotQName = Some CvcElt4_1
-said_code Unresolved = Some CvcElt4_2
-said_code NotDerived = Some CvcElt4_3
+said_code NotQName = Some no_name_code
+said_code Unresolved = Some no_type_code
+said_code NotDerived = Some not_derived_code
 said_code (Governs of) = None
 
 -- on an element that is not skipped
@@ -91,11 +103,17 @@ abbrev pub is_nil_refused : Option ElementDecl → Option (List ℕ) → Bool
 is_nil_refused None xsi = false
 is_nil_refused (Some decl) xsi = not decl.nillable && is_some xsi
 
--- cvc-elt.3.2.1 (Structures 3.3.4): the element is nil and has child elements or characters. cvc-elt.3.2.2: it is nil, and there is
--- a fixed value.
+-- cvc-elt.3.2.1 (Structures 3.3.4): the element is nil and has child elements or characters.
+abbrev pub is_filled_nil : Bool → ElementShape → Bool
+is_filled_nil nil shape = nil && not (is_bare shape)
+
+-- cvc-elt.3.2.2 (Structures 3.3.4): the element is nil, and there is a fixed value.
+abbrev pub is_fixed_nil : Bool → Option ValueConstraint → Bool
+is_fixed_nil nil constraint = nil && is_fixed constraint
+
 abbrev pub nil_codes : Option ElementDecl → Option ValueConstraint → Option (List ℕ) → Bool → ElementShape → List Found
 nil_codes decl constraint xsi nil shape =
-    code_if (is_nil_refused decl xsi) CvcElt3_1 ++ (code_if (nil && not (is_bare shape)) CvcElt3_2_1 ++ code_if (nil && is_fixed constraint) CvcElt3_2_2)
+    code_if (is_nil_refused decl xsi) CvcElt3_1 ++ (code_if (is_filled_nil nil shape) CvcElt3_2_1 ++ code_if (is_fixed_nil nil constraint) CvcElt3_2_2)
 
 -- ---- the content
 
@@ -113,11 +131,18 @@ text_codes code NotRead = []
 text_codes code (Invalid value_code) = found code ∷ found value_code ∷ []
 text_codes code (Valid value met) = []
 
--- cvc-type.3.1.2 (Structures 3.3.4): an element of simple type has child elements. cvc-type.3.1.3: it has none, and its text is not
--- valid; the code of the value follows.
+-- cvc-type.3.1.2 (Structures 3.3.4): an element of simple type has child elements.
+abbrev pub has_elements_inside : Bool → ElementShape → Bool
+has_elements_inside nil shape = not nil && has_elements shape
+
+-- cvc-type.3.1.3 (Structures 3.3.4): an element of simple type has no child elements, and its text is not valid; the code of the value
+-- follows.
+abbrev pub simple_text_codes : TextOutcome → List Found
+simple_text_codes outcome = text_codes CvcType3_1_3 outcome
+
 abbrev pub simple_codes : NameTable → Bool → ElementShape → TextOutcome → List Found
 simple_codes names nil shape outcome =
-    code_if (has_other_attributes names shape.attrs) CvcType3_1_1 ++ (code_if (not nil && has_elements shape) CvcType3_1_2 ++ text_codes CvcType3_1_3 outcome)
+    code_if (has_other_attributes names shape.attrs) CvcType3_1_1 ++ (code_if (has_elements_inside nil shape) CvcType3_1_2 ++ simple_text_codes outcome)
 
 -- cvc-complex-type.2.1 (Structures 3.4.4): the content is empty, and there are child elements or characters.
 abbrev pub empty_codes : ElementShape → List ℕ → List Found
@@ -182,22 +207,25 @@ is_mixed (Some SimpleContent) = false
 is_mixed (Some ElementOnly) = false
 is_mixed (Some Mixed) = true
 
--- on mixed content the text itself is the value
+-- cvc-elt.5.2.2.1 (Structures 3.3.4): the value is fixed, the content is mixed, and there are child elements.
+abbrev pub has_elements_beside : Option ValueConstraint → ElementShape → Bool
+has_elements_beside fixed shape = is_some fixed && has_elements shape
+
+-- cvc-elt.5.2.2.2 (Structures 3.3.4): on mixed content the text is not the fixed one.
 abbrev pub differs : Option ValueConstraint → List ℕ → Bool
 differs None text = false
 differs (Some constraint) text = not (bytes_eq text constraint.text)
 
--- a value that is not the fixed one
+-- cvc-elt.5.2.2.2 (Structures 3.3.4): a valid value is not the fixed one.
 abbrev pub is_unmet : TextOutcome → Bool
 is_unmet NotRead = false
 is_unmet (Invalid code) = false
 is_unmet (Valid value met) = not met
 
--- cvc-elt.5.2.2.1 (Structures 3.3.4): the value is fixed, the content is mixed, and there are child elements. cvc-elt.5.2.2.2: a valid
--- value is not the fixed one, or on mixed content the text is not it. An element that takes the text of the constraint has it.
+-- the codes of a fixed value that an element with mixed content has to have; one that takes the text of the constraint has it
 abbrev pub mixed_codes : Option ValueConstraint → ElementShape → List Found
 mixed_codes fixed shape =
-    code_if (is_some fixed && has_elements shape) CvcElt5_2_2_1 ++ code_if (differs fixed shape.text) CvcElt5_2_2_2
+    code_if (has_elements_beside fixed shape) CvcElt5_2_2_1 ++ code_if (differs fixed shape.text) CvcElt5_2_2_2
 
 abbrev pub fixed_codes : Bool → Option ContentType → Option ValueConstraint → ElementShape → TextOutcome → List Found
 fixed_codes nil content fixed shape outcome =

@@ -171,11 +171,7 @@ pub(crate) fn is_nil(
 }
 
 /// Whether the element takes the text of the value constraint.
-pub fn is_taken(
-    nil: bool,
-    constraint: Option<&ValueConstraint>,
-    shape: &ElementShape,
-) -> bool
+pub fn is_taken(nil: bool, constraint: Option<&ValueConstraint>, shape: &ElementShape) -> bool
     ensures { result ≡ spec.is_taken nil (option_copied constraint.entry) shape.now }
 {
     constraint.is_some() && (!nil && is_bare(shape))

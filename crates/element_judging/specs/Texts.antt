@@ -60,4 +60,3 @@ abbrev pub IsTextOutcome : Tables → Option TypeId → Bool → Option ValueCon
 IsTextOutcome t None nil constraint shape outcome = outcome ≡ NotRead
 IsTextOutcome t (Some of) nil constraint shape outcome =
     IsReadIf (is_read (content_of t of) nil shape) t of (is_taken nil constraint shape) constraint shape outcome
-

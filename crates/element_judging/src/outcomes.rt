@@ -9,7 +9,9 @@ ghost use Rattle.element_judging.specs.Source.{IsSource};
 use crate::texts::read_text;
 use assess_records::ElementShape;
 use content_types::ContentType;
-use element_codes::{ElementSource, TextOutcome, fixed_value, has_elements, is_taken, scope_used, text_used};
+use element_codes::{
+    ElementSource, TextOutcome, fixed_value, has_elements, is_taken, scope_used, text_used,
+};
 use simple_types::SimpleTypes;
 use std::alloc::{AllocError, Global};
 use xs_components::{TypeId, ValueConstraint};

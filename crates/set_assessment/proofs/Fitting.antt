@@ -1,6 +1,6 @@
 -- Records that fit one another from each element to its child elements are the assessment.
-use Rattle.std.proofs.Common.{◌≡◌, ℕ, inl, inr, List, [], ◌∷◌, Option, refl, sym, ap, subst, ◌∙◌}
-use Rattle.std.specs.Prelude.{All, map, ◌⊎◌}
+use Rattle.std.proofs.Common.{◌≡◌, ℕ, inl, inr, List, ◌∷◌, refl, sym, ap, subst, ◌∙◌}
+use Rattle.std.specs.Prelude.{All, map}
 use Rattle.std.proofs.lemmas.List.Elements.{All-head, All-tail}
 use Rattle.xs_names.specs.Scope.{first_scope}
 use Rattle.tree_rows.specs.Forest.{Forest, none, text, element}
@@ -8,14 +8,13 @@ use Rattle.tree_rows.specs.declared.name.Expanded.{Expanded}
 use Rattle.tree_rows.specs.declared.row.Attribute.{Attribute}
 use Rattle.tree_rows.specs.declared.row.Binding.{Binding}
 use Rattle.assess_records.specs.Counts.{counts_of}
-use Rattle.assess_records.specs.declared.counts.ChildCounts.{ChildCounts}
 use Rattle.assess_records.specs.declared.shape.ElementShape.{ElementShape}
 use Rattle.instance_names.specs.Instance.{instance_text}
 use Rattle.instance_names.specs.declared.InstanceAttribute.TheVariants.{TypeName}
 use Rattle.elem_governing.specs.declared.pairs.Governing.{Governing}
 use Rattle.set_assessment.specs.Numbered.{Scope, Head, head_of, heads, names_of, name_in, named_texts, scope_in, characters, shape_of}
 use Rattle.set_assessment.specs.Attribution.{SchemaSet, content_particle, AreTerms}
-use Rattle.set_assessment.specs.Assessment.{Assessed, Beside, first_pair, governed, sibling_records, AreJudged, IsEntry, AreAssessed, IsAssessment}
+use Rattle.set_assessment.specs.Assessment.{Beside, governed, sibling_records, AreJudged, IsEntry, AreAssessed, IsAssessment}
 use Rattle.set_assessment.specs.Local.{Readers, element_numbers, IsRead, AreRead, HasElement, Kept, head_at, pair_at, record_at, shape_at, IsScoped, IsSettled, AreRoots, kept_entries}
 
 module _ (s : SchemaSet) (b : Beside) (r : Readers) (ks : ℕ → Kept) where
@@ -83,11 +82,16 @@ module _ (s : SchemaSet) (b : Beside) (r : Readers) (ks : ℕ → Kept) where
   assessed (text number chars next) scope read settled scoped = assessed next scope read settled scoped
   assessed (element number name bindings attributes children next) scope read settled scoped =
       let own = settled number (inl refl) in
-      let inner = inner-scoped scope number name bindings attributes children read.0 (All-head (IsScoped s b r ks scope) number (element_numbers next) scoped) own in
-      ((ks number).found, map (pair_at s b r ks) (element_numbers children), kept_entries ks children, kept_entries ks next, refl,
-      entry-fits scope number name bindings attributes children read.0 (All-head (IsScoped s b r ks scope) number (element_numbers next) scoped) own (heads-are (scope_in s.names bindings scope) children read.1 inner),
-      assessed children (scope_in s.names bindings scope) read.1 (λ n has. settled n (inr (inl has))) inner,
-      assessed next scope read.2 (λ n has. settled n (inr (inr has))) (All-tail (IsScoped s b r ks scope) number (element_numbers next) scoped))
+      let inner = inner-scoped scope number name bindings attributes children read.0 (All-head (IsScoped s b r ks scope) number (element_numbers next) scoped) own in (
+        (ks number).found,
+        map (pair_at s b r ks) (element_numbers children),
+        kept_entries ks children,
+        kept_entries ks next,
+        refl,
+        entry-fits scope number name bindings attributes children read.0 (All-head (IsScoped s b r ks scope) number (element_numbers next) scoped) own (heads-are (scope_in s.names bindings scope) children read.1 inner),
+        assessed children (scope_in s.names bindings scope) read.1 (λ n has. settled n (inr (inl has))) inner,
+        assessed next scope read.2 (λ n has. settled n (inr (inr has))) (All-tail (IsScoped s b r ks scope) number (element_numbers next) scoped),
+      )
 
   pub assessment : (f : Forest) → AreRead r f → ((n : ℕ) → HasElement n f → IsSettled s b r ks n) → AreRoots s b r ks f → IsAssessment s b f (kept_entries ks f)
   assessment f read settled roots =

@@ -1,5 +1,5 @@
 -- Schema-validity assessment of a document, by one recursion from its root (Structures 5.2, 3.3.4, 3.3.5, 3.4.4).
-use Rattle.std.specs.Prelude.{◌≡◌, ℕ, List, [], ◌∷◌, ◌++◌, map, Option, None, Some}
+use Rattle.std.specs.Prelude.{◌≡◌, ℕ, List, [], ◌∷◌, ◌++◌, map, Option}
 use Rattle.xs_names.specs.Scope.{first_scope}
 use Rattle.xs_codes.specs.declared.fault.Found.{Found}
 use Rattle.xs_components.specs.declared.common.TypeId.{TypeId}
@@ -7,7 +7,6 @@ use Rattle.simple_values.specs.declared.value.Value.{Value}
 use Rattle.tree_rows.specs.Forest.{Forest, none, text, element}
 use Rattle.tree_rows.specs.declared.row.Attribute.{Attribute}
 use Rattle.assess_records.specs.Counts.{counts_of}
-use Rattle.assess_records.specs.declared.counts.ChildCounts.{ChildCounts}
 use Rattle.assess_records.specs.declared.record.AttrRecord.{AttrRecord}
 use Rattle.assess_records.specs.declared.record.ElementRecord.{ElementRecord}
 use Rattle.assess_records.specs.declared.shape.ElementShape.{ElementShape}

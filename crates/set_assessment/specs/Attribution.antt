@@ -1,6 +1,6 @@
 -- Which term of its parent's content model each child element is attributed to, and where child elements get stuck (Structures
 -- 3.4.4, 3.8.4, 3.9.4).
-use Rattle.std.specs.Prelude.{◌≡◌, ℕ, suc, ◌<◌, ◌⊎◌, ⊤, List, [], ◌∷◌, Option, None, Some, map, take, length, slice_get, slice_index, slice_index_or}
+use Rattle.std.specs.Prelude.{◌≡◌, ℕ, suc, ◌<◌, ◌⊎◌, ⊤, List, Option, None, Some, map, take, length, slice_get, slice_index, slice_index_or}
 use Rattle.std.specs.Option.{option_and_then}
 use Rattle.xs_names.specs.Names.{NameTable}
 use Rattle.xs_components.specs.Tables.{Tables}

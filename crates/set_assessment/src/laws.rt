@@ -11,5 +11,4 @@ ghost use Rattle.set_assessment.specs.Local.{Readers, AreRead, HasElement, Kept,
 pub fn fitting_records_are_the_assessment()
     ensures fitting { (s : SchemaSet) (b : Beside) (r : Readers) (ks : ℕ → Kept) (f : Forest) → AreRead r f → ((n : ℕ) → HasElement n f → IsSettled s b r ks n) →
         AreRoots s b r ks f → IsAssessment s b f (kept_entries ks f) }
-{
-}
+{}

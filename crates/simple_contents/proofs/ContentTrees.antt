@@ -137,7 +137,7 @@ module _ (t : Tables) where
             let base : IsLower t (first_height + bound) part.base = record { there = l.there; lower = (let m = l.lower in omega arith) } in
             subst IsSimpleTree (sym (type_tree_is t ranked (types.Complex n) ∙ ap (content_part (simple_tree t) (type_tree t)) e))
             (form-simple n part e part.by_extension refl part.content refl (content_of t part.base) (kind part.base base) (rec part.base base)
-              (subst (λ (content : ContentType). is_simple_content content ≡ true) (complex_content_is t ranked n ∙ ap (part_content (complex_content t)) e) is))
+            (subst (λ (content : ContentType). is_simple_content content ≡ true) (complex_content_is t ranked n ∙ ap (part_content (complex_content t)) e) is))
 
     type-read : (of : TypeId) → IsType t of → is_simple_content (content_of t of) ≡ true → IsSimpleTree (type_tree t of)
     type-read types.AnyType there is = absurd (false≢true is)

@@ -28,9 +28,10 @@ module _ (t : Tables) (ranked : IsRanked t) (simple : AreSimple t) where
   module _ (height : ℕ) (rec : (of : TypeId) → IsLower t height of → is_simple of ≡ true → IsSimpleTree (simple_tree t of)) where
     union-simple : (members : List TypeId) → All (IsLower t height) members → All (λ x. is_simple x ≡ true) members → AreSimpleTrees (members_of (map (simple_tree t) members))
     union-simple [] low are = tt
-    union-simple (x ∷ xs) low are =
-        (rec x (All-head (IsLower t height) x xs low) (All-head (λ x. is_simple x ≡ true) x xs are),
-        union-simple xs (All-tail (IsLower t height) x xs low) (All-tail (λ x. is_simple x ≡ true) x xs are))
+    union-simple (x ∷ xs) low are = (
+      rec x (All-head (IsLower t height) x xs low) (All-head (λ x. is_simple x ≡ true) x xs are),
+      union-simple xs (All-tail (IsLower t height) x xs low) (All-tail (λ x. is_simple x ≡ true) x xs are),
+    )
 
     form-simple : (form : SimpleForm) → All (IsLower t height) (named_types form) → All (λ x. is_simple x ≡ true) (named_types form) → IsSimpleTree (form_tree (simple_tree t) form)
     form-simple (Restrict base step) low are = rec base (All-head (IsLower t height) base [] low) (All-head (λ x. is_simple x ≡ true) base [] are)
@@ -53,7 +54,7 @@ module _ (t : Tables) (ranked : IsRanked t) (simple : AreSimple t) where
       of (Some part) e rec =
           subst IsSimpleTree (sym (simple_tree_is t ranked (types.Simple n) ∙ ap (part_tree (simple_tree t)) e))
           (form-simple (first_height + slice_index t.simples.ranks n)
-            (λ x lower. rec x (record { there = lower.there; lower = (let l = lower.lower in omega arith) })) part.form (ranked.simples n part e) (simple.named n part e))
+          (λ x lower. rec x (record { there = lower.there; lower = (let l = lower.lower in omega arith) })) part.form (ranked.simples n part e) (simple.named n part e))
 
   pub type-simple : (of : TypeId) → IsType t of → is_simple of ≡ true → IsSimpleTree (simple_tree t of)
   type-simple types.AnyType there is = absurd (false≢true is)

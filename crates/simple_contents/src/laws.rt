@@ -19,5 +19,4 @@ ghost use Rattle.simple_contents.specs.Own.{AreOwnSimple};
 pub fn simple_contents_are_read()
     ensures read { (t : Tables) (types : SimpleTypes) → IsRanked t → AreSimple t → AreOwnSimple t → ((fault : Fault) → IsWrongBase t fault → ⊥) → AreWhole t types
         → (of : TypeId) → IsType t of → is_simple_content (content_of t of) ≡ true → IsWhole types of }
-{
-}
+{}
