@@ -1,6 +1,0 @@
-//! The assessment of one element and its attributes by themselves (Structures 3.3.4, 3.3.5, 3.4.4).
-#![tactic(auto)]
-
-mod local;
-
-pub use local::{AssessSet, Judged, local};
