@@ -1,5 +1,5 @@
 -- A type that a name or a declaration gives is there.
-use Rattle.std.proofs.Common.{◌≡◌, ℕ, ◌-◌, ◌<◌, Bool, true, false, List, [], Option, None, Some, length, slice_get, refl}
+use Rattle.std.proofs.Common.{◌≡◌, ℕ, ◌-◌, Bool, true, false, List, [], Option, None, Some, length, refl}
 use Rattle.std.specs.Prelude.{IfSome, nat_lt, if◌then◌else◌, bytes_eq, codes, slice_index_or}
 use Rattle.std.specs.Option.{option_map, option_and_then}
 use Rattle.std.proofs.lemmas.Bool.{ltb-true}

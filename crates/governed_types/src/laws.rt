@@ -17,5 +17,4 @@ pub fn governed_types_are_there()
         → (name : ℕ) (xsi : Option (List ℕ)) (scope : List (List ℕ × ℕ)) → IfSome (govern_root names t name xsi scope).of (IsType t) }
     ensures child { (names : NameTable) (t : Tables) (d : DeclarationTable) (named : Spaces) → IsView t d named
         → (parent : Mode) (term : Option ℕ) (name : ℕ) (xsi : Option (List ℕ)) (scope : List (List ℕ × ℕ)) → IfSome (govern_child names t parent term name xsi scope).of (IsType t) }
-{
-}
+{}

@@ -1,6 +1,5 @@
 -- What simple content is made of is simple.
-use Rattle.std.proofs.Common.{◌≡◌, ℕ, zero, suc, ◌+◌, ◌<◌, Bool, true, false, length, List, [], ◌∷◌, Option, None, Some, slice_get, slice_index, refl, sym, ap, subst, ◌∙◌, arith}
-use Rattle.std.specs.Prelude.{is_some}
+use Rattle.std.proofs.Common.{◌≡◌, ℕ, zero, suc, ◌+◌, ◌<◌, Bool, true, false, length, Option, None, Some, slice_get, slice_index, refl, sym, ap, subst, ◌∙◌, arith}
 use Rattle.std.proofs.lemmas.Bool.{false≢true}
 use Rattle.xs_codes.specs.declared.code.Code.TheVariants.{SrcCt2}
 use Rattle.xs_codes.specs.declared.fault.Fault.{Fault}
@@ -14,15 +13,14 @@ use Rattle.xs_references.specs.Heights.{first_height, IsType, IsLower}
 use Rattle.xs_references.specs.Ranked.{IsRanked}
 use Rattle.type_derives.specs.Within.{AreSimple}
 use Rattle.base_kinds.specs.Bases.{IsWrongBase, base_code, base_fault}
-use Rattle.base_kinds.specs.Contents.{HasContent, of_any, of_built_in, of_simple, own, inherited, form_kind, taken as kind_taken}
+use Rattle.base_kinds.specs.Contents.{HasContent, of_any, of_built_in, of_simple, own, inherited, form_kind}
 use Rattle.base_kinds.specs.declared.kinds.ContentKind.{ContentKind}
 use Rattle.base_kinds.specs.declared.kinds.ContentKind.TheVariants as kinds
-use Rattle.simple_validity.specs.TypeTree.{TypeTree}
 use Rattle.simple_validity.specs.Trees.{simple_tree, content_form, content_part, type_tree}
-use Rattle.simple_validity.proofs.TreeLaws.{simple_tree_is, type_tree_is}
+use Rattle.simple_validity.proofs.TreeLaws.{type_tree_is}
 use Rattle.simple_types.specs.SimpleTypes.{AreWhole, IsWhole, IsSimpleTree}
 use Rattle.simple_types.specs.declared.types.SimpleTypes.{SimpleTypes}
-use Rattle.content_types.specs.ContentTypes.{model_content, taken, form_content, type_content, part_content, complex_content, content_of}
+use Rattle.content_types.specs.ContentTypes.{form_content, part_content, complex_content, content_of}
 use Rattle.content_types.specs.declared.ContentType.{ContentType}
 use Rattle.content_types.specs.declared.ContentType.TheVariants.{SimpleType, Empty, SimpleContent, ElementOnly, Mixed}
 use Rattle.content_types.proofs.ContentLaws.{complex_content_is}

@@ -1,5 +1,5 @@
 -- A simple type is made of simple ones alone.
-use Rattle.std.proofs.Common.{◌≡◌, ℕ, zero, suc, ◌+◌, ◌<◌, true, false, length, List, [], ◌∷◌, Option, None, Some, map, slice_get, slice_index, refl, sym, ap, subst, ◌∙◌, arith}
+use Rattle.std.proofs.Common.{◌≡◌, ℕ, zero, suc, ◌+◌, ◌<◌, true, length, List, [], ◌∷◌, Option, None, Some, map, slice_get, slice_index, refl, sym, ap, subst, ◌∙◌, arith}
 use Rattle.std.specs.Prelude.{All}
 use Rattle.std.proofs.lemmas.Bool.{false≢true}
 use Rattle.std.proofs.lemmas.List.Elements.{All-head, All-tail}
@@ -9,12 +9,12 @@ use Rattle.xs_components.specs.declared.common.TypeId.TheVariants as types
 use Rattle.xs_components.specs.declared.simple.SimpleForm.{SimpleForm}
 use Rattle.xs_components.specs.declared.simple.SimpleForm.TheVariants.{Restrict, ListOf, UnionOf}
 use Rattle.xs_components.specs.declared.simple.SimpleType.{SimpleType}
-use Rattle.xs_references.specs.Heights.{first_height, type_height, IsType, IsLower}
+use Rattle.xs_references.specs.Heights.{first_height, IsType, IsLower}
 use Rattle.xs_references.specs.Ranked.{named_types, IsRanked}
 use Rattle.type_derives.specs.Derives.{is_simple}
 use Rattle.type_derives.specs.Within.{AreSimple}
-use Rattle.simple_validity.specs.TypeTree.{TypeTree, members_of}
-use Rattle.simple_validity.specs.Trees.{form_tree, part_tree, simple_step, simple_tree}
+use Rattle.simple_validity.specs.TypeTree.{members_of}
+use Rattle.simple_validity.specs.Trees.{form_tree, part_tree, simple_tree}
 use Rattle.simple_validity.proofs.TreeLaws.{simple_tree_is}
 use Rattle.simple_types.specs.SimpleTypes.{IsSimpleTree, AreSimpleTrees}
 
