@@ -1,0 +1,8 @@
+//! The assessment of one element by itself (Structures 3.3.4, 3.3.5, 3.4.4).
+#![tactic(auto)]
+
+mod judged;
+mod outcomes;
+mod texts;
+
+pub use judged::{JudgedElement, judge_element};

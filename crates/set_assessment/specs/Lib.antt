@@ -1,0 +1,4 @@
+pub mod Numbered
+pub mod Attribution
+pub mod Assessment
+pub mod Local

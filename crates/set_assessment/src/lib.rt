@@ -1,0 +1,6 @@
+//! The assessment of a document by a schema set (Structures 5.2), as a definition, and when kept records are it.
+#![tactic(auto)]
+
+mod laws;
+
+pub use laws::fitting_records_are_the_assessment;

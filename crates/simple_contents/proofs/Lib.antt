@@ -1,0 +1,2 @@
+pub mod SimpleTrees
+pub mod ContentTrees
