@@ -1,0 +1,36 @@
+-- The phases of documents from their shape and from those of the set.
+use Rattle.std.proofs.Common.{◌≡◌, ◌⊎◌, inl, inr, Bool, false, List, [], ◌∷◌, Option, None, Some, Result, Ok, Err, refl, sym, subst}
+use Rattle.xs_codes.specs.declared.fault.Fault.{Fault}
+use Rattle.schema_shape.specs.declared.forms.ShapedSchema.{ShapedSchema}
+use Rattle.schema_set.specs.declared.documents.Available.{Available}
+use Rattle.schema_set.specs.declared.documents.SetDocument.{SetDocument}
+use Rattle.schema_set.specs.EffectiveSet.{IsEffectiveSet}
+use Rattle.schema_check.specs.declared.documents.CompiledSet.{CompiledSet}
+use Rattle.schema_check.specs.declared.documents.Refusal.{Refusal}
+use Rattle.schema_check.specs.declared.documents.Refusal.TheVariants.{Broken, Composed}
+use Rattle.schema_check.specs.declared.documents.SchemaInput.{SchemaInput}
+use Rattle.schema_check.specs.Phases.{IsFirstOfPhases}
+use Rattle.schema_check.specs.SetPhases.{name_phase, base_phase, type_phase, by_components, set_phases, IsSetCompiled, IsAloneCompiled}
+use Rattle.schema_check.specs.Compilation.{composes, IsShaped, shape_phase, IsSet, by_set, later_phases, IsCompilation}
+use Rattle.schema_check.proofs.PhaseLaws.{after-one, first-implied}
+
+module _ (documents : List SchemaInput) where
+  pub shape-refused : (fault : Fault) → IsShaped documents (Err fault) → IsCompilation documents (Err (Broken fault))
+  shape-refused fault is = inl (Err fault, is, refl)
+
+  module _ (shaped : ShapedSchema) (is : IsShaped documents (Ok shaped)) (alone : composes shaped.shapes ≡ false) where
+    in-set : (first : Available) (set : List SetDocument) → first.shaped ≡ shaped → IsEffectiveSet (first ∷ []) set → IsSet documents set
+    in-set first set same effective =
+        (first, subst (λ (s : ShapedSchema). IsShaped documents (Ok s)) (sym same) is, subst (λ (s : ShapedSchema). composes s.shapes ≡ false) (sym same) alone, effective)
+
+    all-phases : (set : List SetDocument) → IsSet documents set → (found : Option Fault) → IsFirstOfPhases (set_phases set) found
+        → IsFirstOfPhases (shape_phase documents ∷ later_phases documents) found
+    all-phases set of found h = after-one (shape_phase documents) (later_phases documents) found (Ok shaped, is, refl)
+        (first-implied (set_phases set) (later_phases documents) found
+        ((λ f p. (set, of, p)), ((λ f p. (set, of, p)), ((λ f p. (set, of, p)), tt))) h)
+
+    pub compiled : (made : CompiledSet) → IsAloneCompiled shaped (Ok made) → IsCompilation documents (Ok made)
+    compiled made h = let of = in-set h.0 h.2 h.1 h.3 in (all-phases h.2 of None h.4.0, h.2, of, h.4.1)
+
+    pub refused : (fault : Fault) → IsAloneCompiled shaped (Err fault) → IsCompilation documents (Err (Broken fault))
+    refused fault h = let of = in-set h.0 h.2 h.1 h.3 in all-phases h.2 of (Some fault) h.4

@@ -1,0 +1,33 @@
+-- Simple types are judged by the parts of tables alone, so that ranks, contents and particles that are added change nothing.
+use Rattle.std.proofs.Common.{◌≡◌, ◌⊎◌, inl, inr, List, [], ◌∷◌, Option, None, Some, Result, Ok, Err, subst}
+use Rattle.xs_codes.specs.declared.fault.Fault.{Fault}
+use Rattle.xs_components.specs.Tables.{Tables}
+use Rattle.xs_faults.specs.Least.{IsLeast}
+use Rattle.xs_references.specs.Ranked.{IsRanked}
+use Rattle.component_circles.specs.Circles.{Ranks, with_all_ranks}
+use Rattle.type_derivation.specs.Cycles.{IsBroken, IsGrown, IsAfter}
+use Rattle.type_derivation.specs.Particles.{AreContentsSet}
+use Rattle.simple_types.specs.declared.types.SimpleTypes.{SimpleTypes}
+use Rattle.simple_types.specs.SimpleTypes.{AreTypesOf, IsBuilt}
+use Rattle.schema_check.specs.Phases.{IsFirstOfPhases}
+use Rattle.schema_check.specs.SetPhases.{base_phase, type_phase, part_phases, IsReady}
+use Rattle.schema_check.specs.inside.Typed.{IsTyped}
+use Rattle.schema_check.proofs.PhaseLaws.{after-one}
+
+module _ (old new : Tables) (ranks : Ranks) (grown : IsGrown (with_all_ranks old ranks) new) where
+  pub types-before : (types : SimpleTypes) → AreTypesOf new types → AreTypesOf old types
+  types-before types are =
+      let h = subst (λ (t : Tables). AreTypesOf t types) grown.tables are in
+      record {
+        simples = record { alike = h.simples.alike; each = h.simples.each };
+        complexes = record { alike = h.complexes.alike; each = h.complexes.each };
+      }
+
+  pub types-made : (types : SimpleTypes) → IsLeast (IsBroken old) None → IsRanked new → AreContentsSet new → IsBuilt new (Ok types) → IsTyped old new (Ok types)
+  types-made types least ranked contents built = (
+    (least, ((types, types-before types built.0, built.1), tt)),
+    record { ranks = ranks; grown = grown; ranked = ranked; contents = contents; types = built.0; whole = built.2 },
+  )
+
+  pub types-refused : (fault : Fault) → IsLeast (IsBroken old) None → IsBuilt new (Err fault) → IsTyped old new (Err fault)
+  types-refused fault least built = inr (least, inl (built.0, types-before built.0 built.1, built.2))
