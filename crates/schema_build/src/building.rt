@@ -1,6 +1,7 @@
 ghost use Rattle.std.specs.Prelude.{◌≡◌, IfOk, OnOk};
 ghost use Rattle.xs_names.specs.Names.{Grown};
 ghost use Rattle.representations.specs.Named.{AreNamed};
+ghost use Rattle.representations.specs.Names as symbols;
 ghost use Rattle.document_representations.specs.Documents.{set_table};
 ghost use Rattle.schema_build.specs.Components as spec;
 
@@ -13,7 +14,27 @@ use xs_codes::Fault;
 use xs_components::Components;
 use xs_names::{Names, Scope};
 
-// The components of what documents are read as, or the first fault of names and references.
+// The components of what is represented, or the first fault of names and references.
+fn build_source(
+    alloc: Global,
+    names: &Names,
+    origins: &[Origin],
+    source: &Source,
+) -> Result<Result<Components, Fault>, AllocError>
+    requires spaces { source.now.spaces.now ≡ symbols.spaces_of source.now.reps.now }
+    requires named { AreNamed names.now source.now.reps.now }
+    ensures made { IfOk result (spec.IsMade names.now origins.now source.now.reps.now source.now.scopes.now) }
+{
+    match first_fault(alloc, names, source, origins)? {
+        Some(fault) => Ok(Err(fault)),
+        None => {
+            let parts = build_components::build(alloc, source)?;
+            Ok(Ok(parts))
+        },
+    }
+}
+
+// The same of what documents are read as.
 fn build_read(
     alloc: Global,
     names: &Names,
@@ -30,11 +51,7 @@ fn build_read(
         spaces: &spaces,
         scopes,
     };
-    if let Some(fault) = first_fault(alloc, names, &source, origins)? {
-        return Ok(Err(fault));
-    }
-    let parts = build_components::build(alloc, &source)?;
-    Ok(Ok(parts))
+    build_source(alloc, names, origins, &source)
 }
 
 /// The components of a schema set (Structures 3.15.1), or its first fault of names and references: by document, then element,

@@ -1,17 +1,22 @@
 -- The phases of documents from their shape and from those of the set.
+use Rattle.std.specs.Prelude.{All, IfOk}
+use Rattle.std.proofs.lemmas.Bool.{or_parts}
+use Rattle.std.proofs.lemmas.List.Elements.{All-nil, All-cons}
 use Rattle.std.proofs.Common.{◌≡◌, ◌⊎◌, inl, inr, Bool, false, List, [], ◌∷◌, Option, None, Some, Result, Ok, Err, refl, sym, subst}
 use Rattle.xs_codes.specs.declared.fault.Fault.{Fault}
+use Rattle.schema_shape.specs.declared.forms.Shape.{Shape}
 use Rattle.schema_shape.specs.declared.forms.ShapedSchema.{ShapedSchema}
 use Rattle.schema_set.specs.declared.documents.Available.{Available}
 use Rattle.schema_set.specs.declared.documents.SetDocument.{SetDocument}
-use Rattle.schema_set.specs.EffectiveSet.{IsEffectiveSet}
+use Rattle.schema_set.specs.EffectiveSet.{is_composition, IsEffectiveSet}
 use Rattle.schema_check.specs.declared.documents.CompiledSet.{CompiledSet}
 use Rattle.schema_check.specs.declared.documents.Refusal.{Refusal}
 use Rattle.schema_check.specs.declared.documents.Refusal.TheVariants.{Broken, Composed}
 use Rattle.schema_check.specs.declared.documents.SchemaInput.{SchemaInput}
 use Rattle.schema_check.specs.Phases.{IsFirstOfPhases}
 use Rattle.schema_check.specs.SetPhases.{name_phase, base_phase, type_phase, by_components, set_phases, IsSetCompiled, IsAloneCompiled}
-use Rattle.schema_check.specs.Compilation.{composes, IsShaped, shape_phase, IsSet, by_set, later_phases, IsCompilation}
+use Rattle.schema_check.specs.Compilation.{composes, IsShaped, shape_phase, IsSet, later_phases, IsCompilation}
+use Rattle.schema_check.specs.inside.Typed.{as_refusal, IsShapedCompiled}
 use Rattle.schema_check.proofs.PhaseLaws.{after-one, first-implied}
 
 module _ (documents : List SchemaInput) where
@@ -29,8 +34,27 @@ module _ (documents : List SchemaInput) where
         (first-implied (set_phases set) (later_phases documents) found
         ((λ f p. (set, of, p)), ((λ f p. (set, of, p)), ((λ f p. (set, of, p)), tt))) h)
 
-    pub compiled : (made : CompiledSet) → IsAloneCompiled shaped (Ok made) → IsCompilation documents (Ok made)
+    compiled : (made : CompiledSet) → IsAloneCompiled shaped (Ok made) → IsCompilation documents (Ok made)
     compiled made h = let of = in-set h.0 h.2 h.1 h.3 in (all-phases h.2 of None h.4.0, h.2, of, h.4.1)
 
-    pub refused : (fault : Fault) → IsAloneCompiled shaped (Err fault) → IsCompilation documents (Err (Broken fault))
+    refused : (fault : Fault) → IsAloneCompiled shaped (Err fault) → IsCompilation documents (Err (Broken fault))
     refused fault h = let of = in-set h.0 h.2 h.1 h.3 in all-phases h.2 of (Some fault) h.4
+
+  pub shaped-compiled : {E : Type 0} (result : Result (Result CompiledSet Refusal) E) (shaped : ShapedSchema) → IsShaped documents (Ok shaped)
+      → IfOk result (IsShapedCompiled shaped) → IfOk result (IsCompilation documents)
+  shaped-compiled (Ok (Ok made)) shaped is h = compiled shaped is h.0 made h.1
+  shaped-compiled (Ok (Err (Broken fault))) shaped is h = refused shaped is h.0 fault h.1
+  shaped-compiled (Ok (Err Composed)) shaped is h = (shaped, is, h)
+  shaped-compiled (Err e) shaped is h = h
+
+-- what is answered for a document that leads to no others
+pub as-refusal : (shaped : ShapedSchema) (answer : Result CompiledSet Fault) → composes shaped.shapes ≡ false → IsAloneCompiled shaped answer → IsShapedCompiled shaped (as_refusal answer)
+as-refusal shaped (Ok made) alone h = (alone, h)
+as-refusal shaped (Err fault) alone h = (alone, h)
+
+-- a document that composes nothing
+pub alone-shapes : (shapes : List Shape) → composes shapes ≡ false → All (λ shape. is_composition shape.form ≡ false) shapes
+alone-shapes [] e = All-nil (λ (shape : Shape). is_composition shape.form ≡ false)
+alone-shapes (shape ∷ shapes) e =
+    let parts = or_parts (is_composition shape.form) (composes shapes) e in
+    All-cons (λ (s : Shape). is_composition s.form ≡ false) shape shapes parts.0 (alone-shapes shapes parts.1)

@@ -1,14 +1,18 @@
 -- The phases of a set from those of its names and of its components.
-use Rattle.std.proofs.Common.{◌≡◌, ◌⊎◌, inl, inr, List, [], ◌∷◌, Option, None, Some, Result, Ok, Err, subst}
+use Rattle.std.specs.Prelude.{IfOk}
+use Rattle.std.proofs.Common.{◌≡◌, ◌⊎◌, inl, inr, List, [], ◌∷◌, Option, None, Some, Result, Ok, Err, subst, ◌∙◌}
 use Rattle.xs_codes.specs.declared.fault.Fault.{Fault}
 use Rattle.xs_components.specs.Tables.{Tables}
 use Rattle.xs_names.specs.Names.{NameTable}
-use Rattle.simple_types.specs.declared.types.SimpleTypes.{SimpleTypes}
+use Rattle.schema_shape.specs.declared.forms.ShapedSchema.{ShapedSchema}
+use Rattle.schema_set.specs.declared.documents.Available.{Available}
 use Rattle.schema_set.specs.declared.documents.SetDocument.{SetDocument}
+use Rattle.schema_set.specs.EffectiveSet.{IsEffectiveSet}
 use Rattle.schema_build.specs.Components.{IsBuilt, AreComponents}
 use Rattle.schema_check.specs.Phases.{IsFirstOfPhases}
-use Rattle.schema_check.specs.SetPhases.{names, name_phase, base_phase, type_phase, part_phases, by_components, IsSetCompiled}
-use Rattle.schema_check.specs.inside.Typed.{IsTyped}
+use Rattle.schema_check.specs.SetPhases.{names, name_phase, base_phase, type_phase, part_phases, by_components, IsSetCompiled, IsAloneCompiled}
+use Rattle.schema_check.specs.declared.documents.CompiledSet.{CompiledSet}
+use Rattle.schema_check.specs.inside.Typed.{ArePartsCompiled}
 use Rattle.schema_check.proofs.PhaseLaws.{after-one, first-implied}
 
 module _ (set : List SetDocument) (t : NameTable) (same : t ≡ names set) where
@@ -30,9 +34,14 @@ module _ (set : List SetDocument) (t : NameTable) (same : t ≡ names set) where
   pub set-unnamed : (fault : Fault) → IsBuilt t set (Err fault) → IsSetCompiled set (Err fault)
   set-unnamed fault built = inl (here (Err fault) built)
 
-  pub set-refused : (parts new : Tables) (fault : Fault) → IsBuilt t set (Ok parts) → IsTyped parts new (Err fault) → IsSetCompiled set (Err fault)
-  set-refused parts new fault built typed = all-phases parts (Some fault) built typed
+  pub set-compiled : {E : Type 0} (result : Result (Result CompiledSet Fault) E) (parts : Tables) → IsBuilt t set (Ok parts)
+      → IfOk result (ArePartsCompiled t parts) → IfOk result (IsSetCompiled set)
+  set-compiled (Ok (Ok made)) parts built compiled = (all-phases parts None built compiled.1.0, (compiled.0 ∙ same, parts, (here (Ok parts) built).1, compiled.1.1))
+  set-compiled (Ok (Err fault)) parts built compiled = all-phases parts (Some fault) built compiled
+  set-compiled (Err e) parts built compiled = compiled
 
-  pub set-made : (parts new : Tables) (types : SimpleTypes) → IsBuilt t set (Ok parts) → IsTyped parts new (Ok types)
-      → IsSetCompiled set (Ok (record { names = t; parts = new; types = types }))
-  set-made parts new types built typed = (all-phases parts None built typed.0, (same, parts, (here (Ok parts) built).1, typed.1))
+-- the set of one document
+pub alone-compiled : {E : Type 0} (result : Result (Result CompiledSet Fault) E) (shaped : ShapedSchema) (first : Available) (set : List SetDocument)
+    → first.shaped ≡ shaped → IsEffectiveSet (first ∷ []) set → IfOk result (IsSetCompiled set) → IfOk result (IsAloneCompiled shaped)
+alone-compiled (Ok answer) shaped first set same effective compiled = (first, same, set, effective, compiled)
+alone-compiled (Err e) shaped first set same effective compiled = compiled

@@ -1,4 +1,5 @@
 -- Simple types are judged by the parts of tables alone, so that ranks, contents and particles that are added change nothing.
+use Rattle.std.specs.Prelude.{IfNone}
 use Rattle.std.proofs.Common.{◌≡◌, ◌⊎◌, inl, inr, List, [], ◌∷◌, Option, None, Some, Result, Ok, Err, subst}
 use Rattle.xs_codes.specs.declared.fault.Fault.{Fault}
 use Rattle.xs_components.specs.Tables.{Tables}
@@ -31,3 +32,10 @@ module _ (old new : Tables) (ranks : Ranks) (grown : IsGrown (with_all_ranks old
 
   pub types-refused : (fault : Fault) → IsLeast (IsBroken old) None → IsBuilt new (Err fault) → IsTyped old new (Err fault)
   types-refused fault least built = inr (least, inl (built.0, types-before built.0 built.1, built.2))
+
+-- what the answers of both calls come to
+pub types-judged : (old new : Tables) (found : Option Fault) → found ≡ None → IsLeast (IsBroken old) found → IfNone found (IsRanked new) → IfNone found (AreContentsSet new)
+    → ((ranks : Ranks) × IsAfter found (with_all_ranks old ranks) new) → (answer : Result SimpleTypes Fault) → IsBuilt new answer → IsTyped old new answer
+types-judged old new None none least ranked contents after (Ok types) built = types-made old new after.0 after.1 types least ranked contents built
+types-judged old new None none least ranked contents after (Err fault) built = types-refused old new after.0 after.1 fault least built
+types-judged old new (Some fault) none least ranked contents after answer built = absurd (let s : Some fault ≡ None = none in cc)

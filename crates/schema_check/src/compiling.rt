@@ -2,9 +2,10 @@ ghost use Rattle.std.specs.Prelude.{◌≡◌, ◌<◌, false, length, IfOk};
 ghost use Rattle.schema_set.specs.EffectiveSet.{is_composition};
 ghost use Rattle.schema_check.specs.SetPhases.{IsSetCompiled, IsAloneCompiled};
 ghost use Rattle.schema_check.specs.Compilation as spec;
+ghost use Rattle.schema_check.specs.inside.Typed as inside;
 
 use crate::documents::{CompiledSet, Refusal, SchemaInput};
-use crate::types::judge_types;
+use crate::types::compile_parts;
 use closed_components::tables_are_closed;
 use schema_build::build;
 use schema_set::{Available, EffectiveSet, close_set};
@@ -41,18 +42,10 @@ fn compile_set(
 ) -> Result<Result<CompiledSet, Fault>, AllocError>
     ensures { IfOk result (IsSetCompiled set.now.documents) }
 {
-    let mut names = Names::new(alloc)?;
-    let mut parts = match build(alloc, &mut names, set)? {
-        Ok(parts) => parts,
-        Err(fault) => return Ok(Err(fault)),
-    };
     tables_are_closed();
-    match judge_types(alloc, &mut parts)? {
-        Ok(types) => Ok(Ok(CompiledSet {
-            names,
-            parts,
-            types,
-        })),
+    let mut names = Names::new(alloc)?;
+    match build(alloc, &mut names, set)? {
+        Ok(parts) => compile_parts(alloc, names, parts),
         Err(fault) => Ok(Err(fault)),
     }
 }
@@ -80,6 +73,30 @@ pub fn compile_alone(
     compile_set(alloc, &closed.set)
 }
 
+// A fault as the reason of a refusal.
+fn as_refusal(answer: Result<CompiledSet, Fault>) -> Result<CompiledSet, Refusal>
+    ensures { result ≡ inside.as_refusal answer }
+{
+    match answer {
+        Ok(made) => Ok(made),
+        Err(fault) => Err(Refusal::Broken(fault)),
+    }
+}
+
+// The set of a document whose shape is right, if it leads to no others.
+fn compile_shaped(
+    alloc: Global,
+    shaped: ShapedSchema,
+) -> Result<Result<CompiledSet, Refusal>, AllocError>
+    ensures { IfOk result (inside.IsShapedCompiled shaped) }
+{
+    if composes(shaped.shapes.as_slice()) {
+        return Ok(Err(Refusal::Composed));
+    }
+    let answer = compile_alone(alloc, shaped)?;
+    Ok(as_refusal(answer))
+}
+
 /// The schema set of documents compiled: phase by phase, shapes, names, bases, simple types. The first fault of the first
 /// phase that has one is answered, by document, element and the order of codes. As yet the set is the first document alone.
 ///
@@ -93,15 +110,8 @@ pub fn compile(
     requires some { 0 < length documents.now }
     ensures { IfOk result (spec.IsCompilation documents.now) }
 {
-    let shaped = match shape(alloc, FIRST, &documents[0].tree)? {
-        Ok(shaped) => shaped,
-        Err(fault) => return Ok(Err(Refusal::Broken(fault))),
-    };
-    if composes(shaped.shapes.as_slice()) {
-        return Ok(Err(Refusal::Composed));
-    }
-    match compile_alone(alloc, shaped)? {
-        Ok(made) => Ok(Ok(made)),
+    match shape(alloc, FIRST, &documents[0].tree)? {
+        Ok(shaped) => compile_shaped(alloc, shaped),
         Err(fault) => Ok(Err(Refusal::Broken(fault))),
     }
 }
