@@ -1,14 +1,15 @@
 -- The phases of documents from their shape and from those of the set.
-use Rattle.std.specs.Prelude.{All, IfOk}
+use Rattle.std.specs.Prelude.{All, IfOk, slice_get}
 use Rattle.std.proofs.lemmas.Bool.{or_parts}
 use Rattle.std.proofs.lemmas.List.Elements.{All-nil, All-cons}
-use Rattle.std.proofs.Common.{◌≡◌, ◌⊎◌, inl, inr, Bool, false, List, [], ◌∷◌, Option, None, Some, Result, Ok, Err, refl, sym, subst}
+use Rattle.std.proofs.Common.{◌≡◌, ◌⊎◌, inl, inr, Bool, false, List, [], ◌∷◌, Option, None, Some, Result, Ok, Err, ℕ, ◌<◌, length, refl, sym, subst, ◌∙◌, arith}
 use Rattle.xs_codes.specs.declared.fault.Fault.{Fault}
 use Rattle.schema_shape.specs.declared.forms.Shape.{Shape}
 use Rattle.schema_shape.specs.declared.forms.ShapedSchema.{ShapedSchema}
+use Rattle.schema_shape.specs.Shaped as shape_of
 use Rattle.schema_set.specs.declared.documents.Available.{Available}
 use Rattle.schema_set.specs.declared.documents.SetDocument.{SetDocument}
-use Rattle.schema_set.specs.EffectiveSet.{is_composition, IsEffectiveSet}
+use Rattle.schema_set.specs.EffectiveSet.{is_composition, AreAlone, IsEffectiveSet}
 use Rattle.schema_check.specs.declared.documents.CompiledSet.{CompiledSet}
 use Rattle.schema_check.specs.declared.documents.Refusal.{Refusal}
 use Rattle.schema_check.specs.declared.documents.Refusal.TheVariants.{Broken, Composed}
@@ -18,6 +19,11 @@ use Rattle.schema_check.specs.SetPhases.{name_phase, base_phase, type_phase, by_
 use Rattle.schema_check.specs.Compilation.{composes, IsShaped, shape_phase, IsSet, later_phases, IsCompilation}
 use Rattle.schema_check.specs.inside.Typed.{as_refusal, IsShapedCompiled}
 use Rattle.schema_check.proofs.PhaseLaws.{after-one, first-implied}
+
+pub first-shaped : (documents : List SchemaInput) (input : SchemaInput) (answer : Result ShapedSchema Fault) → slice_get documents 0 ≡ Some input
+    → answer ≡ shape_of.shaped 1 input.tree.forest → IsShaped documents answer
+unfolding IsShaped
+first-shaped documents input answer at is = (input, at, is)
 
 module _ (documents : List SchemaInput) where
   pub shape-refused : (fault : Fault) → IsShaped documents (Err fault) → IsCompilation documents (Err (Broken fault))
@@ -58,3 +64,15 @@ alone-shapes [] e = All-nil (λ (shape : Shape). is_composition shape.form ≡ f
 alone-shapes (shape ∷ shapes) e =
     let parts = or_parts (is_composition shape.form) (composes shapes) e in
     All-cons (λ (s : Shape). is_composition s.form ≡ false) shape shapes parts.0 (alone-shapes shapes parts.1)
+
+-- the documents of such a set before it is closed
+pub one-available : (slice list : List Available) (first : Available) → slice ≡ list → list ≡ first ∷ [] → 0 < length slice
+one-available slice list first same is = rw (same ∙ is) (omega arith)
+
+pub alone-available : (slice list : List Available) (first : Available) (shaped : ShapedSchema) → slice ≡ list → list ≡ first ∷ [] → first.shaped ≡ shaped
+    → composes shaped.shapes ≡ false → AreAlone slice
+alone-available slice list first shaped same is of alone =
+    subst (λ (l : List Available). AreAlone l) (sym (same ∙ is))
+    (All-cons (λ (a : Available). All (λ (s : Shape). is_composition s.form ≡ false) a.shaped.shapes) first []
+    (subst (λ (x : ShapedSchema). All (λ (s : Shape). is_composition s.form ≡ false) x.shapes) (sym of) (alone-shapes shaped.shapes alone))
+    (All-nil (λ (a : Available). All (λ (s : Shape). is_composition s.form ≡ false) a.shaped.shapes)))

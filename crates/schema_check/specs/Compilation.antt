@@ -25,7 +25,7 @@ fault_in (Err fault) = Some fault
 
 module _ (documents : List SchemaInput) where
   -- what the first document declares, or its first fault
-  abbrev pub IsShaped : Result ShapedSchema Fault → Type 0
+  unfoldable pub IsShaped : Result ShapedSchema Fault → Type 0
   IsShaped answer = (input : SchemaInput) × (slice_get documents 0 ≡ Some input) × (answer ≡ shaped 1 input.tree.forest)
 
   -- phase 1: the shape of the first document, which is the only one of the set

@@ -23,41 +23,48 @@ use Rattle.schema_check.specs.Phases.{IsFirstOfPhases}
 abbrev pub base_phase : Tables → Option Fault → Type 0
 base_phase parts found = IsLeast (IsBroken parts) found
 
--- phase 5, of components: simple types and facets (Structures 3.14.6; Datatypes 4.3)
+-- the components as phase 4 leaves them: with ranks, contents, and the particles that these add
+abbrev pub AreRanked : Tables → Tables → Type 0
+AreRanked parts new = (ranks : Ranks) × IsGrown (with_all_ranks parts ranks) new
+
+-- phase 5, of the components that phase 4 leaves: simple types and facets (Structures 3.14.6; Datatypes 4.3)
 abbrev pub type_phase : Tables → Option Fault → Type 0
-type_phase parts found = (types : SimpleTypes) × AreTypesOf parts types × (first_fault_of types ≡ found)
+type_phase parts found = (new : Tables) × AreRanked parts new × (types : SimpleTypes) × AreTypesOf new types × (first_fault_of types ≡ found)
 
 abbrev pub part_phases : Tables → List (Option Fault → Type 0)
 part_phases parts = base_phase parts ∷ type_phase parts ∷ []
 
 -- components with ranks and the particles of contents, and their simple types
 pub record IsReady (parts new : Tables) (types : SimpleTypes) : Type 0 where
-  pub ranks : Ranks
-  pub grown : IsGrown (with_all_ranks parts ranks) new
+  pub same : AreRanked parts new
   pub ranked : IsRanked new
   pub contents : AreContentsSet new
-  pub types : AreTypesOf new types
+  pub judged : AreTypesOf new types
   pub whole : AreWhole new types
 
 -- of the documents of a set
 module _ (set : List SetDocument) where
   -- the names that stand in them
-  abbrev pub names : NameTable
+  unfoldable pub names : NameTable
   names = set_table no_names set
 
   -- phase 3: names and references
-  abbrev pub name_phase : Option Fault → Type 0
+  unfoldable pub name_phase : Option Fault → Type 0
   name_phase found = IsLeast (IsNameFault names set) found
+
+  -- the components of the set
+  unfoldable pub AreParts : Tables → Type 0
+  AreParts parts = AreComponents names set parts
 
   -- a phase that looks at the components of the set
   abbrev pub by_components : (Tables → Option Fault → Type 0) → Option Fault → Type 0
-  by_components phase found = (parts : Tables) × AreComponents names set parts × phase parts found
+  by_components phase found = (parts : Tables) × AreParts parts × phase parts found
 
   abbrev pub set_phases : List (Option Fault → Type 0)
   set_phases = name_phase ∷ by_components base_phase ∷ by_components type_phase ∷ []
 
   abbrev pub IsCompiled : CompiledSet → Type 0
-  IsCompiled made = (made.names ≡ names) × (parts : Tables) × AreComponents names set parts × IsReady parts made.parts made.types
+  IsCompiled made = (made.names ≡ names) × (parts : Tables) × AreParts parts × IsReady parts made.parts made.types
 
   -- the compiled set, or the first fault of the first phase that has one
   abbrev pub IsSetCompiled : Result CompiledSet Fault → Type 0

@@ -44,10 +44,27 @@ fn compile_set(
 {
     tables_are_closed();
     let mut names = Names::new(alloc)?;
-    match build(alloc, &mut names, set)? {
+    let built = build(alloc, &mut names, set)?;
+    match built {
         Ok(parts) => compile_parts(alloc, names, parts),
         Err(fault) => Ok(Err(fault)),
     }
+}
+
+// A document as the only one that there is.
+fn available_alone(
+    alloc: Global,
+    shaped: ShapedSchema,
+) -> Result<Listed<Available>, AllocError>
+    ensures { IfOk result (λ available. inside.IsAlone shaped available) }
+{
+    let mut available = Listed::new(alloc);
+    // No document of the set names another, so no location is looked for.
+    available.push(Available {
+        shaped,
+        locations: Texts::new(alloc),
+    })?;
+    Ok(available)
 }
 
 /// The set of a document that leads to no others, compiled: the phases behind that of its shape. The first fault of the first
@@ -63,12 +80,7 @@ pub fn compile_alone(
     requires alone { spec.composes shaped.shapes ≡ false }
     ensures { IfOk result (IsAloneCompiled shaped) }
 {
-    let mut available = Listed::new(alloc);
-    // No document of the set names another, so no location is looked for.
-    available.push(Available {
-        shaped,
-        locations: Texts::new(alloc),
-    })?;
+    let available = available_alone(alloc, shaped)?;
     let closed = close_set(alloc, available.as_slice())?;
     compile_set(alloc, &closed.set)
 }
@@ -110,7 +122,8 @@ pub fn compile(
     requires some { 0 < length documents.now }
     ensures { IfOk result (spec.IsCompilation documents.now) }
 {
-    match shape(alloc, FIRST, &documents[0].tree)? {
+    let answer = shape(alloc, FIRST, &documents[0].tree)?;
+    match answer {
         Ok(shaped) => compile_shaped(alloc, shaped),
         Err(fault) => Ok(Err(Refusal::Broken(fault))),
     }

@@ -20,7 +20,8 @@ fn judge_types(
     requires none { All (λ content. content ≡ None) parts.old.contents }
     ensures { IfOk result (spec.IsTyped parts.old parts.new) }
 {
-    match cycles(alloc, parts)? {
+    let found = cycles(alloc, parts)?;
+    match found {
         Some(fault) => Ok(Err(fault)),
         None => {
             let types = SimpleTypes::build(alloc, parts)?;
@@ -39,7 +40,8 @@ pub(crate) fn compile_parts(
     requires none { All (λ content. content ≡ None) parts.contents }
     ensures { IfOk result (spec.ArePartsCompiled names parts) }
 {
-    match judge_types(alloc, &mut parts)? {
+    let answer = judge_types(alloc, &mut parts)?;
+    match answer {
         Ok(types) => Ok(Ok(CompiledSet {
             names,
             parts,

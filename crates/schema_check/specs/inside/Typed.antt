@@ -1,10 +1,11 @@
 -- What judging the components of a set comes to, and what a document whose shape is right does.
-use Rattle.std.specs.Prelude.{◌≡◌, true, false, None, Some, Result, Ok, Err}
+use Rattle.std.specs.Prelude.{◌≡◌, true, false, List, [], ◌∷◌, None, Some, Result, Ok, Err}
 use Rattle.xs_codes.specs.declared.fault.Fault.{Fault}
 use Rattle.xs_components.specs.Tables.{Tables}
 use Rattle.xs_names.specs.Names.{NameTable}
 use Rattle.simple_types.specs.declared.types.SimpleTypes.{SimpleTypes}
 use Rattle.schema_shape.specs.declared.forms.ShapedSchema.{ShapedSchema}
+use Rattle.schema_set.specs.declared.documents.Available.{Available}
 use Rattle.schema_check.specs.declared.documents.CompiledSet.{CompiledSet}
 use Rattle.schema_check.specs.declared.documents.Refusal.{Refusal}
 use Rattle.schema_check.specs.declared.documents.Refusal.TheVariants.{Broken, Composed}
@@ -29,3 +30,6 @@ abbrev pub IsShapedCompiled : ShapedSchema → Result CompiledSet Refusal → Ty
 IsShapedCompiled shaped (Ok made) = (composes shaped.shapes ≡ false) × IsAloneCompiled shaped (Ok made)
 IsShapedCompiled shaped (Err (Broken fault)) = (composes shaped.shapes ≡ false) × IsAloneCompiled shaped (Err fault)
 IsShapedCompiled shaped (Err Composed) = composes shaped.shapes ≡ true
+
+abbrev pub IsAlone : ShapedSchema → List Available → Type 0
+IsAlone shaped available = (first : Available) × (first.shaped ≡ shaped) × (available ≡ first ∷ [])
