@@ -65,5 +65,5 @@ first-names set none t empty is = is ∙ ap (λ (x : NameTable). set_table x set
 
 -- what the components are built from
 pub source-of : (t : NameTable) (set : List SetDocument) (parts : Tables) (answer : Result Tables Fault) → answer ≡ Ok parts → IsBuilt t set answer → (source : Source) × (parts ≡ built source)
-source-of t set parts (Ok other) is b = (b.1.0, (let e : Ok {E = Fault} other ≡ Ok parts = is in let same : other ≡ parts = cc in sym same ∙ b.1.4))
-source-of t set parts (Err fault) is b = absurd (let e : Err {T = Tables} fault ≡ Ok parts = is in cc)
+source-of t set parts (Ok other) is b = (b.1.0, (let e : ◌≡◌ {A = Result Tables Fault} (Ok other) (Ok parts) = is in let same : other ≡ parts = cc in sym same ∙ b.1.4))
+source-of t set parts (Err fault) is b = absurd (let e : ◌≡◌ {A = Result Tables Fault} (Err fault) (Ok parts) = is in cc)

@@ -15,4 +15,4 @@ returns-in-Some c = inl (subst (λ (o : Option Fault). IsLeast (IsBroken c.args.
 
 pub returns-in_ok-types-in-None : goal.returns-in_ok-types-in-None
 returns-in_ok-types-in-None c = types-judged c.args.parts.now c.cycles.new.parts c.in_ok-found.found c.in-None.is c.in_ok-found.ensures.least c.in_ok-found.ensures.ranked
-    c.in_ok-found.ensures.contents c.in_ok-found.ensures.tables c.in_ok-types.types c.in_ok-types.ensures
+    c.in_ok-found.ensures.contents c.in_ok-found.ensures.tables c.in_ok-types-in-None.types c.in_ok-types-in-None.ensures
