@@ -10,7 +10,7 @@ ghost use Rattle.schema_set.specs.EffectiveSet.{IsEffectiveSet};
 ghost use Rattle.representations.specs.declared.source.Source.{Source};
 ghost use Rattle.representations.specs.Names.{spaces_of};
 ghost use Rattle.document_representations.specs.Documents.{representations};
-ghost use Rattle.reference_faults.specs.declared.imports.Origin.{Origin};
+ghost use Rattle.representations.specs.declared.origins.Origin.{Origin};
 ghost use Rattle.reference_faults.specs.Faults.{IsBroken};
 ghost use Rattle.build_components.specs.Built.{built};
 ghost use Rattle.shaped_representations.specs.OfTree.{IsDeclared, IsOfTree};
