@@ -9,7 +9,7 @@ ghost use Rattle.tree_edits.specs.Tests.{edited};
 ghost use Rattle.tree_edits.specs.declared.edit.Edit.TheVariants as edits;
 ghost use Rattle.tree_changes.specs.Stands.{StandsFor};
 
-use crate::shown::shown;
+use crate::same::is_same_tree;
 use doc_tree::{DocTree, NodeKind};
 use item_listing::Item;
 use plain_tree::{Edit, Tree, fragment};
@@ -17,20 +17,28 @@ use std::alloc::{AllocError, Global};
 use std::process::Abort;
 use xs_names::{Names, Text};
 
+/// The tree that a document is.
+pub fn plain_of(names: &Names, doc: &DocTree) -> Result<Tree, AllocError>
+    requires { (d : Document) × StandsFor names.now doc.now d }
+    ensures { IfOk result (λ tree. StandsFor names.now doc.now tree) }
+{
+    match doc.to_plain(names) {
+        Ok(tree) => Ok(tree),
+        Err(error) => Err(error),
+    }
+}
+
 /// Sees that the document is this tree.
 pub fn compare<A: Abort>(
     rt: &A,
-    alloc: Global,
     names: &Names,
     doc: &DocTree,
     tree: &Tree,
 ) -> Result<(), AllocError>
     requires { (d : Document) × StandsFor names.now doc.now d }
 {
-    let plain = doc.to_plain(names)?;
-    let left = shown(alloc, &plain)?;
-    let right = shown(alloc, tree)?;
-    assert!(rt; left.as_str() == right.as_str());
+    let plain = plain_of(names, doc)?;
+    assert!(rt; is_same_tree(&plain, tree));
     Ok(())
 }
 
@@ -78,7 +86,8 @@ fn put_part<A: Abort>(
     items: &[Item],
 ) -> Result<(), AllocError>
     requires { (d : Document) × StandsFor names.old doc.old d × (edited d (edits.Insert parent index items.now) ≡ Ok tree.now) }
-    ensures { OnOk result (StandsFor names.new doc.new tree.now) }
+    ensures made { OnOk result (StandsFor names.new doc.new tree.now) }
+    ensures kept { OnErr result ((d : Document) → StandsFor names.old doc.old d → StandsFor names.new doc.new d) }
 {
     let part = part_of(rt, alloc, names, doc, parent, items)?;
     match doc.insert(names, parent, index, &part) {
@@ -94,11 +103,13 @@ fn put_text(
     tree: &Tree,
     parent: u32,
     index: u32,
-    text: Text,
+    text: &Text,
 ) -> Result<(), AllocError>
-    requires { (d : Document) × StandsFor names.now doc.old d × (edited d (edits.AddText parent index text) ≡ Ok tree.now) }
-    ensures { OnOk result (StandsFor names.now doc.new tree.now) }
+    requires { (d : Document) × StandsFor names.now doc.old d × (edited d (edits.AddText parent index text.now) ≡ Ok tree.now) }
+    ensures made { OnOk result (StandsFor names.now doc.new tree.now) }
+    ensures kept { OnErr result (doc.new ≡ doc.old) }
 {
+    let text = text.try_clone()?;
     match doc.add_text(parent, index, text) {
         Ok(_) => Ok(()),
         Err(error) => Err(error),
@@ -112,13 +123,16 @@ fn write_text<A: Abort>(
     doc: &mut DocTree,
     tree: &Tree,
     node: u32,
-    text: Text,
-)
-    requires { (d : Document) × StandsFor names.now doc.old d × (edited d (edits.SetText node text) ≡ Ok tree.now) }
-    ensures { StandsFor names.now doc.new tree.now }
+    text: &Text,
+) -> Result<(), AllocError>
+    requires { (d : Document) × StandsFor names.now doc.old d × (edited d (edits.SetText node text.now) ≡ Ok tree.now) }
+    ensures made { OnOk result (StandsFor names.now doc.new tree.now) }
+    ensures kept { OnErr result (doc.new ≡ doc.old) }
 {
     assert!(rt; matches!(doc.live(node), Some(NodeKind::Chars)));
+    let text = text.try_clone()?;
     doc.set_text(node, text);
+    Ok(())
 }
 
 /// Takes a node away.
@@ -137,48 +151,63 @@ fn make<A: Abort>(
     names: &mut Names,
     doc: &mut DocTree,
     tree: &Tree,
-    edit: Edit,
+    edit: &Edit,
 ) -> Result<(), AllocError>
-    requires { (d : Document) × StandsFor names.old doc.old d × (edited d edit ≡ Ok tree.now) }
-    ensures { OnOk result (StandsFor names.new doc.new tree.now) }
+    requires { (d : Document) × StandsFor names.old doc.old d × (edited d edit.now ≡ Ok tree.now) }
+    ensures made { OnOk result (StandsFor names.new doc.new tree.now) }
+    ensures kept { OnErr result ((d : Document) → StandsFor names.old doc.old d → StandsFor names.new doc.new d) }
 {
     match edit {
         Edit::Insert {
             parent,
             index,
             items,
-        } => put_part(rt, alloc, names, doc, tree, parent, index, items.as_slice()),
+        } => put_part(
+            rt,
+            alloc,
+            names,
+            doc,
+            tree,
+            *parent,
+            *index,
+            items.as_slice(),
+        ),
         Edit::AddText {
             parent,
             index,
             text,
-        } => put_text(names, doc, tree, parent, index, text),
-        Edit::SetText { node, text } => {
-            write_text(rt, names, doc, tree, node, text);
-            Ok(())
-        }
+        } => put_text(names, doc, tree, *parent, *index, text),
+        Edit::SetText { node, text } => write_text(rt, names, doc, tree, *node, text),
         Edit::Remove { node } => {
-            remove(rt, names, doc, tree, node);
+            remove(rt, names, doc, tree, *node);
             Ok(())
         }
     }
 }
 
-/// Makes an edit on both, where it can be made.
+/// Makes an edit on both, where it can be made, and answers whether it was. Where memory is wanting for the document, sees
+/// that it is as it was, and makes the edit once more.
 pub fn make_edit<A: Abort>(
     rt: &A,
     alloc: Global,
     names: &mut Names,
     doc: &mut DocTree,
     tree: &mut Tree,
-    edit: Edit,
-) -> Result<(), AllocError>
-    requires can { can_be_made edit ≡ true }
+    edit: &Edit,
+) -> Result<bool, AllocError>
+    requires can { can_be_made edit.now ≡ true }
     requires stands { StandsFor names.old doc.old tree.old }
     ensures { OnOk result (StandsFor names.new doc.new tree.new) }
 {
-    if is_made(alloc, tree, &edit) {
-        return make(rt, alloc, names, doc, tree, edit);
+    let before = plain_of(names, doc)?;
+    assert!(rt; is_same_tree(&before, tree));
+    if !is_made(alloc, tree, edit) {
+        return Ok(false);
     }
-    Ok(())
+    if make(rt, alloc, names, doc, tree, edit).is_ok() {
+        return Ok(true);
+    }
+    compare(rt, names, doc, &before)?;
+    make(rt, alloc, names, doc, tree, edit)?;
+    Ok(true)
 }

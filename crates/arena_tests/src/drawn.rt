@@ -1,12 +1,15 @@
-//! Drawn sequences of edits.
+//! Drawn sequences of changes.
 
-ghost use Rattle.std.specs.Prelude.{◌≡◌, true, IfOk};
+ghost use Rattle.std.specs.Prelude.{◌≡◌, true, IfOk, OnOk};
 ghost use Rattle.tree_edits.specs.Edits.{can_be_made};
 ghost use Rattle.tree_changes.specs.Stands.{StandsFor};
 
 use crate::calls::{compare, make_edit};
+use crate::elements::change_element;
 use crate::lines::{DOCUMENT, items_of, part_lines};
 use crate::random::Random;
+use crate::readers::compare_readers;
+use crate::spelled::{Gift, NAMES, Spaces};
 use doc_tree::DocTree;
 use plain_tree::{Edit, Tree, is_one_element, read_tree};
 use std::alloc::{AllocError, Global};
@@ -29,12 +32,11 @@ fn drawn_insertion(alloc: Global, parent: u32, index: u32, number: u32) -> Resul
     Ok(Edit::Remove { node: parent })
 }
 
-/// A drawn edit of a node.
-fn drawn_edit(alloc: Global, random: &mut Random, node: u32, many: bool) -> Result<Edit, AllocError>
+/// The edit of a node that has this kind.
+fn drawn_edit(alloc: Global, random: &mut Random, node: u32, kind: u32) -> Result<Edit, AllocError>
     ensures { IfOk result (λ edit. can_be_made edit ≡ true) }
 {
     let index = random.below(4);
-    let kind = if many { 3 } else { random.below(4) };
     match kind {
         0 => drawn_insertion(alloc, node, index, random.below(3)),
         1 => Ok(Edit::AddText {
@@ -50,6 +52,19 @@ fn drawn_edit(alloc: Global, random: &mut Random, node: u32, many: bool) -> Resu
     }
 }
 
+/// The gift that has this kind.
+fn drawn_gift(random: &mut Random, kind: u32) -> Gift {
+    let name = match NAMES.get(random.below(6) as usize) {
+        Some(name) => *name,
+        None => NAMES[0],
+    };
+    match kind {
+        4 => Gift::Name(name),
+        5 => Gift::Attr(name, if random.below(2) == 0 { "" } else { "value" }),
+        _ => Gift::NoAttr(random.below(3)),
+    }
+}
+
 /// The number of a drawn node.
 fn drawn_node(random: &mut Random, doc: &DocTree, tree: &Tree) -> u32 {
     let place = random.below(doc.node_count());
@@ -59,63 +74,109 @@ fn drawn_node(random: &mut Random, doc: &DocTree, tree: &Tree) -> u32 {
     }
 }
 
-/// Sees that the readers agree with the tree: each child has its parent, and elements come one after another.
-fn compare_readers<A: Abort>(rt: &A, doc: &DocTree, tree: &Tree) {
-    let mut last = 1;
-    assert!(rt; doc.node_count() as usize == tree.rows().len());
-    assert!(rt; doc.next_free() == tree.next_free());
-    for row in tree.rows() {
-        let node = row.number;
-        for place in 0..doc.child_count(node) {
-            let child = doc.child_at(node, place);
-            assert!(rt; child == tree.child_at(node, place));
-            assert!(rt; child.is_some_and(|child| doc.parent(child) == Some(node)));
-        }
-        if tree.name(node).is_some() && node != 1 {
-            assert!(rt; doc.next_element(last) == Some(node));
-            last = node;
-        }
-    }
-    assert!(rt; doc.next_element(last).is_none());
-}
-
-/// Makes so many drawn edits, and compares after each hundredth.
-fn make_edits<A: Abort>(
+/// Makes a drawn change of this kind, and answers whether it could be made.
+fn make_change<A: Abort>(
     rt: &A,
     alloc: Global,
     names: &mut Names,
+    spaces: &Spaces,
+    doc: &mut DocTree,
+    tree: &mut Tree,
+    random: &mut Random,
+    kind: u32,
+) -> Result<bool, AllocError>
+    requires { StandsFor names.old doc.old tree.old }
+    ensures { OnOk result (StandsFor names.new doc.new tree.new) }
+{
+    let node = drawn_node(random, doc, tree);
+    if kind < 4 {
+        let edit = drawn_edit(alloc, random, node, kind)?;
+        return make_edit(rt, alloc, names, doc, tree, &edit);
+    }
+    let gift = drawn_gift(random, kind);
+    change_element(rt, alloc, names, spaces, doc, tree, node, &gift)
+}
+
+/// The kind of the next change. Nodes are taken away where there are many, so that the document stays small.
+fn drawn_kind(random: &mut Random, doc: &DocTree) -> u32 {
+    if doc.node_count() > 60 {
+        3
+    } else {
+        random.below(7)
+    }
+}
+
+/// How many changes of each kind were made.
+type Tally = [u32; 7];
+
+/// Makes so many drawn changes, and compares all readers after each hundredth.
+fn make_changes<A: Abort>(
+    rt: &A,
+    alloc: Global,
+    names: &mut Names,
+    spaces: &Spaces,
     doc: &mut DocTree,
     tree: &mut Tree,
     count: u32,
-) -> Result<(), AllocError>
+) -> Result<Tally, AllocError>
     requires { StandsFor names.old doc.old tree.old }
 {
     let mut random = Random { state: 31 };
+    let mut tally = [0u32; 7];
     for number in 0..count {
-        let node = drawn_node(&mut random, doc, tree);
-        let edit = drawn_edit(alloc, &mut random, node, doc.node_count() > 60)?;
-        make_edit(rt, alloc, names, doc, tree, edit)?;
+        let kind = drawn_kind(&mut random, doc);
+        let made = make_change(rt, alloc, names, spaces, doc, tree, &mut random, kind)?;
+        if let Some(most) = tally.get_mut(kind as usize) {
+            *most = most.wrapping_add(u32::from(made));
+        }
         if number % 100 == 99 {
-            compare(rt, alloc, names, doc, tree)?;
-            compare_readers(rt, doc, tree);
+            compare(rt, names, doc, tree)?;
+            compare_readers(rt, names, spaces, doc, tree);
         }
     }
-    Ok(())
+    Ok(tally)
 }
 
-/// Makes so many drawn edits on a document.
-fn change_document<A: Abort>(rt: &A, alloc: Global, count: u32) -> Result<(), AllocError> {
+/// Makes so many drawn changes on the document of a tree.
+fn change_tree<A: Abort>(
+    rt: &A,
+    alloc: Global,
+    names: &mut Names,
+    tree: &mut Tree,
+    count: u32,
+) -> Result<Tally, AllocError> {
+    let spaces = Spaces::number_all(names)?;
+    let mut doc = DocTree::from_plain(alloc, names, tree)?;
+    make_changes(rt, alloc, names, &spaces, &mut doc, tree, count)
+}
+
+/// The tree of the document of the tests.
+fn first_tree<A: Abort>(rt: &A, alloc: Global) -> Result<Tree, AllocError> {
     let items = items_of(alloc, &DOCUMENT)?;
-    let Ok(mut tree) = read_tree(alloc, items.as_slice())? else {
-        panic!(rt; "no tree");
-    };
+    match read_tree(alloc, items.as_slice())? {
+        Ok(tree) => Ok(tree),
+        Err(_) => panic!(rt; "no tree"),
+    }
+}
+
+/// Makes so many drawn changes on a document.
+fn change_document<A: Abort>(rt: &A, alloc: Global, count: u32) -> Result<Tally, AllocError> {
+    let mut tree = first_tree(rt, alloc)?;
     let mut names = Names::new(alloc)?;
-    let mut doc = DocTree::from_plain(alloc, &mut names, &tree)?;
-    make_edits(rt, alloc, &mut names, &mut doc, &mut tree, count)
+    change_tree(rt, alloc, &mut names, &mut tree, count)
+}
+
+/// Holds whichever allocation fails: `rt try --test --fail-alloc N`.
+#[test]
+fn a_failed_change_leaves_all_as_it_was(rt: HostRuntime) {
+    let _made = change_document(&rt, rt.alloc(), 100);
 }
 
 #[test]
-fn drawn_edits(rt: HostRuntime) -> Result<(), Fail> {
-    change_document(&rt, rt.alloc(), 20_000)?;
+fn drawn_changes(rt: HostRuntime) -> Result<(), Fail> {
+    let made = change_document(&rt, rt.alloc(), 20_000)?;
+    for count in made {
+        assert!(rt; count > 500);
+    }
     Ok(())
 }

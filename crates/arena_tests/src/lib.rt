@@ -6,8 +6,14 @@ mod calls;
 #[cfg(test)]
 mod drawn;
 #[cfg(test)]
+mod elements;
+#[cfg(test)]
 mod lines;
 #[cfg(test)]
 mod random;
 #[cfg(test)]
-mod shown;
+mod readers;
+#[cfg(test)]
+mod same;
+#[cfg(test)]
+mod spelled;

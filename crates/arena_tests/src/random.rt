@@ -1,5 +1,5 @@
 /// Numbers from a seed, each of 31 bits.
-#[derive(Clone, Copy, Debug)]
+#[derive(Clone, Copy)]
 pub struct Random {
     pub state: u64,
 }

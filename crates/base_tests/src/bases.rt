@@ -1,80 +1,85 @@
-use crate::parts::{add_complex_content, add_simple_content, fault, string};
+use crate::parts::{Base, Content, Derived, add_types};
 use base_kinds::first_base;
 use std::alloc::{AllocError, Global};
 use std::test::Fail;
-use xs_codes::Code;
-use xs_components::{Components, TypeId};
+use xs_codes::{Code, Fault};
+use xs_components::Components;
 
-fn with_complex_of_string(alloc: Global) -> Result<Components, AllocError> {
-    let mut parts = Components::new(alloc)?;
-    add_complex_content(alloc, &mut parts, 2, string(), true)?;
-    Ok(parts)
+/// Types, and the item and the code of the first whose base is of the wrong kind.
+const ROWS: &[(&str, &[Derived], Option<(u32, Code)>)] = &[
+    (
+        "complex content of a simple type",
+        &[Derived::Extended(2, Base::String, Content::Complex)],
+        Some((2, Code::SrcCt1)),
+    ),
+    (
+        "simple content by restriction of a simple type, behind an extension of it",
+        &[
+            Derived::Extended(2, Base::String, Content::Simple),
+            Derived::Restricted(3, Base::String, Content::Simple),
+        ],
+        Some((3, Code::SrcCt2)),
+    ),
+    (
+        "simple content by restriction of anyType, whose content is mixed, with a simple type of its own and without",
+        &[
+            Derived::Restricted(2, Base::Any, Content::SimpleOfItsOwn),
+            Derived::Restricted(3, Base::Any, Content::Simple),
+        ],
+        Some((3, Code::SrcCt2)),
+    ),
+    (
+        "simple content by restriction of an extension without content of its own",
+        &[
+            Derived::Extended(2, Base::String, Content::Simple),
+            Derived::Extended(3, Base::Before, Content::Complex),
+            Derived::Restricted(4, Base::Before, Content::Simple),
+        ],
+        None,
+    ),
+    (
+        "both, where the later in the table is the earlier in the document",
+        &[
+            Derived::Extended(5, Base::String, Content::Complex),
+            Derived::Restricted(4, Base::String, Content::Simple),
+        ],
+        Some((4, Code::SrcCt2)),
+    ),
+];
+
+fn fault_among(
+    alloc: Global,
+    parts: &mut Components,
+    types: &[Derived],
+) -> Result<Option<Fault>, AllocError> {
+    add_types(alloc, parts, types)?;
+    first_base(alloc, parts)
+}
+
+/// The first of these types whose base is of the wrong kind.
+fn fault_of(alloc: Global, types: &[Derived]) -> Result<Option<Fault>, AllocError> {
+    match Components::new(alloc) {
+        Ok(mut parts) => fault_among(alloc, &mut parts, types),
+        Err(error) => Err(error),
+    }
+}
+
+/// The fault that is expected.
+fn expected_fault(expected: Option<(u32, Code)>) -> Option<Fault> {
+    let (item, code) = expected?;
+    Some(Fault {
+        phase: 4,
+        document: 1,
+        item,
+        code,
+    })
 }
 
 #[test]
-fn complex_content_of_a_simple_type(rt: HostRuntime) -> Result<(), Fail> {
-    let parts = with_complex_of_string(rt.alloc())?;
-    assert!(rt; first_base(rt.alloc(), &parts)? == fault(2, Code::SrcCt1));
-    Ok(())
-}
-
-// A restriction of a simple type, behind an extension of it.
-fn with_restriction_of_string(alloc: Global) -> Result<Components, AllocError> {
-    let mut parts = Components::new(alloc)?;
-    add_simple_content(alloc, &mut parts, 2, string(), true, None)?;
-    add_simple_content(alloc, &mut parts, 3, string(), false, None)?;
-    Ok(parts)
-}
-
-#[test]
-fn simple_content_by_restriction_of_a_simple_type(rt: HostRuntime) -> Result<(), Fail> {
-    let parts = with_restriction_of_string(rt.alloc())?;
-    assert!(rt; first_base(rt.alloc(), &parts)? == fault(3, Code::SrcCt2));
-    Ok(())
-}
-
-// Simple content by restriction of anyType, whose content is mixed, with a simple type of its own and without.
-fn with_restrictions_of_any(alloc: Global) -> Result<Components, AllocError> {
-    let mut parts = Components::new(alloc)?;
-    add_simple_content(alloc, &mut parts, 2, TypeId::AnyType, false, Some(string()))?;
-    add_simple_content(alloc, &mut parts, 3, TypeId::AnyType, false, None)?;
-    Ok(parts)
-}
-
-#[test]
-fn simple_content_of_mixed_content(rt: HostRuntime) -> Result<(), Fail> {
-    let parts = with_restrictions_of_any(rt.alloc())?;
-    assert!(rt; first_base(rt.alloc(), &parts)? == fault(3, Code::SrcCt2));
-    Ok(())
-}
-
-// Simple content by restriction of an extension without content of its own.
-fn with_inherited(alloc: Global) -> Result<Components, AllocError> {
-    let mut parts = Components::new(alloc)?;
-    let first = add_simple_content(alloc, &mut parts, 2, string(), true, None)?;
-    let second = add_complex_content(alloc, &mut parts, 3, first, true)?;
-    add_simple_content(alloc, &mut parts, 4, second, false, None)?;
-    Ok(parts)
-}
-
-#[test]
-fn simple_content_is_inherited(rt: HostRuntime) -> Result<(), Fail> {
-    let parts = with_inherited(rt.alloc())?;
-    assert!(rt; first_base(rt.alloc(), &parts)?.is_none());
-    Ok(())
-}
-
-// The later in the table is the earlier in the document.
-fn with_both(alloc: Global) -> Result<Components, AllocError> {
-    let mut parts = Components::new(alloc)?;
-    add_complex_content(alloc, &mut parts, 5, string(), true)?;
-    add_simple_content(alloc, &mut parts, 4, string(), false, None)?;
-    Ok(parts)
-}
-
-#[test]
-fn first_of_both_codes(rt: HostRuntime) -> Result<(), Fail> {
-    let parts = with_both(rt.alloc())?;
-    assert!(rt; first_base(rt.alloc(), &parts)? == fault(4, Code::SrcCt2));
+fn bases_of_the_wrong_kind(rt: HostRuntime) -> Result<(), Fail> {
+    for (case, types, expected) in ROWS {
+        let found = fault_of(rt.alloc(), types)?;
+        assert!(rt; found == expected_fault(*expected), "{case}");
+    }
     Ok(())
 }

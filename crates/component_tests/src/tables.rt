@@ -10,8 +10,10 @@ use xs_components::{
 use xs_names::{NameId, Names, NsId};
 
 fn some_name(alloc: Global) -> Result<NameId, AllocError> {
-    let mut names = Names::new(alloc)?;
-    names.intern(NsId::ABSENT, "a")
+    match Names::new(alloc) {
+        Ok(mut names) => names.intern(NsId::ABSENT, "a"),
+        Err(error) => Err(error),
+    }
 }
 
 fn changes_simple(parts: &mut Components, part: SimpleType) -> bool {
@@ -23,13 +25,6 @@ fn changes_simple(parts: &mut Components, part: SimpleType) -> bool {
     parts.simple(id).at == place(3)
 }
 
-fn with_simples(alloc: Global) -> Result<Components, AllocError> {
-    let mut parts = Components::new(alloc)?;
-    parts.add_simple(simple_type(alloc, 1))?;
-    parts.add_simple(simple_type(alloc, 2))?;
-    Ok(parts)
-}
-
 fn shows_simples(parts: &Components) -> bool {
     let none = parts.simple_at(2).is_none();
     let two = parts.simples().len() == 2;
@@ -37,13 +32,11 @@ fn shows_simples(parts: &Components) -> bool {
     none && two && ranked
 }
 
-#[test]
-fn keeps_simple_types(rt: HostRuntime) -> Result<(), Fail> {
-    let mut parts = with_simples(rt.alloc())?;
-    assert!(rt; parts.rules == Rules::V10);
-    assert!(rt; changes_simple(&mut parts, simple_type(rt.alloc(), 3)));
-    assert!(rt; shows_simples(&parts));
-    Ok(())
+fn keeps_simples(alloc: Global, parts: &mut Components) -> Result<bool, AllocError> {
+    parts.add_simple(simple_type(alloc, 1))?;
+    parts.add_simple(simple_type(alloc, 2))?;
+    let changed = changes_simple(parts, simple_type(alloc, 3));
+    Ok(changed && shows_simples(parts) && parts.rules == Rules::V10)
 }
 
 fn changes_complex(parts: &mut Components, part: ComplexType) -> bool {
@@ -60,14 +53,6 @@ fn changes_complex(parts: &mut Components, part: ComplexType) -> bool {
     before.is_none() && parts.content(id) == Some(particle) && parts.complex(id).at == place(5)
 }
 
-fn with_complex(alloc: Global) -> Result<Components, AllocError> {
-    let mut parts = Components::new(alloc)?;
-    parts.add_complex(complex_type(alloc, 1))?;
-    let none = ParticleIdList::new(alloc);
-    parts.add_particle(particle(Term::Sequence(none), 3))?;
-    Ok(parts)
-}
-
 fn shows_complex(parts: &Components) -> bool {
     let one = parts.complexes().len() == 1;
     let set = parts.contents().len() == 1;
@@ -75,12 +60,12 @@ fn shows_complex(parts: &Components) -> bool {
     one && set && ranked
 }
 
-#[test]
-fn keeps_complex_types_and_contents(rt: HostRuntime) -> Result<(), Fail> {
-    let mut parts = with_complex(rt.alloc())?;
-    assert!(rt; changes_complex(&mut parts, complex_type(rt.alloc(), 5)));
-    assert!(rt; shows_complex(&parts));
-    Ok(())
+fn keeps_complex(alloc: Global, parts: &mut Components) -> Result<bool, AllocError> {
+    parts.add_complex(complex_type(alloc, 1))?;
+    let none = ParticleIdList::new(alloc);
+    parts.add_particle(particle(Term::Sequence(none), 3))?;
+    let changed = changes_complex(parts, complex_type(alloc, 5));
+    Ok(changed && shows_complex(parts))
 }
 
 fn changes_element(parts: &mut Components, constraints: ConstraintIdList) -> bool {
@@ -107,14 +92,6 @@ fn changes_constraint(parts: &mut Components) -> bool {
     parts.constraint(id).at == place(3)
 }
 
-fn with_elements(alloc: Global, name: NameId) -> Result<Components, AllocError> {
-    let mut parts = Components::new(alloc)?;
-    parts.add_element(element(alloc, name, 1))?;
-    parts.add_element(element(alloc, name, 2))?;
-    parts.add_constraint(key(alloc, name, 3)?)?;
-    Ok(parts)
-}
-
 fn first_constraint(alloc: Global, parts: &Components) -> Result<ConstraintIdList, AllocError> {
     let mut constraints = ConstraintIdList::new(alloc);
     if let Some(id) = parts.constraint_at(0) {
@@ -131,15 +108,14 @@ fn shows_elements(parts: &Components) -> bool {
     two && one && ranked && constraint_ranked
 }
 
-#[test]
-fn keeps_elements_and_identity_constraints(rt: HostRuntime) -> Result<(), Fail> {
-    let name = some_name(rt.alloc())?;
-    let mut parts = with_elements(rt.alloc(), name)?;
-    let constraints = first_constraint(rt.alloc(), &parts)?;
-    assert!(rt; changes_element(&mut parts, constraints));
-    assert!(rt; changes_constraint(&mut parts));
-    assert!(rt; shows_elements(&parts));
-    Ok(())
+fn keeps_elements(alloc: Global, parts: &mut Components, name: NameId) -> Result<bool, AllocError> {
+    let constraint = key(alloc, name, 3)?;
+    parts.add_constraint(constraint)?;
+    parts.add_element(element(alloc, name, 1))?;
+    parts.add_element(element(alloc, name, 2))?;
+    let constraints = first_constraint(alloc, parts)?;
+    let changed = changes_element(parts, constraints);
+    Ok(changed && changes_constraint(parts) && shows_elements(parts))
 }
 
 fn changes_attribute(parts: &mut Components) -> bool {
@@ -159,13 +135,6 @@ fn changes_attr_group(parts: &mut Components, part: AttrGroupDef) -> bool {
     parts.attr_group(id).at == place(5)
 }
 
-fn with_attributes(alloc: Global, name: NameId) -> Result<Components, AllocError> {
-    let mut parts = Components::new(alloc)?;
-    parts.add_attribute(attribute(name, 1))?;
-    parts.add_attr_group(attr_group(alloc, name, 2))?;
-    Ok(parts)
-}
-
 fn shows_attributes(parts: &Components) -> bool {
     let one = parts.attributes().len() == 1;
     let one_group = parts.attr_groups().len() == 1;
@@ -174,14 +143,15 @@ fn shows_attributes(parts: &Components) -> bool {
     one && one_group && ranked && group_ranked
 }
 
-#[test]
-fn keeps_attributes_and_their_groups(rt: HostRuntime) -> Result<(), Fail> {
-    let name = some_name(rt.alloc())?;
-    let mut parts = with_attributes(rt.alloc(), name)?;
-    assert!(rt; changes_attribute(&mut parts));
-    assert!(rt; changes_attr_group(&mut parts, attr_group(rt.alloc(), name, 5)));
-    assert!(rt; shows_attributes(&parts));
-    Ok(())
+fn keeps_attributes(
+    alloc: Global,
+    parts: &mut Components,
+    name: NameId,
+) -> Result<bool, AllocError> {
+    parts.add_attribute(attribute(name, 1))?;
+    parts.add_attr_group(attr_group(alloc, name, 2))?;
+    let changed = changes_attr_group(parts, attr_group(alloc, name, 5));
+    Ok(changed && changes_attribute(parts) && shows_attributes(parts))
 }
 
 fn changes_group(parts: &mut Components) -> bool {
@@ -211,15 +181,6 @@ fn is_term(parts: &mut Components, number: u32) -> bool {
     }
 }
 
-fn with_groups(alloc: Global, name: NameId) -> Result<Components, AllocError> {
-    let mut parts = Components::new(alloc)?;
-    let declared = parts.add_element(element(alloc, name, 0))?;
-    let grouped = parts.add_group(group(name, 0))?;
-    parts.add_particle(particle(Term::Group(grouped), 0))?;
-    parts.add_particle(particle(Term::Element(declared), 1))?;
-    Ok(parts)
-}
-
 fn shows_groups(parts: &Components) -> bool {
     let one = parts.groups().len() == 1;
     let two = parts.particles().len() == 2;
@@ -228,13 +189,61 @@ fn shows_groups(parts: &Components) -> bool {
     one && two && ranked && particles_ranked
 }
 
+fn keeps_groups(alloc: Global, parts: &mut Components, name: NameId) -> Result<bool, AllocError> {
+    let declared = parts.add_element(element(alloc, name, 0))?;
+    let grouped = parts.add_group(group(name, 0))?;
+    parts.add_particle(particle(Term::Group(grouped), 0))?;
+    parts.add_particle(particle(Term::Element(declared), 1))?;
+    let changed = changes_group(parts) && !is_term(parts, 0) && is_term(parts, 1);
+    Ok(changed && shows_groups(parts))
+}
+
+/// What is added to empty tables, changed there and read.
+#[derive(Clone, Copy)]
+enum Kept {
+    Simple,
+    Complex,
+    Elements,
+    Attributes,
+    Groups,
+}
+
+const ALL: &[(&str, Kept)] = &[
+    ("simple types", Kept::Simple),
+    ("complex types and contents", Kept::Complex),
+    ("elements and identity constraints", Kept::Elements),
+    ("attributes and their groups", Kept::Attributes),
+    ("groups and particles", Kept::Groups),
+];
+
+fn keeps(
+    alloc: Global,
+    parts: &mut Components,
+    name: NameId,
+    kept: Kept,
+) -> Result<bool, AllocError> {
+    match kept {
+        Kept::Simple => keeps_simples(alloc, parts),
+        Kept::Complex => keeps_complex(alloc, parts),
+        Kept::Elements => keeps_elements(alloc, parts, name),
+        Kept::Attributes => keeps_attributes(alloc, parts, name),
+        Kept::Groups => keeps_groups(alloc, parts, name),
+    }
+}
+
+/// Whether empty tables keep it.
+fn is_kept(alloc: Global, kept: Kept) -> Result<bool, AllocError> {
+    let name = some_name(alloc)?;
+    match Components::new(alloc) {
+        Ok(mut parts) => keeps(alloc, &mut parts, name, kept),
+        Err(error) => Err(error),
+    }
+}
+
 #[test]
-fn keeps_groups_and_particles(rt: HostRuntime) -> Result<(), Fail> {
-    let name = some_name(rt.alloc())?;
-    let mut parts = with_groups(rt.alloc(), name)?;
-    assert!(rt; changes_group(&mut parts));
-    assert!(rt; !is_term(&mut parts, 0));
-    assert!(rt; is_term(&mut parts, 1));
-    assert!(rt; shows_groups(&parts));
+fn keeps_what_is_added(rt: HostRuntime) -> Result<(), Fail> {
+    for (what, kept) in ALL {
+        assert!(rt; is_kept(rt.alloc(), *kept)?, "{what}");
+    }
     Ok(())
 }

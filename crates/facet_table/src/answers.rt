@@ -1,16 +1,20 @@
 //! The answer to a line of the table.
-use crate::each::each_fault;
-use crate::kinds::facet_named;
-use facets::{Facets, Members};
+use crate::derived::{Derived, Way, Wrong};
+use crate::steps::next;
 use simple_values::builtin_named;
 use std::alloc::{AllocError, Global};
-use xs_codes::{Fault, code_text};
-use xs_components::{FacetItem, FacetStep, Place};
-use xs_names::{Names, Scope, Text};
+use xs_codes::code_text;
+use xs_names::{Names, Scope};
 
 /// The scope of the table: `p` is bound.
 pub fn table_scope(alloc: Global) -> Result<Scope, AllocError> {
-    let mut names = Names::new(alloc)?;
+    match Names::new(alloc) {
+        Ok(mut names) => scope_of_p(alloc, &mut names),
+        Err(error) => Err(error),
+    }
+}
+
+fn scope_of_p(alloc: Global, names: &mut Names) -> Result<Scope, AllocError> {
     let space = names.namespace_id("urn:p")?;
     let mut scope = Scope::new(alloc)?;
     scope.bind("p", space)?;
@@ -22,165 +26,130 @@ pub fn table_scope(alloc: Global) -> Result<Scope, AllocError> {
 /// facets as `kind=value`, or `kind!=value` where the facet is fixed; or `[]`, the list of the type; or `+name`, the union of
 /// the type and a built-in one. A line that begins with `each` is answered with what is wrong with each step.
 pub fn answer(alloc: Global, line: &str, scope: &Scope) -> Result<String, AllocError> {
-    if let Some(rest) = line.strip_prefix("each\t") {
-        return each_fault(alloc, rest, scope);
+    let mut out = String::new(alloc);
+    push_answer(alloc, &mut out, line, scope)?;
+    Ok(out)
+}
+
+// A line without the name of its type.
+#[derive(Clone, Copy)]
+enum Asked<'a> {
+    // What is wrong with each step.
+    Faults(&'a str),
+    // What is wrong with the steps, or else what is said of the literal.
+    End(&'a str, Option<&'a str>),
+}
+
+fn push_answer(
+    alloc: Global,
+    out: &mut String,
+    line: &str,
+    scope: &Scope,
+) -> Result<(), AllocError> {
+    let (name, asked) = read_line(line);
+    match builtin_named(name) {
+        Some(kind) => {
+            let mut derived = Derived::of(alloc, kind);
+            push_said(alloc, out, &mut derived, asked, scope)
+        }
+        None => out.push_str("no type"),
     }
-    let (head, literal) = match line.split_once("\t?") {
-        Some((head, literal)) => (head, Some(literal)),
+}
+
+// The name of the type of a line, and what is asked of it.
+fn read_line(line: &str) -> (&str, Asked) {
+    if let Some(line) = line.strip_prefix("each\t") {
+        let (name, steps) = name_and_steps(line);
+        return (name, Asked::Faults(steps));
+    }
+    let (line, literal) = match line.split_once("\t?") {
+        Some((line, literal)) => (line, Some(literal)),
         None => (line, None),
     };
-    let (name, steps) = type_and_steps(head);
-    let Some(kind) = builtin_named(name) else {
-        return String::from_str(alloc, "no type");
-    };
-    let mut facets = Facets::of_builtin(alloc, kind);
+    let (name, steps) = name_and_steps(line);
+    (name, Asked::End(steps, literal))
+}
+
+fn name_and_steps(line: &str) -> (&str, &str) {
+    match line.split_once('\t') {
+        Some((name, steps)) => (name, steps),
+        None => (line, ""),
+    }
+}
+
+fn push_said(
+    alloc: Global,
+    out: &mut String,
+    derived: &mut Derived,
+    asked: Asked,
+    scope: &Scope,
+) -> Result<(), AllocError> {
+    match asked {
+        Asked::Faults(steps) => push_faults(alloc, out, derived, steps, scope),
+        Asked::End(steps, literal) => match first_wrong(alloc, derived, steps, scope)? {
+            Some(wrong) => wrong.push_to(out),
+            None => out.push_str(said_of(alloc, derived, literal, scope)?),
+        },
+    }
+}
+
+// Writes the first fault of each step, with commas between them.
+fn push_faults(
+    alloc: Global,
+    out: &mut String,
+    derived: &mut Derived,
+    steps: &str,
+    scope: &Scope,
+) -> Result<(), AllocError> {
     let mut number = 0;
     for step in steps.split("\t/\t") {
         number = next(number);
-        match changed(alloc, &facets, number, step, scope)? {
-            Ok(made) => facets = made,
-            Err(answer) => return Ok(answer),
+        if let Some(wrong) = derived.take(alloc, Way::Judge, number, step, scope)? {
+            push_behind(out, wrong)?;
         }
     }
-    match literal {
-        Some(literal) => literal_answer(alloc, &mut facets, literal, scope),
-        None => String::from_str(alloc, "ok"),
+    if out.is_empty() {
+        out.push_str("ok")?;
     }
+    Ok(())
 }
 
-/// The name of the type of a line, and its steps.
-pub(crate) fn type_and_steps(head: &str) -> (&str, &str) {
-    match head.split_once('\t') {
-        Some((name, steps)) => (name, steps),
-        None => (head, ""),
+fn push_behind(out: &mut String, wrong: Wrong) -> Result<(), AllocError> {
+    if !out.is_empty() {
+        out.push_str(", ")?;
     }
+    wrong.push_to(out)
 }
 
-// What a step makes of a type, or what is wrong with it.
-fn changed(
+// Takes the steps of a line up to the first that is wrong.
+fn first_wrong(
     alloc: Global,
-    facets: &Facets,
-    number: u32,
-    step: &str,
+    derived: &mut Derived,
+    steps: &str,
     scope: &Scope,
-) -> Result<Result<Facets, String>, AllocError> {
-    if step == "[]" {
-        return list_answer(alloc, facets);
-    }
-    match step.strip_prefix('+') {
-        Some(name) => union_answer(alloc, facets, name),
-        None => step_answer(alloc, facets, number, step, scope),
-    }
-}
-
-/// The list of a type, or what is wrong with it.
-pub(crate) fn list_answer(
-    alloc: Global,
-    facets: &Facets,
-) -> Result<Result<Facets, String>, AllocError> {
-    match Facets::list_of(alloc, facets)? {
-        Some(made) => Ok(Ok(made)),
-        None => Ok(Err(String::from_str(alloc, "cos-list-of-atomic")?)),
-    }
-}
-
-/// The union of a type and a built-in one.
-pub(crate) fn union_answer(
-    alloc: Global,
-    facets: &Facets,
-    name: &str,
-) -> Result<Result<Facets, String>, AllocError> {
-    let Some(kind) = builtin_named(name) else {
-        return Ok(Err(String::from_str(alloc, "no member")?));
-    };
-    let other = Facets::of_builtin(alloc, kind);
-    let members = Members::new(alloc)
-        .with(alloc, facets)?
-        .with(alloc, &other)?;
-    Ok(Ok(Facets::union_of(alloc, members)))
-}
-
-fn step_answer(
-    alloc: Global,
-    facets: &Facets,
-    number: u32,
-    step: &str,
-    scope: &Scope,
-) -> Result<Result<Facets, String>, AllocError> {
-    let step = step_of(alloc, number, step, scope)?;
-    match Facets::restrict(alloc, facets, &step)? {
-        Ok(made) => Ok(Ok(made)),
-        Err(fault) => Ok(Err(shown_fault(alloc, fault)?)),
-    }
-}
-
-/// The facets of a step, the item of each counted from 1, in a document with the number of the step.
-pub(crate) fn step_of(
-    alloc: Global,
-    number: u32,
-    texts: &str,
-    scope: &Scope,
-) -> Result<FacetStep, AllocError> {
-    let mut step = FacetStep::new(alloc);
-    let mut count = 0;
-    for text in texts.split('\t') {
-        if let Some((name, value)) = text.split_once('=') {
-            count = next(count);
-            let at = Place {
-                document: number,
-                item: count,
-            };
-            push_item(alloc, &mut step, at, name, value, scope)?;
+) -> Result<Option<Wrong>, AllocError> {
+    let mut number = 0;
+    for step in steps.split("\t/\t") {
+        number = next(number);
+        if let Some(wrong) = derived.take(alloc, Way::Restrict, number, step, scope)? {
+            return Ok(Some(wrong));
         }
     }
-    Ok(step)
+    Ok(None)
 }
 
-/// The number behind this one.
-pub(crate) fn next(count: u32) -> u32 {
-    count.wrapping_add(1)
-}
-
-fn push_item(
+// Whether a literal is kept, or the code of why it is not; `ok` where there is none.
+fn said_of(
     alloc: Global,
-    step: &mut FacetStep,
-    at: Place,
-    name: &str,
-    value: &str,
+    derived: &mut Derived,
+    literal: Option<&str>,
     scope: &Scope,
-) -> Result<(), AllocError> {
-    let (name, fixed) = match name.strip_suffix('!') {
-        Some(name) => (name, true),
-        None => (name, false),
+) -> Result<&'static str, AllocError> {
+    let Some(literal) = literal else {
+        return Ok("ok");
     };
-    let Some(kind) = facet_named(name) else {
-        return Ok(());
-    };
-    step.push(FacetItem {
-        kind,
-        text: Text::new(alloc, value)?,
-        fixed,
-        at,
-        scope: scope.try_clone()?,
-    })
-}
-
-/// A fault as the table shows it.
-pub(crate) fn shown_fault(alloc: Global, fault: Fault) -> Result<String, AllocError> {
-    let code = code_text(fault.code);
-    let (step, item) = (fault.document, fault.item);
-    format!(in alloc; "{step}.{item} {code}")
-}
-
-// Whether the literal is kept, or the code of why it is not.
-fn literal_answer(
-    alloc: Global,
-    facets: &mut Facets,
-    literal: &str,
-    scope: &Scope,
-) -> Result<String, AllocError> {
-    match facets.read(alloc, literal, scope)? {
-        Ok(_) => String::from_str(alloc, "kept"),
-        Err(code) => String::from_str(alloc, code_text(code)),
+    match derived.facets.read(alloc, literal, scope)? {
+        Ok(_) => Ok("kept"),
+        Err(code) => Ok(code_text(code)),
     }
 }

@@ -3,8 +3,9 @@
 #![tactic(auto)]
 
 mod answers;
-mod each;
+mod derived;
 mod kinds;
+mod steps;
 
 use std::io;
 

@@ -7,7 +7,13 @@ use xs_names::{Names, Scope};
 
 /// The scope of the table: `p` is bound to the second namespace, and the default namespace is the third.
 pub fn table_scope(alloc: Global) -> Result<Scope, AllocError> {
-    let mut names = Names::new(alloc)?;
+    match Names::new(alloc) {
+        Ok(mut names) => scope_of(alloc, &mut names),
+        Err(error) => Err(error),
+    }
+}
+
+fn scope_of(alloc: Global, names: &mut Names) -> Result<Scope, AllocError> {
     let second = names.namespace_id("urn:second")?;
     let third = names.namespace_id("urn:third")?;
     let mut scope = Scope::new(alloc)?;
@@ -52,8 +58,10 @@ fn read_answer(
     literal: &str,
     scope: &Scope,
 ) -> Result<String, AllocError> {
-    let read = read_named(alloc, name, literal, scope)?;
-    let plain = shown(alloc, &read)?;
+    let plain = match read_named(alloc, name, literal, scope) {
+        Ok(read) => shown(alloc, &read)?,
+        Err(error) => return Err(error),
+    };
     encoded(alloc, plain.as_str())
 }
 
@@ -63,10 +71,14 @@ fn length_answer(
     literal: &str,
     scope: &Scope,
 ) -> Result<String, AllocError> {
-    let Ok(value) = read_named(alloc, name, literal, scope)? else {
-        return String::from_str(alloc, "no value");
-    };
-    match length(&value) {
+    match read_named(alloc, name, literal, scope)? {
+        Ok(value) => length_shown(alloc, length(&value)),
+        Err(_) => String::from_str(alloc, "no value"),
+    }
+}
+
+fn length_shown(alloc: Global, length: Option<u32>) -> Result<String, AllocError> {
+    match length {
         Some(length) => format!(in alloc; "{length}"),
         None => String::from_str(alloc, "-"),
     }
@@ -84,13 +96,24 @@ fn pair_answer(
     ) else {
         return String::from_str(alloc, "no pair");
     };
-    let Ok(a) = read_named(alloc, left, first, scope)? else {
-        return String::from_str(alloc, "no first value");
-    };
-    let Ok(b) = read_named(alloc, right, second, scope)? else {
-        return String::from_str(alloc, "no second value");
-    };
-    String::from_str(alloc, standing(&a, &b))
+    match read_named(alloc, left, first, scope)? {
+        Ok(a) => second_answer(alloc, &a, right, second, scope),
+        Err(_) => String::from_str(alloc, "no first value"),
+    }
+}
+
+// How the first value of a pair stands to the second, which is read here.
+fn second_answer(
+    alloc: Global,
+    a: &Value,
+    name: &str,
+    literal: &str,
+    scope: &Scope,
+) -> Result<String, AllocError> {
+    match read_named(alloc, name, literal, scope)? {
+        Ok(b) => String::from_str(alloc, standing(a, &b)),
+        Err(_) => String::from_str(alloc, "no second value"),
+    }
 }
 
 // How two values stand, also with their sides exchanged.

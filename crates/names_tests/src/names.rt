@@ -1,4 +1,5 @@
 use std::alloc::{AllocError, Global};
+use std::process::Abort;
 use std::test::Fail;
 use xs_names::{
     BadName, Names, NsId, Scope, Text, Texts, Unbound, is_name, is_ncname, is_nmtoken,
@@ -83,14 +84,11 @@ fn keeps_texts(rt: HostRuntime) -> Result<(), Fail> {
     Ok(())
 }
 
-#[test]
-fn numbers_names(rt: HostRuntime) -> Result<(), Fail> {
-    let mut names = Names::new(rt.alloc())?;
+// Whether a name is found by its number, and in no other namespace.
+fn numbers_a_name(names: &mut Names) -> Result<bool, AllocError> {
     let ns = names.namespace_id("urn:a")?;
     let name = names.intern(ns, "item")?;
-    assert!(rt; names.lookup(ns, "item") == Some(name));
-    assert!(rt; names.lookup(NsId::XML, "item").is_none());
-    Ok(())
+    Ok(names.lookup(ns, "item") == Some(name) && names.lookup(NsId::XML, "item").is_none())
 }
 
 // Whether each of so many names is found again by the number that it got.
@@ -106,27 +104,34 @@ fn finds_names(alloc: Global, names: &mut Names, count: u32) -> Result<bool, All
     Ok(true)
 }
 
-#[test]
-fn numbers_a_hundred_thousand_names(rt: HostRuntime) -> Result<(), Fail> {
-    let mut names = Names::new(rt.alloc())?;
-    let found = finds_names(rt.alloc(), &mut names, 100_000)?;
-    assert!(rt; found);
+// Whether the latest binding of a prefix is found.
+fn resolves_the_latest(alloc: Global, names: &mut Names) -> Result<bool, AllocError> {
+    let a = names.namespace_id("urn:a")?;
+    let b = names.namespace_id("urn:b")?;
+    let mut scope = Scope::new(alloc)?;
+    scope.bind("p", a)?;
+    scope.bind("p", b)?;
+    scope.bind("", NsId::ABSENT)?;
+    Ok(
+        scope.resolve(Some("p")) == Ok(b)
+            && scope.resolve(None) == Ok(NsId::ABSENT)
+            && scope.resolve(Some("q")) == Err(Unbound),
+    )
+}
+
+fn check_names(rt: &impl Abort, alloc: Global, names: &mut Names) -> Result<(), Fail> {
+    assert!(rt; numbers_a_name(names)?);
+    assert!(rt; finds_names(alloc, names, 100_000)?);
+    assert!(rt; resolves_the_latest(alloc, names)?);
     Ok(())
 }
 
 #[test]
-fn resolves_the_latest_binding(rt: HostRuntime) -> Result<(), Fail> {
-    let mut names = Names::new(rt.alloc())?;
-    let a = names.namespace_id("urn:a")?;
-    let b = names.namespace_id("urn:b")?;
-    let mut scope = Scope::new(rt.alloc())?;
-    scope.bind("p", a)?;
-    scope.bind("p", b)?;
-    scope.bind("", NsId::ABSENT)?;
-    assert!(rt; scope.resolve(Some("p")) == Ok(b));
-    assert!(rt; scope.resolve(None) == Ok(NsId::ABSENT));
-    assert!(rt; scope.resolve(Some("q")) == Err(Unbound));
-    Ok(())
+fn numbers_and_resolves_names(rt: HostRuntime) -> Result<(), Fail> {
+    match Names::new(rt.alloc()) {
+        Ok(mut names) => check_names(&rt, rt.alloc(), &mut names),
+        Err(error) => Err(error.into()),
+    }
 }
 
 #[test]

@@ -3,7 +3,7 @@ use xs_names::{Names, NsId};
 use xs_namespaces::{NsConstraint, NsIdList};
 
 // The namespaces of the cases, beside the absent one: two that the constraints name, and one that none names.
-#[derive(Debug, Drop)]
+#[derive(Drop)]
 pub struct Spaces {
     a: NsId,
     b: NsId,
@@ -13,7 +13,14 @@ pub struct Spaces {
 const WORDS: [&str; 4] = ["absent", "a", "b", "other"];
 
 impl Spaces {
-    pub fn new(names: &mut Names) -> Result<Self, AllocError> {
+    pub fn new(alloc: Global) -> Result<Self, AllocError> {
+        match Names::new(alloc) {
+            Ok(mut names) => Spaces::named(&mut names),
+            Err(error) => Err(error),
+        }
+    }
+
+    fn named(names: &mut Names) -> Result<Self, AllocError> {
         Ok(Spaces {
             a: names.namespace_id("a")?,
             b: names.namespace_id("b")?,
@@ -43,29 +50,25 @@ impl Spaces {
             return Ok(None);
         };
         let mut listed = NsIdList::new(alloc);
+        self.list(&mut listed, words)?;
+        Ok(Some(NsConstraint::In(listed)))
+    }
+
+    fn list(&self, listed: &mut NsIdList, words: &str) -> Result<(), AllocError> {
         for word in words.split(',') {
             if let Some(ns) = self.space(word) {
                 listed.push(ns)?;
             }
         }
-        Ok(Some(NsConstraint::In(listed)))
+        Ok(())
     }
 
     // The words of the namespaces that are admitted.
-    fn admitted(&self, alloc: Global, found: Option<NsConstraint>) -> Result<String, AllocError> {
-        let Some(constraint) = found else {
-            return String::from_str(alloc, "no form");
-        };
+    fn admitted(&self, alloc: Global, constraint: &NsConstraint) -> Result<String, AllocError> {
         let mut words = String::new(alloc);
         for word in WORDS {
-            let Some(ns) = self.space(word) else {
-                continue;
-            };
-            if constraint.admits(ns) {
-                if !words.is_empty() {
-                    words.push_str(" ")?;
-                }
-                words.push_str(word)?;
+            if self.is_admitted(constraint, word) {
+                push_word(&mut words, word)?;
             }
         }
         if words.is_empty() {
@@ -73,6 +76,31 @@ impl Spaces {
         }
         Ok(words)
     }
+
+    fn is_admitted(&self, constraint: &NsConstraint, word: &str) -> bool {
+        match self.space(word) {
+            Some(ns) => constraint.admits(ns),
+            None => false,
+        }
+    }
+
+    fn admitted_if_any(
+        &self,
+        alloc: Global,
+        found: Option<NsConstraint>,
+    ) -> Result<String, AllocError> {
+        match found {
+            Some(constraint) => self.admitted(alloc, &constraint),
+            None => String::from_str(alloc, "no form"),
+        }
+    }
+}
+
+fn push_word(words: &mut String, word: &str) -> Result<(), AllocError> {
+    if !words.is_empty() {
+        words.push_str(" ")?;
+    }
+    words.push_str(word)
 }
 
 fn yes_or_no(alloc: Global, answer: bool) -> Result<String, AllocError> {
@@ -85,25 +113,42 @@ pub fn answer(alloc: Global, spaces: &Spaces, line: &str) -> Result<String, Allo
     let (Some(left), Some(call), Some(right)) = (words.next(), words.next(), words.next()) else {
         return String::from_str(alloc, "no case");
     };
-    let Some(first) = spaces.constraint(alloc, left)? else {
-        return String::from_str(alloc, "no case");
-    };
+    match spaces.constraint(alloc, left)? {
+        Some(first) => called(alloc, spaces, &first, call, right),
+        None => String::from_str(alloc, "no case"),
+    }
+}
+
+fn called(
+    alloc: Global,
+    spaces: &Spaces,
+    first: &NsConstraint,
+    call: &str,
+    right: &str,
+) -> Result<String, AllocError> {
     if call == "admits" {
-        let Some(ns) = spaces.space(right) else {
-            return String::from_str(alloc, "no case");
-        };
-        return yes_or_no(alloc, first.admits(ns));
+        return yes_or_no(alloc, spaces.is_admitted(first, right));
     }
-    let Some(second) = spaces.constraint(alloc, right)? else {
-        return String::from_str(alloc, "no case");
-    };
+    match spaces.constraint(alloc, right)? {
+        Some(second) => joined(alloc, spaces, first, call, &second),
+        None => String::from_str(alloc, "no case"),
+    }
+}
+
+fn joined(
+    alloc: Global,
+    spaces: &Spaces,
+    first: &NsConstraint,
+    call: &str,
+    second: &NsConstraint,
+) -> Result<String, AllocError> {
     if call == "subset" {
-        return yes_or_no(alloc, first.subset(&second));
+        return yes_or_no(alloc, first.subset(second));
     }
-    if call == "intersect" {
-        let found = first.intersect(alloc, &second)?;
-        return spaces.admitted(alloc, found);
-    }
-    let found = first.unite(alloc, &second)?;
-    spaces.admitted(alloc, found)
+    let found = if call == "intersect" {
+        first.intersect(alloc, second)?
+    } else {
+        first.unite(alloc, second)?
+    };
+    spaces.admitted_if_any(alloc, found)
 }

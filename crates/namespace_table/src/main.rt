@@ -5,14 +5,13 @@ mod case;
 
 use crate::case::{Spaces, answer};
 use std::io;
-use xs_names::Names;
 
 fn main(rt: HostRuntime) -> io::Result<()> {
-    let mut names = Names::new(rt.alloc())?;
-    let spaces = Spaces::new(&mut names)?;
-    for line in rt.lines(rt.alloc()) {
+    let alloc = rt.alloc();
+    let spaces = Spaces::new(alloc)?;
+    for line in rt.lines(alloc) {
         let line = line?;
-        let text = answer(rt.alloc(), &spaces, line.as_str())?;
+        let text = answer(alloc, &spaces, line.as_str())?;
         println!(rt; "{line} = {text}")?;
     }
     Ok(())

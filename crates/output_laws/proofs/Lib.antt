@@ -1,5 +1,1 @@
-pub mod Ending
-pub mod Commands
-pub mod Documents
-pub mod Schemas
 pub mod Complete

@@ -1,2 +1,1 @@
-pub mod Sectioned
 pub mod Complete

@@ -1,2 +1,3 @@
-pub mod Schemas
+pub mod Readers
 pub mod Moved
+pub mod Sectioned

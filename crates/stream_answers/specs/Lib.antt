@@ -1,4 +1,3 @@
 pub mod Refusals
-pub mod Turns
 pub mod Output
-pub mod Turning
+pub mod inside

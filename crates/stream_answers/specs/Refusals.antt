@@ -7,8 +7,8 @@ use Rattle.tag_names.specs.declared.fault.NameReason.{NameReason}
 use Rattle.tag_names.specs.declared.fault.NameReason.TheVariants as names
 use Rattle.tree_building.specs.declared.fault.TreeReason.{TreeReason}
 use Rattle.tree_building.specs.declared.fault.TreeReason.TheVariants as trees
-use Rattle.stream_answers.specs.declared.refusal.Refusal.{Refusal}
-use Rattle.stream_answers.specs.declared.refusal.Refusal.TheVariants as refusals
+use Rattle.stream_sections.specs.declared.refusal.Refusal.{Refusal}
+use Rattle.stream_sections.specs.declared.refusal.Refusal.TheVariants as refusals
 use Rattle.stream_answers.specs.declared.ending.Ending.{Ending}
 use Rattle.stream_answers.specs.declared.ending.Ending.TheVariants.{ListingRefused, Limit}
 

@@ -1,125 +1,142 @@
-ghost use Rattle.std.specs.Prelude.{◌≡◌, false, IfOk};
+ghost use Rattle.std.specs.Prelude.{◌≡◌, IfOk};
+ghost use Rattle.edit_replies.specs.Tells.{Tells};
+ghost use Rattle.open_document.specs.Answers as answers;
 ghost use Rattle.open_document.specs.Answers.{IsOpen};
-ghost use Rattle.stream_answers.specs.Turns as turns;
-ghost use Rattle.stream_answers.specs.Turning.{Moving};
+ghost use Rattle.stream_answers.specs.Output as output;
+ghost use Rattle.stream_answers.specs.inside.Turns as turns;
+ghost use Rattle.stream_answers.specs.inside.Turning.{MovesTo, said_of};
 
-use crate::place::DocumentSection;
-use crate::refusal::{misplaced, not_yet, refuse_tree};
-use crate::turn::Turn;
-use crate::{Asked, Place};
+use crate::Place;
+use crate::place::{CommandSection, DocumentSection};
+use crate::turn::{Turn, not_yet, refuse};
+use assess_model::Schema;
 use edit_replies::BreakOff;
 use item_listing::Item;
 use open_document::OpenDocument;
-use std::alloc::Global;
+use plain_tree::Tree;
+use std::alloc::{AllocError, Global};
+use std::mem;
+use stream_sections::{Asked, CommandReader, DocumentTurn};
 use tree_rows::Row;
 use xsv_io::Sink;
 
 /// Whether some element has an attribute that is no binding.
 fn have_attributes(rows: &[Row]) -> bool
-    ensures { result ≡ turns.has_attributes rows.now }
+    ensures { result ≡ output.has_attributes rows.now }
 {
     rows.iter().any(|row| !row.attributes.as_slice().is_empty())
 }
 
-/// The stream ends with a report on the document.
-fn end_with_report<W: Sink>(document: &OpenDocument, sink: &mut W) -> Result<Turn, BreakOff>
-    requires { IsOpen document.now }
-    ensures { Moving W.taken W.faults W.fault_bound sink.old sink.new result (turns.reported document.now) }
+/// Opens the document of a section with its schema. The section is then of no use.
+fn open(
+    alloc: Global,
+    section: &mut DocumentSection,
+    tree: Tree,
+) -> Result<OpenDocument, AllocError>
+    ensures { IfOk result (λ d. d ≡ answers.opened section.old.schema tree) }
 {
-    document.write_report(sink)?;
-    Ok(Turn::Goes(Place::Ended(Some(document.verdict()))))
+    let nothing = Schema::new(Vec::new(alloc), Vec::new(alloc), Vec::new(alloc));
+    let schema = mem::replace(&mut section.schema, nothing);
+    OpenDocument::open(alloc, schema, tree)
 }
 
-/// The stream ends with a session that has no edits.
-fn end_without_edits<W: Sink>(document: &OpenDocument, sink: &mut W) -> Result<Turn, BreakOff>
+/// Writes the report on a document that was opened, or the first line of a session.
+fn write_opening<W: Sink>(
+    asked: Asked,
+    document: &OpenDocument,
+    sink: &mut W,
+) -> Result<(), BreakOff>
     requires { IsOpen document.now }
-    ensures { Moving W.taken W.faults W.fault_bound sink.old sink.new result (turns.answered_first document.now turns.document_ended) }
+    ensures tells { Tells W.taken W.faults W.fault_bound sink.old sink.new result (output.opening asked document.now) }
 {
-    document.write_first(sink)?;
-    Ok(Turn::Goes(Place::Ended(Some(document.verdict()))))
+    match asked {
+        Asked::Check => Ok(()),
+        Asked::Assess => document.write_report(sink),
+        Asked::Session => document.write_first(sink),
+    }
 }
 
-/// The edits of a session begin.
-fn begin_session<W: Sink>(document: OpenDocument, sink: &mut W) -> Result<Turn, BreakOff>
+/// The document is whole, and commands follow.
+fn begin_edits<W: Sink>(
+    asked: Asked,
+    document: OpenDocument,
+    sink: &mut W,
+) -> Result<Turn, BreakOff>
     requires { IsOpen document }
-    ensures { Moving W.taken W.faults W.fault_bound sink.old sink.new result (turns.answered_first document (λ s. Place.Edits s)) }
+    ensures tells { Tells W.taken W.faults W.fault_bound sink.old sink.new result (output.opening asked document) }
+    ensures moves { IfOk result (λ turn. turn ≡ Turn.Goes (turns.commands_place document turns.no_block)) }
 {
-    document.write_first(sink)?;
-    Ok(Turn::Goes(Place::Edits(document)))
+    write_opening(asked, &document, sink)?;
+    Ok(Turn::Goes(Place::Commands(CommandSection {
+        document,
+        reader: CommandReader::new(),
+    })))
 }
 
-/// The document section ends, and so does the stream.
+/// The document is whole, and the stream has ended.
 fn end_document<W: Sink>(
+    asked: Asked,
+    document: &OpenDocument,
+    sink: &mut W,
+) -> Result<Turn, BreakOff>
+    requires { IsOpen document.now }
+    ensures tells { Tells W.taken W.faults W.fault_bound sink.old sink.new result (output.opening asked document.now) }
+    ensures moves { IfOk result (λ turn. turn ≡ Turn.Goes (turns.document_ended document.now)) }
+{
+    write_opening(asked, document, sink)?;
+    Ok(Turn::Goes(Place::Ended(Some(document.verdict()))))
+}
+
+/// Opens the document, where no element has an attribute, and takes commands from here on.
+fn take_edits<W: Sink>(
     alloc: Global,
     asked: Asked,
-    line: u32,
-    section: DocumentSection,
+    section: &mut DocumentSection,
+    tree: Tree,
     sink: &mut W,
 ) -> Result<Turn, BreakOff>
-    ensures { Moving W.taken W.faults W.fault_bound sink.old sink.new result (turns.end_in_document asked line section) }
+    ensures tells { Tells W.taken W.faults W.fault_bound sink.old sink.new result (said_of (turns.edits_begun asked section.old.schema tree)) }
+    ensures moves { (stood : Place) → IfOk result (MovesTo (turns.edits_begun asked section.old.schema tree) stood) }
 {
-    let DocumentSection {
-        schema,
-        builder,
-        start,
-    } = section;
-    if matches!(asked, Asked::Check) {
-        return misplaced(sink, line);
-    }
-    let tree = match builder.finish()? {
-        Ok(tree) => tree,
-        Err(fault) => return refuse_tree(sink, start, fault),
-    };
     if have_attributes(tree.rows()) {
         return not_yet(sink);
     }
-    let document = OpenDocument::open(alloc, schema, tree)?;
-    if matches!(asked, Asked::Assess) {
-        return end_with_report(&document, sink);
-    }
-    end_without_edits(&document, sink)
+    begin_edits(asked, open(alloc, section, tree)?, sink)
 }
 
-/// The document section ends, and edits come.
-fn begin_edits<W: Sink>(
+/// Opens the document, where no element has an attribute, and ends the stream.
+fn take_end<W: Sink>(
     alloc: Global,
-    section: DocumentSection,
+    asked: Asked,
+    section: &mut DocumentSection,
+    tree: Tree,
     sink: &mut W,
 ) -> Result<Turn, BreakOff>
-    ensures { Moving W.taken W.faults W.fault_bound sink.old sink.new result (turns.edits_begin section) }
+    ensures tells { Tells W.taken W.faults W.fault_bound sink.old sink.new result (said_of (turns.document_over asked section.old.schema tree)) }
+    ensures moves { (stood : Place) → IfOk result (MovesTo (turns.document_over asked section.old.schema tree) stood) }
 {
-    let DocumentSection {
-        schema,
-        builder,
-        start,
-    } = section;
-    let tree = match builder.finish()? {
-        Ok(tree) => tree,
-        Err(fault) => return refuse_tree(sink, start, fault),
-    };
     if have_attributes(tree.rows()) {
         return not_yet(sink);
     }
-    begin_session(OpenDocument::open(alloc, schema, tree)?, sink)
+    end_document(asked, &open(alloc, section, tree)?, sink)
 }
 
-/// Answers a word in the document section.
+/// Answers an item in the document section.
 pub fn answer_document<W: Sink>(
     alloc: Global,
     asked: Asked,
     line: u32,
-    section: DocumentSection,
+    section: &mut DocumentSection,
     item: Item,
     sink: &mut W,
 ) -> Result<Turn, BreakOff>
-    ensures { Moving W.taken W.faults W.fault_bound sink.old sink.new result (turns.in_document asked line section item) }
+    ensures tells { Tells W.taken W.faults W.fault_bound sink.old sink.new result (said_of (turns.turned asked line (Place.Document section.old) item)) }
+    ensures moves { IfOk result (MovesTo (turns.turned asked line (Place.Document section.old) item) (Place.Document section.new)) }
 {
-    match item {
-        Item::End => end_document(alloc, asked, line, section, sink),
-        Item::Edits => match asked {
-            Asked::Session => begin_edits(alloc, section, sink),
-            Asked::Check | Asked::Assess => misplaced(sink, line),
-        },
-        _ => misplaced(sink, line),
+    match section.reader.take(alloc, asked, line, item)? {
+        DocumentTurn::Goes => Ok(Turn::Stays),
+        DocumentTurn::Edits(tree) => take_edits(alloc, asked, section, tree, sink),
+        DocumentTurn::Ends(tree) => take_end(alloc, asked, section, tree, sink),
+        DocumentTurn::Refused(spot) => refuse(sink, spot),
     }
 }

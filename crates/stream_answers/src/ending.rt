@@ -1,5 +1,5 @@
 ghost use Rattle.std.specs.Prelude.{◌≡◌};
-ghost use Rattle.stream_answers.specs.Turns.{ending_of};
+ghost use Rattle.stream_answers.specs.Output.{ending_of};
 
 use assess_model::Validity;
 

@@ -2,17 +2,17 @@
 //! first line that is refused.
 #![tactic(auto)]
 
-mod compile;
+mod commands;
 mod document;
-mod edits;
 mod ending;
-mod part;
+mod laws;
 mod place;
 mod refusal;
-mod schema;
+mod schemas;
 mod turn;
 
 pub use ending::Ending;
-pub use place::{Asked, Place};
-pub use refusal::{Refusal, write_refusal};
+pub use laws::places_answer_sections;
+pub use place::Place;
+pub use refusal::write_refusal;
 pub use turn::{answer_item, write_end};

@@ -1,80 +1,81 @@
-ghost use Rattle.std.specs.Prelude.{◌≡◌, ◌≤◌, Some, IfOk};
-ghost use Rattle.stream_answers.specs.Output as output;
-ghost use Rattle.stream_answers.specs.Turns as turns;
-ghost use Rattle.stream_answers.specs.Turning.{IsOpen, Moving, Turning};
+ghost use Rattle.std.specs.Prelude.{◌≡◌, Some, IfOk};
+ghost use Rattle.session_model.specs.Counting.{Counts};
 ghost use Rattle.edit_replies.specs.Tells.{Tells};
+ghost use Rattle.stream_sections.specs.Sections as sections;
+ghost use Rattle.stream_answers.specs.Output as output;
+ghost use Rattle.stream_answers.specs.inside.Turns as turns;
+ghost use Rattle.stream_answers.specs.inside.Turning.{IsOpen, TurnsTo, MovesTo, said_of, cost_of};
 
+use crate::commands::answer_commands;
 use crate::document::answer_document;
-use crate::edits::{answer_block, answer_edits};
 use crate::ending::ending_of;
-use crate::part::take_part;
-use crate::refusal::{Refusal, misplaced, write_refusal};
-use crate::schema::{answer_schema, begin_schemas};
-use crate::{Asked, Ending, Place};
+use crate::refusal::write_refusal;
+use crate::schemas::answer_schemas;
+use crate::{Ending, Place};
 use edit_replies::{BreakOff, write_answer};
 use item_listing::{Item, Reason};
 use open_document::Verdict;
 use report_text::validity_word;
 use std::alloc::Global;
-use std::mem;
+use stream_sections::{Asked, Refusal, RefusedLine};
 use text_sink::Part;
 use xsv_io::Sink;
 use xsv_steps::{Ledger, Steps};
 
-/// What a word has done.
+/// What an item has done.
 #[derive(Drop)]
 pub enum Turn {
+    /// The stream stands where it stood, with the item taken.
+    Stays,
     /// The stream stands here.
     Goes(Place),
     /// The stream has ended.
     Ends(Ending),
 }
 
-/// Answers a word or a command, where the stream stands at `place`.
-fn answer_word<W: Sink, L: Ledger>(
-    alloc: Global,
-    asked: Asked,
-    line: u32,
-    place: Place,
-    word: Item,
-    sink: &mut W,
-    steps: &mut Steps<L>,
-) -> Result<Turn, BreakOff>
-    requires { IsOpen place }
-    ensures moves { Moving W.taken W.faults W.fault_bound sink.old sink.new result (turns.moved asked line place word) }
-    ensures steps { steps.old ≤ steps.new }
+/// A line that is refused ends the stream.
+pub fn refuse<W: Sink>(sink: &mut W, spot: RefusedLine) -> Result<Turn, BreakOff>
+    ensures tells { Tells W.taken W.faults W.fault_bound sink.old sink.new result (output.stop_told (sections.refused spot)).text }
+    ensures moves { (stood : Place) → IfOk result (MovesTo (turns.ends (output.stop_told (sections.refused spot))) stood) }
 {
-    match place {
-        Place::Fresh => begin_schemas(alloc, line, word, sink),
-        Place::Schema(section) => answer_schema(alloc, asked, line, section, word, sink),
-        Place::Document(section) => answer_document(alloc, asked, line, section, word, sink),
-        Place::Edits(document) => answer_edits(alloc, line, document, word, sink, steps),
-        Place::Block(block) => answer_block(alloc, line, block, word, sink, steps),
-        Place::Ended(_) => misplaced(sink, line),
-    }
+    Ok(Turn::Ends(write_refusal(sink, spot)?))
 }
 
-/// Takes a word or a command, where the stream stands at `place`.
-fn take_word<W: Sink, L: Ledger>(
+/// The stream is not of the form that is accepted so far.
+pub fn not_yet<W: Sink>(sink: &mut W) -> Result<Turn, BreakOff>
+    ensures tells { Tells W.taken W.faults W.fault_bound sink.old sink.new result output.unsupported }
+    ensures moves { IfOk result (λ turn. turn ≡ Turn.Ends Ending.Unsupported) }
+{
+    write_answer(sink, &[Part::Text("unsupported NotYet\n")])?;
+    Ok(Turn::Ends(Ending::Unsupported))
+}
+
+/// Answers an item, where the stream stands at `place`.
+fn take_item<W: Sink, L: Ledger>(
     alloc: Global,
     asked: Asked,
     line: u32,
     place: &mut Place,
-    word: Item,
+    item: Item,
     sink: &mut W,
     steps: &mut Steps<L>,
-) -> Result<Option<Ending>, BreakOff>
+) -> Result<Turn, BreakOff>
     requires { IsOpen place.old }
-    ensures turns { Turning W.taken W.faults W.fault_bound sink.old sink.new place.new result (turns.moved asked line place.old word) }
-    ensures steps { steps.old ≤ steps.new }
+    ensures tells { Tells W.taken W.faults W.fault_bound sink.old sink.new result (said_of (turns.turned asked line place.old item)) }
+    ensures moves { IfOk result (MovesTo (turns.turned asked line place.old item) place.new) }
+    ensures steps { Counts steps.old steps.new (cost_of (turns.turned asked line place.old item)) }
 {
-    let stood = mem::replace(place, Place::Fresh);
-    match answer_word(alloc, asked, line, stood, word, sink, steps)? {
-        Turn::Goes(next) => {
-            *place = next;
-            Ok(None)
-        }
-        Turn::Ends(ending) => Ok(Some(ending)),
+    match place {
+        Place::Schemas(reader) => answer_schemas(alloc, asked, line, reader, item, sink),
+        Place::Document(section) => answer_document(alloc, asked, line, section, item, sink),
+        Place::Commands(section) => answer_commands(alloc, line, section, item, sink, steps),
+        Place::Ended(_) => refuse(
+            sink,
+            RefusedLine {
+                line: line as u64,
+                refusal: Refusal::BadSection,
+            },
+        ),
     }
 }
 
@@ -95,20 +96,23 @@ pub fn answer_item<W: Sink, L: Ledger>(
     steps: &mut Steps<L>,
 ) -> Result<Option<Ending>, BreakOff>
     requires { IsOpen place.old }
-    ensures turns { Turning W.taken W.faults W.fault_bound sink.old sink.new place.new result (turns.turned asked line place.old item) }
-    ensures steps { steps.old ≤ steps.new }
+    ensures tells { Tells W.taken W.faults W.fault_bound sink.old sink.new result (said_of (turns.turned asked line place.old item)) }
+    ensures turns { IfOk result (TurnsTo (turns.turned asked line place.old item) place.new) }
+    ensures steps { Counts steps.old steps.new (cost_of (turns.turned asked line place.old item)) }
 {
-    match item {
-        Item::Start(_) | Item::Attr(..) | Item::Chars(_) | Item::Close(_) | Item::Instruction => {
-            take_part(line, place, item, sink)
+    match take_item(alloc, asked, line, place, item, sink, steps)? {
+        Turn::Stays => Ok(None),
+        Turn::Goes(next) => {
+            *place = next;
+            Ok(None)
         }
-        word => take_word(alloc, asked, line, place, word, sink, steps),
+        Turn::Ends(ending) => Ok(Some(ending)),
     }
 }
 
 /// Writes the last line.
 fn write_verdict<W: Sink>(sink: &mut W, verdict: &Verdict) -> Result<(), BreakOff>
-    ensures tells { Tells W.taken W.faults W.fault_bound sink.old sink.new result (turns.end_line verdict.now) }
+    ensures tells { Tells W.taken W.faults W.fault_bound sink.old sink.new result (output.end_line verdict.now) }
 {
     write_answer(
         sink,
@@ -129,8 +133,8 @@ fn write_verdict<W: Sink>(sink: &mut W, verdict: &Verdict) -> Result<(), BreakOf
 ///
 /// `WriteFault` where the sink failed; a front was then written.
 pub fn write_end<W: Sink>(sink: &mut W, lines: u32, place: &Place) -> Result<Ending, BreakOff>
-    ensures tells { Tells W.taken W.faults W.fault_bound sink.old sink.new result (output.finished lines place.now).text }
-    ensures ending { IfOk result (λ ending. (output.finished lines place.now).ending ≡ Some ending) }
+    ensures tells { Tells W.taken W.faults W.fault_bound sink.old sink.new result (turns.finished lines place.now).text }
+    ensures ending { IfOk result (λ ending. (turns.finished lines place.now).ending ≡ Some ending) }
 {
     match place {
         Place::Ended(None) => Ok(Ending::Valid),
@@ -138,6 +142,12 @@ pub fn write_end<W: Sink>(sink: &mut W, lines: u32, place: &Place) -> Result<End
             write_verdict(sink, verdict)?;
             Ok(ending_of(verdict.validity))
         }
-        _ => write_refusal(sink, lines as u64 + 1, Refusal::Line(Reason::EndMissing)),
+        Place::Schemas(_) | Place::Document(_) | Place::Commands(_) => write_refusal(
+            sink,
+            RefusedLine {
+                line: lines as u64 + 1,
+                refusal: Refusal::Line(Reason::EndMissing),
+            },
+        ),
     }
 }

@@ -13,7 +13,13 @@ use xs_names::{Names, Scope};
 
 // The scope that binds `p`.
 fn scope_with_p(alloc: Global) -> Result<Scope, AllocError> {
-    let mut names = Names::new(alloc)?;
+    match Names::new(alloc) {
+        Ok(mut names) => scope_of_p(alloc, &mut names),
+        Err(error) => Err(error),
+    }
+}
+
+fn scope_of_p(alloc: Global, names: &mut Names) -> Result<Scope, AllocError> {
     let space = names.namespace_id("urn:p")?;
     let mut scope = Scope::new(alloc)?;
     scope.bind("p", space)?;
@@ -43,41 +49,52 @@ fn is_kept(value: &Value, copy: &Value) -> bool {
     accepted && same(value, copy)
 }
 
-// Whether each value of the table is kept by its clone.
-fn clones_keep(alloc: Global, rows: &[(Builtin, &str)]) -> Result<bool, AllocError> {
-    for (kind, text) in rows {
-        let Some(value) = value_at(alloc, *kind, text)? else {
-            return Ok(false);
-        };
-        if !is_kept(&value, &value.clone()?) {
-            return Ok(false);
-        }
-    }
-    Ok(true)
+fn is_kept_by_clone(value: &Value) -> Result<bool, AllocError> {
+    let copy = value.clone()?;
+    Ok(is_kept(value, &copy))
 }
+
+// Whether a literal has a value, which is kept by its clone.
+fn is_cloned(alloc: Global, kind: Builtin, text: &str) -> Result<bool, AllocError> {
+    match value_at(alloc, kind, text)? {
+        Some(value) => is_kept_by_clone(&value),
+        None => Ok(false),
+    }
+}
+
+const LITERALS: &[(Builtin, &str)] = &[
+    (Builtin::AnySimpleType, " a"),
+    (Builtin::Id, "a"),
+    (Builtin::AnyUri, "urn:a"),
+    (Builtin::QName, "p:a"),
+    (Builtin::Boolean, "1"),
+    (Builtin::Byte, "200"),
+    (Builtin::HexBinary, "00ff"),
+    (Builtin::Base64Binary, "aGk="),
+    (Builtin::GDay, "---01"),
+    (Builtin::Duration, "P1Y"),
+    (Builtin::NmTokens, "a b"),
+];
 
 #[test]
 fn values_are_read_and_cloned(rt: HostRuntime) -> Result<(), Fail> {
-    let rows = [
-        (Builtin::AnySimpleType, " a"),
-        (Builtin::Id, "a"),
-        (Builtin::AnyUri, "urn:a"),
-        (Builtin::QName, "p:a"),
-        (Builtin::Boolean, "1"),
-        (Builtin::Byte, "200"),
-        (Builtin::HexBinary, "00ff"),
-        (Builtin::Base64Binary, "aGk="),
-        (Builtin::GDay, "---01"),
-        (Builtin::Duration, "P1Y"),
-        (Builtin::NmTokens, "a b"),
-    ];
-    assert!(rt; clones_keep(rt.alloc(), rows.as_slice())?);
-    let scope = scope_with_p(rt.alloc())?.try_clone()?;
-    let collapsed = read_normalized(rt.alloc(), Builtin::String, "a b", &scope)?.or(Err(
-        "no value",
-    ))?;
+    for (kind, text) in LITERALS {
+        assert!(rt; is_cloned(rt.alloc(), *kind, text)?, "{text}");
+    }
+    Ok(())
+}
+
+// The value of a text whose white space is treated, in a copy of the scope.
+fn normalized_value(alloc: Global) -> Result<Option<Value>, AllocError> {
+    let scope = scope_with_p(alloc)?.try_clone()?;
+    Ok(read_normalized(alloc, Builtin::String, "a b", &scope)?.ok())
+}
+
+#[test]
+fn white_space_is_collapsed(rt: HostRuntime) -> Result<(), Fail> {
+    let normalized = normalized_value(rt.alloc())?.ok_or("no value")?;
     let token = value_at(rt.alloc(), Builtin::Token, " a  b ")?.ok_or("no value")?;
-    assert!(rt; same(&collapsed, &token) && less(&collapsed, &token).is_none());
+    assert!(rt; same(&normalized, &token) && less(&normalized, &token).is_none());
     assert_eq!(rt; length(&token), Some(3));
     Ok(())
 }
@@ -86,10 +103,14 @@ fn values_are_read_and_cloned(rt: HostRuntime) -> Result<(), Fail> {
 fn is_found(alloc: Global, kept: (Builtin, &str), asked: (Builtin, &str)) -> Result<bool, Fail> {
     let kept = key_at(alloc, kept.0, kept.1)?.ok_or("no value")?;
     let asked = key_at(alloc, asked.0, asked.1)?.ok_or("no value")?;
-    let equal = same_key(&kept, &asked);
+    Ok(same_key(&kept, &asked) && is_in_map(alloc, kept, &asked)?)
+}
+
+// Whether a key is found in a map with another one.
+fn is_in_map(alloc: Global, kept: Key, asked: &Key) -> Result<bool, Fail> {
     let mut map = HashMap::new(alloc);
     map.insert(kept, 7)?;
-    Ok(equal && map.contains_key(&asked))
+    Ok(map.contains_key(asked))
 }
 
 #[test]

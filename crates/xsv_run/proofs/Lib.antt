@@ -1,3 +1,4 @@
+pub mod Tracing
 pub mod Telling
 pub mod Items
 pub mod Going

@@ -1,47 +1,49 @@
 -- A stream, piece by piece.
 use Rattle.std.proofs.Common.{◌≡◌, ℕ, ◌+◌, ◌-◌, ◌≤◌, ◌<◌, List, [], ◌++◌, length, Bool, true, false, Option, Some, None, Result, IfSome, refl, sym, ap, ◌∙◌, arith, subst, append_assoc, append-nil, length-append}
 use Rattle.std.specs.Io.KnownBytes.{Appends, Consumes, IsAtEnd, Keeps}
-use Rattle.std.proofs.KnownBytes.{Appends-nil, Appends-trans, Consumes-nil, Consumes-trans, Consumes-kept}
+use Rattle.std.proofs.KnownBytes.{Consumes-nil, Consumes-trans, Consumes-kept}
 use Rattle.item_listing.specs.State.{Reading, unread}
 use Rattle.item_listing.specs.declared.limits.TheConstants.{MOST_BYTES}
 use Rattle.item_listing.specs.Listing.{bytes_taken}
-use Rattle.item_listing.specs.Listed.{Waits}
-use Rattle.stream_answers.specs.Output.{Told, told, before}
-use Rattle.stream_answers.specs.declared.place.Asked.{Asked}
+use Rattle.item_listing.specs.Listed.{Listed, listed, Waits}
+use Rattle.session_model.specs.Counting.{Counts}
+use Rattle.stream_answers.specs.Output.{Said, Told, before, sections_told}
+use Rattle.stream_answers.specs.inside.Turns.{silent, told, unbegun}
+use Rattle.stream_sections.specs.declared.asked.Asked.{Asked}
 use Rattle.stream_answers.specs.declared.place.Place.{Place}
-use Rattle.stream_answers.specs.declared.place.Place.TheVariants.{Fresh}
 use Rattle.edit_replies.specs.declared.break_off.BreakOff.{BreakOff}
 use Rattle.stream_answers.specs.declared.ending.Ending.{Ending}
 use Rattle.xsv_run.specs.declared.status.Status.TheVariants.{ReadFault}
 use Rattle.xsv_run.specs.Taking.{TakesAtMost}
 use Rattle.xsv_run.specs.Output.{Answers, output_of, told_of}
-use Rattle.xsv_run.specs.Progress.{EndsAs, TakesPiece, EndsPiece, StandsAt, StopsAt, to_tell}
-use Rattle.xsv_run.proofs.Telling.{ends_behind, front_all}
-use Rattle.text_sink.proofs.Fronts.{front_before}
-use Rattle.xsv_run.proofs.Going.{before-before}
+use Rattle.xsv_run.specs.inside.Progress.{Trace, WritesFront, all_of, EndsAs, TakesPiece, EndsPiece, StandsAt, StopsAt, to_tell}
+use Rattle.xsv_run.proofs.Tracing.{writes_none, writes_both, front_whole, joined}
+use Rattle.xsv_run.proofs.Telling.{ends_behind}
+use Rattle.xsv_run.proofs.Going.{before-nil, before-before}
 
 pub unread_waits : Waits unread
 unread_waits = (λ e. refl, λ e. cc)
 
-pub stands_first : (a : Asked) (rest o : Option (List ℕ)) → StandsAt a rest rest o o Fresh unread
-stands_first a rest o = record {
+-- nothing was read yet: what is told place by place is what the sections tell
+pub stands_first : ((a : Asked) (its : Listed) → told a 0 unbegun its ≡ sections_told a its) → (a : Asked) (rest : Option (List ℕ)) (o : Trace) → StandsAt a rest rest o o unbegun unread
+stands_first law a rest o = record {
   bytes = [];
-  said = [];
+  said = silent;
   consumed = Consumes-nil rest;
-  written = Appends-nil o;
-  told_on = λ more closed. refl;
+  written = writes_none o;
+  told_on = λ more closed. sym (law a (listed unread more closed)) ∙ before-nil (to_tell a unbegun unread more closed);
   counted = refl;
 }
 
-module _ (a : Asked) (rest_old rest_mid rest_new o m n : Option (List ℕ)) (p : Place) (r : Reading) where
+module _ (a : Asked) (rest_old rest_mid rest_new : Option (List ℕ)) (o m n : Trace) (p : Place) (r : Reading) where
   module _ (q : Place) (s : Reading) (count : ℕ) where
     pub stands_further : StandsAt a rest_old rest_mid o m p r → TakesPiece a p r rest_mid m q s rest_new n count → StandsAt a rest_old rest_new o n q s
     stands_further one two = record {
       bytes = one.bytes ++ two.bytes;
-      said = one.said ++ two.feeds.said;
+      said = joined one.said two.feeds.said;
       consumed = Consumes-trans rest_old rest_mid rest_new one.bytes two.bytes one.consumed two.consumed;
-      written = Appends-trans o m n one.said two.feeds.said one.written two.feeds.written;
-      told_on = λ more closed. ap (λ l. to_tell a Fresh unread l closed) (append_assoc one.bytes two.bytes more)
+      written = writes_both o m n one.said two.feeds.said one.written two.feeds.written;
+      told_on = λ more closed. ap (λ l. told_of a l closed) (append_assoc one.bytes two.bytes more)
           ∙ one.told_on (two.bytes ++ more) closed ∙ ap (before one.said) (two.feeds.told_on more closed)
           ∙ before-before one.said two.feeds.said (to_tell a q s more closed);
       counted = two.feeds.counted ∙ ap (λ k. k + length two.bytes) one.counted ∙ sym (length-append one.bytes two.bytes);
@@ -53,9 +55,9 @@ module _ (a : Asked) (rest_old rest_mid rest_new o m n : Option (List ℕ)) (p :
     room_further room two is = (omega (arith, two.feeds.counted, two.feeds.few, two.long), omega (arith, two.feeds.counted, two.feeds.few, two.long))
 
   -- what the whole source tells, where it begins with these bytes
-  told_whole : (bytes rest whole said : List ℕ) → whole ≡ bytes ++ rest → to_tell a Fresh unread (bytes ++ rest) true ≡ before said (to_tell a p r rest true)
+  told_whole : (bytes rest whole : List ℕ) (said : Said) → whole ≡ bytes ++ rest → told_of a (bytes ++ rest) true ≡ before said (to_tell a p r rest true)
       → told_of a whole true ≡ before said (to_tell a p r rest true)
-  told_whole bytes rest whole said is on = ap (λ l. to_tell a Fresh unread l true) is ∙ on
+  told_whole bytes rest whole said is on = ap (λ l. told_of a l true) is ∙ on
 
   ends_by_rest : (e : Result Ending BreakOff) → (one : StandsAt a rest_old rest_mid o m p r) → (two : EndsPiece a p r rest_mid m rest_new n e)
       → (known last : Option (List ℕ)) → Consumes known last (one.bytes ++ two.bytes) → IfSome known (λ whole. EndsAs e o n (told_of a whole true))
@@ -95,24 +97,24 @@ module _ (a : Asked) (rest_old rest_mid rest_new o m n : Option (List ℕ)) (p :
 
   -- a read failed
   failed_by : (one : StandsAt a rest_old rest_mid o m p r) (known last : Option (List ℕ)) → Consumes known last one.bytes
-      → IfSome known (λ whole. Answers ReadFault o m (output_of (told_of a whole true)))
+      → IfSome known (λ whole. WritesFront o m (all_of (told_of a whole true)))
   failed_by one None last h = tt
   failed_by one (Some whole) None h = absurd h
   failed_by one (Some whole) (Some rest) h =
-      subst (λ (t : Told). Answers ReadFault o m (output_of t)) (sym (told_whole one.bytes rest whole one.said h (one.told_on rest true)))
-      (front_before o m one.said (to_tell a p r rest true).text (front_all o m one.said one.written))
+      subst (λ (t : Told). WritesFront o m (all_of t)) (sym (told_whole one.bytes rest whole one.said h (one.told_on rest true)))
+      (front_whole o m one.said (to_tell a p r rest true) one.written)
 
-  pub output_failed : StandsAt a rest_old rest_mid o m p r → IfSome rest_old (λ whole. Answers ReadFault o m (output_of (told_of a whole true)))
+  pub output_failed : StandsAt a rest_old rest_mid o m p r → IfSome rest_old (λ whole. WritesFront o m (all_of (told_of a whole true)))
   output_failed one = failed_by one rest_old rest_mid one.consumed
 
-  pub stops_failed : StandsAt a rest_old rest_mid o m p r → Waits r → r.finished ≡ false → Keeps rest_mid rest_new → StopsAt a rest_old rest_new o m
+  pub stops_failed : StandsAt a rest_old rest_mid o m p r → Waits r → r.finished ≡ false → Keeps rest_mid rest_new → StopsAt a rest_old rest_new o.taken m.taken
   stops_failed one waits going kept =
-      let told_now : told_of a one.bytes false ≡ before one.said (record { text = []; ending = None }) =
-      ap (λ l. to_tell a Fresh unread l false) (sym (append-nil one.bytes)) ∙ one.told_on [] false
+      let told_now : told_of a one.bytes false ≡ before one.said (record { text = []; cost = 0; ending = None }) =
+      ap (λ l. told_of a l false) (sym (append-nil one.bytes)) ∙ one.told_on [] false
       ∙ ap (λ l. before one.said (told a r.past.lines p l)) (waits.0 going) in (
         one.bytes,
         Consumes-kept rest_old rest_mid rest_new one.bytes one.consumed kept,
-        subst (λ (t : Told). Appends o m t.text) (sym told_now) (subst (Appends o m) (sym (append-nil one.said)) one.written),
+        subst (λ (t : Told). Appends o.taken m.taken t.text) (sym told_now) (subst (Appends o.taken m.taken) (sym (append-nil one.said.text)) one.written.wrote),
         ap (λ (t : Told). (output_of t).status) told_now,
       )
 
@@ -120,7 +122,7 @@ module _ (a : Asked) (rest_old rest_mid rest_new o m n : Option (List ℕ)) (p :
   few_failed one few kept = (one.bytes, Consumes-kept rest_old rest_mid rest_new one.bytes one.consumed kept, omega (arith, one.counted, few))
 
 -- the piece that was read is none, since the source has ended
-module _ (a : Asked) (rest_old rest_mid rest_new o m k n : Option (List ℕ)) (p x : Place) (r s : Reading) (one : StandsAt a rest_old rest_mid o m p r)
+module _ (a : Asked) (rest_old rest_mid rest_new : Option (List ℕ)) (o m k n : Trace) (p x : Place) (r s : Reading) (one : StandsAt a rest_old rest_mid o m p r)
     (facts : (x ≡ p) × (s ≡ r) × (k ≡ m) × Consumes rest_mid rest_new [] × IsAtEnd rest_new) where
   pub output_last : (e : Result Ending BreakOff) → EndsAs e k n (to_tell a x s [] true) → IfSome rest_old (λ whole. EndsAs e o n (told_of a whole true))
   output_last e answers =
@@ -130,12 +132,23 @@ module _ (a : Asked) (rest_old rest_mid rest_new o m k n : Option (List ℕ)) (p
   pub few_last : (room : ℕ) → bytes_taken r + room ≡ MOST_BYTES + 1 → TakesAtMost (MOST_BYTES + 1) rest_old rest_new
   few_last room is = few_at_end a rest_old rest_mid rest_new o m n p r one facts.3 (omega (arith, is))
 
-pub output_broken : (a : Asked) (rest_old rest_mid o m k : Option (List ℕ)) (p : Place) (r : Reading) → StandsAt a rest_old rest_mid o m p r → k ≡ m
-    → IfSome rest_old (λ whole. Answers ReadFault o k (output_of (told_of a whole true)))
+pub output_broken : (a : Asked) (rest_old rest_mid : Option (List ℕ)) (o m k : Trace) (p : Place) (r : Reading) → StandsAt a rest_old rest_mid o m p r → k ≡ m
+    → IfSome rest_old (λ whole. WritesFront o k (all_of (told_of a whole true)))
 output_broken a rest_old rest_mid o m k p r one same =
-    subst (λ v. IfSome rest_old (λ whole. Answers ReadFault o v (output_of (told_of a whole true)))) (sym same) (output_failed a rest_old rest_mid rest_mid o m m p r one)
+    subst (λ v. IfSome rest_old (λ whole. WritesFront o v (all_of (told_of a whole true)))) (sym same) (output_failed a rest_old rest_mid rest_mid o m m p r one)
 
-pub ends_piece : (a : Asked) (p : Place) (r : Reading) (bytes read : List ℕ) (rest_old old rest_new new : Option (List ℕ)) (e : Result Ending BreakOff) → Consumes rest_old rest_new bytes
+-- a front was written, and no more steps were counted than all costs
+pub answers_broken : (rest : Option (List ℕ)) (o k : Trace) (told : List ℕ → Told) → IfSome rest (λ whole. WritesFront o k (all_of (told whole)))
+    → IfSome rest (λ whole. Answers ReadFault o.taken k.taken (output_of (told whole)))
+answers_broken None o k told h = tt
+answers_broken (Some whole) o k told h = h.wrote
+
+pub counts_broken : (rest : Option (List ℕ)) (o k : Trace) (told : List ℕ → Told) → IfSome rest (λ whole. WritesFront o k (all_of (told whole)))
+    → IfSome rest (λ whole. Counts o.steps k.steps (told whole).cost)
+counts_broken None o k told h = tt
+counts_broken (Some whole) o k told h = h.counts
+
+pub ends_piece : (a : Asked) (p : Place) (r : Reading) (bytes read : List ℕ) (rest_old : Option (List ℕ)) (old : Trace) (rest_new : Option (List ℕ)) (new : Trace) (e : Result Ending BreakOff) → Consumes rest_old rest_new bytes
     → read ≡ bytes → ((more : List ℕ) (closed : Bool) → EndsAs e old new (to_tell a p r (read ++ more) closed)) → bytes_taken r + length bytes ≤ MOST_BYTES + 1
     → EndsPiece a p r rest_old old rest_new new e
 ends_piece a p r bytes read rest_old old rest_new new e consumed same answers few = record {

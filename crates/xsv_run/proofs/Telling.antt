@@ -1,45 +1,42 @@
 -- What was told, and what is still to be told.
-use Rattle.std.proofs.Common.{◌≡◌, ◌≤◌, ℕ, List, length, Option, Some, None, IfSome, IfOk, true, Result, Ok, Err, sym, ap, arith, subst}
+use Rattle.std.proofs.Common.{◌≡◌, ◌≤◌, ℕ, List, ◌+◌, Option, Some, None, IfSome, IfOk, true, Result, Ok, Err, sym, ap, arith, subst}
 use Rattle.std.specs.Option.{option_map}
 use Rattle.std.specs.Io.KnownBytes.{Appends}
-use Rattle.std.proofs.KnownBytes.{Appends-nil, Appends-trans}
-use Rattle.std.proofs.lemmas.List.{take_all}
 use Rattle.xsv_io.specs.Causes.{Rose}
-use Rattle.xsv_io.specs.Writing.{AppendsFront}
-use Rattle.text_sink.proofs.Fronts.{front_behind}
+use Rattle.session_model.specs.Counting.{Counts}
 use Rattle.edit_replies.specs.declared.break_off.BreakOff.{BreakOff}
 use Rattle.edit_replies.specs.declared.break_off.BreakOff.TheVariants as breaks
 use Rattle.edit_replies.specs.Tells.{Wrote, IsWriteFault}
-use Rattle.stream_answers.specs.Output.{Told, before}
+use Rattle.stream_answers.specs.Output.{Said, Told, before}
 use Rattle.stream_answers.specs.declared.ending.Ending.{Ending}
 use Rattle.stream_answers.specs.declared.ending.Ending.TheVariants as endings
-use Rattle.stream_answers.specs.declared.place.Asked.{Asked}
+use Rattle.stream_sections.specs.declared.asked.Asked.{Asked}
 use Rattle.xsv_run.specs.Statuses.{status_of, status_by}
 use Rattle.xsv_run.specs.Output.{Answers, asked, output_of, output_by, output, refused_words}
-use Rattle.xsv_run.specs.Progress.{EndsAs}
+use Rattle.xsv_run.specs.inside.Progress.{Trace, Writes, EndsAs, all_of}
+use Rattle.xsv_run.proofs.Tracing.{writes_then, front_then, front_broken}
 use Rattle.xsv_run.specs.declared.status.Status.{Status}
 use Rattle.xsv_run.specs.declared.status.Status.TheVariants.{Words, WriteFault, ReadFault}
 
-pub front_none : (a : Option (List ℕ)) (text : List ℕ) → AppendsFront a a text
-front_none a text = (0, Appends-nil a)
-
-pub front_all : (a b : Option (List ℕ)) (text : List ℕ) → Appends a b text → AppendsFront a b text
-front_all a b text h = (length text, subst (Appends a b) (sym (take_all (length text) text (omega arith))) h)
-
--- a call that broke off has written a front
-pub front_broken : (T : Type 0) (why : BreakOff) (a b : Option (List ℕ)) (text : List ℕ) → Wrote {T = T} (Err why) a b text → AppendsFront a b text
-front_broken T breaks.Memory a b text same = subst (λ o. AppendsFront a o text) (sym same) (front_none a text)
-front_broken T breaks.WriteFault a b text front = front
-
 -- what is told at the end of a stream
-pub ends_as : (e : Result Ending BreakOff) (a b : Option (List ℕ)) (t : Told) → Wrote e a b t.text → IfOk e (λ ending. t.ending ≡ Some ending) → EndsAs e a b t
-ends_as (Ok ending) a b t wrote is = (wrote, is)
-ends_as (Err why) a b t wrote is = front_broken Ending why a b t.text wrote
+pub ends_as : (e : Result Ending BreakOff) (a b : Trace) (t : Told) → Wrote e a.taken b.taken t.text → Counts a.steps b.steps t.cost → IfOk e (λ ending. t.ending ≡ Some ending) → EndsAs e a b t
+ends_as (Ok ending) a b t wrote counts is = (record { wrote = wrote; counts = counts }, is)
+ends_as (Err why) a b t wrote counts is = front_broken Ending why a b (all_of t) wrote counts
 
 -- what is told behind a text
-pub ends_behind : (e : Result Ending BreakOff) (a b c : Option (List ℕ)) (said : List ℕ) (t : Told) → Appends a b said → EndsAs e b c t → EndsAs e a c (before said t)
-ends_behind (Ok ending) a b c said t h ended = (Appends-trans a b c said t.text h ended.0, ended.1)
-ends_behind (Err why) a b c said t h front = front_behind a b c said t.text h front
+pub ends_behind : (e : Result Ending BreakOff) (a b c : Trace) (said : Said) (t : Told) → Writes a b said → EndsAs e b c t → EndsAs e a c (before said t)
+ends_behind (Ok ending) a b c said t h ended = (writes_then a b c said t h ended.0, ended.1)
+ends_behind (Err why) a b c said t h front = front_then a b c said t h front
+
+-- no more steps were counted than what is told costs
+pub ends_counted : (e : Result Ending BreakOff) (a b : Trace) (t : Told) → EndsAs e a b t → Counts a.steps b.steps t.cost
+ends_counted (Ok ending) a b t ended = ended.0.counts
+ends_counted (Err why) a b t front = front.counts
+
+pub counted_by : (rest : Option (List ℕ)) (e : Result Ending BreakOff) (a b : Trace) (told : List ℕ → Told)
+    → IfSome rest (λ whole. EndsAs e a b (told whole)) → IfSome rest (λ whole. Counts a.steps b.steps (told whole).cost)
+counted_by None e a b told ended = tt
+counted_by (Some whole) e a b told ended = ends_counted e a b (told whole) ended
 
 -- the status of a stream that has ended
 as_ending : (ending : Ending) (a b : Option (List ℕ)) (t : Told) → Appends a b t.text → (output_of t).status ≡ Some (status_of ending) → Answers (status_of ending) a b (output_of t)
@@ -49,15 +46,15 @@ as_ending endings.ListingRefused a b t h is = (h, is)
 as_ending endings.Limit a b t h is = (h, is)
 as_ending endings.Unsupported a b t h is = (h, is)
 
-as_status : (e : Result Ending BreakOff) (a b : Option (List ℕ)) (t : Told) → EndsAs e a b t → Answers (status_by e) a b (output_of t)
-as_status (Ok ending) a b t ended = as_ending ending a b t ended.0 (ap (option_map status_of) ended.1)
-as_status (Err breaks.Memory) a b t front = front
-as_status (Err breaks.WriteFault) a b t front = front
+as_status : (e : Result Ending BreakOff) (a b : Trace) (t : Told) → EndsAs e a b t → Answers (status_by e) a.taken b.taken (output_of t)
+as_status (Ok ending) a b t ended = as_ending ending a.taken b.taken t ended.0.wrote (ap (option_map status_of) ended.1)
+as_status (Err breaks.Memory) a b t front = front.wrote
+as_status (Err breaks.WriteFault) a b t front = front.wrote
 
-pub answers_by : (rest : Option (List ℕ)) (e : Result Ending BreakOff) (a b : Option (List ℕ)) (told : List ℕ → Told) (status : Status) → status ≡ status_by e
-    → IfSome rest (λ whole. EndsAs e a b (told whole)) → IfSome rest (λ whole. Answers status a b (output_of (told whole)))
+pub answers_by : (rest : Option (List ℕ)) (e : Result Ending BreakOff) (a b : Trace) (told : List ℕ → Told) (status : Status) → status ≡ status_by e
+    → IfSome rest (λ whole. EndsAs e a b (told whole)) → IfSome rest (λ whole. Answers status a.taken b.taken (output_of (told whole)))
 answers_by None e a b told status is ended = tt
-answers_by (Some whole) e a b told status is ended = subst (λ s. Answers s a b (output_of (told whole))) (sym is) (as_status e a b (told whole) ended)
+answers_by (Some whole) e a b told status is ended = subst (λ s. Answers s a.taken b.taken (output_of (told whole))) (sym is) (as_status e a b (told whole) ended)
 
 -- the status tells of words and of a failed read never, and of a failed write where one failed
 pub not_words : (e : Result Ending BreakOff) (status : Status) → status ≡ status_by e → status ≡ Words → ⊥
@@ -100,3 +97,7 @@ pub none_asked : (words : List (List ℕ)) (rest o n : Option (List ℕ)) (statu
     → IfSome rest (λ whole. Answers status o n (output words whole))
 none_asked words rest o n status is answers =
     whatever_rest rest (λ whole. subst (λ (q : Option Asked). Answers status o n (output_by q whole true)) (sym is) answers)
+
+-- words that ask for nothing cost nothing
+pub none_counted : (words : List (List ℕ)) (rest : Option (List ℕ)) (n : ℕ) → asked words ≡ None → IfSome rest (λ whole. n ≤ n + (output words whole).cost)
+none_counted words rest n is = whatever_rest rest (λ whole. omega arith)

@@ -1,4 +1,4 @@
 pub mod Taking
 pub mod Statuses
 pub mod Output
-pub mod Progress
+pub mod inside

@@ -9,17 +9,17 @@ use Rattle.run_words.specs.Requests.{request}
 use Rattle.run_words.specs.declared.request.Request.{Request}
 use Rattle.run_words.specs.declared.request.Request.TheVariants.{Read, Generate, Trial}
 use Rattle.run_words.specs.declared.request.Task.TheVariants as tasks
-use Rattle.stream_answers.specs.Output.{Told, told}
-use Rattle.stream_answers.specs.declared.place.Asked.{Asked}
-use Rattle.stream_answers.specs.declared.place.Asked.TheVariants.{Check, Assess, Session}
-use Rattle.stream_answers.specs.declared.place.Place.TheVariants.{Fresh}
+use Rattle.stream_answers.specs.Output.{Told, sections_told}
+use Rattle.stream_sections.specs.declared.asked.Asked.{Asked}
+use Rattle.stream_sections.specs.declared.asked.Asked.TheVariants.{Check, Assess, Session}
 use Rattle.xsv_run.specs.Statuses.{status_of}
 use Rattle.xsv_run.specs.declared.status.Status.{Status}
 use Rattle.xsv_run.specs.declared.status.Status.TheVariants.{Words, ReadFault, WriteFault, Memory}
 
--- a text, and a status where the run has ended
+-- a text, how many steps it costs at most, and a status where the run has ended
 pub record Output : Type 0 where
   pub text : List ℕ
+  pub cost : ℕ
   pub status : Option Status
 
 abbrev pub usage : List ℕ
@@ -27,7 +27,7 @@ usage = codes "usage: xsv check|assess|session [--max-errors N] | xsv generate|t
 
 -- words that ask for nothing
 abbrev pub refused_words : Output
-refused_words = record { text = usage; status = Some Words }
+refused_words = record { text = usage; cost = 0; status = Some Words }
 
 -- what is asked for of what is built: a stream is read
 abbrev pub asked_by : Option Request → Option Asked
@@ -43,16 +43,16 @@ asked words = asked_by (request words)
 
 -- what is told of a stream by these bytes, with none after them if closed
 abbrev pub told_of : Asked → List ℕ → Bool → Told
-told_of what bytes closed = told what 0 Fresh (listed unread bytes closed)
+told_of what bytes closed = sections_told what (listed unread bytes closed)
 
 abbrev pub output_of : Told → Output
-output_of t = record { text = t.text; status = option_map status_of t.ending }
+output_of t = record { text = t.text; cost = t.cost; status = option_map status_of t.ending }
 
 abbrev pub output_by : Option Asked → List ℕ → Bool → Output
 output_by None bytes closed = refused_words
 output_by (Some what) bytes closed = output_of (told_of what bytes closed)
 
--- what is written for these words and the bytes of a source to its end, and the status
+-- what is written for these words and the bytes of a source to its end, the steps that it costs at most, and the status
 abbrev pub output : List (List ℕ) → List ℕ → Output
 output words bytes = output_by (asked words) bytes true
 

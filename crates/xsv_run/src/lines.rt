@@ -2,14 +2,15 @@ ghost use Rattle.std.specs.Prelude.{◌≡◌, ◌≤◌};
 ghost use Rattle.xsv_io.specs.Causes.{KeepsCount};
 ghost use Rattle.item_listing.specs.Listing.{bytes_taken};
 ghost use Rattle.edit_replies.specs.Tells.{IsWriteFault};
-ghost use Rattle.stream_answers.specs.Turning.{IsOpen};
-ghost use Rattle.xsv_run.specs.Progress.{Progresses};
+ghost use Rattle.stream_answers.specs.inside.Turning.{IsOpen};
+ghost use Rattle.xsv_run.specs.inside.Progress.{Progresses, trace};
 
 use crate::next::{Next, take_next};
 use edit_replies::BreakOff;
 use item_listing::Listing;
 use std::alloc::Global;
-use stream_answers::{Asked, Ending, Place};
+use stream_answers::{Ending, Place};
+use stream_sections::Asked;
 use xsv_io::Sink;
 use xsv_steps::{Ledger, Steps};
 
@@ -24,7 +25,7 @@ pub fn take_lines<W: Sink, L: Ledger>(
     steps: &mut Steps<L>,
 ) -> Result<Option<Ending>, BreakOff>
     requires { IsOpen place.old }
-    ensures progress { Progresses asked place.old listing.old (W.taken sink.old) place.new listing.new (W.taken sink.new) result }
+    ensures progress { Progresses asked place.old listing.old (trace (W.taken sink.old) steps.old) place.new listing.new (trace (W.taken sink.new) steps.new) result }
     ensures counted { bytes_taken listing.new ≡ bytes_taken listing.old }
     ensures finished { listing.new.finished ≡ listing.old.finished }
     ensures writes { KeepsCount W.faults W.fault_bound sink.old sink.new (IsWriteFault result) }

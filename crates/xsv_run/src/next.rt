@@ -3,15 +3,16 @@ ghost use Rattle.xsv_io.specs.Causes.{KeepsCount};
 ghost use Rattle.item_listing.specs.Listing.{bytes_taken};
 ghost use Rattle.edit_replies.specs.Tells.{Tells, IsWriteFault};
 ghost use Rattle.stream_answers.specs.Refusals.{refusal_line, refusal_ending};
-ghost use Rattle.stream_answers.specs.Turns.{turned};
-ghost use Rattle.stream_answers.specs.Turning.{IsOpen};
-ghost use Rattle.xsv_run.specs.Progress.{TakesItem, TakesNext, Holds};
+ghost use Rattle.stream_answers.specs.inside.Turns.{turned};
+ghost use Rattle.stream_answers.specs.inside.Turning.{IsOpen};
+ghost use Rattle.xsv_run.specs.inside.Progress.{TakesItem, TakesNext, Holds, trace};
 ghost use Rattle.xsv_run.specs.declared.next.Next.TheVariants as nexts;
 
 use edit_replies::BreakOff;
 use item_listing::{Item, Listing, ListingFault};
 use std::alloc::Global;
-use stream_answers::{Asked, Ending, Place, Refusal, answer_item, write_refusal};
+use stream_answers::{Ending, Place, answer_item, write_refusal};
+use stream_sections::{Asked, Refusal, RefusedLine};
 use xsv_io::Sink;
 use xsv_steps::{Ledger, Steps};
 
@@ -37,7 +38,7 @@ fn take_item<W: Sink, L: Ledger>(
     steps: &mut Steps<L>,
 ) -> Result<Next, BreakOff>
     requires { IsOpen place.old }
-    ensures takes { TakesItem (turned asked line place.old item) place.new (W.taken sink.old) (W.taken sink.new) result }
+    ensures takes { TakesItem (turned asked line place.old item) place.new (trace (W.taken sink.old) steps.old) (trace (W.taken sink.new) steps.new) result }
     ensures writes { KeepsCount W.faults W.fault_bound sink.old sink.new (IsWriteFault result) }
     ensures steps { steps.old ≤ steps.new }
 {
@@ -53,7 +54,11 @@ fn refuse_line<W: Sink>(fault: ListingFault, sink: &mut W) -> Result<Next, Break
     ensures tells { Tells W.taken W.faults W.fault_bound sink.old sink.new result (refusal_line fault.line (Refusal.Line fault.reason)) }
     ensures ends { IfOk result (λ next. next ≡ nexts.Ends (refusal_ending (Refusal.Line fault.reason))) }
 {
-    match write_refusal(sink, fault.line as u64, Refusal::Line(fault.reason)) {
+    let spot = RefusedLine {
+        line: fault.line as u64,
+        refusal: Refusal::Line(fault.reason),
+    };
+    match write_refusal(sink, spot) {
         Ok(ending) => Ok(Next::Ends(ending)),
         Err(why) => Err(why),
     }
@@ -69,7 +74,7 @@ pub fn take_next<W: Sink, L: Ledger>(
     steps: &mut Steps<L>,
 ) -> Result<Next, BreakOff>
     requires { IsOpen place.old }
-    ensures takes { TakesNext asked place.old listing.old (W.taken sink.old) place.new listing.new (W.taken sink.new) result }
+    ensures takes { TakesNext asked place.old listing.old (trace (W.taken sink.old) steps.old) place.new listing.new (trace (W.taken sink.new) steps.new) result }
     ensures holds { IfOk result (Holds listing.old listing.new) }
     ensures counted { bytes_taken listing.new ≡ bytes_taken listing.old }
     ensures finished { listing.new.finished ≡ listing.old.finished }

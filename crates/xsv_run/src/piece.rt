@@ -2,14 +2,15 @@ ghost use Rattle.std.specs.Prelude.{◌≡◌, ◌<◌, ◌≤◌, ◌+◌, leng
 ghost use Rattle.xsv_io.specs.Causes.{KeepsCount};
 ghost use Rattle.item_listing.specs.Listing.{bytes_taken};
 ghost use Rattle.edit_replies.specs.Tells.{IsWriteFault};
-ghost use Rattle.stream_answers.specs.Turning.{IsOpen};
-ghost use Rattle.xsv_run.specs.Progress.{FeedsOn, Pieces, FailsRead, FailsWrite};
+ghost use Rattle.stream_answers.specs.inside.Turning.{IsOpen};
+ghost use Rattle.xsv_run.specs.inside.Progress.{trace, FeedsOn, Pieces, FailsRead, FailsWrite};
 
 use crate::lines::take_lines;
 use edit_replies::BreakOff;
 use item_listing::{Listing, MOST_BYTES};
 use std::alloc::Global;
-use stream_answers::{Asked, Ending, Place};
+use stream_answers::{Ending, Place};
+use stream_sections::Asked;
 use xsv_io::{Sink, Source};
 use xsv_steps::{Ledger, Steps};
 
@@ -41,7 +42,7 @@ fn take_bytes<W: Sink, L: Ledger>(
 ) -> Result<Option<Ending>, BreakOff>
     requires open { IsOpen place.old }
     requires going { listing.old.finished ≡ false }
-    ensures takes { FeedsOn asked place.old listing.old (W.taken sink.old) bytes.now place.new listing.new (W.taken sink.new) result }
+    ensures takes { FeedsOn asked place.old listing.old (trace (W.taken sink.old) steps.old) bytes.now place.new listing.new (trace (W.taken sink.new) steps.new) result }
     ensures writes { KeepsCount W.faults W.fault_bound sink.old sink.new (IsWriteFault result) }
     ensures steps { steps.old ≤ steps.new }
 {
@@ -68,7 +69,7 @@ pub fn take_piece<S: Source, W: Sink, L: Ledger>(
     requires room { bytes_taken listing.old + room ≡ MOST_BYTES + 1 }
     requires some { 0 < room }
     requires buf { 0 < length buf.old }
-    ensures takes { Pieces asked place.old listing.old (S.rest source.old) (W.taken sink.old) place.new listing.new (S.rest source.new) (W.taken sink.new) result }
+    ensures takes { Pieces asked place.old listing.old (S.rest source.old) (trace (W.taken sink.old) steps.old) place.new listing.new (S.rest source.new) (trace (W.taken sink.new) steps.new) result }
     ensures reads { KeepsCount S.faults S.fault_bound source.old source.new (FailsRead result) }
     ensures writes { KeepsCount W.faults W.fault_bound sink.old sink.new (FailsWrite result) }
     ensures steps { steps.old ≤ steps.new }

@@ -58,7 +58,10 @@ pub fn run<S: Source, W: Sink, L: Ledger>(
     // last value.
     ensures reads { KeepsCount S.faults S.fault_bound source.old source.new (result ≡ Status.ReadFault) }
     ensures writes { KeepsCount W.faults W.fault_bound sink.old sink.new (result ≡ Status.WriteFault) }
+
+    // Steps never fall, and no more are counted than the output costs, wherever the run broke off.
     ensures steps { steps.old ≤ steps.new }
+    ensures cost { IfSome (S.rest source.old) (λ bytes. steps.new ≤ steps.old + (output words.now bytes).cost) }
 {
     match read_words(words) {
         Some(asked) => answer_stream(alloc, asked, source, sink, steps),
@@ -79,6 +82,8 @@ pub fn run_by<S: Source, W: Sink, L: Ledger>(
         Answers result (W.taken sink.old) (W.taken sink.new) (output read.now bytes))) }
     ensures broken { IfOk words.entry (λ read. result ≡ Status.ReadFault
         → BreaksOff read.now (S.rest source.old) (S.rest source.new) (W.taken sink.old) (W.taken sink.new)) }
+    ensures cost { IfOk words.entry (λ read. IfSome (S.rest source.old) (λ bytes.
+        steps.new ≤ steps.old + (output read.now bytes).cost)) }
     ensures refused { IfOk words.entry (λ read. result ≡ Status.Words → asked read.now ≡ None) }
     ensures unread { IfOk words.entry (λ read. asked read.now ≡ None → S.rest source.new ≡ S.rest source.old) }
     ensures few { TakesAtMost (MOST_BYTES + 1) (S.rest source.old) (S.rest source.new) }

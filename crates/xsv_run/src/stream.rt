@@ -2,10 +2,12 @@ ghost use Rattle.std.specs.Prelude.{◌≡◌, ◌+◌, ◌≤◌, [], IfSome, t
 ghost use Rattle.item_listing.specs.State.{unread};
 ghost use Rattle.item_listing.specs.declared.limits.TheConstants.{MOST_BYTES};
 ghost use Rattle.xsv_io.specs.Causes.{KeepsCount};
+ghost use Rattle.session_model.specs.Counting.{Counts};
 ghost use Rattle.edit_replies.specs.Tells.{IsWriteFault};
-ghost use Rattle.stream_answers.specs.Turning.{IsOpen};
+ghost use Rattle.stream_answers.specs.inside.Turning.{IsOpen};
+ghost use Rattle.stream_answers.specs.inside.Turns.{unbegun};
 ghost use Rattle.xsv_run.specs.Output.{Answers, output_of, told_of};
-ghost use Rattle.xsv_run.specs.Progress.{EndsAs, StopsAt, to_tell};
+ghost use Rattle.xsv_run.specs.inside.Progress.{EndsAs, StopsAt, to_tell, trace};
 ghost use Rattle.xsv_run.specs.Taking.{TakesAtMost};
 
 use crate::Status;
@@ -14,7 +16,8 @@ use crate::piece::{ENOUGH, Piece, take_piece};
 use edit_replies::BreakOff;
 use item_listing::Listing;
 use std::alloc::Global;
-use stream_answers::{Asked, Ending, Place, write_end};
+use stream_answers::{Ending, Place, places_answer_sections, write_end};
+use stream_sections::{Asked, SchemaReader};
 use xsv_io::{Sink, Source};
 use xsv_steps::{Ledger, Steps};
 
@@ -28,7 +31,7 @@ fn end_stream<W: Sink, L: Ledger>(
     steps: &mut Steps<L>,
 ) -> Result<Ending, BreakOff>
     requires { IsOpen place.old }
-    ensures answers { EndsAs result (W.taken sink.old) (W.taken sink.new) (to_tell asked place.old listing.old [] true) }
+    ensures answers { EndsAs result (trace (W.taken sink.old) steps.old) (trace (W.taken sink.new) steps.new) (to_tell asked place.old listing.old [] true) }
     ensures writes { KeepsCount W.faults W.fault_bound sink.old sink.new (IsWriteFault result) }
     ensures steps { steps.old ≤ steps.new }
 {
@@ -51,8 +54,9 @@ fn take_pieces<S: Source, W: Sink, L: Ledger>(
     steps: &mut Steps<L>,
 ) -> Status
     requires unread { listing.old ≡ unread }
-    requires fresh { place.old ≡ Place.Fresh }
+    requires unbegun { place.old ≡ unbegun }
     ensures output { IfSome (S.rest source.old) (λ bytes. Answers result (W.taken sink.old) (W.taken sink.new) (output_of (told_of asked bytes true))) }
+    ensures cost { IfSome (S.rest source.old) (λ bytes. Counts steps.old steps.new (told_of asked bytes true).cost) }
     ensures broken { result ≡ Status.ReadFault → StopsAt asked (S.rest source.old) (S.rest source.new) (W.taken sink.old) (W.taken sink.new) }
     ensures answered { result ≡ Status.Words → ⊥ }
     ensures few { TakesAtMost (MOST_BYTES + 1) (S.rest source.old) (S.rest source.new) }
@@ -60,6 +64,7 @@ fn take_pieces<S: Source, W: Sink, L: Ledger>(
     ensures writes { KeepsCount W.faults W.fault_bound sink.old sink.new (result ≡ Status.WriteFault) }
     ensures steps { steps.old ≤ steps.new }
 {
+    places_answer_sections();
     let mut room = ENOUGH;
     let mut buf = [0u8; 4096];
     'pieces: loop {
@@ -85,6 +90,7 @@ pub fn answer_stream<S: Source, W: Sink, L: Ledger>(
     steps: &mut Steps<L>,
 ) -> Status
     ensures output { IfSome (S.rest source.old) (λ bytes. Answers result (W.taken sink.old) (W.taken sink.new) (output_of (told_of asked bytes true))) }
+    ensures cost { IfSome (S.rest source.old) (λ bytes. Counts steps.old steps.new (told_of asked bytes true).cost) }
     ensures broken { result ≡ Status.ReadFault → StopsAt asked (S.rest source.old) (S.rest source.new) (W.taken sink.old) (W.taken sink.new) }
     ensures answered { result ≡ Status.Words → ⊥ }
     ensures few { TakesAtMost (MOST_BYTES + 1) (S.rest source.old) (S.rest source.new) }
@@ -94,6 +100,6 @@ pub fn answer_stream<S: Source, W: Sink, L: Ledger>(
 {
     // They are held here, where there is one way out, and the loop only changes them.
     let mut listing = Listing::new(alloc);
-    let mut place = Place::Fresh;
+    let mut place = Place::Schemas(SchemaReader::new(alloc));
     take_pieces(alloc, asked, source, &mut listing, &mut place, sink, steps)
 }

@@ -2,7 +2,7 @@ ghost use Rattle.std.specs.Prelude.{◌≡◌};
 ghost use Rattle.xsv_run.specs.Output.{asked};
 
 use run_words::{Request, Task};
-use stream_answers::Asked;
+use stream_sections::Asked;
 use xs_names::Text;
 
 /// Why the words of a command line were not read.

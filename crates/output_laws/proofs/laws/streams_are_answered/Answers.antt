@@ -1,9 +1,5 @@
-use Rattle.output_laws.proofs.Schemas.{sectioned}
 use Rattle.output_laws.proofs.Complete.{check_answered, stream_answered}
 use Rattle.output_laws.proofs.laws.streams_are_answered.Goals as goal
-
-pub returns-clause-sectioned : goal.returns-clause-sectioned
-returns-clause-sectioned c = sectioned
 
 pub returns-clause-check : goal.returns-clause-check
 returns-clause-check c = check_answered c.streams_are_read.ensures.check

@@ -1,12 +1,13 @@
 use Rattle.std.proofs.Common.{◌≤◌, true, arith, refl, ◌∙◌}
 use Rattle.xsv_run.specs.Output.{told_of}
-use Rattle.xsv_run.proofs.Telling.{answers_by, not_words, not_read, write_failed, rose_later}
-use Rattle.xsv_run.proofs.Streams.{stands_first, unread_waits, stands_further, room_further, output_ends, few_ends, output_last, few_last, output_broken}
+use Rattle.xsv_run.specs.inside.Progress.{trace}
+use Rattle.xsv_run.proofs.Telling.{answers_by, counted_by, not_words, not_read, write_failed, rose_later}
+use Rattle.xsv_run.proofs.Streams.{stands_first, unread_waits, stands_further, room_further, output_ends, few_ends, output_last, few_last, output_broken, answers_broken, counts_broken}
 use Rattle.xsv_run.proofs.stream.take_pieces.Goals as goal
 
 pub pieces-init : goal.pieces-init
-pieces-init g c = rw (c.requires.unread, c.requires.fresh) (record {
-  stands = stands_first c.args.asked _ _;
+pieces-init g c = rw (c.requires.unread, c.requires.unbegun) (record {
+  stands = stands_first c.places_answer_sections.ensures.sectioned c.args.asked _ _;
   is_open = tt;
   waits = unread_waits;
   going = refl;
@@ -23,10 +24,12 @@ pub pieces-preserved : goal.pieces-preserved
 pieces-preserved g c =
     let old = c.pieces.invariant in
     let two = c.in-Goes.ensures.takes in
-    let room = room_further c.args.asked (g.S.Source.rest c.args.source.now) (g.S.Source.rest c.pieces.source) _ (g.W.Sink.taken c.args.sink.now) (g.W.Sink.taken c.pieces.sink) _
+    let room = room_further c.args.asked (g.S.Source.rest c.args.source.now) (g.S.Source.rest c.pieces.source) (g.S.Source.rest c.take_piece.new.source)
+    (trace (g.W.Sink.taken c.args.sink.now) c.args.steps.now) (trace (g.W.Sink.taken c.pieces.sink) c.pieces.steps) (trace (g.W.Sink.taken c.take_piece.new.sink) c.take_piece.new.steps)
     c.pieces.place c.pieces.listing c.take_piece.new.place c.take_piece.new.listing c.in-Goes.count c.pieces.room two old.room in
     record {
-      stands = stands_further c.args.asked (g.S.Source.rest c.args.source.now) (g.S.Source.rest c.pieces.source) _ (g.W.Sink.taken c.args.sink.now) (g.W.Sink.taken c.pieces.sink) _
+      stands = stands_further c.args.asked (g.S.Source.rest c.args.source.now) (g.S.Source.rest c.pieces.source) (g.S.Source.rest c.take_piece.new.source)
+          (trace (g.W.Sink.taken c.args.sink.now) c.args.steps.now) (trace (g.W.Sink.taken c.pieces.sink) c.pieces.steps) (trace (g.W.Sink.taken c.take_piece.new.sink) c.take_piece.new.steps)
           c.pieces.place c.pieces.listing c.take_piece.new.place c.take_piece.new.listing c.in-Goes.count old.stands two;
       is_open = two.feeds.is_open;
       waits = two.feeds.waits;
@@ -75,7 +78,7 @@ returns-in-AtEnd-clause-output g c =
 
 pub returns-in-AtEnd-clause-few : goal.returns-in-AtEnd-clause-few
 returns-in-AtEnd-clause-few g c =
-    few_last c.args.asked _ _ _ _ _ _ (g.W.Sink.taken c.take_piece.new.sink) _ _ _ _ c.pieces.invariant.stands c.in-AtEnd.ensures.takes c.pieces.room c.pieces.invariant.room
+    few_last c.args.asked _ _ _ _ _ _ (trace (g.W.Sink.taken c.take_piece.new.sink) c.take_piece.new.steps) _ _ _ _ c.pieces.invariant.stands c.in-AtEnd.ensures.takes c.pieces.room c.pieces.invariant.room
 
 pub returns-in-AtEnd-clause-broken : goal.returns-in-AtEnd-clause-broken
 returns-in-AtEnd-clause-broken g c = λ is. absurd (not_read c.end_stream.result c.of_stream.result c.of_stream.ensures is)
@@ -100,4 +103,19 @@ returns-in-AtEnd-clause-writes g c =
     }
 
 pub returns-in-Failed-clause-output : goal.returns-in-Failed-clause-output
-returns-in-Failed-clause-output g c = output_broken _ _ _ _ _ _ _ _ c.pieces.invariant.stands c.in-Failed.ensures.takes.1
+returns-in-Failed-clause-output g c =
+    answers_broken _ _ _ (λ whole. told_of c.args.asked whole true) (output_broken _ _ _ _ _ _ _ _ c.pieces.invariant.stands c.in-Failed.ensures.takes.1)
+
+pub returns-in-Failed-clause-cost : goal.returns-in-Failed-clause-cost
+returns-in-Failed-clause-cost g c =
+    counts_broken _ _ _ (λ whole. told_of c.args.asked whole true) (output_broken _ _ _ _ _ _ _ _ c.pieces.invariant.stands c.in-Failed.ensures.takes.1)
+
+pub returns-in-Ends-clause-cost : goal.returns-in-Ends-clause-cost
+returns-in-Ends-clause-cost g c =
+    counted_by _ c.in-Ends.ended _ _ (λ whole. told_of c.args.asked whole true)
+    (output_ends _ _ _ _ _ _ _ _ _ c.in-Ends.ended c.pieces.invariant.stands c.in-Ends.ensures.takes)
+
+pub returns-in-AtEnd-clause-cost : goal.returns-in-AtEnd-clause-cost
+returns-in-AtEnd-clause-cost g c =
+    counted_by _ c.end_stream.result _ _ (λ whole. told_of c.args.asked whole true)
+    (output_last _ _ _ _ _ _ _ _ _ _ _ _ c.pieces.invariant.stands c.in-AtEnd.ensures.takes c.end_stream.result c.end_stream.ensures.answers)

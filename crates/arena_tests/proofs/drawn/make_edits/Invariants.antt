@@ -1,5 +1,0 @@
-use Rattle.tree_changes.specs.Stands.{StandsFor}
-use Rattle.arena_tests.proofs.drawn.make_edits.Given as goal
-
-abbrev pub invariant-loop-number : goal.invariant-loop-number
-invariant-loop-number g l = StandsFor l.names l.doc l.tree
