@@ -15,9 +15,10 @@ use Rattle.schema_check.specs.inside.Typed.{IsTyped}
 
 module _ (old new : Tables) (same : AreRanked old new) where
   types-made : (types : SimpleTypes) → IsLeast (IsBroken old) None → IsRanked new → AreContentsSet new → IsBuilt new (Ok types) → IsTyped old new (Ok types)
-  types-made types least ranked contents built =
-      ((least, ((new, same, types, built.0, built.1), tt)),
-       record { same = same; ranked = ranked; contents = contents; judged = built.0; whole = built.2 })
+  types-made types least ranked contents built = (
+    (least, ((new, same, types, built.0, built.1), tt)),
+    record { same = same; ranked = ranked; contents = contents; judged = built.0; whole = built.2 },
+  )
 
   types-refused : (fault : Fault) → IsLeast (IsBroken old) None → IsBuilt new (Err fault) → IsTyped old new (Err fault)
   types-refused fault least built = inr (least, inl (new, same, built.0, built.1, built.2))

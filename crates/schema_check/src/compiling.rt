@@ -52,10 +52,7 @@ fn compile_set(
 }
 
 // A document as the only one that there is.
-fn available_alone(
-    alloc: Global,
-    shaped: ShapedSchema,
-) -> Result<Listed<Available>, AllocError>
+fn available_alone(alloc: Global, shaped: ShapedSchema) -> Result<Listed<Available>, AllocError>
     ensures { IfOk result (λ available. inside.IsAlone shaped available) }
 {
     let mut available = Listed::new(alloc);

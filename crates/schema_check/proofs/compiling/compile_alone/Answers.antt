@@ -17,4 +17,4 @@ returns c =
     let of = c.in_ok-available.ensures in
     let set = c.in_ok-closed.closed.set.documents in
     alone-compiled c.compile_set.result c.args.shaped of.0 set of.1
-        (subst (λ (l : List Available). IsEffectiveSet l set) (c.as_slice.ensures ∙ of.2) c.in_ok-closed.ensures.set) c.compile_set.ensures
+    (subst (λ (l : List Available). IsEffectiveSet l set) (c.as_slice.ensures ∙ of.2) c.in_ok-closed.ensures.set) c.compile_set.ensures

@@ -20,11 +20,11 @@ returns-in-Ok c =
     let t = c.build.new.names in
     let set = c.args.set.now.documents in
     set-compiled c.compile_parts.result set t c.in-Ok.parts (first-names set c.in_ok-names.names t c.in_ok-names.ensures.table c.in_ok-built.ensures.table)
-        (subst (λ (a : Result Tables Fault). IsBuilt t set a) c.in-Ok.is c.in_ok-built.ensures.built) c.compile_parts.ensures
+    (subst (λ (a : Result Tables Fault). IsBuilt t set a) c.in-Ok.is c.in_ok-built.ensures.built) c.compile_parts.ensures
 
 pub returns-in-Err : goal.returns-in-Err
 returns-in-Err c =
     let t = c.build.new.names in
     let set = c.args.set.now.documents in
     set-unnamed set t c.in-Err.fault (first-names set c.in_ok-names.names t c.in_ok-names.ensures.table c.in_ok-built.ensures.table)
-        (subst (λ (a : Result Tables Fault). IsBuilt t set a) c.in-Err.is c.in_ok-built.ensures.built)
+    (subst (λ (a : Result Tables Fault). IsBuilt t set a) c.in-Err.is c.in_ok-built.ensures.built)
