@@ -41,7 +41,7 @@ module _ (documents : List SchemaInput) where
         ((λ f p. (set, of, p)), ((λ f p. (set, of, p)), ((λ f p. (set, of, p)), tt))) h)
 
     compiled : (made : CompiledSet) → IsAloneCompiled shaped (Ok made) → IsCompilation documents (Ok made)
-    compiled made h = let of = in-set h.0 h.2 h.1 h.3 in (all-phases h.2 of None h.4.0, h.2, of, h.4.1)
+    compiled made h = let of = in-set h.0 h.2 h.1 h.3 in (all-phases h.2 of None h.4.0, h.2, of, h.4)
 
     refused : (fault : Fault) → IsAloneCompiled shaped (Err fault) → IsCompilation documents (Err (Broken fault))
     refused fault h = let of = in-set h.0 h.2 h.1 h.3 in all-phases h.2 of (Some fault) h.4

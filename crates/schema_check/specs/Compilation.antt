@@ -13,7 +13,7 @@ use Rattle.schema_check.specs.declared.documents.Refusal.{Refusal}
 use Rattle.schema_check.specs.declared.documents.Refusal.TheVariants.{Broken, Composed}
 use Rattle.schema_check.specs.declared.documents.SchemaInput.{SchemaInput}
 use Rattle.schema_check.specs.Phases.{IsFirstOfPhases}
-use Rattle.schema_check.specs.SetPhases.{name_phase, by_components, base_phase, type_phase, IsCompiled}
+use Rattle.schema_check.specs.SetPhases.{name_phase, by_components, base_phase, type_phase, IsSetCompiled}
 
 -- an element of a document includes, imports or redefines another document (Structures 4.2)
 abbrev pub composes : List Shape → Bool
@@ -51,6 +51,6 @@ module _ (documents : List SchemaInput) where
   -- The compiled set where no phase has a fault, else the first fault of the first phase that has one. A first document that
   -- leads to others is not compiled yet: where its shape is right nothing further is said.
   abbrev pub IsCompilation : Result CompiledSet Refusal → Type 0
-  IsCompilation (Ok made) = IsFirstOfPhases phases None × (set : List SetDocument) × IsSet set × IsCompiled set made
+  IsCompilation (Ok made) = IsFirstOfPhases phases None × (set : List SetDocument) × IsSet set × IsSetCompiled set (Ok made)
   IsCompilation (Err (Broken fault)) = IsFirstOfPhases phases (Some fault)
   IsCompilation (Err Composed) = (first : ShapedSchema) × IsShaped (Ok first) × (composes first.shapes ≡ true)
