@@ -18,7 +18,7 @@ use Rattle.representations.specs.declared.parts.Represented.{Represented}
 use Rattle.representations.specs.declared.parts.Representation.{Representation}
 use Rattle.representations.specs.declared.source.SymbolSpaces.{SymbolSpaces}
 use Rattle.representations.specs.Names.{spaces_of}
-use Rattle.reference_faults.specs.declared.imports.Origin.{Origin}
+use Rattle.representations.specs.declared.origins.Origin.{Origin}
 use Rattle.reference_faults.specs.declared.lookup.Kinds.{Kinds}
 use Rattle.reference_faults.specs.Attributes.{attribute_name, is_xmlns, is_xsi}
 use Rattle.reference_faults.specs.Doubles.{is_double}

@@ -1,3 +1,4 @@
 pub mod LimitLaws
 pub mod CodeLaws
 pub mod OriginLaws
+pub mod NamedLaws

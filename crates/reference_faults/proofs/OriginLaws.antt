@@ -2,7 +2,7 @@
 use Rattle.std.proofs.Common.{◌≡◌, ℕ, ◌<◌, ◌≤◌, true, false, List, [], ◌∷◌, None, Some, drop, slice_get, refl, arith}
 use Rattle.std.specs.Prelude.{nat_lt}
 use Rattle.std.proofs.lemmas.Bool.Decides.{nat_tests}
-use Rattle.reference_faults.specs.declared.imports.Origin.{Origin}
+use Rattle.representations.specs.declared.origins.Origin.{Origin}
 use Rattle.reference_faults.specs.Imports.{origin_at}
 
 is-not-below : (p end : ℕ) → end ≤ p → nat_lt p end ≡ false

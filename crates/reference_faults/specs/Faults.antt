@@ -1,5 +1,5 @@
 -- The faults of names and references of a schema set.
-use Rattle.std.specs.Prelude.{◌≡◌, ◌⊎◌, ℕ, Bool, not, List, [], ◌∷◌, Option, Some, All, Contains, IfSome, slice_get, if◌then◌else◌}
+use Rattle.std.specs.Prelude.{◌≡◌, ◌⊎◌, ℕ, Bool, not, List, [], ◌∷◌, Option, Some, Contains, slice_get, if◌then◌else◌}
 use Rattle.std.specs.List.{list_all}
 use Rattle.xs_codes.specs.declared.code.Code.{Code}
 use Rattle.xs_codes.specs.declared.code.Code.TheVariants.{SchPropsCorrect2, XLimitComponents, NoXmlns, NoXsi, SrcResolve, SrcResolve4}
@@ -10,13 +10,13 @@ use Rattle.representations.specs.declared.parts.Represented.{Represented}
 use Rattle.representations.specs.declared.parts.Representation.{Representation}
 use Rattle.representations.specs.declared.source.SymbolSpaces.{SymbolSpaces}
 use Rattle.representations.specs.Names.{spaces_of}
-use Rattle.reference_faults.specs.declared.imports.Origin.{Origin}
+use Rattle.representations.specs.declared.origins.Origin.{Origin}
 use Rattle.reference_faults.specs.declared.lookup.Kinds.{Kinds}
 use Rattle.reference_faults.specs.Attributes.{attribute_name, is_xmlns, is_xsi}
 use Rattle.reference_faults.specs.Doubles.{is_double}
-use Rattle.reference_faults.specs.Imports.{origin_at, are_imported, IsInTable}
+use Rattle.reference_faults.specs.Imports.{origin_at, are_imported}
 use Rattle.reference_faults.specs.Limit.{component_places, IsPastLimit}
-use Rattle.reference_faults.specs.References.{references, name_of}
+use Rattle.reference_faults.specs.References.{references}
 use Rattle.reference_faults.specs.Resolution.{kinds_of, resolves}
 
 -- the phase of compiling that looks at names
@@ -59,11 +59,3 @@ IsLimitFault reps fault = (at : Place) × IsPastLimit (component_places reps) at
 
 abbrev pub IsBroken : NameTable → List Origin → List Representation → Fault → Type 0
 IsBroken t origins reps fault = IsElementFault t origins reps fault ⊎ IsLimitFault reps fault
-
--- the names that are referred to, and that of an attribute, are in the table
-pub record IsNamed (t : NameTable) (form : Represented) : Type 0 where
-  pub references : All (λ r. IfSome (name_of r) (IsInTable t)) (references form)
-  pub attribute : IfSome (attribute_name form) (IsInTable t)
-
-abbrev pub AreNamed : NameTable → List Representation → Type 0
-AreNamed t reps = All (λ rep. IsNamed t rep.form) reps

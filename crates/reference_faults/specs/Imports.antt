@@ -3,7 +3,7 @@ use Rattle.std.specs.Prelude.{◌≡◌, ℕ, ◌<◌, Bool, true, ◌||◌, ◌
 use Rattle.std.specs.List.{list_any, list_all}
 use Rattle.schema_grammar.specs.Names.{schema_namespace}
 use Rattle.xs_names.specs.Names.{NameTable, space_of}
-use Rattle.reference_faults.specs.declared.imports.Origin.{Origin}
+use Rattle.representations.specs.declared.origins.Origin.{Origin}
 use Rattle.reference_faults.specs.declared.reference.Reference.{Reference}
 use Rattle.reference_faults.specs.References.{name_of}
 

@@ -1,18 +1,20 @@
 ghost use Rattle.std.specs.Prelude.{◌≡◌, ◌<◌, IfOk, length, slice_get};
 ghost use Rattle.std.specs.Option.{option_map};
+ghost use Rattle.representations.specs.Named.{AreNamed};
 ghost use Rattle.representations.specs.Names.{spaces_of};
 ghost use Rattle.xs_codes.specs.declared.code.Code.TheVariants.{XLimitComponents};
 ghost use Rattle.xs_faults.specs.Least.{IsLeast};
 ghost use Rattle.reference_faults.specs.Faults as spec;
 ghost use Rattle.reference_faults.specs.Resolution.{kinds_of};
+ghost use Rattle.reference_faults.specs.inside.Named.{IsNamed};
 
 use crate::attributes::{is_xmlns, is_xsi};
 use crate::doubles::is_double;
-use crate::imports::{Origin, are_imported, skip_to};
+use crate::imports::{are_imported, skip_to};
 use crate::limit::past_limit;
 use crate::lookup::{Lookup, kinds_of};
 use crate::reference::references;
-use representations::{Representation, Represented, Source};
+use representations::{Origin, Representation, Represented, Source};
 use std::alloc::{AllocError, Global};
 use xs_codes::{Code, Fault};
 use xs_components::Place;
@@ -42,7 +44,7 @@ fn reference_code(
     origins: &[Origin],
     form: &Represented,
 ) -> Result<Option<Code>, AllocError>
-    requires named { spec.IsNamed names.now form.now }
+    requires named { IsNamed names.now form.now }
     ensures first { IfOk result (λ code. code ≡ slice_get (spec.reference_codes names.now lookup.now.spaces.now lookup.now.kinds.now (slice_get origins.now 0) form.now) 0) }
 {
     let refs = references(alloc, form)?;
@@ -64,7 +66,7 @@ fn first_code(
     place: usize,
     form: &Represented,
 ) -> Result<Option<Code>, AllocError>
-    requires named { spec.IsNamed names.now form.now }
+    requires named { IsNamed names.now form.now }
     ensures first { IfOk result (λ code. code ≡ slice_get (spec.codes_of names.now lookup.now.spaces.now lookup.now.kinds.now (slice_get origins.now 0) place form.now) 0) }
 {
     if is_double(lookup.spaces, place) {
@@ -109,7 +111,7 @@ fn first_of(
 ) -> Result<Option<Fault>, AllocError>
     requires spaces { lookup.now.spaces.now ≡ spaces_of reps.now }
     requires kinds { lookup.now.kinds.now ≡ kinds_of reps.now }
-    requires named { spec.AreNamed names.now reps.now }
+    requires named { AreNamed names.now reps.now }
     ensures least { IfOk result (IsLeast (spec.IsElementFault names.now origins.now reps.now)) }
 {
     let mut best = None;
@@ -136,7 +138,7 @@ pub fn first_fault(
     origins: &[Origin],
 ) -> Result<Option<Fault>, AllocError>
     requires spaces { source.now.spaces.now ≡ spaces_of source.now.reps.now }
-    requires named { spec.AreNamed names.now source.now.reps.now }
+    requires named { AreNamed names.now source.now.reps.now }
     ensures least { IfOk result (IsLeast (spec.IsBroken names.now origins.now source.now.reps.now)) }
 {
     let kinds = kinds_of(alloc, source.reps)?;

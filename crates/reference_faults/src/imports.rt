@@ -4,20 +4,9 @@ ghost use Rattle.reference_faults.specs.References.{name_of};
 ghost use Rattle.reference_faults.specs.Imports as spec;
 
 use crate::reference::Reference;
+use representations::Origin;
 use schema_grammar::SCHEMA_NAMESPACE;
-use xs_lists::Listed;
 use xs_names::{NameId, Names, NsId};
-
-/// A document of a set with the target namespace that it has there, and which representations are of it: those behind the ones
-/// of the document before, up to `end`.
-#[derive(Debug, Drop)]
-pub struct Origin {
-    pub target: NsId,
-    /// The namespaces of its imports, the absent one for an import without a namespace.
-    pub imports: Listed<NsId>,
-    /// The number of representations up to the end of the document.
-    pub end: u32,
-}
 
 /// The origins without those that end at or before a place.
 pub(crate) fn skip_to(origins: &[Origin], place: usize) -> &[Origin]
@@ -53,40 +42,38 @@ pub(crate) fn has_name(names: &Names, space: NsId, name: &str) -> bool
     }
 }
 
-impl Origin {
-    // Whether the document may refer to components of a namespace.
-    fn may_refer(&self, names: &Names, space: NsId) -> bool
-        requires there { space < length names.now.spaces }
-        ensures { result ≡ spec.may_refer names.now self.now space }
-    {
-        space == self.target
-            || has_space(self.imports.as_slice(), space)
-            || has_name(names, space, SCHEMA_NAMESPACE)
-    }
+// Whether a document may refer to components of a namespace.
+fn may_refer(names: &Names, origin: &Origin, space: NsId) -> bool
+    requires there { space < length names.now.spaces }
+    ensures { result ≡ spec.may_refer names.now origin.now space }
+{
+    space == origin.target
+        || has_space(origin.imports.as_slice(), space)
+        || has_name(names, space, SCHEMA_NAMESPACE)
+}
 
-    // Whether the document may refer to the namespace of a reference.
-    fn is_imported(&self, names: &Names, reference: Reference) -> bool
-        requires named { IfSome (name_of reference) (spec.IsInTable names.now) }
-        ensures { result ≡ spec.is_imported names.now self.now reference }
-    {
-        match reference.name() {
-            None => true,
-            Some(name) => self.may_refer(names, names.ns(name)),
+// Whether a document may refer to the namespace of a reference.
+fn is_imported(names: &Names, origin: &Origin, reference: Reference) -> bool
+    requires named { IfSome (name_of reference) (spec.IsInTable names.now) }
+    ensures { result ≡ spec.is_imported names.now origin.now reference }
+{
+    match reference.name() {
+        None => true,
+        Some(name) => may_refer(names, origin, names.ns(name)),
+    }
+}
+
+// Whether a document may refer to the namespaces of all references.
+fn imports_all(names: &Names, origin: &Origin, refs: &[Reference]) -> bool
+    requires named { All (λ r. IfSome (name_of r) (spec.IsInTable names.now)) refs.now }
+    ensures { result ≡ list_all (spec.is_imported names.now origin.now) refs.now }
+{
+    for reference in refs {
+        if !is_imported(names, origin, *reference) {
+            return false;
         }
     }
-
-    // Whether the document may refer to the namespaces of all references.
-    fn imports_all(&self, names: &Names, refs: &[Reference]) -> bool
-        requires named { All (λ r. IfSome (name_of r) (spec.IsInTable names.now)) refs.now }
-        ensures { result ≡ list_all (spec.is_imported names.now self.now) refs.now }
-    {
-        for reference in refs {
-            if !self.is_imported(names, *reference) {
-                return false;
-            }
-        }
-        true
-    }
+    true
 }
 
 /// Whether the first document, if there is one, may refer to the namespaces of all references.
@@ -96,6 +83,6 @@ pub(crate) fn are_imported(names: &Names, origins: &[Origin], refs: &[Reference]
 {
     match origins.first() {
         None => true,
-        Some(origin) => origin.imports_all(names, refs),
+        Some(origin) => imports_all(names, origin, refs),
     }
 }

@@ -10,5 +10,4 @@ mod lookup;
 mod reference;
 
 pub use faults::first_fault;
-pub use imports::Origin;
 pub use limit::MAX_COMPONENTS;

@@ -6,7 +6,7 @@ use Rattle.xs_names.specs.Names.{NameTable}
 use Rattle.xs_faults.specs.Least.{IsLeast}
 use Rattle.representations.specs.declared.parts.Representation.{Representation}
 use Rattle.representations.specs.Names.{spaces_of}
-use Rattle.reference_faults.specs.declared.imports.Origin.{Origin}
+use Rattle.representations.specs.declared.origins.Origin.{Origin}
 use Rattle.reference_faults.specs.Attributes.{attribute_name, is_xmlns, is_xsi}
 use Rattle.reference_faults.specs.Doubles.{is_double}
 use Rattle.reference_faults.specs.Faults.{IsBroken, name_fault, code_if, codes_of, is_lost}

@@ -6,7 +6,7 @@ ghost use Rattle.type_derives.specs.Within.{AreSimple};
 ghost use Rattle.representations.specs.declared.parts.Representation.{Representation};
 ghost use Rattle.representations.specs.declared.source.Source.{Source};
 ghost use Rattle.representations.specs.Names.{spaces_of};
-ghost use Rattle.reference_faults.specs.declared.imports.Origin.{Origin};
+ghost use Rattle.representations.specs.declared.origins.Origin.{Origin};
 ghost use Rattle.reference_faults.specs.Faults.{IsBroken};
 ghost use Rattle.build_components.specs.Built.{built};
 ghost use Rattle.resolved_components.specs.Resolved.{AreResolved};

@@ -54,6 +54,10 @@ module _ {X : Type 0} (test : X → Bool) where
           let at : i + 1 + later.0 ≡ i + suc later.0 = omega arith in
           (suc later.0, ap (λ (b : Bool). cond b (Some i) (position_from test (i + 1) xs)) e ∙ later.1 ∙ ap (λ (n : ℕ). Some n) at, later.2)
 
+-- the places of children that a look-up finds
+abbrev pub places : (ℕ → Option ℕ) → List Kid → List ℕ
+places look list = filter_map look (map number_of list)
+
 module _ (t : NameTable) (naming : Naming) (defaults : Defaults) (reps : List Representation) where
   -- these shapes are represented from a place on
   abbrev pub AreLaid : ℕ → List Shape → Type 0
@@ -89,9 +93,6 @@ module _ (t : NameTable) (naming : Naming) (defaults : Defaults) (reps : List Re
     abbrev pub IsPlaced : Kid → Type 0
     IsPlaced kid = HasPlace (look kid.0) (kind_below parent kid.1)
 
-    abbrev pub places : List Kid → List ℕ
-    places list = filter_map look (map number_of list)
-
     one-plain : (found : Option ℕ) (tag : Tag) (rest : List ℕ) → HasPlace found (kind_below parent tag) → is_complex_tag tag ≡ false → list_any (is_kind_at is_complex_type reps) rest ≡ false
         → list_any (is_kind_at is_complex_type reps) (cons_option found rest) ≡ false
     one-plain None tag rest has plain others = others
@@ -101,10 +102,10 @@ module _ (t : NameTable) (naming : Naming) (defaults : Defaults) (reps : List Re
         ap (λ (b : Bool). b || list_any (is_kind_at is_complex_type reps) rest) own ∙ others
 
     -- of children that are no complex types no member is
-    pub members-plain : (list : List Kid) → All IsPlaced list → All IsPlainKid list → list_any (is_kind_at is_complex_type reps) (places list) ≡ false
+    pub members-plain : (list : List Kid) → All IsPlaced list → All IsPlainKid list → list_any (is_kind_at is_complex_type reps) (places look list) ≡ false
     members-plain [] placed plain = refl
     members-plain (kid ∷ list) placed plain =
-        one-plain (look kid.0) kid.1 (places list) (All-head IsPlaced kid list placed) (All-head IsPlainKid kid list plain)
+        one-plain (look kid.0) kid.1 (places look list) (All-head IsPlaced kid list placed) (All-head IsPlainKid kid list plain)
         (members-plain list (All-tail IsPlaced kid list placed) (All-tail IsPlainKid kid list plain))
 
     first-of : (is_kind : Represented → Bool) (found : Option ℕ) (tag : Tag) (rest : List ℕ) → HasPlace found (kind_below parent tag) → Becomes t naming defaults parent is_kind tag
@@ -114,8 +115,8 @@ module _ (t : NameTable) (naming : Naming) (defaults : Defaults) (reps : List Re
 
     -- the first member is what the first child is
     pub members-first : (is_kind : Represented → Bool) (kid : Kid) (list : List Kid) → All IsPlaced (kid ∷ list) → Becomes t naming defaults parent is_kind kid.1
-        → is_kind_in is_kind (first_member reps (places (kid ∷ list))) ≡ true
-    members-first is_kind kid list placed is = first-of is_kind (look kid.0) kid.1 (places list) (All-head IsPlaced kid list placed) is
+        → is_kind_in is_kind (first_member reps (places look (kid ∷ list))) ≡ true
+    members-first is_kind kid list placed is = first-of is_kind (look kid.0) kid.1 (places look list) (All-head IsPlaced kid list placed) is
 
     type-of : (found : Option ℕ) (tag : Tag) (rest : List ℕ) → HasPlace found (kind_below parent tag) → Becomes t naming defaults parent is_type tag → list_any (is_type_at reps) (cons_option found rest) ≡ true
     type-of None tag rest has is = absurd (true≢false (sym is.0 ∙ has))
@@ -133,10 +134,10 @@ module _ (t : NameTable) (naming : Naming) (defaults : Defaults) (reps : List Re
 
     -- a type among the children is one among the members
     pub members-type : ((tag : Tag) → is_in c.SimpleType tag ≡ true → Becomes t naming defaults parent is_type tag) → (list : List Kid) → All IsPlaced list → list_any is_simple_kid list ≡ true
-        → list_any (is_type_at reps) (places list) ≡ true
+        → list_any (is_type_at reps) (places look list) ≡ true
     members-type typed [] placed is = absurd (true≢false (sym is))
     members-type typed (kid ∷ list) placed is = by (is_simple_kid kid) refl (members-type typed list (All-tail IsPlaced kid list placed))
       where
-        by : (b : Bool) → is_simple_kid kid ≡ b → (list_any is_simple_kid list ≡ true → list_any (is_type_at reps) (places list) ≡ true) → list_any (is_type_at reps) (places (kid ∷ list)) ≡ true
-        by true e rest = type-of (look kid.0) kid.1 (places list) (All-head IsPlaced kid list placed) (typed kid.1 e)
-        by false e rest = or-later (look kid.0) (places list) (rest (sym (ap (λ (b : Bool). b || list_any is_simple_kid list) e) ∙ is))
+        by : (b : Bool) → is_simple_kid kid ≡ b → (list_any is_simple_kid list ≡ true → list_any (is_type_at reps) (places look list) ≡ true) → list_any (is_type_at reps) (places look (kid ∷ list)) ≡ true
+        by true e rest = type-of (look kid.0) kid.1 (places look list) (All-head IsPlaced kid list placed) (typed kid.1 e)
+        by false e rest = or-later (look kid.0) (places look list) (rest (sym (ap (λ (b : Bool). b || list_any is_simple_kid list) e) ∙ is))

@@ -64,7 +64,7 @@ module _ (t : NameTable) (naming : Naming) (defaults : Defaults) (reps : List Re
 
   -- the members of the element
   abbrev list : List ℕ
-  list = places t naming defaults reps look k.Schema (kids children)
+  list = places look (kids children)
 
   abbrev ArePlaced : Kind → Type 0
   ArePlaced kind = All (IsPlaced t naming defaults reps look kind) (kids children)
@@ -79,7 +79,7 @@ module _ (t : NameTable) (naming : Naming) (defaults : Defaults) (reps : List Re
       let kid = uncons (kids children) first.0 first.1 (sym (names-are children) ∙ first.2) in
       let tag : is_in class kid.0.1 ≡ true = ap (λ (x : Tag). is_in class x) kid.3 ∙ first.3 in
       let all : All (IsPlaced t naming defaults reps look kind) (kid.0 ∷ kid.1) = subst (All (IsPlaced t naming defaults reps look kind)) kid.2 placed in
-      ap (λ (some : List Kid). is_kind_in is_kind (first_member reps (places t naming defaults reps look kind some))) kid.2
+      ap (λ (some : List Kid). is_kind_in is_kind (first_member reps (places look some))) kid.2
       ∙ members-first t naming defaults reps look kind is_kind kid.0 kid.1 all (becomes kid.0.1 tag)
 
   made : (kind : Kind) → Right kind → ArePlaced kind → is_simple_type (form kind) ≡ true → is_kind_in is_variety (first_member reps list) ≡ true

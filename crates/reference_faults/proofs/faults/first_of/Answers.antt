@@ -2,7 +2,14 @@ use Rattle.std.proofs.Common.{◌≡◌, length, slice_get, Some, refl, ◌∙�
 use Rattle.std.proofs.lemmas.Option.{slice_get_read}
 use Rattle.reference_faults.specs.Imports.{origin_at}
 use Rattle.reference_faults.proofs.CodeLaws.{none-below, one-more-by, all-faults}
+use Rattle.reference_faults.proofs.NamedLaws.{named-at}
 use Rattle.reference_faults.proofs.faults.first_of.Goals as goal
+
+pub first_code-requires : goal.first_code-requires
+first_code-requires c = record {
+  named = named-at c.args.names.now c.args.reps.now c.loop-place.place c.index-reps-place.result
+      (slice_get_read c.args.reps.now (length c.args.reps.now) c.loop-place.place c.index-reps-place.result refl c.loop-place-test.true c.index-reps-place.is) c.requires.named;
+}
 
 pub loop-place-init : goal.loop-place-init
 loop-place-init c = record { rest = λ p h. refl; least = none-below c.args.names.now c.args.origins.now c.args.reps.now }

@@ -1,0 +1,74 @@
+-- What is not assessed yet, by the forms of a document's elements.
+use Rattle.std.specs.Prelude.{ℕ, Bool, true, false, ◌||◌, ◌&&◌, List, [], ◌∷◌, Option, None, Some, is_some, bytes_eq, codes}
+use Rattle.std.specs.List.{list_any}
+use Rattle.tree_rows.specs.declared.name.Expanded.{Expanded}
+use Rattle.schema_grammar.specs.Names.{schema_namespace}
+use Rattle.schema_shape.specs.declared.forms.ComplexTypeForm.{ComplexTypeForm}
+use Rattle.schema_shape.specs.declared.forms.Compositor.{Compositor}
+use Rattle.schema_shape.specs.declared.forms.Compositor.TheVariants as compositors
+use Rattle.schema_shape.specs.declared.forms.ElementForm.{ElementForm}
+use Rattle.schema_shape.specs.declared.forms.Form.{Form}
+use Rattle.schema_shape.specs.declared.forms.Form.TheVariants as forms
+use Rattle.schema_shape.specs.declared.forms.SchemaForm.{SchemaForm}
+use Rattle.schema_shape.specs.declared.forms.Shape.{Shape}
+
+-- the built-in types of ids and references to ids (Datatypes 3.3.8 to 3.3.10)
+abbrev pub id_types : List (List ℕ)
+id_types = codes "ID" ∷ codes "IDREF" ∷ codes "IDREFS" ∷ []
+
+abbrev pub is_schema_space : Option (List ℕ) → Bool
+is_schema_space None = false
+is_schema_space (Some space) = bytes_eq space schema_namespace
+
+-- a name of one of these types
+abbrev pub is_id_type : Expanded → Bool
+is_id_type name = is_schema_space name.namespace && list_any (λ id. bytes_eq name.local id) id_types
+
+abbrev pub names_id_type : Option Expanded → Bool
+names_id_type None = false
+names_id_type (Some name) = is_id_type name
+
+-- the attributes finalDefault and blockDefault
+abbrev pub is_unassessed_schema : SchemaForm → Bool
+is_unassessed_schema form = is_some form.finals || is_some form.blocks
+
+-- the attributes substitutionGroup, default, fixed, nillable, abstract, final and block, and a reference to a type of ids
+abbrev pub is_unassessed_element : ElementForm → Bool
+is_unassessed_element form =
+    is_some form.head || is_some form.value || is_some form.nillable || is_some form.is_abstract || is_some form.finals || is_some form.blocks
+    || names_id_type form.of
+
+-- the attributes abstract, final, block and mixed
+abbrev pub is_unassessed_type : ComplexTypeForm → Bool
+is_unassessed_type form = is_some form.is_abstract || is_some form.finals || is_some form.blocks || is_some form.mixed
+
+abbrev pub is_all : Compositor → Bool
+is_all compositors.All = true
+is_all _ = false
+
+-- What is not assessed yet: attributes in one of these lists, references to types of ids, and the elements include, import,
+-- redefine, attribute, attributeGroup, anyAttribute, simpleContent, complexContent, all, any, unique, key and keyref.
+abbrev pub is_unassessed_form : Form → Bool
+is_unassessed_form (forms.Schema form) = is_unassessed_schema form
+is_unassessed_form (forms.Include location) = true
+is_unassessed_form (forms.Import namespace location) = true
+is_unassessed_form (forms.Redefine location) = true
+is_unassessed_form (forms.Element form) = is_unassessed_element form
+is_unassessed_form (forms.Attribute form) = true
+is_unassessed_form (forms.ComplexType form) = is_unassessed_type form
+is_unassessed_form (forms.AttributeGroup name) = true
+is_unassessed_form (forms.AttributeGroupReference to) = true
+is_unassessed_form (forms.AnyAttribute wildcard) = true
+is_unassessed_form forms.SimpleContent = true
+is_unassessed_form (forms.ComplexContent mixed) = true
+is_unassessed_form (forms.ModelGroup compositor occurs) = is_all compositor
+is_unassessed_form (forms.Any wildcard occurs) = true
+is_unassessed_form (forms.Identity kind name refer) = true
+is_unassessed_form (forms.Restriction base) = names_id_type base
+is_unassessed_form (forms.ItemType of) = names_id_type of
+is_unassessed_form (forms.Union members) = list_any is_id_type members
+is_unassessed_form _ = false
+
+-- some element of the document is not assessed yet
+abbrev pub is_unassessed : List Shape → Bool
+is_unassessed shapes = list_any (λ shape. is_unassessed_form shape.form) shapes

@@ -1,0 +1,6 @@
+//! The components of a schema set from its documents (Structures 3.15.1).
+#![tactic(auto)]
+
+mod building;
+
+pub use building::build;

@@ -1,0 +1,4 @@
+pub mod PhaseLaws
+pub mod TypedLaws
+pub mod SetLaws
+pub mod CompilationLaws

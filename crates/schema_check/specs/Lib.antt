@@ -1,0 +1,4 @@
+pub mod Phases
+pub mod SetPhases
+pub mod Compilation
+pub mod inside

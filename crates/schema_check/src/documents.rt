@@ -1,0 +1,33 @@
+use item_listing::Locations;
+use plain_tree::Tree;
+use simple_types::SimpleTypes;
+use xs_codes::Fault;
+use xs_components::Components;
+use xs_names::Names;
+
+/// A schema document as it comes: its tree, and the locations that name it.
+#[derive(Debug, Drop)]
+pub struct SchemaInput {
+    pub tree: Tree,
+    pub locations: Locations,
+}
+
+/// A schema set that breaks no constraint of the phases that there are.
+#[derive(Drop)]
+pub struct CompiledSet {
+    /// The names that stand in its documents.
+    pub names: Names,
+    /// Its components, with ranks by which each reference goes lower, and with the particles of contents.
+    pub parts: Components,
+    /// Its simple types, and the simple contents of its complex types.
+    pub types: SimpleTypes,
+}
+
+/// Why schema documents are not compiled.
+#[derive(Debug, Clone, Copy, PartialEq, Eq)]
+pub enum Refusal {
+    /// The first constraint that is broken.
+    Broken(Fault),
+    /// The first document breaks no constraint on its shape, and includes, imports or redefines others.
+    Composed,
+}
