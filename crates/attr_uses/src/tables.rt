@@ -87,7 +87,16 @@ impl AttrTables {
         requires table { (t : Tables) × (ids : List Bool) × (value : AttrUses) × StandsFor t ids self.now.store table value }
         ensures named { (t : Tables) (ids : List Bool) (value : AttrUses) → StandsFor t ids self.now.store table value → result ≡ spec.use_named t value.uses name }
     {
-        match self.store.maps.get(table.uses, name.number()) {
+        self.use_numbered(table, name.number())
+    }
+
+    /// The first use of the name of this number, as [`AttrTables::next_needed`] answers it.
+    pub fn use_numbered(&self, table: KeptTable, name: u32) -> Option<UseAt>
+        requires store { IsStore self.now.store }
+        requires table { (t : Tables) × (ids : List Bool) × (value : AttrUses) × StandsFor t ids self.now.store table value }
+        ensures named { (t : Tables) (ids : List Bool) (value : AttrUses) → StandsFor t ids self.now.store table value → result ≡ spec.use_named t value.uses name }
+    {
+        match self.store.maps.get(table.uses, name) {
             Some(entry) => Some(entry.first),
             None => None,
         }

@@ -1,18 +1,8 @@
-use Rattle.std.proofs.Common.{◌^◌, ◌<◌, arith, sym, ap, ◌∙◌}
-use Rattle.attr_uses.specs.Tables.{entry_for}
-use Rattle.attr_uses.proofs.ReadLaws.{named-by}
+use Rattle.std.proofs.Common.{ap, ◌∙◌}
+use Rattle.attr_uses.specs.Uses.{use_named}
 use Rattle.attr_uses.proofs.tables.AttrTables.use_named.Goals as goal
 
-pub returns-in-Some : goal.returns-in-Some
-returns-in-Some c = record {
-  named = λ t ids value s.
-      (let small : c.number.result < 2 ^ c.args.self.now.store.maps.depth = rw c.requires.store.deep (omega arith) in
-      named-by t ids value.uses c.args.name _ (sym c.in-Some.is ∙ (c.get.ensures.entry _ s.uses small ∙ ap (entry_for t ids value.uses) c.number.ensures)));
-}
-
-pub returns-in-None : goal.returns-in-None
-returns-in-None c = record {
-  named = λ t ids value s.
-      (let small : c.number.result < 2 ^ c.args.self.now.store.maps.depth = rw c.requires.store.deep (omega arith) in
-      named-by t ids value.uses c.args.name _ (sym c.in-None.is ∙ (c.get.ensures.entry _ s.uses small ∙ ap (entry_for t ids value.uses) c.number.ensures)));
+pub returns : goal.returns
+returns c = record {
+  named = λ t ids value s. c.use_numbered.ensures.named t ids value s ∙ ap (use_named t value.uses) c.number.ensures;
 }

@@ -1,0 +1,4 @@
+pub mod Names
+pub mod Needs
+pub mod Orders
+pub mod Steps

@@ -1,0 +1,81 @@
+-- What an element lacks, name by name.
+use Rattle.std.proofs.Common.{◌≡◌, ℕ, ◌+◌, ◌^◌, ◌<◌, ◌≤◌, Bool, true, false, ◌&&◌, List, [], ◌∷◌, ◌++◌, Option, None, Some, map, refl, sym, ap, ◌∙◌, arith, subst, append-nil, true≢false}
+use Rattle.std.specs.Prelude.{All}
+use Rattle.std.specs.List.Sorted.{IsPermutation, IsSortedBy}
+use Rattle.std.proofs.lemmas.List.{map-append}
+use Rattle.std.proofs.lemmas.List.Elements.{All-nil, All-push}
+use Rattle.std.proofs.lemmas.List.Sorted.{All-permutation, IsPermutation-map}
+use Rattle.xs_names.specs.Names.{NameTable}
+use Rattle.xs_components.specs.Tables.{Tables}
+use Rattle.use_maps.specs.declared.entry.UseAt.{UseAt}
+use Rattle.attr_uses.specs.Tables.{IsNext, IsNextNeeded, NoneNeeded}
+use Rattle.attr_added.specs.Lacking.{is_lacking, is_missing, is_added, AreThose}
+use Rattle.attr_added.specs.Order.{is_before}
+use Rattle.attr_added.specs.Added.{IsAddedUse, AreAddedNames, AreLacking}
+use Rattle.attr_added.specs.inside.Uses.{is_use_before, name_of, AreFound, picked, IsNotedIf, IsNoted, AreLackingBelow, AreLackingUpTo}
+use Rattle.attr_added.specs.declared.added.AddedUse.{AddedUse}
+use Rattle.attr_added.specs.declared.lacking.Lacking.{Lacking}
+use Rattle.attr_added.proofs.Names.{found-none, found-gap, found-step}
+use Rattle.attr_added.proofs.Needs.{none-missing, none-added, useless-missing, useless-added}
+use Rattle.attr_added.proofs.Orders.{those-permutation, names-sorted}
+
+module _ (names : NameTable) (t : Tables) (uses : List UseAt) (given : List ℕ) where
+  -- at the start
+  pub lacking-none : (lacking : Lacking) → lacking.missing ≡ [] → lacking.added.items ≡ [] → AreLackingBelow names t uses given 0 lacking
+  lacking-none lacking m a = record {
+    missing = subst (AreFound (is_missing t uses given) 0) (sym m) (found-none (is_missing t uses given));
+    added = subst (λ xs. AreFound (is_added t uses given) 0 (map name_of xs)) (sym a) (found-none (is_added t uses given));
+    uses_are = subst (All (IsAddedUse names t uses)) (sym a) (All-nil (IsAddedUse names t uses));
+  }
+
+  -- no name from one bound up to another is needed
+  pub lacking-gap : (from to : ℕ) (lacking : Lacking) → from ≤ to → NoneNeeded t uses from to → AreLackingBelow names t uses given from lacking → AreLackingBelow names t uses given to lacking
+  lacking-gap from to lacking up none below = record {
+    missing = found-gap (is_missing t uses given) from to lacking.missing up (none-missing t uses given from to none) below.missing;
+    added = found-gap (is_added t uses given) from to (map name_of lacking.added.items) up (none-added t uses given from to none) below.added;
+    uses_are = below.uses_are;
+  }
+
+  noted-names : (b : Bool) (name : ℕ) (old new : List AddedUse) → IsNotedIf names t uses given b name old new → map name_of new ≡ map name_of old ++ picked b name
+  noted-names false name old new e = ap (map name_of) e ∙ sym (append-nil (map name_of old))
+  noted-names true name old new w =
+      ap (map name_of) w.3 ∙ (map-append name_of old (w.0 ∷ []) ∙ ap (λ n. map name_of old ++ n ∷ []) w.2)
+
+  noted-uses : (b : Bool) (name : ℕ) (old new : List AddedUse) → IsNotedIf names t uses given b name old new → All (IsAddedUse names t uses) old → All (IsAddedUse names t uses) new
+  noted-uses false name old new e all = subst (All (IsAddedUse names t uses)) (sym e) all
+  noted-uses true name old new w all = subst (All (IsAddedUse names t uses)) (sym w.3) (All-push (IsAddedUse names t uses) old w.0 all w.1)
+
+  -- one name more
+  pub lacking-step : (n : ℕ) (old new : Lacking) → AreLackingBelow names t uses given n old →
+    new.missing ≡ old.missing ++ picked (is_missing t uses given n) n → IsNoted names t uses given n old.added.items new.added.items →
+    AreLackingBelow names t uses given (n + 1) new
+  lacking-step n old new below m a = record {
+    missing = subst (AreFound (is_missing t uses given) (n + 1)) (sym m) (found-step (is_missing t uses given) n old.missing below.missing);
+    added = subst (AreFound (is_added t uses given) (n + 1)) (sym (noted-names (is_added t uses given n) n old.added.items new.added.items a)) (found-step (is_added t uses given) n (map name_of old.added.items) below.added);
+    uses_are = noted-uses (is_added t uses given n) n old.added.items new.added.items a below.uses_are;
+  }
+
+  -- a turn: the next name that is needed, and then the one behind it
+  pub lacking-turn : (n : ℕ) (next : Option ℕ) (old new : Lacking) → AreLackingUpTo names t uses given (Some n) old →
+    new.missing ≡ old.missing ++ picked (is_missing t uses given n) n → IsNoted names t uses given n old.added.items new.added.items →
+    IsNext t uses (n + 1) next → AreLackingUpTo names t uses given next new
+  lacking-turn n next old new w m a after =
+      (n + 1, omega (arith, w.2.within), after, lacking-step n old new (lacking-gap w.0 n old w.2.behind w.2.none w.3) m a)
+
+  -- past the last
+  pub lacking-end : (lacking : Lacking) → AreLackingUpTo names t uses given None lacking → AreLackingBelow names t uses given (2 ^ 32) lacking
+  lacking-end lacking w = lacking-gap w.0 (2 ^ 32) lacking w.1 w.2 w.3
+
+  -- and sorted
+  pub lacking-sorted : (lacking sorted : Lacking) → AreLackingBelow names t uses given (2 ^ 32) lacking → sorted.missing ≡ lacking.missing →
+    IsPermutation lacking.added.items sorted.added.items → IsSortedBy is_use_before sorted.added.items → AreLacking names t uses given sorted
+  lacking-sorted lacking sorted below same moved up =
+      let all : All (IsAddedUse names t uses) sorted.added.items = All-permutation (IsAddedUse names t uses) lacking.added.items sorted.added.items moved below.uses_are in
+      record {
+        missing = subst (AreThose (is_missing t uses given) (2 ^ 32)) (sym same) below.missing.those;
+        added = record {
+          those = those-permutation (is_added t uses given) (2 ^ 32) (map name_of lacking.added.items) (map name_of sorted.added.items) (IsPermutation-map name_of lacking.added.items sorted.added.items moved) below.added.those;
+          sorted = names-sorted names t uses sorted.added.items all up;
+        };
+        uses_are = all;
+      }

@@ -1,0 +1,148 @@
+//! The records of an element's attributes.
+
+ghost use Rattle.std.specs.Prelude.{◌≡◌, ◌<◌, ◌∷◌, List, [], Bool, All, length, IfOk, IfSome, OnOk};
+ghost use Rattle.xs_references.specs.Heights.{IsType};
+ghost use Rattle.attr_governing.specs.Schema.{IsAttrSet};
+ghost use Rattle.attr_added.specs.Added.{AreNamed};
+ghost use Rattle.attr_codes.specs.Types.{IsTypeSet};
+ghost use Rattle.attr_assess.specs.Assessed.{AreAttrsAssessed, IsGivenJudged};
+ghost use Rattle.attr_assess.specs.inside.Lists.{Holds, HoldsEach, IsUseJudged};
+
+use assess_records::{AttrRecords, NamedText, ValueSource};
+use attr_added::{AddedUse, lacking_attrs};
+use attr_codes::{AttrItem, JudgedAttr, judge};
+use attr_governing::{AttrGoverning, AttrSchema};
+use simple_types::SimpleTypes;
+use simple_values::Value;
+use std::alloc::{AllocError, Global};
+use xs_components::{Components, NameIdList, TypeId};
+use xs_lists::Listed;
+use xs_names::Scope;
+
+/// The values of an element's attributes, place by place; `None` where the text is not valid, or is not assessed.
+pub type AttrValues = Listed<Option<Value>>;
+
+/// What is found out about an element's attributes.
+#[derive(Debug, Drop)]
+pub struct AssessedAttrs {
+    /// The records: of the attributes that the element has in document order, then of those that are added, by namespaces,
+    /// the absent one first, and then by local names.
+    pub records: AttrRecords,
+    /// The value of each.
+    pub values: AttrValues,
+    /// The names of the required attributes that the element does not have.
+    pub missing: NameIdList,
+}
+
+/// Assesses the attributes of an element by its governing type, which is `None` where the element is skipped (Structures
+/// 3.4.4, 3.4.5). The scope is that of the element.
+///
+/// # Errors
+///
+/// `AllocError` is want of memory.
+pub fn assess_attrs(
+    alloc: Global,
+    schema: &AttrSchema<'_>,
+    types: &mut SimpleTypes,
+    of: Option<TypeId>,
+    attrs: &[NamedText],
+    scope: &Scope,
+) -> Result<AssessedAttrs, AllocError>
+    requires set { (ids : List Bool) × IsAttrSet schema.now.parts.now schema.now.tops.now ids schema.now.tables.now }
+    requires types { IsTypeSet schema.now.parts.now types.old }
+    requires there { IfSome of (IsType schema.now.parts.now) }
+    requires named { AreNamed schema.now.names.now schema.now.parts.now }
+    requires given { All (λ attr. attr.name < length schema.now.names.now.names) attrs.now }
+    ensures assessed { IfOk result (AreAttrsAssessed schema.now.names.now schema.now.parts.now of scope.now attrs.now) }
+    ensures same { types.new ≡ types.old }
+{
+    let mut assessed = AssessedAttrs::new(alloc);
+    assessed.add_given(alloc, schema, types, of, attrs, scope)?;
+    if let Some(of) = of {
+        let lacking = lacking_attrs(alloc, schema, of, attrs)?;
+        assessed.add_uses(alloc, schema.parts, types, lacking.added.as_slice())?;
+        assessed.missing = lacking.missing;
+    }
+    Ok(assessed)
+}
+
+impl AssessedAttrs {
+    fn new(alloc: Global) -> AssessedAttrs
+        ensures records { result.records ≡ [] }
+        ensures values { result.values ≡ [] }
+        ensures missing { result.missing ≡ [] }
+    {
+        AssessedAttrs {
+            records: AttrRecords::new(alloc),
+            values: AttrValues::new(alloc),
+            missing: NameIdList::new(alloc),
+        }
+    }
+
+    // Adds the attributes that the element has.
+    fn add_given(
+        &mut self,
+        alloc: Global,
+        schema: &AttrSchema<'_>,
+        types: &mut SimpleTypes,
+        of: Option<TypeId>,
+        attrs: &[NamedText],
+        scope: &Scope,
+    ) -> Result<(), AllocError>
+        requires set { (ids : List Bool) × IsAttrSet schema.now.parts.now schema.now.tops.now ids schema.now.tables.now }
+        requires types { IsTypeSet schema.now.parts.now types.old }
+        requires there { IfSome of (IsType schema.now.parts.now) }
+        requires given { All (λ attr. attr.name < length schema.now.names.now.names) attrs.now }
+        ensures held { OnOk result (HoldsEach (IsGivenJudged schema.now.names.now schema.now.parts.now of scope.now) attrs.now self.old self.new) }
+        ensures same { types.new ≡ types.old }
+    {
+        for attr in attrs {
+            let item = AttrItem {
+                name: attr.name,
+                source: ValueSource::Given,
+                scope,
+                text: attr.text.as_str(),
+            };
+            let governing = schema.governing(of, attr.name);
+            let judged = judge(alloc, schema.parts, types, item, governing)?;
+            self.push(judged)?;
+        }
+        Ok(())
+    }
+
+    // Adds the attributes of uses, with the texts of their constraints.
+    fn add_uses(
+        &mut self,
+        alloc: Global,
+        parts: &Components,
+        types: &mut SimpleTypes,
+        uses: &[AddedUse<'_>],
+    ) -> Result<(), AllocError>
+        requires types { IsTypeSet parts.now types.old }
+        ensures held { OnOk result (HoldsEach (IsUseJudged parts.now) uses.now self.old self.new) }
+        ensures same { types.new ≡ types.old }
+    {
+        for added in uses {
+            let item = AttrItem {
+                name: added.name,
+                source: ValueSource::Schema,
+                scope: &added.constraint.scope,
+                text: added.constraint.text.as_str(),
+            };
+            let governing = AttrGoverning::Declared {
+                attribute: added.attribute,
+                by: Some(added.at),
+            };
+            let judged = judge(alloc, parts, types, item, governing)?;
+            self.push(judged)?;
+        }
+        Ok(())
+    }
+
+    fn push(&mut self, judged: JudgedAttr) -> Result<(), AllocError>
+        ensures { OnOk result (Holds self.old (judged ∷ []) self.new) }
+    {
+        self.records.push(judged.known)?;
+        self.values.push(judged.value)
+    }
+}

@@ -1,0 +1,97 @@
+//! What the text of an attribute comes to.
+
+ghost use Rattle.std.specs.Prelude.{◌≡◌, IfOk};
+ghost use Rattle.std.specs.Option.{option_copied};
+ghost use Rattle.xs_components.specs.Tables.{Tables};
+ghost use Rattle.xs_references.specs.Ranked.{IsRanked};
+ghost use Rattle.simple_types.specs.SimpleTypes.{AreTypesOf, IsWhole};
+ghost use Rattle.attr_codes.specs.Values as spec;
+
+use simple_types::SimpleTypes;
+use simple_values::{Value, same};
+use std::alloc::{AllocError, Global};
+use xs_codes::Code;
+use xs_components::{TypeId, ValueConstraint};
+use xs_names::Scope;
+
+/// What the text of an attribute comes to.
+#[derive(Debug, Drop)]
+pub enum AttrText {
+    /// It is not valid, for this code.
+    Invalid(Code),
+    /// A value, and whether it meets the constraints on it of the declaration and of the attribute use.
+    Valid {
+        value: Value,
+        by_declaration: bool,
+        by_use: bool,
+    },
+}
+
+/// What a text comes to by a type, and by the constraints of a declaration and of an attribute use (Structures 3.2.4,
+/// 3.5.4). The text of a fixed constraint is read in the scope of its schema element.
+///
+/// # Errors
+///
+/// `AllocError` is want of memory.
+pub fn read_text(
+    alloc: Global,
+    types: &mut SimpleTypes,
+    of: TypeId,
+    declared: Option<&ValueConstraint>,
+    used: Option<&ValueConstraint>,
+    text: &str,
+    scope: &Scope,
+) -> Result<AttrText, AllocError>
+    ensures read { (t : Tables) → IsRanked t → AreTypesOf t types.old → IsWhole types.old of → IfOk result (spec.IsRead t of (option_copied declared.entry) (option_copied used.entry) scope.now text.now) }
+    ensures same { types.new ≡ types.old }
+{
+    match types.validate(alloc, of, text, scope)? {
+        Err(code) => Ok(AttrText::Invalid(code)),
+        Ok(value) => {
+            let by_declaration = is_met(alloc, types, of, declared, &value)?;
+            let by_use = is_met(alloc, types, of, used, &value)?;
+            Ok(AttrText::Valid {
+                value,
+                by_declaration,
+                by_use,
+            })
+        }
+    }
+}
+
+// Whether a value meets a value constraint: it is the fixed one, if there is one.
+fn is_met(
+    alloc: Global,
+    types: &mut SimpleTypes,
+    of: TypeId,
+    constraint: Option<&ValueConstraint>,
+    value: &Value,
+) -> Result<bool, AllocError>
+    ensures met { (t : Tables) → IsRanked t → AreTypesOf t types.old → IsWhole types.old of → IfOk result (spec.IsMet t of (option_copied constraint.entry) value.now) }
+    ensures same { types.new ≡ types.old }
+{
+    match constraint {
+        None => Ok(true),
+        Some(constraint) => is_fixed_met(alloc, types, of, constraint, value),
+    }
+}
+
+fn is_fixed_met(
+    alloc: Global,
+    types: &mut SimpleTypes,
+    of: TypeId,
+    constraint: &ValueConstraint,
+    value: &Value,
+) -> Result<bool, AllocError>
+    ensures met { (t : Tables) → IsRanked t → AreTypesOf t types.old → IsWhole types.old of → IfOk result (spec.IsFixedMet t of constraint.now.fixed constraint.now value.now) }
+    ensures same { types.new ≡ types.old }
+{
+    if !constraint.fixed {
+        return Ok(true);
+    }
+    let text = constraint.text.as_str();
+    match types.validate(alloc, of, text, &constraint.scope)? {
+        Ok(fixed) => Ok(same(value, &fixed)),
+        Err(_) => Ok(false),
+    }
+}
