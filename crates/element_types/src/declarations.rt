@@ -4,7 +4,7 @@ ghost use Rattle.std.specs.Prelude.{◌≡◌, ℕ, ◌<◌, length, slice_get, 
 ghost use Rattle.xs_components.specs.Tables.{Tables};
 ghost use Rattle.xs_references.specs.Ranked.{IsRanked};
 ghost use Rattle.element_types.specs.Found.{AreTypesOf};
-ghost use Rattle.element_types.specs.Types.{own_type, known, has_name, type_of, given_declaration, AreDeclarationsOf};
+ghost use Rattle.element_types.specs.Types.{own_type, known, has_name, type_of, global_of, given_declaration, AreDeclarationsOf};
 
 use crate::globals::{find_globals, global_at};
 use std::alloc::{AllocError, Global};
@@ -48,6 +48,13 @@ impl Declarations {
             Some(of) => *of,
             None => TypeId::AnyType,
         }
+    }
+
+    /// The element declaration at the top of a schema document with this name, if there is one.
+    pub fn global(&self, name: NameId) -> Option<ElementId>
+        ensures global { (parts : Tables) → AreDeclarationsOf parts self.now → result ≡ global_of parts name }
+    {
+        global_at(&self.globals, name)
     }
 
     /// The declaration that the term of an element declaration gives to a name that it accepts (Structures 3.3.6): that

@@ -1,5 +1,5 @@
 -- Where no document leads to others the first is the whole set.
-use Rattle.std.proofs.Common.{◌≡◌, ℕ, ◌+◌, ◌⊎◌, inl, inr, Bool, true, false, true≢false, List, [], ◌∷◌, ◌++◌, Option, None, Some, slice_get, refl, sym, ap, ◌∙◌, subst, arith}
+use Rattle.std.proofs.Common.{◌≡◌, ℕ, ◌+◌, ◌<◌, ◌⊎◌, inl, inr, Bool, true, false, true≢false, List, [], ◌∷◌, ◌++◌, Option, None, Some, slice_get, refl, sym, ap, ◌∙◌, subst, arith}
 use Rattle.std.specs.Prelude.{All, Contains}
 use Rattle.std.proofs.lemmas.Option.{slice_get_within, get_or_from_slice_get}
 use Rattle.std.proofs.lemmas.List.Elements.{All-nil, All-cons, All-contains, All-get_or, Contains-get_or}
@@ -37,12 +37,16 @@ module _ (available : List Available) (alone : AreAlone available) (a : Availabl
   only-first _ _ (imported document n target location b inside says at e) =
       let s = no-shape available alone document (λ form. IsImport form location) says in absurd (not-import s.0 location s.1 s.2)
 
+  only-place : (d e : SetDocument) (m : ℕ) → slice_get (d ∷ []) m ≡ Some e → m ≡ 0
+  only-place d e m at = let within : m < 1 = slice_get_within (d ∷ []) m e at in omega arith
+
   -- the first document, and no other
   pub one-document : (d : SetDocument) → d.number ≡ 1 → d.target ≡ own_target a.shaped.shapes → d.shaped.now ≡ a.shaped → IsEffectiveSet available (d ∷ [])
   one-document d n t s = record {
     there = All-cons (IsDocument available) d [] (0, a, sym n, is, s) (All-nil (IsDocument available));
     only = All-cons (λ (e : SetDocument). InSet available e.number e.target) d [] (rw (n, t) (first a is)) (All-nil (λ (e : SetDocument). InSet available e.number e.target));
     each = λ number target inside. let o = only-first number target inside in (d, Contains-get_or (d ∷ []) 0 d (omega arith), n ∙ sym o.0, t ∙ sym o.1);
+    once = λ j k e f at behind number target. only-place d e j at ∙ sym (only-place d f k behind);
   }
 
   -- the same, put into an empty list

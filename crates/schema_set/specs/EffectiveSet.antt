@@ -53,11 +53,12 @@ pub data InSet (available : List Available) : ℕ → Option (List ℕ) → Type
 abbrev pub IsDocument : List Available → SetDocument → Type 0
 IsDocument available d = (n : ℕ) × (a : Available) × (n + 1 ≡ d.number) × (slice_get available n ≡ Some a) × (d.shaped.now ≡ a.shaped)
 
--- these are the documents of the set, and each of them
+-- these are the documents of the set, each of them, and none twice with one target
 pub record IsEffectiveSet (available : List Available) (documents : List SetDocument) : Type 0 where
   pub there : All (IsDocument available) documents
   pub only : All (λ d. InSet available d.number d.target) documents
   pub each : (number : ℕ) (target : Option (List ℕ)) → InSet available number target → (d : SetDocument) × Contains documents d × (d.number ≡ number) × (d.target ≡ target)
+  pub once : (m n : ℕ) (d e : SetDocument) → slice_get documents m ≡ Some d → slice_get documents n ≡ Some e → d.number ≡ e.number → d.target ≡ e.target → m ≡ n
 
 -- the form of an include, an import or a redefine
 abbrev pub is_composition : Form → Bool
