@@ -1,4 +1,4 @@
-ghost use Rattle.std.specs.Prelude.{◌≡◌, ◌<◌, ◌+◌, ◌^◌, ◌×◌};
+ghost use Rattle.std.specs.Prelude.{◌≡◌, ◌<◌, ◌+◌, ◌^◌};
 ghost use Rattle.assess_records.specs.Counts.{no_children, with_validity, with_attempted, with_child, child_count, attempt_count};
 ghost use Rattle.assess_records.specs.declared.counts.ChildCounts.{ChildCounts};
 

@@ -1,0 +1,5 @@
+pub mod Facts
+pub mod Texts
+pub mod Source
+pub mod Codes
+pub mod Records
