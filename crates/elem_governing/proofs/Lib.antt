@@ -1,0 +1,3 @@
+pub mod SameLaws
+pub mod DerivedLaws
+pub mod DeclaredLaws

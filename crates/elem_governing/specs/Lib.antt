@@ -1,0 +1,4 @@
+pub mod Derived
+pub mod LocalType
+pub mod Governing
+pub mod View

@@ -1,0 +1,23 @@
+-- What governing is read off.
+use Rattle.std.specs.Prelude.{◌≡◌, ℕ, ◌<◌, Some, List, length, slice_get, All, IfSome}
+use Rattle.xs_names.specs.Names.{NameTable}
+use Rattle.xs_components.specs.Tables.{Tables}
+use Rattle.xs_components.specs.declared.element.ElementDecl.{ElementDecl}
+use Rattle.xs_references.specs.Heights.{IsType}
+use Rattle.xs_references.specs.Ranked.{IsRanked}
+use Rattle.element_types.specs.Types.{DeclarationTable, AreDeclarationsOf}
+use Rattle.component_names.specs.Named.{Spaces, spaces_of}
+use Rattle.type_derives.specs.Within.{AreSimple}
+
+-- The components of a schema set, and what was found of them: references go to parts of lower rank, what a simple type is made of is
+-- simple, and the types that element declarations name are there.
+pub record IsView (t : Tables) (d : DeclarationTable) (named : Spaces) : Type 0 where
+  pub ranked : IsRanked t
+  pub simple : AreSimple t
+  pub types : (n : ℕ) (part : ElementDecl) → slice_get t.elements.parts n ≡ Some part → IfSome part.of (IsType t)
+  pub declarations : AreDeclarationsOf t d
+  pub named : named ≡ spaces_of t
+
+-- the namespaces of a scope have names
+abbrev pub AreKnown : NameTable → List (List ℕ × ℕ) → Type 0
+AreKnown names scope = All (λ b. b.1 < length names.spaces) scope
