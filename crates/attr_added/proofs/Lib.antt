@@ -2,3 +2,4 @@ pub mod Names
 pub mod Needs
 pub mod Orders
 pub mod Steps
+pub mod Notes

@@ -1,7 +1,9 @@
 -- What an element lacks, name by name.
 use Rattle.std.proofs.Common.{◌≡◌, ℕ, ◌+◌, ◌^◌, ◌<◌, ◌≤◌, Bool, true, false, ◌&&◌, List, [], ◌∷◌, ◌++◌, Option, None, Some, map, refl, sym, ap, ◌∙◌, arith, subst, append-nil, true≢false}
 use Rattle.std.specs.Prelude.{All}
+use Rattle.std.specs.List.{IsDistinct}
 use Rattle.std.specs.List.Sorted.{IsPermutation, IsSortedBy}
+use Rattle.std.proofs.Math.Bool.{and-false}
 use Rattle.std.proofs.lemmas.List.{map-append}
 use Rattle.std.proofs.lemmas.List.Elements.{All-nil, All-push}
 use Rattle.std.proofs.lemmas.List.Sorted.{All-permutation, IsPermutation-map}
@@ -12,7 +14,7 @@ use Rattle.attr_uses.specs.Tables.{IsNext, IsNextNeeded, NoneNeeded}
 use Rattle.attr_added.specs.Lacking.{is_lacking, is_missing, is_added, AreThose}
 use Rattle.attr_added.specs.Order.{is_before}
 use Rattle.attr_added.specs.Added.{IsAddedUse, AreAddedNames, AreLacking}
-use Rattle.attr_added.specs.inside.Uses.{is_use_before, name_of, AreFound, picked, IsNotedIf, IsNoted, AreLackingBelow, AreLackingUpTo}
+use Rattle.attr_added.specs.inside.Uses.{is_use_before, name_of, AreFound, picked, IsNotedIf, IsNoted, AreLackingBelow, AreLackingUpTo, numbers_left}
 use Rattle.attr_added.specs.declared.added.AddedUse.{AddedUse}
 use Rattle.attr_added.specs.declared.lacking.Lacking.{Lacking}
 use Rattle.attr_added.proofs.Names.{found-none, found-gap, found-step}
@@ -79,3 +81,37 @@ module _ (names : NameTable) (t : Tables) (uses : List UseAt) (given : List ℕ)
         };
         uses_are = all;
       }
+
+-- the next name is a later one
+pub next-smaller : (t : Tables) (uses : List UseAt) (n : ℕ) (next : Option ℕ) → n < 2 ^ 32 → IsNext t uses (n + 1) next → numbers_left next < numbers_left (Some n)
+next-smaller t uses n None h is = omega arith
+next-smaller t uses n (Some m) h is = omega (arith, is.behind, is.within)
+
+-- without uses nothing is missing, and nothing is added
+pub nothing-missing : (t : Tables) (given : List ℕ) → AreThose (is_missing t [] given) (2 ^ 32) []
+unfolding IsDistinct
+nothing-missing t given = record {
+  once = tt;
+  hold = All-nil (λ name. is_missing t [] given name ≡ true);
+  each = λ name h e. absurd (true≢false (sym e ∙ and-false (is_lacking given name)));
+}
+
+pub nothing-added : (names : NameTable) (t : Tables) (given : List ℕ) → AreAddedNames names t [] given []
+unfolding IsDistinct
+nothing-added names t given = record {
+  those = record {
+    once = tt;
+    hold = All-nil (λ name. is_added t [] given name ≡ true);
+    each = λ name h e. absurd (true≢false (sym e ∙ and-false (is_lacking given name)));
+  };
+  sorted = λ k d low high. absurd (omega arith);
+}
+
+pub lacking-useless : (names : NameTable) (t : Tables) (uses : List UseAt) (given : List ℕ) (lacking : Lacking) → uses ≡ [] → lacking.missing ≡ [] → lacking.added.items ≡ [] → AreLacking names t uses given lacking
+lacking-useless names t uses given lacking none m a =
+    subst (λ us. AreLacking names t us given lacking) (sym none)
+    record {
+      missing = subst (AreThose (is_missing t [] given) (2 ^ 32)) (sym m) (nothing-missing t given);
+      added = subst (λ xs. AreAddedNames names t [] given (map name_of xs)) (sym a) (nothing-added names t given);
+      uses_are = subst (All (IsAddedUse names t [])) (sym a) (All-nil (IsAddedUse names t []));
+    }

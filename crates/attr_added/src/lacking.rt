@@ -124,7 +124,10 @@ impl<'a> Lacking<'a> {
             return self.missing.push(name);
         }
         match found.added(schema) {
-            Some(added) => self.added.push(added),
+            Some(added) => {
+                self.added.push(added)?;
+                Ok(())
+            }
             None => Ok(()),
         }
     }

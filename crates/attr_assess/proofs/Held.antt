@@ -44,6 +44,12 @@ module _ {A : Type 0} (Is : A → JudgedAttr → Type 0) (xs : List A) where
   each-more i d old middle new judged within before one after =
       (before.0 ++ judged ∷ [], zip-more Is xs i d before.0 judged within before.1 one, holds-more old middle new before.0 (judged ∷ []) before.2 after)
 
+  -- one more, which is the item of a place
+  pub each-next : (i : ℕ) (x : A) (old middle new : AssessedAttrs) (judged : JudgedAttr) → i < length xs → x ≡ get_or xs i x → HoldsEach Is (take i xs) old middle →
+    Is x judged → Holds middle (judged ∷ []) new → HoldsEach Is (take (i + 1) xs) old new
+  each-next i x old middle new judged within is before one after =
+      each-more i x old middle new judged within before (subst (λ y. Is y judged) is one) after
+
 module _ (names : NameTable) (t : Tables) (uses : List UseAt) where
   at-some : {X : Type 0} (o : Option X) (x : X) (P : X → Type 0) → o ≡ Some x → P x → IsSomeAnd o P
   at-some o x P e p = subst (λ z. IsSomeAnd z P) (sym e) p

@@ -9,7 +9,7 @@ ghost use Rattle.attr_assess.specs.Assessed.{AreAttrsAssessed, IsGivenJudged};
 ghost use Rattle.attr_assess.specs.inside.Lists.{Holds, HoldsEach, IsUseJudged};
 
 use assess_records::{AttrRecords, NamedText, ValueSource};
-use attr_added::{AddedUse, lacking_attrs};
+use attr_added::{AddedUse, Lacking, lacking_attrs};
 use attr_codes::{AttrItem, JudgedAttr, judge};
 use attr_governing::{AttrGoverning, AttrSchema};
 use simple_types::SimpleTypes;
@@ -58,11 +58,12 @@ pub fn assess_attrs(
 {
     let mut assessed = AssessedAttrs::new(alloc);
     assessed.add_given(alloc, schema, types, of, attrs, scope)?;
-    if let Some(of) = of {
-        let lacking = lacking_attrs(alloc, schema, of, attrs)?;
-        assessed.add_uses(alloc, schema.parts, types, lacking.added.as_slice())?;
-        assessed.missing = lacking.missing;
-    }
+    let Some(of) = of else {
+        return Ok(assessed);
+    };
+    let Lacking { missing, added } = lacking_attrs(alloc, schema, of, attrs)?;
+    assessed.add_uses(alloc, schema.parts, types, added.as_slice())?;
+    assessed.missing = missing;
     Ok(assessed)
 }
 

@@ -84,7 +84,7 @@ attr_record name of source codes = record {
 abbrev pub use_constraint : Tables → Option UseAt → Option ValueConstraint
 use_constraint t by = option_and_then (λ u. option_and_then (λ part. part.value) (use_at t u)) by
 
-module _ (t : Tables) (name : ℕ) (source : ValueSource) where
+module _ (name : ℕ) (source : ValueSource) where
   -- an attribute that has no declaration, with these codes
   abbrev pub undeclared : List Found → JudgedAttr
   undeclared codes = record { known = attr_record name None source codes; value = None }
@@ -93,18 +93,18 @@ module _ (t : Tables) (name : ℕ) (source : ValueSource) where
   abbrev pub declared : TypeId → AttrText → JudgedAttr
   declared of read = record { known = attr_record name (Some of) source (text_codes read); value = value_in read }
 
-  module _ (scope : Scope) (text : List ℕ) where
-    abbrev pub IsDeclaredJudged : TypeId → Option ValueConstraint → Option ValueConstraint → JudgedAttr → Type 0
-    IsDeclaredJudged of by_declaration by_use judged =
-        (read : AttrText) × IsRead t of by_declaration by_use scope text read × (judged ≡ declared of read)
+module _ (t : Tables) (name : ℕ) (source : ValueSource) (scope : Scope) (text : List ℕ) where
+  abbrev pub IsDeclaredJudged : TypeId → Option ValueConstraint → Option ValueConstraint → JudgedAttr → Type 0
+  IsDeclaredJudged of by_declaration by_use judged =
+      (read : AttrText) × IsRead t of by_declaration by_use scope text read × (judged ≡ declared name source of read)
 
-    abbrev pub IsByDeclaration : Option AttributeDecl → Option UseAt → JudgedAttr → Type 0
-    IsByDeclaration None by judged = judged ≡ undeclared (codes_if None)
-    IsByDeclaration (Some decl) by judged = IsDeclaredJudged decl.of decl.value (use_constraint t by) judged
+  abbrev pub IsByDeclaration : Option AttributeDecl → Option UseAt → JudgedAttr → Type 0
+  IsByDeclaration None by judged = judged ≡ undeclared name source (codes_if None)
+  IsByDeclaration (Some decl) by judged = IsDeclaredJudged decl.of decl.value (use_constraint t by) judged
 
-    -- The record and the value of an attribute with a name and a text, by what governs it.
-    abbrev pub IsAttrJudged : AttrGoverning → JudgedAttr → Type 0
-    IsAttrJudged (Instance kind) judged = IsDeclaredJudged (Builtin kind) None None judged
-    IsAttrJudged (Declared attribute by) judged = IsByDeclaration (slice_get t.attributes.parts attribute) by judged
-    IsAttrJudged Unassessed judged = judged ≡ undeclared (codes_if None)
-    IsAttrJudged (Refused code) judged = judged ≡ undeclared (codes_if (Some code))
+  -- The record and the value of an attribute with a name and a text, by what governs it.
+  abbrev pub IsAttrJudged : AttrGoverning → JudgedAttr → Type 0
+  IsAttrJudged (Instance kind) judged = IsDeclaredJudged (Builtin kind) None None judged
+  IsAttrJudged (Declared attribute by) judged = IsByDeclaration (slice_get t.attributes.parts attribute) by judged
+  IsAttrJudged Unassessed judged = judged ≡ undeclared name source (codes_if None)
+  IsAttrJudged (Refused code) judged = judged ≡ undeclared name source (codes_if (Some code))

@@ -79,7 +79,10 @@ abbrev pub unless_instance : Option InstanceAttribute → AttrGoverning → Attr
 unless_instance None otherwise = otherwise
 unless_instance (Some which) otherwise = Instance (instance_type which)
 
+abbrev pub governing_by : Tables → NameTable → TypeId → ℕ → AttrGoverning
+governing_by t names of name = unless_instance (instance_attribute names name) (by_type t names of name)
+
 -- What governs the attribute of a name, by the governing type of its element, which a skipped element does not have.
 abbrev pub attr_governing : Tables → NameTable → Option TypeId → ℕ → AttrGoverning
 attr_governing t names None name = Unassessed
-attr_governing t names (Some of) name = unless_instance (instance_attribute names name) (by_type t names of name)
+attr_governing t names (Some of) name = governing_by t names of name

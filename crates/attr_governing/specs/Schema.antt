@@ -12,8 +12,8 @@ use Rattle.attr_uses.specs.declared.tables.AttrTables.{AttrTables}
 -- These were made of the components of one schema set, whose references go to lower ranks.
 pub record IsAttrSet (t : Tables) (tops : Spaces) (ids : List Bool) (tables : AttrTables) : Type 0 where
   pub ranked : IsRanked t
-  pub tops : tops ≡ spaces_of t
-  pub tables : AreTablesOf t ids tables
+  pub at_top : tops ≡ spaces_of t
+  pub uses : AreTablesOf t ids tables
 
 -- the table stands for the attribute uses, of which there are none without one
 abbrev pub IsTableIf : Tables → List Bool → Store → Option KeptTable → AttrUses → Type 0

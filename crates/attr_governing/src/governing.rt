@@ -44,15 +44,25 @@ impl AttrSchema<'_> {
         requires named { name < length self.now.names.now.names }
         ensures governing { result ≡ spec.attr_governing self.now.parts.now self.now.names.now of name }
     {
-        let Some(of) = of else {
-            return AttrGoverning::Unassessed;
-        };
+        match of {
+            Some(of) => self.governing_by(of, name),
+            None => AttrGoverning::Unassessed,
+        }
+    }
+
+    // The same for an element that is not skipped.
+    fn governing_by(&self, of: TypeId, name: NameId) -> AttrGoverning
+        requires set { (ids : List Bool) × IsAttrSet self.now.parts.now self.now.tops.now ids self.now.tables.now }
+        requires there { IsType self.now.parts.now of }
+        requires named { name < length self.now.names.now.names }
+        ensures governing { result ≡ spec.governing_by self.now.parts.now self.now.names.now of name }
+    {
         if let Some(which) = instance_attribute(self.names, name) {
             return AttrGoverning::Instance(instance_type(which));
         }
         match of {
             TypeId::Builtin(_) | TypeId::Simple(_) => AttrGoverning::Unassessed,
-            TypeId::AnyType | TypeId::Complex(_) => self.governing_in(self.table_of(of), name),
+            TypeId::AnyType | TypeId::Complex(_) => self.governing_in(of, name),
         }
     }
 
@@ -68,8 +78,18 @@ impl AttrSchema<'_> {
         }
     }
 
-    // What governs the attribute of a name that is not one of the four.
-    fn governing_in(&self, table: Option<KeptTable>, name: NameId) -> AttrGoverning
+    // What governs the attribute of a name by the uses of a type.
+    fn governing_in(&self, of: TypeId, name: NameId) -> AttrGoverning
+        requires set { (ids : List Bool) × IsAttrSet self.now.parts.now self.now.tops.now ids self.now.tables.now }
+        requires there { IsType self.now.parts.now of }
+        requires named { name < length self.now.names.now.names }
+        ensures governing { result ≡ spec.by_uses self.now.parts.now self.now.names.now (spec.uses_for self.now.parts.now of) name }
+    {
+        self.governing_among(self.table_of(of), name)
+    }
+
+    // The same by a table of uses.
+    fn governing_among(&self, table: Option<KeptTable>, name: NameId) -> AttrGoverning
         requires store { IsStore self.now.tables.now.store }
         requires tops { self.now.tops.now ≡ spaces_of self.now.parts.now }
         requires named { name < length self.now.names.now.names }
@@ -130,12 +150,22 @@ impl AttrSchema<'_> {
 fn by_process(process: Process, top: Option<AttributeId>) -> AttrGoverning
     ensures { result ≡ spec.by_process process top }
 {
-    match (process, top) {
-        (Process::Skip, _) | (Process::Lax, None) => AttrGoverning::Unassessed,
-        (Process::Strict, None) => AttrGoverning::Refused(Code::CvcComplexType3_2_2),
-        (Process::Strict | Process::Lax, Some(attribute)) => AttrGoverning::Declared {
+    match process {
+        Process::Skip => AttrGoverning::Unassessed,
+        Process::Lax => by_top(top, AttrGoverning::Unassessed),
+        Process::Strict => by_top(top, AttrGoverning::Refused(Code::CvcComplexType3_2_2)),
+    }
+}
+
+// By the declaration at the top, if there is one.
+fn by_top(top: Option<AttributeId>, otherwise: AttrGoverning) -> AttrGoverning
+    ensures { result ≡ spec.by_top top otherwise }
+{
+    match top {
+        Some(attribute) => AttrGoverning::Declared {
             attribute,
             by: None,
         },
+        None => otherwise,
     }
 }

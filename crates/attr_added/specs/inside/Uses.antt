@@ -1,5 +1,5 @@
 -- The order of uses by their names, and names that are found in the order of their numbers.
-use Rattle.std.specs.Prelude.{◌≡◌, ℕ, ◌<◌, ◌≤◌, ◌^◌, ◌++◌, Bool, true, false, List, [], ◌∷◌, Option, None, Some, All, map, slice_get, Ordering}
+use Rattle.std.specs.Prelude.{◌≡◌, ℕ, ◌<◌, ◌≤◌, ◌-◌, ◌^◌, ◌++◌, Bool, true, false, List, [], ◌∷◌, Option, None, Some, All, map, slice_get, Ordering}
 use Rattle.std.specs.Cmp.Lexicographic.{slice_cmp}
 use Rattle.std.specs.Ordering.{nat_cmp, ordering_then, is_lt}
 use Rattle.std.specs.Option.{option_or}
@@ -75,3 +75,8 @@ module _ (names : NameTable) (t : Tables) (uses : List UseAt) (given : List ℕ)
   -- and the next name to be looked at is this one
   abbrev pub AreLackingUpTo : Option ℕ → Lacking → Type 0
   AreLackingUpTo next lacking = (bound : ℕ) × (bound ≤ 2 ^ 32) × IsNext t uses bound next × AreLackingBelow bound lacking
+
+-- how many numbers there are from the next one on
+abbrev pub numbers_left : Option ℕ → ℕ
+numbers_left None = 0
+numbers_left (Some n) = 2 ^ 32 - n
