@@ -3,6 +3,7 @@ use Rattle.std.proofs.Common.{◌≡◌, ℕ, ◌<◌, ◌≤◌, Bool, true, fa
 use Rattle.std.specs.Prelude.{is_some, slice_get, if◌then◌else◌}
 use Rattle.std.specs.Option.{option_and_then, option_map, option_or}
 use Rattle.std.proofs.Math.Bool.{and-false}
+use Rattle.std.proofs.lemmas.Option.{same_Some}
 use Rattle.std.proofs.lemmas.Bool.{eqb-true}
 use Rattle.xs_components.specs.Tables.{Tables}
 use Rattle.xs_components.specs.declared.attribute.AttributeDecl.{AttributeDecl}
@@ -71,3 +72,16 @@ module _ (t : Tables) where
       of : (b : Bool) → has_name t name v ≡ b → first_of (if b then v ∷ filter (has_name t name) vs else filter (has_name t name) vs) ≡ Some u → use_name t u ≡ Some name
       of true is f = ap (λ w. option_and_then (use_name t) w) (sym f) ∙ named-is (use_name t v) name is
       of false is f = use-name-is vs name u f
+
+  module _ (uses : List UseAt) (n : ℕ) (u : UseAt) (part : AttrUse) (named : use_named t uses n ≡ Some u) (written : use_at t u ≡ Some part) where
+    name-by : (o : Option AttributeDecl) → slice_get t.attributes.parts part.attribute ≡ o → option_map (λ decl. decl.name) o ≡ Some n
+    name-by o e =
+        ap (option_map (λ decl. decl.name)) (sym e)
+        ∙ (ap (option_and_then (λ part. option_map (λ decl. decl.name) (slice_get t.attributes.parts part.attribute))) (sym written) ∙ use-name-is uses n u named)
+
+    -- the declaration of a use is there, and has its name
+    pub not-undeclared : slice_get t.attributes.parts part.attribute ≡ None → ⊥
+    not-undeclared e = absurd (true≢false (sym (ap is_some (name-by None e))))
+
+    pub declared-name : (decl : AttributeDecl) → slice_get t.attributes.parts part.attribute ≡ Some decl → decl.name ≡ n
+    declared-name decl e = same_Some decl.name n (name-by (Some decl) e)

@@ -42,11 +42,11 @@ pub(crate) fn found_use<'a>(
 
 impl<'a> FoundUse<'a> {
     /// The use, if it gives its attribute a value.
-    pub(crate) fn added(self, schema: &AttrSchema<'a>) -> Option<AddedUse<'a>>
-        requires named { self.decl.now.name < length schema.now.names.now.names }
+    pub(crate) fn added(&self, schema: &AttrSchema<'a>) -> Option<AddedUse<'a>>
+        requires named { self.now.decl.now.name < length schema.now.names.now.names }
         ensures added { MatchOption result
-            (inside.constraint_of self.entry ≡ None)
-            (inside.IsAddedOf schema.now.names.now self.entry) }
+            (inside.constraint_of self.now ≡ None)
+            (inside.IsAddedOf schema.now.names.now self.now) }
     {
         let constraint = self.constraint()?;
         let name = self.decl.name;
@@ -61,10 +61,10 @@ impl<'a> FoundUse<'a> {
     }
 
     // Its effective value constraint (Structures 3.4.6).
-    fn constraint(self) -> Option<&'a ValueConstraint>
-        ensures { option_copied result ≡ inside.constraint_of self.entry }
+    fn constraint(&self) -> Option<&'a ValueConstraint>
+        ensures { option_copied result ≡ inside.constraint_of self.now }
     {
-        match &self.part.value {
+        match self.part.value.as_ref() {
             Some(own) => Some(own),
             None => self.decl.value.as_ref(),
         }

@@ -45,7 +45,23 @@ pub fn read_text(
     ensures read { (t : Tables) → IsRanked t → AreTypesOf t types.old → IsWhole types.old of → IfOk result (spec.IsRead t of (option_copied declared.entry) (option_copied used.entry) scope.now text.now) }
     ensures same { types.new ≡ types.old }
 {
-    match types.validate(alloc, of, text, scope)? {
+    let outcome = types.validate(alloc, of, text, scope)?;
+    judged_text(alloc, types, of, declared, used, outcome)
+}
+
+// The same, of what the text comes to by the type alone.
+fn judged_text(
+    alloc: Global,
+    types: &mut SimpleTypes,
+    of: TypeId,
+    declared: Option<&ValueConstraint>,
+    used: Option<&ValueConstraint>,
+    outcome: Result<Value, Code>,
+) -> Result<AttrText, AllocError>
+    ensures judged { (t : Tables) → IsRanked t → AreTypesOf t types.old → IsWhole types.old of → IfOk result (spec.IsJudged t of (option_copied declared.entry) (option_copied used.entry) outcome) }
+    ensures same { types.new ≡ types.old }
+{
+    match outcome {
         Err(code) => Ok(AttrText::Invalid(code)),
         Ok(value) => {
             let by_declaration = is_met(alloc, types, of, declared, &value)?;
@@ -86,12 +102,21 @@ fn is_fixed_met(
     ensures met { (t : Tables) → IsRanked t → AreTypesOf t types.old → IsWhole types.old of → IfOk result (spec.IsFixedMet t of constraint.now.fixed constraint.now value.now) }
     ensures same { types.new ≡ types.old }
 {
-    if !constraint.fixed {
-        return Ok(true);
+    if constraint.fixed {
+        let text = constraint.text.as_str();
+        let fixed = types.validate(alloc, of, text, &constraint.scope)?;
+        Ok(is_value(value, &fixed))
+    } else {
+        Ok(true)
     }
-    let text = constraint.text.as_str();
-    match types.validate(alloc, of, text, &constraint.scope)? {
-        Ok(fixed) => Ok(same(value, &fixed)),
-        Err(_) => Ok(false),
+}
+
+// Whether a value is the one that the text of a constraint comes to.
+fn is_value(value: &Value, fixed: &Result<Value, Code>) -> bool
+    ensures { result ≡ spec.is_value value.now fixed.now }
+{
+    match fixed {
+        Ok(fixed) => same(value, fixed),
+        Err(_) => false,
     }
 }

@@ -36,8 +36,8 @@ module _ (w : Wildcard) (v : Option Wildcard) (like : IsWildcard (Some w) v) (sp
   admitted-is = e ∙ ap (admits w.namespaces) here
 
   pub is-admitted : (found : Option ℕ) (result : AttrGoverning) → b ≡ true → found ≡ top → result ≡ by_process w.process found → result ≡ by_wildcard v space top
-  is-admitted found result yes same is =
-      is ∙ (ap (by_process w.process) same ∙ (ap (λ c. if_admitted c w.process top) (sym yes ∙ admitted-is) ∙ by_wildcard-like (Some w) v like space top))
+  is-admitted found result here_admits same is =
+      is ∙ (ap (by_process w.process) same ∙ (ap (λ c. if_admitted c w.process top) (sym here_admits ∙ admitted-is) ∙ by_wildcard-like (Some w) v like space top))
 
   pub is-not-admitted : b ≡ false → Refused CvcComplexType3_2_2 ≡ by_wildcard v space top
-  is-not-admitted no = ap (λ c. if_admitted c w.process top) (sym no ∙ admitted-is) ∙ by_wildcard-like (Some w) v like space top
+  is-not-admitted here_refuses = ap (λ c. if_admitted c w.process top) (sym here_refuses ∙ admitted-is) ∙ by_wildcard-like (Some w) v like space top

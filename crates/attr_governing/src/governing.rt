@@ -139,10 +139,11 @@ impl AttrSchema<'_> {
         let Some(wildcard) = self.tables.wildcard(table) else {
             return AttrGoverning::Refused(Code::CvcComplexType3_2_1);
         };
-        if !wildcard.namespaces.admits(self.names.ns(name)) {
-            return AttrGoverning::Refused(Code::CvcComplexType3_2_2);
+        if wildcard.namespaces.admits(self.names.ns(name)) {
+            by_process(wildcard.process, self.tops.attribute_with(self.parts, name))
+        } else {
+            AttrGoverning::Refused(Code::CvcComplexType3_2_2)
         }
-        by_process(wildcard.process, self.tops.attribute_with(self.parts, name))
     }
 }
 
