@@ -3,7 +3,6 @@ use Rattle.std.proofs.Common.{◌≡◌, ℕ, ◌+◌, ◌<◌, ◌≤◌, Bool,
 use Rattle.std.specs.Prelude.{nat_eq, All, Contains}
 use Rattle.std.specs.List.{list_any, IsDistinct}
 use Rattle.std.proofs.lemmas.Bool.{cases_lt, ne_eqb}
-
 use Rattle.std.proofs.lemmas.Cmp.{nat_eq_equiv}
 use Rattle.std.proofs.lemmas.List.Elements.{All-push, All-weaker, All-nil, Contains-push, Contains-append_left}
 use Rattle.std.proofs.lemmas.List.Folds.{list_any_none}
@@ -47,7 +46,7 @@ module _ (test : ℕ → Bool) where
     where
       each : (name : ℕ) → name < n + 1 → test name ≡ true → Contains (names ++ n ∷ []) name
       each name h e = elim (cases_lt name n) [
-        inl b ↦ Contains-append_left names (n ∷ []) name (found.those.each name b e)
+        | inl b ↦ Contains-append_left names (n ∷ []) name (found.those.each name b e)
         | inr a ↦ (let same : n ≡ name = omega arith in subst (λ x. Contains (names ++ n ∷ []) x) same (Contains-push names n))
       ]
 

@@ -33,11 +33,10 @@ module _ (t : Tables) where
   part-unneeded : (p : Option AttrUse) → is_needed_use t p ≡ false → (requires_one p ≡ false) × (gives_one t p ≡ false)
   part-unneeded None e = (refl, refl)
   part-unneeded (Some part) e =
-      let parts = or-three part.required (is_some part.value) (gives_value (slice_get t.attributes.parts part.attribute)) e in
-      (
+      let parts = or-three part.required (is_some part.value) (gives_value (slice_get t.attributes.parts part.attribute)) e in (
         parts.0,
         ap (λ b. not part.required && b) (some-or part.value (declared_constraint t part) parts.1 (sym (some-declared (slice_get t.attributes.parts part.attribute)) ∙ parts.2))
-        ∙ and-false (not part.required)
+            ∙ and-false (not part.required),
       )
 
   use-unneeded : (u : Option UseAt) → is_needed_named t u ≡ false → (requires_one (option_and_then (use_at t) u) ≡ false) × (gives_one t (option_and_then (use_at t) u) ≡ false)

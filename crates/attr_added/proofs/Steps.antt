@@ -49,8 +49,8 @@ module _ (names : NameTable) (t : Tables) (uses : List UseAt) (given : List ℕ)
 
   -- one name more
   pub lacking-step : (n : ℕ) (old new : Lacking) → AreLackingBelow names t uses given n old →
-    new.missing ≡ old.missing ++ picked (is_missing t uses given n) n → IsNoted names t uses given n old.added.items new.added.items →
-    AreLackingBelow names t uses given (n + 1) new
+      new.missing ≡ old.missing ++ picked (is_missing t uses given n) n → IsNoted names t uses given n old.added.items new.added.items →
+      AreLackingBelow names t uses given (n + 1) new
   lacking-step n old new below m a = record {
     missing = subst (AreFound (is_missing t uses given) (n + 1)) (sym m) (found-step (is_missing t uses given) n old.missing below.missing);
     added = subst (AreFound (is_added t uses given) (n + 1)) (sym (noted-names (is_added t uses given n) n old.added.items new.added.items a)) (found-step (is_added t uses given) n (map name_of old.added.items) below.added);
@@ -59,8 +59,8 @@ module _ (names : NameTable) (t : Tables) (uses : List UseAt) (given : List ℕ)
 
   -- a turn: the next name that is needed, and then the one behind it
   pub lacking-turn : (n : ℕ) (next : Option ℕ) (old new : Lacking) → AreLackingUpTo names t uses given (Some n) old →
-    new.missing ≡ old.missing ++ picked (is_missing t uses given n) n → IsNoted names t uses given n old.added.items new.added.items →
-    IsNext t uses (n + 1) next → AreLackingUpTo names t uses given next new
+      new.missing ≡ old.missing ++ picked (is_missing t uses given n) n → IsNoted names t uses given n old.added.items new.added.items →
+      IsNext t uses (n + 1) next → AreLackingUpTo names t uses given next new
   lacking-turn n next old new w m a after =
       (n + 1, omega (arith, w.2.within), after, lacking-step n old new (lacking-gap w.0 n old w.2.behind w.2.none w.3) m a)
 
@@ -70,7 +70,7 @@ module _ (names : NameTable) (t : Tables) (uses : List UseAt) (given : List ℕ)
 
   -- and sorted
   pub lacking-sorted : (lacking sorted : Lacking) → AreLackingBelow names t uses given (2 ^ 32) lacking → sorted.missing ≡ lacking.missing →
-    IsPermutation lacking.added.items sorted.added.items → IsSortedBy is_use_before sorted.added.items → AreLacking names t uses given sorted
+      IsPermutation lacking.added.items sorted.added.items → IsSortedBy is_use_before sorted.added.items → AreLacking names t uses given sorted
   lacking-sorted lacking sorted below same moved up =
       let all : All (IsAddedUse names t uses) sorted.added.items = All-permutation (IsAddedUse names t uses) lacking.added.items sorted.added.items moved below.uses_are in
       record {
