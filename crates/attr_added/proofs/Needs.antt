@@ -1,6 +1,6 @@
 -- Which uses have to be looked at, and which name a use has.
 use Rattle.std.proofs.Common.{◌≡◌, ℕ, ◌<◌, ◌≤◌, Bool, true, false, ◌||◌, ◌&&◌, ◌==◌, not, List, [], ◌∷◌, Option, None, Some, refl, sym, ap, ◌∙◌, true≢false, filter}
-use Rattle.std.specs.Prelude.{is_some, slice_get, if◌then◌else◌}
+use Rattle.std.specs.Prelude.{is_some, slice_get, if◌then◌else◌, IfSome, IfNone}
 use Rattle.std.specs.Option.{option_and_then, option_map, option_or}
 use Rattle.std.proofs.Math.Bool.{and-false}
 use Rattle.std.proofs.lemmas.Option.{same_Some}
@@ -13,6 +13,9 @@ use Rattle.use_maps.specs.declared.entry.UseAt.{UseAt}
 use Rattle.attr_uses.specs.Written.{use_at, use_name, is_name, has_name}
 use Rattle.attr_uses.specs.Uses.{first_of, use_named}
 use Rattle.attr_uses.specs.Tables.{gives_value, is_needed_use, is_needed_named, NoneNeeded}
+use Rattle.assess_records.specs.declared.shape.NamedText.{NamedText}
+use Rattle.attr_added.specs.inside.Uses.{IsWritten, IsFoundUse}
+use Rattle.attr_added.specs.declared.found.FoundUse.{FoundUse}
 use Rattle.attr_added.specs.Lacking.{declared_constraint, effective_constraint, requires_one, gives_one, is_lacking, part_named, is_missing, is_added}
 
 or-three : (a b c : Bool) → (a || b || c) ≡ false → (a ≡ false) × (b ≡ false) × (c ≡ false)
@@ -43,7 +46,7 @@ module _ (t : Tables) where
   use-unneeded None e = (refl, refl)
   use-unneeded (Some u) e = part-unneeded (use_at t u) e
 
-  module _ (uses : List UseAt) (given : List ℕ) where
+  module _ (uses : List UseAt) (given : List NamedText) where
     pub none-missing : (from to : ℕ) → NoneNeeded t uses from to → (name : ℕ) → from ≤ name → name < to → is_missing t uses given name ≡ false
     none-missing from to none name a b =
         ap (λ r. is_lacking given name && r) (use-unneeded (use_named t uses name) (none name a b)).0 ∙ and-false (is_lacking given name)
@@ -66,21 +69,26 @@ module _ (t : Tables) where
   -- the use of a name has that name
   pub use-name-is : (uses : List UseAt) (name : ℕ) (u : UseAt) → use_named t uses name ≡ Some u → use_name t u ≡ Some name
   use-name-is [] name u e = absurd (true≢false (sym (ap is_some e)))
-  use-name-is (v ∷ vs) name u e = of (has_name t name v) refl e
+  use-name-is (v ∷ vs) name u e = of (has_name t name v) refl e (use-name-is vs name u)
     where
-      of : (b : Bool) → has_name t name v ≡ b → first_of (if b then v ∷ filter (has_name t name) vs else filter (has_name t name) vs) ≡ Some u → use_name t u ≡ Some name
-      of true is f = ap (λ w. option_and_then (use_name t) w) (sym f) ∙ named-is (use_name t v) name is
-      of false is f = use-name-is vs name u f
+      of : (b : Bool) → has_name t name v ≡ b → first_of (if b then v ∷ filter (has_name t name) vs else filter (has_name t name) vs) ≡ Some u →
+          (first_of (filter (has_name t name) vs) ≡ Some u → use_name t u ≡ Some name) → use_name t u ≡ Some name
+      of true is f more = ap (λ w. option_and_then (use_name t) w) (sym f) ∙ named-is (use_name t v) name is
+      of false is f more = more f
 
-  module _ (uses : List UseAt) (n : ℕ) (u : UseAt) (part : AttrUse) (named : use_named t uses n ≡ Some u) (written : use_at t u ≡ Some part) where
-    name-by : (o : Option AttributeDecl) → slice_get t.attributes.parts part.attribute ≡ o → option_map (λ decl. decl.name) o ≡ Some n
-    name-by o e =
-        ap (option_map (λ decl. decl.name)) (sym e)
-        ∙ (ap (option_and_then (λ part. option_map (λ decl. decl.name) (slice_get t.attributes.parts part.attribute))) (sym written) ∙ use-name-is uses n u named)
+  module _ (uses : List UseAt) (n : ℕ) (u : UseAt) (named : use_named t uses n ≡ Some u) where
+    -- what is written for the use of a name, and that something is
+    pub found-some : (r : Option FoundUse) → IfSome r (IsWritten t u) → IfSome r (IsFoundUse t uses n)
+    found-some None w = tt
+    found-some (Some found) w = record {
+      name = same_Some found.decl.now.name n
+          (ap (option_map (λ decl. decl.name)) (sym w.decl)
+          ∙ (ap (option_and_then (λ part. option_map (λ decl. decl.name) (slice_get t.attributes.parts part.attribute))) (sym w.part) ∙ use-name-is uses n u named));
+      named = named ∙ ap Some (sym w.place);
+      part = ap (use_at t) w.place ∙ w.part;
+      decl = w.decl;
+    }
 
-    -- the declaration of a use is there, and has its name
-    pub not-undeclared : slice_get t.attributes.parts part.attribute ≡ None → ⊥
-    not-undeclared e = absurd (true≢false (sym (ap is_some (name-by None e))))
-
-    pub declared-name : (decl : AttributeDecl) → slice_get t.attributes.parts part.attribute ≡ Some decl → decl.name ≡ n
-    declared-name decl e = same_Some decl.name n (name-by (Some decl) e)
+    pub found-none : (r : Option FoundUse) → IfNone r (use_name t u ≡ None) → IfNone r (part_named t uses n ≡ None)
+    found-none None e = absurd (true≢false (ap is_some (sym (use-name-is uses n u named) ∙ e)))
+    found-none (Some found) e = tt

@@ -10,6 +10,7 @@ use Rattle.xs_components.specs.declared.common.ValueConstraint.{ValueConstraint}
 use Rattle.use_maps.specs.declared.entry.UseAt.{UseAt}
 use Rattle.attr_uses.specs.Written.{use_at}
 use Rattle.attr_uses.specs.Uses.{use_named}
+use Rattle.assess_records.specs.declared.shape.NamedText.{NamedText}
 use Rattle.attr_added.specs.Lacking.{declared_constraint, effective_constraint, requires_one, gives_one, is_lacking, part_named, is_missing, is_added}
 use Rattle.attr_added.specs.Added.{IsAddedUse}
 use Rattle.attr_added.specs.inside.Uses.{constraint_of, IsFoundUse, IsAddedOf, picked, IsNotedIf, IsNoted}
@@ -23,10 +24,10 @@ pub one-picked : (b : Bool) (n m : ℕ) (xs ys : List ℕ) → b ≡ true → m 
 one-picked b n m xs ys e same is = is ∙ (ap (λ k. xs ++ k ∷ []) same ∙ sym (ap (λ c. xs ++ picked c n) e))
 
 -- an element has the name, or does not
-pub lacking-by : (given : List ℕ) (n m : ℕ) (b : Bool) → m ≡ n → b ≡ list_any (λ other. other == m) given → is_lacking given n ≡ not b
-lacking-by given n m b same e = ap (λ k. not (list_any (λ other. other == k) given)) (sym same) ∙ ap not (sym e)
+pub lacking-by : (given : List NamedText) (n m : ℕ) (b : Bool) → m ≡ n → b ≡ list_any (λ (attr : NamedText). attr.name == m) given → is_lacking given n ≡ not b
+lacking-by given n m b same e = ap (λ k. not (list_any (λ (attr : NamedText). attr.name == k) given)) (sym same) ∙ ap not (sym e)
 
-module _ (names : NameTable) (t : Tables) (uses : List UseAt) (given : List ℕ) (n : ℕ) where
+module _ (names : NameTable) (t : Tables) (uses : List UseAt) (given : List NamedText) (n : ℕ) where
   pub not-noted : (xs : List AddedUse) → is_added t uses given n ≡ false → IsNoted names t uses given n xs xs
   not-noted xs e = subst (λ b. IsNotedIf names t uses given b n xs xs) (sym e) refl
 

@@ -11,6 +11,7 @@ use Rattle.xs_names.specs.Names.{NameTable}
 use Rattle.xs_components.specs.Tables.{Tables}
 use Rattle.use_maps.specs.declared.entry.UseAt.{UseAt}
 use Rattle.attr_uses.specs.Tables.{IsNext, IsNextNeeded, NoneNeeded}
+use Rattle.assess_records.specs.declared.shape.NamedText.{NamedText}
 use Rattle.attr_added.specs.Lacking.{is_lacking, is_missing, is_added, AreThose}
 use Rattle.attr_added.specs.Order.{is_before}
 use Rattle.attr_added.specs.Added.{IsAddedUse, AreAddedNames, AreLacking}
@@ -21,9 +22,9 @@ use Rattle.attr_added.proofs.Names.{found-none, found-gap, found-step}
 use Rattle.attr_added.proofs.Needs.{none-missing, none-added, useless-missing, useless-added}
 use Rattle.attr_added.proofs.Orders.{those-permutation, names-sorted}
 
-module _ (names : NameTable) (t : Tables) (uses : List UseAt) (given : List ℕ) where
+module _ (names : NameTable) (t : Tables) (uses : List UseAt) (given : List NamedText) where
   -- at the start
-  pub lacking-none : (lacking : Lacking) → lacking.missing ≡ [] → lacking.added.items ≡ [] → AreLackingBelow names t uses given 0 lacking
+  pub lacking-none : (lacking : Lacking) → lacking.missing ≡ [] → lacking.added ≡ [] → AreLackingBelow names t uses given 0 lacking
   lacking-none lacking m a = record {
     missing = subst (AreFound (is_missing t uses given) 0) (sym m) (found-none (is_missing t uses given));
     added = subst (λ xs. AreFound (is_added t uses given) 0 (map name_of xs)) (sym a) (found-none (is_added t uses given));
@@ -34,7 +35,7 @@ module _ (names : NameTable) (t : Tables) (uses : List UseAt) (given : List ℕ)
   pub lacking-gap : (from to : ℕ) (lacking : Lacking) → from ≤ to → NoneNeeded t uses from to → AreLackingBelow names t uses given from lacking → AreLackingBelow names t uses given to lacking
   lacking-gap from to lacking up none below = record {
     missing = found-gap (is_missing t uses given) from to lacking.missing up (none-missing t uses given from to none) below.missing;
-    added = found-gap (is_added t uses given) from to (map name_of lacking.added.items) up (none-added t uses given from to none) below.added;
+    added = found-gap (is_added t uses given) from to (map name_of lacking.added) up (none-added t uses given from to none) below.added;
     uses_are = below.uses_are;
   }
 
@@ -49,17 +50,17 @@ module _ (names : NameTable) (t : Tables) (uses : List UseAt) (given : List ℕ)
 
   -- one name more
   pub lacking-step : (n : ℕ) (old new : Lacking) → AreLackingBelow names t uses given n old →
-      new.missing ≡ old.missing ++ picked (is_missing t uses given n) n → IsNoted names t uses given n old.added.items new.added.items →
+      new.missing ≡ old.missing ++ picked (is_missing t uses given n) n → IsNoted names t uses given n old.added new.added →
       AreLackingBelow names t uses given (n + 1) new
   lacking-step n old new below m a = record {
     missing = subst (AreFound (is_missing t uses given) (n + 1)) (sym m) (found-step (is_missing t uses given) n old.missing below.missing);
-    added = subst (AreFound (is_added t uses given) (n + 1)) (sym (noted-names (is_added t uses given n) n old.added.items new.added.items a)) (found-step (is_added t uses given) n (map name_of old.added.items) below.added);
-    uses_are = noted-uses (is_added t uses given n) n old.added.items new.added.items a below.uses_are;
+    added = subst (AreFound (is_added t uses given) (n + 1)) (sym (noted-names (is_added t uses given n) n old.added new.added a)) (found-step (is_added t uses given) n (map name_of old.added) below.added);
+    uses_are = noted-uses (is_added t uses given n) n old.added new.added a below.uses_are;
   }
 
   -- a turn: the next name that is needed, and then the one behind it
   pub lacking-turn : (n : ℕ) (next : Option ℕ) (old new : Lacking) → AreLackingUpTo names t uses given (Some n) old →
-      new.missing ≡ old.missing ++ picked (is_missing t uses given n) n → IsNoted names t uses given n old.added.items new.added.items →
+      new.missing ≡ old.missing ++ picked (is_missing t uses given n) n → IsNoted names t uses given n old.added new.added →
       IsNext t uses (n + 1) next → AreLackingUpTo names t uses given next new
   lacking-turn n next old new w m a after =
       (n + 1, omega (arith, w.2.within), after, lacking-step n old new (lacking-gap w.0 n old w.2.behind w.2.none w.3) m a)
@@ -70,17 +71,26 @@ module _ (names : NameTable) (t : Tables) (uses : List UseAt) (given : List ℕ)
 
   -- and sorted
   pub lacking-sorted : (lacking sorted : Lacking) → AreLackingBelow names t uses given (2 ^ 32) lacking → sorted.missing ≡ lacking.missing →
-      IsPermutation lacking.added.items sorted.added.items → IsSortedBy is_use_before sorted.added.items → AreLacking names t uses given sorted
+      IsPermutation lacking.added sorted.added → IsSortedBy is_use_before sorted.added → AreLacking names t uses given sorted
   lacking-sorted lacking sorted below same moved up =
-      let all : All (IsAddedUse names t uses) sorted.added.items = All-permutation (IsAddedUse names t uses) lacking.added.items sorted.added.items moved below.uses_are in
+      let all : All (IsAddedUse names t uses) sorted.added = All-permutation (IsAddedUse names t uses) lacking.added sorted.added moved below.uses_are in
       record {
         missing = subst (AreThose (is_missing t uses given) (2 ^ 32)) (sym same) below.missing.those;
         added = record {
-          those = those-permutation (is_added t uses given) (2 ^ 32) (map name_of lacking.added.items) (map name_of sorted.added.items) (IsPermutation-map name_of lacking.added.items sorted.added.items moved) below.added.those;
-          sorted = names-sorted names t uses sorted.added.items all up;
+          those = those-permutation (is_added t uses given) (2 ^ 32) (map name_of lacking.added) (map name_of sorted.added) (IsPermutation-map name_of lacking.added sorted.added moved) below.added.those;
+          sorted = names-sorted names t uses sorted.added all up;
         };
         uses_are = all;
       }
+
+-- the same, by the lists on the way
+pub lacking-put : (names : NameTable) (t : Tables) (uses : List UseAt) (given : List NamedText) (missing : List ℕ) (added before after final : List AddedUse) →
+    AreLackingBelow names t uses given (2 ^ 32) record { missing = missing; added = added } → before ≡ added → IsPermutation before after → IsSortedBy is_use_before after → final ≡ after →
+    AreLacking names t uses given record { missing = missing; added = final }
+lacking-put names t uses given missing added before after final below e moved up f =
+    lacking-sorted names t uses given record { missing = missing; added = added } record { missing = missing; added = final } below refl
+    (subst (λ xs. IsPermutation xs final) e (subst (λ ys. IsPermutation before ys) (sym f) moved))
+    (subst (IsSortedBy is_use_before) (sym f) up)
 
 -- the next name is a later one
 pub next-smaller : (t : Tables) (uses : List UseAt) (n : ℕ) (next : Option ℕ) → n < 2 ^ 32 → IsNext t uses (n + 1) next → numbers_left next < numbers_left (Some n)
@@ -88,7 +98,7 @@ next-smaller t uses n None h is = omega arith
 next-smaller t uses n (Some m) h is = omega (arith, is.behind, is.within)
 
 -- without uses nothing is missing, and nothing is added
-pub nothing-missing : (t : Tables) (given : List ℕ) → AreThose (is_missing t [] given) (2 ^ 32) []
+pub nothing-missing : (t : Tables) (given : List NamedText) → AreThose (is_missing t [] given) (2 ^ 32) []
 unfolding IsDistinct
 nothing-missing t given = record {
   once = tt;
@@ -96,7 +106,7 @@ nothing-missing t given = record {
   each = λ name h e. absurd (true≢false (sym e ∙ and-false (is_lacking given name)));
 }
 
-pub nothing-added : (names : NameTable) (t : Tables) (given : List ℕ) → AreAddedNames names t [] given []
+pub nothing-added : (names : NameTable) (t : Tables) (given : List NamedText) → AreAddedNames names t [] given []
 unfolding IsDistinct
 nothing-added names t given = record {
   those = record {
@@ -107,7 +117,7 @@ nothing-added names t given = record {
   sorted = λ k d low high. absurd (omega arith);
 }
 
-pub lacking-useless : (names : NameTable) (t : Tables) (uses : List UseAt) (given : List ℕ) (lacking : Lacking) → uses ≡ [] → lacking.missing ≡ [] → lacking.added.items ≡ [] → AreLacking names t uses given lacking
+pub lacking-useless : (names : NameTable) (t : Tables) (uses : List UseAt) (given : List NamedText) (lacking : Lacking) → uses ≡ [] → lacking.missing ≡ [] → lacking.added ≡ [] → AreLacking names t uses given lacking
 lacking-useless names t uses given lacking none m a =
     subst (λ us. AreLacking names t us given lacking) (sym none)
     record {

@@ -7,6 +7,7 @@ use Rattle.xs_components.specs.Tables.{Tables}
 use Rattle.xs_components.specs.declared.attribute.AttributeDecl.{AttributeDecl}
 use Rattle.xs_components.specs.declared.attribute.AttrUse.{AttrUse}
 use Rattle.use_maps.specs.declared.entry.UseAt.{UseAt}
+use Rattle.assess_records.specs.declared.shape.NamedText.{NamedText}
 use Rattle.attr_uses.specs.Written.{use_at}
 use Rattle.attr_uses.specs.Uses.{use_named}
 use Rattle.attr_added.specs.Lacking.{effective_constraint, is_missing, is_added, AreThose}
@@ -27,12 +28,12 @@ module _ (names : NameTable) (t : Tables) (uses : List UseAt) where
     pub local : added.local.now ≡ local_of names added.name
 
   -- Structures 3.4.5: the names of the attributes that are added, in their order
-  pub record AreAddedNames (given added : List ℕ) : Type 0 where
+  pub record AreAddedNames (given : List NamedText) (added : List ℕ) : Type 0 where
     pub those : AreThose (is_added t uses given) (2 ^ 32) added
     pub sorted : IsSortedBy (is_before names) added
 
   -- the attributes that an element with these lacks: those that are required, and those that are added
-  pub record AreLacking (given : List ℕ) (lacking : Lacking) : Type 0 where
+  pub record AreLacking (given : List NamedText) (lacking : Lacking) : Type 0 where
     pub missing : AreThose (is_missing t uses given) (2 ^ 32) lacking.missing
-    pub added : AreAddedNames given (map (λ a. a.name) lacking.added.items)
-    pub uses_are : All IsAddedUse lacking.added.items
+    pub added : AreAddedNames given (map (λ a. a.name) lacking.added)
+    pub uses_are : All IsAddedUse lacking.added

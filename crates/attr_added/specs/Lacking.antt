@@ -7,6 +7,7 @@ use Rattle.xs_components.specs.declared.attribute.AttributeDecl.{AttributeDecl}
 use Rattle.xs_components.specs.declared.attribute.AttrUse.{AttrUse}
 use Rattle.xs_components.specs.declared.common.ValueConstraint.{ValueConstraint}
 use Rattle.use_maps.specs.declared.entry.UseAt.{UseAt}
+use Rattle.assess_records.specs.declared.shape.NamedText.{NamedText}
 use Rattle.attr_uses.specs.Written.{use_at}
 use Rattle.attr_uses.specs.Uses.{use_named}
 
@@ -27,14 +28,14 @@ gives_one t None = false
 gives_one t (Some part) = not part.required && is_some (effective_constraint t part)
 
 -- no attribute of an element with these has the name
-abbrev pub is_lacking : List ℕ → ℕ → Bool
-is_lacking given name = not (list_any (λ other. other == name) given)
+abbrev pub is_lacking : List NamedText → ℕ → Bool
+is_lacking given name = not (list_any (λ attr. attr.name == name) given)
 
 -- the use with a name, as it is written
 abbrev pub part_named : Tables → List UseAt → ℕ → Option AttrUse
 part_named t uses name = option_and_then (use_at t) (use_named t uses name)
 
-module _ (t : Tables) (uses : List UseAt) (given : List ℕ) where
+module _ (t : Tables) (uses : List UseAt) (given : List NamedText) where
   -- cvc-complex-type.4 (Structures 3.4.4): the use with the name is required, and the element has no such attribute.
   abbrev pub is_missing : ℕ → Bool
   is_missing name = is_lacking given name && requires_one (part_named t uses name)

@@ -4,6 +4,7 @@ ghost use Rattle.std.specs.Prelude.{◌≡◌, ◌<◌, List, Bool, Some, None, 
 ghost use Rattle.std.specs.Option.{option_copied};
 ghost use Rattle.attr_uses.specs.Uses.{AttrUses};
 ghost use Rattle.attr_uses.specs.Tables.{StandsFor, IsStore};
+ghost use Rattle.attr_uses.specs.Written.{use_name};
 ghost use Rattle.attr_added.specs.Lacking as spec;
 ghost use Rattle.attr_added.specs.inside.Uses as inside;
 
@@ -12,7 +13,7 @@ use crate::added::space_text;
 use attr_governing::AttrSchema;
 use attr_uses::{KeptTable, use_at};
 use use_maps::UseAt;
-use xs_components::{AttrUse, AttributeDecl, ValueConstraint};
+use xs_components::{AttrUse, AttributeDecl, Components, ValueConstraint};
 
 /// An attribute use: where it is written, what is, and its declaration.
 #[derive(Clone, Copy)]
@@ -25,19 +26,32 @@ pub(crate) struct FoundUse<'a> {
 /// The use of the name of a number.
 pub(crate) fn found_use<'a>(
     schema: &AttrSchema<'a>,
-    table: KeptTable,
+    table: &KeptTable,
     number: u32,
 ) -> Option<FoundUse<'a>>
     requires store { IsStore schema.now.tables.now.store }
-    requires table { (ids : List Bool) × (value : AttrUses) × StandsFor schema.now.parts.now ids schema.now.tables.now.store table value }
-    ensures found { (ids : List Bool) (value : AttrUses) → StandsFor schema.now.parts.now ids schema.now.tables.now.store table value → IfSome result (inside.IsFoundUse schema.now.parts.now value.uses number) }
-    ensures none { (ids : List Bool) (value : AttrUses) → StandsFor schema.now.parts.now ids schema.now.tables.now.store table value → IfNone result (spec.part_named schema.now.parts.now value.uses number ≡ None) }
+    requires table { (ids : List Bool) × (value : AttrUses) × StandsFor schema.now.parts.now ids schema.now.tables.now.store table.now value }
+    ensures found { (ids : List Bool) (value : AttrUses) → StandsFor schema.now.parts.now ids schema.now.tables.now.store table.now value → IfSome result (inside.IsFoundUse schema.now.parts.now value.uses number) }
+    ensures none { (ids : List Bool) (value : AttrUses) → StandsFor schema.now.parts.now ids schema.now.tables.now.store table.now value → IfNone result (spec.part_named schema.now.parts.now value.uses number ≡ None) }
 {
-    let at = schema.tables.use_numbered(table, number)?;
-    let part = use_at(schema.parts, at)?;
-    let declarations = schema.parts.attributes();
-    let decl = declarations.get(part.attribute.number() as usize)?;
-    Some(FoundUse { at, part, decl })
+    match schema.tables.use_numbered(*table, number) {
+        None => None,
+        Some(at) => written_use(schema.parts, at),
+    }
+}
+
+// What is written in a place.
+fn written_use(parts: &Components, at: UseAt) -> Option<FoundUse<'_>>
+    ensures found { IfSome result (inside.IsWritten parts.now at) }
+    ensures none { IfNone result (use_name parts.now at ≡ None) }
+{
+    let Some(part) = use_at(parts, at) else {
+        return None;
+    };
+    match parts.attributes().get(part.attribute.number() as usize) {
+        None => None,
+        Some(decl) => Some(FoundUse { at, part, decl }),
+    }
 }
 
 impl<'a> FoundUse<'a> {

@@ -19,6 +19,7 @@ use attr_governing::AttrSchema;
 use attr_uses::{AttrTables, KeptTable};
 use std::alloc::{AllocError, Global};
 use xs_components::{NameIdList, TypeId};
+use xs_lists::Listed;
 use xs_names::NameId;
 
 /// The attributes that an element lacks and its type has a use for: the names of those that are required, and the uses of those
@@ -26,7 +27,7 @@ use xs_names::NameId;
 #[derive(Drop)]
 pub struct Lacking<'a> {
     pub missing: NameIdList,
-    pub added: Vec<AddedUse<'a>>,
+    pub added: Listed<AddedUse<'a>>,
 }
 
 /// What an element of a type with these attributes lacks.
@@ -43,14 +44,18 @@ pub fn lacking_attrs<'a>(
     requires set { (ids : List Bool) × IsAttrSet schema.now.parts.now schema.now.tops.now ids schema.now.tables.now }
     requires there { IsType schema.now.parts.now of }
     requires named { AreNamed schema.now.names.now schema.now.parts.now }
-    ensures lacking { IfOk result (AreLacking schema.now.names.now schema.now.parts.now (uses_for schema.now.parts.now of).uses (map (λ a. a.name) given.now)) }
+    ensures lacking { IfOk result (AreLacking schema.now.names.now schema.now.parts.now (uses_for schema.now.parts.now of).uses given.now) }
 {
     match schema.table_of(of) {
         None => Ok(Lacking::new(alloc)),
         Some(table) => {
-            let mut lacking = lacking_in(alloc, schema, table, given)?;
-            sort_by_name(&mut lacking.added)?;
-            Ok(lacking)
+            let Lacking { missing, added } = lacking_in(alloc, schema, &table, given)?;
+            let mut uses = added.into_vec();
+            sort_by_name(&mut uses)?;
+            Ok(Lacking {
+                missing,
+                added: Listed::from_vec(uses),
+            })
         }
     }
 }
@@ -59,16 +64,16 @@ pub fn lacking_attrs<'a>(
 fn lacking_in<'a>(
     alloc: Global,
     schema: &AttrSchema<'a>,
-    table: KeptTable,
+    table: &KeptTable,
     given: &[NamedText],
 ) -> Result<Lacking<'a>, AllocError>
     requires store { IsStore schema.now.tables.now.store }
     requires named { AreNamed schema.now.names.now schema.now.parts.now }
-    requires table { (ids : List Bool) × (value : AttrUses) × StandsFor schema.now.parts.now ids schema.now.tables.now.store table value }
-    ensures lacking { (ids : List Bool) (value : AttrUses) → StandsFor schema.now.parts.now ids schema.now.tables.now.store table value → IfOk result (inside.AreLackingBelow schema.now.names.now schema.now.parts.now value.uses (map (λ a. a.name) given.now) (2 ^ 32)) }
+    requires table { (ids : List Bool) × (value : AttrUses) × StandsFor schema.now.parts.now ids schema.now.tables.now.store table.now value }
+    ensures lacking { (ids : List Bool) (value : AttrUses) → StandsFor schema.now.parts.now ids schema.now.tables.now.store table.now value → IfOk result (inside.AreLackingBelow schema.now.names.now schema.now.parts.now value.uses given.now (2 ^ 32)) }
 {
     let mut lacking = Lacking::new(alloc);
-    let mut next = schema.tables.next_needed(table, 0);
+    let mut next = schema.tables.next_needed(*table, 0);
     while let Some(number) = next {
         lacking.note(schema, table, given, number)?;
         next = next_after(schema.tables, table, number);
@@ -77,25 +82,26 @@ fn lacking_in<'a>(
 }
 
 // The next number of a name behind this one whose use is required or has a value constraint.
-fn next_after(tables: &AttrTables, table: KeptTable, number: u32) -> Option<u32>
+fn next_after(tables: &AttrTables, table: &KeptTable, number: u32) -> Option<u32>
     requires store { IsStore tables.now.store }
-    requires table { (t : Tables) × (ids : List Bool) × (value : AttrUses) × StandsFor t ids tables.now.store table value }
-    ensures next { (t : Tables) (ids : List Bool) (value : AttrUses) → StandsFor t ids tables.now.store table value → IsNext t value.uses (number + 1) result }
+    requires table { (t : Tables) × (ids : List Bool) × (value : AttrUses) × StandsFor t ids tables.now.store table.now value }
+    ensures next { (t : Tables) (ids : List Bool) (value : AttrUses) → StandsFor t ids tables.now.store table.now value → IsNext t value.uses (number + 1) result }
 {
-    match number.checked_add(1) {
-        Some(from) => tables.next_needed(table, from),
-        None => None,
+    if number < u32::MAX {
+        tables.next_needed(*table, number + 1)
+    } else {
+        None
     }
 }
 
 impl<'a> Lacking<'a> {
     fn new(alloc: Global) -> Lacking<'a>
         ensures missing { result.missing ≡ [] }
-        ensures added { result.added.items ≡ [] }
+        ensures added { result.added ≡ [] }
     {
         Lacking {
             missing: NameIdList::new(alloc),
-            added: Vec::new(alloc),
+            added: Listed::new(alloc),
         }
     }
 
@@ -103,15 +109,15 @@ impl<'a> Lacking<'a> {
     fn note(
         &mut self,
         schema: &AttrSchema<'a>,
-        table: KeptTable,
+        table: &KeptTable,
         given: &[NamedText],
         number: u32,
     ) -> Result<(), AllocError>
         requires store { IsStore schema.now.tables.now.store }
         requires named { AreNamed schema.now.names.now schema.now.parts.now }
-        requires table { (ids : List Bool) × (value : AttrUses) × StandsFor schema.now.parts.now ids schema.now.tables.now.store table value }
-        ensures missing { (ids : List Bool) (value : AttrUses) → StandsFor schema.now.parts.now ids schema.now.tables.now.store table value → OnOk result (self.new.missing ≡ self.old.missing ++ inside.picked (spec.is_missing schema.now.parts.now value.uses (map (λ a. a.name) given.now) number) number) }
-        ensures added { (ids : List Bool) (value : AttrUses) → StandsFor schema.now.parts.now ids schema.now.tables.now.store table value → OnOk result (inside.IsNoted schema.now.names.now schema.now.parts.now value.uses (map (λ a. a.name) given.now) number self.old.added.items self.new.added.items) }
+        requires table { (ids : List Bool) × (value : AttrUses) × StandsFor schema.now.parts.now ids schema.now.tables.now.store table.now value }
+        ensures missing { (ids : List Bool) (value : AttrUses) → StandsFor schema.now.parts.now ids schema.now.tables.now.store table.now value → OnOk result (self.new.missing ≡ self.old.missing ++ inside.picked (spec.is_missing schema.now.parts.now value.uses given.now number) number) }
+        ensures added { (ids : List Bool) (value : AttrUses) → StandsFor schema.now.parts.now ids schema.now.tables.now.store table.now value → OnOk result (inside.IsNoted schema.now.names.now schema.now.parts.now value.uses given.now number self.old.added self.new.added) }
     {
         let Some(found) = found_use(schema, table, number) else {
             return Ok(());
@@ -124,10 +130,7 @@ impl<'a> Lacking<'a> {
             return self.missing.push(name);
         }
         match found.added(schema) {
-            Some(added) => {
-                self.added.push(added)?;
-                Ok(())
-            }
+            Some(added) => self.added.push(added),
             None => Ok(()),
         }
     }
@@ -135,7 +138,7 @@ impl<'a> Lacking<'a> {
 
 // Whether one of these attributes has a name.
 fn has_name(given: &[NamedText], name: NameId) -> bool
-    ensures { result ≡ list_any (λ other. other == name) (map (λ a. a.name) given.now) }
+    ensures { result ≡ list_any (λ attr. attr.name == name) given.now }
 {
     given.iter().any(|attr| attr.name == name)
 }

@@ -46,7 +46,7 @@ module _ {A : Type 0} (Is : A → JudgedAttr → Type 0) (xs : List A) where
 
   -- one more, which is the item of a place
   pub each-next : (i : ℕ) (x : A) (old middle new : AssessedAttrs) (judged : JudgedAttr) → i < length xs → x ≡ get_or xs i x → HoldsEach Is (take i xs) old middle →
-    Is x judged → Holds middle (judged ∷ []) new → HoldsEach Is (take (i + 1) xs) old new
+      Is x judged → Holds middle (judged ∷ []) new → HoldsEach Is (take (i + 1) xs) old new
   each-next i x old middle new judged within is before one after =
       each-more i x old middle new judged within before (subst (λ y. Is y judged) is one) after
 

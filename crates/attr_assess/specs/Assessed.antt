@@ -27,9 +27,6 @@ record_of judged = judged.known
 abbrev pub value_of : JudgedAttr → Option Value
 value_of judged = judged.value
 
-abbrev pub name_of : NamedText → ℕ
-name_of attr = attr.name
-
 -- the attribute uses of the governing type of an element, which a skipped element does not have
 abbrev pub element_uses : Tables → Option TypeId → List UseAt
 element_uses t None = []
@@ -53,8 +50,8 @@ pub record AreAttrsAssessed (names : NameTable) (t : Tables) (of : Option TypeId
   pub added : List JudgedAttr
   pub added_names : List ℕ
   pub given_are : AllZip (IsGivenJudged names t of scope) attrs given
-  pub names_are : AreAddedNames names t (element_uses t of) (map name_of attrs) added_names
+  pub names_are : AreAddedNames names t (element_uses t of) attrs added_names
   pub added_are : AllZip (IsAddedJudged t (element_uses t of)) added_names added
   pub records : assessed.records ≡ map record_of (given ++ added)
   pub values : assessed.values ≡ map value_of (given ++ added)
-  pub missing : AreThose (is_missing t (element_uses t of) (map name_of attrs)) (2 ^ 32) assessed.missing
+  pub missing : AreThose (is_missing t (element_uses t of) attrs) (2 ^ 32) assessed.missing

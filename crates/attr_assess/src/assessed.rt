@@ -105,7 +105,7 @@ impl AssessedAttrs {
                 text: attr.text.as_str(),
             };
             let governing = schema.governing(of, attr.name);
-            let judged = judge(alloc, schema.parts, types, item, governing)?;
+            let judged = judge(alloc, schema.parts, types, &item, governing)?;
             self.push(judged)?;
         }
         Ok(())
@@ -134,7 +134,7 @@ impl AssessedAttrs {
                 attribute: added.attribute,
                 by: Some(added.at),
             };
-            let judged = judge(alloc, parts, types, item, governing)?;
+            let judged = judge(alloc, parts, types, &item, governing)?;
             self.push(judged)?;
         }
         Ok(())

@@ -22,7 +22,7 @@ module _ (t : Tables) (of : TypeId) where
   unfixed-met true constraint value e = absurd (true≢false e)
 
   pub fixed-met : (fixed : Bool) (constraint : ValueConstraint) (value : Value) (outcome : Result Value Code) → fixed ≡ true →
-    IsTextRead t of constraint.scope constraint.text outcome → IsFixedMet t of fixed constraint value (is_value value outcome)
+      IsTextRead t of constraint.scope constraint.text outcome → IsFixedMet t of fixed constraint value (is_value value outcome)
   fixed-met false constraint value outcome e read = absurd (true≢false (sym e))
   fixed-met true constraint value outcome e read = (outcome, read, refl)
 
@@ -31,7 +31,7 @@ module _ (t : Tables) (of : TypeId) where
     invalid-judged outcome code e = subst (λ o. IsJudged t of declared used o (Invalid code)) (sym e) refl
 
     pub valid-judged : (outcome : Result Value Code) (value : Value) (by_declaration by_use : Bool) → outcome ≡ Ok value → IsMet t of declared value by_declaration → IsMet t of used value by_use →
-      IsJudged t of declared used outcome (Valid value by_declaration by_use)
+        IsJudged t of declared used outcome (Valid value by_declaration by_use)
     valid-judged outcome value by_declaration by_use e a b =
         subst (λ o. IsJudged t of declared used o (Valid value by_declaration by_use)) (sym e) (by_declaration, by_use, a, b, refl)
 

@@ -45,16 +45,16 @@ pub fn judge(
     alloc: Global,
     parts: &Components,
     types: &mut SimpleTypes,
-    item: AttrItem<'_>,
+    item: &AttrItem<'_>,
     governing: AttrGoverning,
 ) -> Result<JudgedAttr, AllocError>
     requires types { IsTypeSet parts.now types.old }
-    ensures judged { IfOk result (spec.IsAttrJudged parts.now item.entry.name item.entry.source item.entry.scope.now item.entry.text.now governing) }
+    ensures judged { IfOk result (spec.IsAttrJudged parts.now item.now.name item.now.source item.now.scope.now item.now.text.now governing) }
     ensures same { types.new ≡ types.old }
 {
     match governing {
         AttrGoverning::Instance(kind) => {
-            judged_by(alloc, types, item, TypeId::Builtin(kind), None, None)
+            judged_by(alloc, types, item, &TypeId::Builtin(kind), None, None)
         }
         AttrGoverning::Declared { attribute, by } => {
             by_declaration(alloc, parts, types, item, attribute, by)
@@ -69,12 +69,12 @@ fn by_declaration(
     alloc: Global,
     parts: &Components,
     types: &mut SimpleTypes,
-    item: AttrItem<'_>,
+    item: &AttrItem<'_>,
     attribute: AttributeId,
     by: Option<UseAt>,
 ) -> Result<JudgedAttr, AllocError>
     requires types { IsTypeSet parts.now types.old }
-    ensures judged { IfOk result (spec.IsByDeclaration parts.now item.entry.name item.entry.source item.entry.scope.now item.entry.text.now (slice_get parts.now.attributes.parts attribute) by) }
+    ensures judged { IfOk result (spec.IsByDeclaration parts.now item.now.name item.now.source item.now.scope.now item.now.text.now (slice_get parts.now.attributes.parts attribute) by) }
     ensures same { types.new ≡ types.old }
 {
     match parts.attributes().get(attribute.number() as usize) {
@@ -83,7 +83,7 @@ fn by_declaration(
             alloc,
             types,
             item,
-            decl.of,
+            &decl.of,
             decl.value.as_ref(),
             use_constraint(parts, by),
         ),
@@ -104,12 +104,12 @@ fn use_constraint(parts: &Components, by: Option<UseAt>) -> Option<&ValueConstra
 fn judged_by(
     alloc: Global,
     types: &mut SimpleTypes,
-    item: AttrItem<'_>,
-    of: TypeId,
+    item: &AttrItem<'_>,
+    of: &TypeId,
     by_declaration: Option<&ValueConstraint>,
     by_use: Option<&ValueConstraint>,
 ) -> Result<JudgedAttr, AllocError>
-    ensures judged { (t : Tables) → IsRanked t → AreTypesOf t types.old → IsWhole types.old of → IfOk result (spec.IsDeclaredJudged t item.entry.name item.entry.source item.entry.scope.now item.entry.text.now of (option_copied by_declaration.entry) (option_copied by_use.entry)) }
+    ensures judged { (t : Tables) → IsRanked t → AreTypesOf t types.old → IsWhole types.old of.now → IfOk result (spec.IsDeclaredJudged t item.now.name item.now.source item.now.scope.now item.now.text.now of.now (option_copied by_declaration.entry) (option_copied by_use.entry)) }
     ensures same { types.new ≡ types.old }
 {
     let read = read_text(

@@ -20,18 +20,20 @@ pub(crate) fn attr_record(
 ) -> AttrRecord
     ensures { result ≡ spec.attr_record name of source codes }
 {
+    let validity = attr_validity(&of, &codes);
+    let attempted = attr_attempted(&of);
     AttrRecord {
         name,
         of,
-        validity: attr_validity(of, &codes),
-        attempted: attr_attempted(of),
+        validity,
+        attempted,
         source,
         codes,
     }
 }
 
-fn attr_validity(of: Option<TypeId>, codes: &Codes) -> Validity
-    ensures { result ≡ spec.attr_validity of codes.now }
+fn attr_validity(of: &Option<TypeId>, codes: &Codes) -> Validity
+    ensures { result ≡ spec.attr_validity of.now codes.now }
 {
     if !codes.is_empty() {
         return Validity::Invalid;
@@ -42,8 +44,8 @@ fn attr_validity(of: Option<TypeId>, codes: &Codes) -> Validity
     }
 }
 
-fn attr_attempted(of: Option<TypeId>) -> Attempted
-    ensures { result ≡ spec.attr_attempted of }
+fn attr_attempted(of: &Option<TypeId>) -> Attempted
+    ensures { result ≡ spec.attr_attempted of.now }
 {
     match of {
         Some(_) => Attempted::Full,
@@ -73,14 +75,14 @@ pub(crate) fn declared(
     alloc: Global,
     name: NameId,
     source: ValueSource,
-    of: TypeId,
+    of: &TypeId,
     read: AttrText,
 ) -> Result<JudgedAttr, AllocError>
-    ensures { IfOk result (λ judged. judged ≡ spec.declared name source of read) }
+    ensures { IfOk result (λ judged. judged ≡ spec.declared name source of.now read) }
 {
     let codes = text_codes(alloc, &read)?;
     Ok(JudgedAttr {
-        known: attr_record(name, Some(of), source, codes),
+        known: attr_record(name, Some(*of), source, codes),
         value: value_in(read),
     })
 }

@@ -36,16 +36,16 @@ pub enum AttrText {
 pub fn read_text(
     alloc: Global,
     types: &mut SimpleTypes,
-    of: TypeId,
+    of: &TypeId,
     declared: Option<&ValueConstraint>,
     used: Option<&ValueConstraint>,
     text: &str,
     scope: &Scope,
 ) -> Result<AttrText, AllocError>
-    ensures read { (t : Tables) → IsRanked t → AreTypesOf t types.old → IsWhole types.old of → IfOk result (spec.IsRead t of (option_copied declared.entry) (option_copied used.entry) scope.now text.now) }
+    ensures read { (t : Tables) → IsRanked t → AreTypesOf t types.old → IsWhole types.old of.now → IfOk result (spec.IsRead t of.now (option_copied declared.entry) (option_copied used.entry) scope.now text.now) }
     ensures same { types.new ≡ types.old }
 {
-    let outcome = types.validate(alloc, of, text, scope)?;
+    let outcome = types.validate(alloc, *of, text, scope)?;
     judged_text(alloc, types, of, declared, used, outcome)
 }
 
@@ -53,12 +53,12 @@ pub fn read_text(
 fn judged_text(
     alloc: Global,
     types: &mut SimpleTypes,
-    of: TypeId,
+    of: &TypeId,
     declared: Option<&ValueConstraint>,
     used: Option<&ValueConstraint>,
     outcome: Result<Value, Code>,
 ) -> Result<AttrText, AllocError>
-    ensures judged { (t : Tables) → IsRanked t → AreTypesOf t types.old → IsWhole types.old of → IfOk result (spec.IsJudged t of (option_copied declared.entry) (option_copied used.entry) outcome) }
+    ensures judged { (t : Tables) → IsRanked t → AreTypesOf t types.old → IsWhole types.old of.now → IfOk result (spec.IsJudged t of.now (option_copied declared.entry) (option_copied used.entry) outcome) }
     ensures same { types.new ≡ types.old }
 {
     match outcome {
@@ -79,11 +79,11 @@ fn judged_text(
 fn is_met(
     alloc: Global,
     types: &mut SimpleTypes,
-    of: TypeId,
+    of: &TypeId,
     constraint: Option<&ValueConstraint>,
     value: &Value,
 ) -> Result<bool, AllocError>
-    ensures met { (t : Tables) → IsRanked t → AreTypesOf t types.old → IsWhole types.old of → IfOk result (spec.IsMet t of (option_copied constraint.entry) value.now) }
+    ensures met { (t : Tables) → IsRanked t → AreTypesOf t types.old → IsWhole types.old of.now → IfOk result (spec.IsMet t of.now (option_copied constraint.entry) value.now) }
     ensures same { types.new ≡ types.old }
 {
     match constraint {
@@ -95,16 +95,16 @@ fn is_met(
 fn is_fixed_met(
     alloc: Global,
     types: &mut SimpleTypes,
-    of: TypeId,
+    of: &TypeId,
     constraint: &ValueConstraint,
     value: &Value,
 ) -> Result<bool, AllocError>
-    ensures met { (t : Tables) → IsRanked t → AreTypesOf t types.old → IsWhole types.old of → IfOk result (spec.IsFixedMet t of constraint.now.fixed constraint.now value.now) }
+    ensures met { (t : Tables) → IsRanked t → AreTypesOf t types.old → IsWhole types.old of.now → IfOk result (spec.IsFixedMet t of.now constraint.now.fixed constraint.now value.now) }
     ensures same { types.new ≡ types.old }
 {
     if constraint.fixed {
         let text = constraint.text.as_str();
-        let fixed = types.validate(alloc, of, text, &constraint.scope)?;
+        let fixed = types.validate(alloc, *of, text, &constraint.scope)?;
         Ok(is_value(value, &fixed))
     } else {
         Ok(true)

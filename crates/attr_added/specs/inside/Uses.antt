@@ -1,12 +1,13 @@
 -- The order of uses by their names, and names that are found in the order of their numbers.
-use Rattle.std.specs.Prelude.{◌≡◌, ℕ, ◌<◌, ◌≤◌, ◌-◌, ◌^◌, ◌++◌, Bool, true, false, List, [], ◌∷◌, Option, None, Some, All, map, slice_get, Ordering}
+use Rattle.std.specs.Prelude.{◌≡◌, ℕ, ◌<◌, ◌≤◌, ◌-◌, ◌^◌, ◌++◌, Bool, true, false, List, [], ◌∷◌, Option, None, Some, All, map, slice_get}
 use Rattle.std.specs.Cmp.Lexicographic.{slice_cmp}
-use Rattle.std.specs.Ordering.{nat_cmp, ordering_then, is_lt}
+use Rattle.std.specs.Ordering.{Ordering, nat_cmp, ordering_then, is_lt}
 use Rattle.std.specs.Option.{option_or}
 use Rattle.xs_names.specs.Names.{NameTable, local_of}
 use Rattle.xs_components.specs.Tables.{Tables}
 use Rattle.xs_components.specs.declared.common.ValueConstraint.{ValueConstraint}
 use Rattle.use_maps.specs.declared.entry.UseAt.{UseAt}
+use Rattle.assess_records.specs.declared.shape.NamedText.{NamedText}
 use Rattle.attr_uses.specs.Tables.{IsNext}
 use Rattle.attr_uses.specs.Uses.{use_named}
 use Rattle.attr_uses.specs.Written.{use_at}
@@ -37,6 +38,12 @@ pub record IsFoundUse (t : Tables) (uses : List UseAt) (number : ℕ) (found : F
   pub part : use_at t found.at ≡ Some found.part.now
   pub decl : slice_get t.attributes.parts found.part.now.attribute ≡ Some found.decl.now
 
+-- what is written in a place
+pub record IsWritten (t : Tables) (at : UseAt) (found : FoundUse) : Type 0 where
+  pub place : found.at ≡ at
+  pub part : use_at t at ≡ Some found.part.now
+  pub decl : slice_get t.attributes.parts found.part.now.attribute ≡ Some found.decl.now
+
 -- the use that gives its attribute a value
 pub record IsAddedOf (names : NameTable) (found : FoundUse) (added : AddedUse) : Type 0 where
   pub name : added.name ≡ found.decl.now.name
@@ -56,7 +63,7 @@ abbrev pub picked : Bool → ℕ → List ℕ
 picked true name = name ∷ []
 picked false name = []
 
-module _ (names : NameTable) (t : Tables) (uses : List UseAt) (given : List ℕ) where
+module _ (names : NameTable) (t : Tables) (uses : List UseAt) (given : List NamedText) where
   abbrev pub IsNotedIf : Bool → ℕ → List AddedUse → List AddedUse → Type 0
   IsNotedIf false number old new = new ≡ old
   IsNotedIf true number old new =
@@ -69,8 +76,8 @@ module _ (names : NameTable) (t : Tables) (uses : List UseAt) (given : List ℕ)
   -- what an element lacks among the names below a bound
   pub record AreLackingBelow (bound : ℕ) (lacking : Lacking) : Type 0 where
     pub missing : AreFound (is_missing t uses given) bound lacking.missing
-    pub added : AreFound (is_added t uses given) bound (map name_of lacking.added.items)
-    pub uses_are : All (IsAddedUse names t uses) lacking.added.items
+    pub added : AreFound (is_added t uses given) bound (map name_of lacking.added)
+    pub uses_are : All (IsAddedUse names t uses) lacking.added
 
   -- and the next name to be looked at is this one
   abbrev pub AreLackingUpTo : Option ℕ → Lacking → Type 0
