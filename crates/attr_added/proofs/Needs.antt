@@ -1,9 +1,12 @@
 -- Which uses have to be looked at, and which name a use has.
-use Rattle.std.proofs.Common.{◌≡◌, ℕ, ◌<◌, ◌≤◌, Bool, true, false, ◌||◌, ◌&&◌, ◌==◌, not, List, [], ◌∷◌, Option, None, Some, refl, sym, ap, ◌∙◌, true≢false, filter}
+use Rattle.std.proofs.Common.{◌≡◌, ℕ, ◌<◌, ◌≤◌, Bool, true, false, ◌||◌, ◌&&◌, ◌==◌, not, List, [], ◌∷◌, Option, None, Some, refl, sym, ap, ◌∙◌, true≢false, filter, length, subst}
 use Rattle.std.specs.Prelude.{is_some, slice_get, if◌then◌else◌, IfSome, IfNone}
 use Rattle.std.specs.Option.{option_and_then, option_map, option_or}
 use Rattle.std.proofs.Math.Bool.{and-false}
-use Rattle.std.proofs.lemmas.Option.{same_Some}
+use Rattle.std.proofs.lemmas.Option.{same_Some, slice_get_within, get_or_from_slice_get}
+use Rattle.std.proofs.lemmas.List.Elements.{All-get_or}
+use Rattle.xs_names.specs.Names.{NameTable}
+use Rattle.attr_added.specs.Added.{AreNamed}
 use Rattle.std.proofs.lemmas.Bool.{eqb-true}
 use Rattle.xs_components.specs.Tables.{Tables}
 use Rattle.xs_components.specs.declared.attribute.AttributeDecl.{AttributeDecl}
@@ -92,3 +95,9 @@ module _ (t : Tables) where
     pub found-none : (r : Option FoundUse) → IfNone r (use_name t u ≡ None) → IfNone r (part_named t uses n ≡ None)
     found-none None e = absurd (true≢false (ap is_some (sym (use-name-is uses n u named) ∙ e)))
     found-none (Some found) e = tt
+
+-- the name of a declaration is in the table of names
+pub name-there : (names : NameTable) (t : Tables) (n : ℕ) (decl : AttributeDecl) → AreNamed names t → slice_get t.attributes.parts n ≡ Some decl → decl.name < length names.names
+name-there names t n decl all e =
+    subst (λ (d : AttributeDecl). d.name < length names.names) (get_or_from_slice_get t.attributes.parts n decl decl e)
+    (All-get_or (λ (d : AttributeDecl). d.name < length names.names) t.attributes.parts n decl (slice_get_within t.attributes.parts n decl e) all)

@@ -1,7 +1,8 @@
 -- The order of the attributes that are added.
 use Rattle.std.specs.Prelude.{ℕ, Bool, List, [], slice_index_or}
 use Rattle.std.specs.Cmp.Lexicographic.{slice_cmp}
-use Rattle.std.specs.Ordering.{Ordering, nat_cmp, ordering_then, is_lt}
+use Rattle.std.specs.Ordering.{nat_cmp, ordering_then, is_lt}
+use Rattle.std.specs.declared.cmp.Ordering.{Ordering}
 use Rattle.xs_names.specs.Names.{NameTable, space_of, local_of}
 
 -- the name of the namespace of a name, empty for the absent one
