@@ -57,11 +57,11 @@ pub fn assess_attrs(
     ensures same { types.new ≡ types.old }
 {
     let mut assessed = AssessedAttrs::new(alloc);
-    assessed.add_given(alloc, schema, types, of, attrs, scope)?;
-    let Some(of) = of else {
+    assessed.add_given(alloc, schema, types, &of, attrs, scope)?;
+    let Some(of) = &of else {
         return Ok(assessed);
     };
-    let Lacking { missing, added } = lacking_attrs(alloc, schema, of, attrs)?;
+    let Lacking { missing, added } = lacking_attrs(alloc, schema, *of, attrs)?;
     assessed.add_uses(alloc, schema.parts, types, added.as_slice())?;
     assessed.missing = missing;
     Ok(assessed)
@@ -81,20 +81,20 @@ impl AssessedAttrs {
     }
 
     // Adds the attributes that the element has.
-    fn add_given(
+    fn add_given<'a>(
         &mut self,
         alloc: Global,
         schema: &AttrSchema<'_>,
         types: &mut SimpleTypes,
-        of: Option<TypeId>,
-        attrs: &[NamedText],
-        scope: &Scope,
+        of: &Option<TypeId>,
+        attrs: &'a [NamedText],
+        scope: &'a Scope,
     ) -> Result<(), AllocError>
         requires set { (ids : List Bool) × IsAttrSet schema.now.parts.now schema.now.tops.now ids schema.now.tables.now }
         requires types { IsTypeSet schema.now.parts.now types.old }
-        requires there { IfSome of (IsType schema.now.parts.now) }
+        requires there { IfSome of.now (IsType schema.now.parts.now) }
         requires given { All (λ attr. attr.name < length schema.now.names.now.names) attrs.now }
-        ensures held { OnOk result (HoldsEach (IsGivenJudged schema.now.names.now schema.now.parts.now of scope.now) attrs.now self.old self.new) }
+        ensures held { OnOk result (HoldsEach (IsGivenJudged schema.now.names.now schema.now.parts.now of.now scope.now) attrs.now self.old self.new) }
         ensures same { types.new ≡ types.old }
     {
         for attr in attrs {
@@ -104,7 +104,7 @@ impl AssessedAttrs {
                 scope,
                 text: attr.text.as_str(),
             };
-            let governing = schema.governing(of, attr.name);
+            let governing = schema.governing(*of, attr.name);
             let judged = judge(alloc, schema.parts, types, &item, governing)?;
             self.push(judged)?;
         }
