@@ -1,2 +1,0 @@
-pub mod Assessed
-pub mod inside
