@@ -1,0 +1,5 @@
+pub mod Names
+pub mod Needs
+pub mod Orders
+pub mod Steps
+pub mod Notes

@@ -1,0 +1,4 @@
+pub mod Lacking
+pub mod Order
+pub mod Added
+pub mod inside
