@@ -1,10 +1,10 @@
 -- An item that was taken: the stream stands where it moved to, or has ended.
-use Rattle.std.proofs.Common.{◌≡◌, ℕ, List, [], Option, Some, Result, Ok, IfOk, refl, sym, subst, le_refl}
+use Rattle.std.proofs.Common.{◌≡◌, ℕ, List, [], Option, Some, None, Result, Ok, IfOk, Box, Global, refl, sym, subst, le_refl}
 use Rattle.std.proofs.KnownBytes.{Appends-nil}
 use Rattle.edit_replies.specs.Tells.{Tells}
 use Rattle.edit_replies.specs.declared.break_off.BreakOff.{BreakOff}
 use Rattle.stream_answers.specs.inside.Turns.{Turned, goes, ends}
-use Rattle.stream_answers.specs.inside.Turning.{MovesTo, TurnsTo, said_of}
+use Rattle.stream_answers.specs.inside.Turning.{MovesTo, Stands, TurnsTo, said_of}
 use Rattle.stream_answers.specs.declared.ending.Ending.{Ending}
 use Rattle.stream_answers.specs.declared.place.Place.{Place}
 use Rattle.stream_answers.specs.declared.turn.Turn.{Turn}
@@ -13,6 +13,10 @@ use Rattle.stream_answers.specs.declared.turn.Turn.TheVariants as turns
 pub moved_end : (t : Turned) (p q : Place) (given : Ending) → MovesTo t p (turns.Ends given) → TurnsTo t q (Some given)
 moved_end (goes said next) p q given h = absurd h
 moved_end (ends last) p q given h = h
+
+pub moved_on : (t : Turned) (p q : Place) (next : Box Place Global) → q ≡ next.value → MovesTo t p (turns.Goes next) → TurnsTo t q None
+moved_on (goes said there) p q next e h = subst (λ x. Stands there x) (sym e) h
+moved_on (ends last) p q next e h = absurd h
 
 -- what was done is what is to be done, where both are the same
 module _ {W : Type 0} (taken : W → Option (List ℕ)) (faults : W → ℕ) (bound : W → Option ℕ) (old new : W) (result : Result Turn BreakOff) where

@@ -6,7 +6,7 @@ ghost use Rattle.stream_answers.specs.inside.Turns as turns;
 ghost use Rattle.stream_answers.specs.inside.Turning.{MovesTo, said_of, cost_of};
 
 use crate::Place;
-use crate::place::CommandSection;
+use crate::place::{CommandSection, boxed};
 use crate::turn::{Turn, refuse};
 use edit_replies::BreakOff;
 use item_listing::Item;
@@ -37,7 +37,10 @@ pub fn answer_commands<W: Sink, L: Ledger>(
                 .answer(alloc, &command, block, sink, steps)?;
             Ok(Turn::Stays)
         }
-        CommandTurn::Ends => Ok(Turn::Goes(Place::Ended(Some(section.document.verdict())))),
+        CommandTurn::Ends => {
+            let ended = Place::Ended(Some(section.document.verdict()));
+            Ok(Turn::Goes(boxed(alloc, ended)?))
+        }
         CommandTurn::Refused(spot) => refuse(sink, spot),
     }
 }

@@ -4,10 +4,10 @@ ghost use Rattle.open_document.specs.Answers as answers;
 ghost use Rattle.open_document.specs.Answers.{IsOpen};
 ghost use Rattle.stream_answers.specs.Output as output;
 ghost use Rattle.stream_answers.specs.inside.Turns as turns;
-ghost use Rattle.stream_answers.specs.inside.Turning.{MovesTo, said_of};
+ghost use Rattle.stream_answers.specs.inside.Turning.{GoesTo, MovesTo, said_of};
 
 use crate::Place;
-use crate::place::{CommandSection, DocumentSection};
+use crate::place::{CommandSection, DocumentSection, boxed};
 use crate::turn::{Turn, not_yet, refuse};
 use assess_model::Schema;
 use edit_replies::BreakOff;
@@ -58,33 +58,39 @@ fn write_opening<W: Sink>(
 
 /// The document is whole, and commands follow.
 fn begin_edits<W: Sink>(
+    alloc: Global,
     asked: Asked,
     document: OpenDocument,
     sink: &mut W,
 ) -> Result<Turn, BreakOff>
     requires { IsOpen document }
     ensures tells { Tells W.taken W.faults W.fault_bound sink.old sink.new result (output.opening asked document) }
-    ensures moves { IfOk result (λ turn. turn ≡ Turn.Goes (turns.commands_place document turns.no_block)) }
+    ensures moves { IfOk result (GoesTo (turns.commands_place document turns.no_block)) }
 {
+    // Memory is taken before anything is written.
+    let mut place = boxed(alloc, Place::Ended(None))?;
     write_opening(asked, &document, sink)?;
-    Ok(Turn::Goes(Place::Commands(CommandSection {
+    *place = Place::Commands(CommandSection {
         document,
         reader: CommandReader::new(),
-    })))
+    });
+    Ok(Turn::Goes(place))
 }
 
 /// The document is whole, and the stream has ended.
 fn end_document<W: Sink>(
+    alloc: Global,
     asked: Asked,
     document: &OpenDocument,
     sink: &mut W,
 ) -> Result<Turn, BreakOff>
     requires { IsOpen document.now }
     ensures tells { Tells W.taken W.faults W.fault_bound sink.old sink.new result (output.opening asked document.now) }
-    ensures moves { IfOk result (λ turn. turn ≡ Turn.Goes (turns.document_ended document.now)) }
+    ensures moves { IfOk result (GoesTo (turns.document_ended document.now)) }
 {
+    let place = boxed(alloc, Place::Ended(Some(document.verdict())))?;
     write_opening(asked, document, sink)?;
-    Ok(Turn::Goes(Place::Ended(Some(document.verdict()))))
+    Ok(Turn::Goes(place))
 }
 
 /// Opens the document, where no element has an attribute, and takes commands from here on.
@@ -101,7 +107,7 @@ fn take_edits<W: Sink>(
     if have_attributes(tree.rows()) {
         return not_yet(sink);
     }
-    begin_edits(asked, open(alloc, section, tree)?, sink)
+    begin_edits(alloc, asked, open(alloc, section, tree)?, sink)
 }
 
 /// Opens the document, where no element has an attribute, and ends the stream.
@@ -118,7 +124,7 @@ fn take_end<W: Sink>(
     if have_attributes(tree.rows()) {
         return not_yet(sink);
     }
-    end_document(asked, &open(alloc, section, tree)?, sink)
+    end_document(alloc, asked, &open(alloc, section, tree)?, sink)
 }
 
 /// Answers an item in the document section.

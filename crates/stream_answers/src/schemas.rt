@@ -6,7 +6,7 @@ ghost use Rattle.stream_answers.specs.inside.Turns as turns;
 ghost use Rattle.stream_answers.specs.inside.Turning.{IsOpen, MovesTo, Stands, said_of};
 
 use crate::Place;
-use crate::place::DocumentSection;
+use crate::place::{DocumentSection, boxed};
 use crate::turn::{Turn, not_yet, refuse};
 use assess_model::Schema;
 use edit_replies::{BreakOff, write_answer};
@@ -41,8 +41,8 @@ fn place_behind(alloc: Global, asked: Asked, line: u32, schema: Schema) -> Resul
 }
 
 /// The schema is accepted, and the stream then stands here.
-fn accept<W: Sink>(place: Place, sink: &mut W) -> Result<Turn, BreakOff>
-    requires { IsOpen place }
+fn accept<W: Sink>(place: Box<Place>, sink: &mut W) -> Result<Turn, BreakOff>
+    requires { IsOpen place.value }
     ensures tells { Tells W.taken W.faults W.fault_bound sink.old sink.new result output.schema_ok }
     ensures moves { IfOk result (λ turn. turn ≡ Turn.Goes place) }
 {
@@ -62,7 +62,10 @@ fn compile<W: Sink>(
     ensures moves { (stood : Place) → IfOk result (MovesTo (turns.compiled (output.first_tables sections.now) (turns.place_behind asked line)) stood) }
 {
     match read_first(alloc, sections)? {
-        Some(schema) => accept(place_behind(alloc, asked, line, schema)?, sink),
+        Some(schema) => {
+            let place = place_behind(alloc, asked, line, schema)?;
+            accept(boxed(alloc, place)?, sink)
+        }
         None => not_yet(sink),
     }
 }

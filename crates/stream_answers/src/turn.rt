@@ -27,8 +27,8 @@ use xsv_steps::{Ledger, Steps};
 pub enum Turn {
     /// The stream stands where it stood, with the item taken.
     Stays,
-    /// The stream stands here.
-    Goes(Place),
+    /// The stream stands here. Boxed, since a place is large and most lines stay where they are.
+    Goes(Box<Place>),
     /// The stream has ended.
     Ends(Ending),
 }
@@ -103,7 +103,7 @@ pub fn answer_item<W: Sink, L: Ledger>(
     match take_item(alloc, asked, line, place, item, sink, steps)? {
         Turn::Stays => Ok(None),
         Turn::Goes(next) => {
-            *place = next;
+            *place = Box::into_inner(next);
             Ok(None)
         }
         Turn::Ends(ending) => Ok(Some(ending)),

@@ -35,10 +35,16 @@ TurnsTo (goes said next) place (Some given) = ⊥
 TurnsTo (ends last) place None = ⊥
 TurnsTo (ends last) place (Some given) = last.ending ≡ Some given
 
+-- the stream goes there
+abbrev pub GoesTo : Place → Turn → Type 0
+GoesTo next turns.Stays = ⊥
+GoesTo next (turns.Goes other) = other.value ≡ next
+GoesTo next (turns.Ends given) = ⊥
+
 -- the same, where the place stays, changed, or another one is the answer
 abbrev pub MovesTo : Turned → Place → Turn → Type 0
 MovesTo (goes said next) place turns.Stays = Stands next place
-MovesTo (goes said next) place (turns.Goes other) = Stands next other
+MovesTo (goes said next) place (turns.Goes other) = Stands next other.value
 MovesTo (goes said next) place (turns.Ends given) = ⊥
 MovesTo (ends last) place turns.Stays = ⊥
 MovesTo (ends last) place (turns.Goes other) = ⊥
