@@ -1,0 +1,8 @@
+//! The constraints on one content model.
+#![tactic(auto)]
+
+mod checks;
+mod fault;
+
+pub use checks::check;
+pub use fault::ModelFault;

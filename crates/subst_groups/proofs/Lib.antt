@@ -1,0 +1,5 @@
+pub mod BlockLaws
+pub mod StandLaws
+pub mod OrderLaws
+pub mod GroupLaws
+pub mod HeadLaws
