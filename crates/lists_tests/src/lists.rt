@@ -3,7 +3,7 @@ use crate::calls::{Call, Random};
 use crate::folds::{Digest, FiveStates, Fold};
 use crate::held::Held;
 use child_trees::{Leaf, Slots};
-use std::alloc::AllocError;
+use std::alloc::{AllocError, Global};
 use std::process::Abort;
 use std::test::Fail;
 use xsv_steps::{Silent, Steps};
@@ -23,9 +23,7 @@ const UNIT: Leaf<u8> = Leaf {
     marked: false,
 };
 
-#[test]
-fn digests(rt: HostRuntime) -> Result<(), Fail> {
-    let mut held: Held<Digest> = Held::new(rt.alloc(), 1)?;
+fn check_digests(rt: &impl Abort, held: &mut Held<Digest>) -> Result<(), AllocError> {
     let mut steps = Steps::new(Silent);
     held.open(0)?;
     held.insert(0, 0, leaf(3, false, false), 0, &mut steps)?;
@@ -47,8 +45,17 @@ fn digests(rt: HostRuntime) -> Result<(), Fail> {
 }
 
 #[test]
-fn five_states(rt: HostRuntime) -> Result<(), Fail> {
-    let mut held: Held<FiveStates> = Held::new(rt.alloc(), 1)?;
+fn digests(rt: HostRuntime) -> Result<(), Fail> {
+    let mut held: Held<Digest> = Held::new(rt.alloc(), 1)?;
+    check_digests(&rt, &mut held)?;
+    Ok(())
+}
+
+fn check_states(
+    rt: &impl Abort,
+    alloc: Global,
+    held: &mut Held<FiveStates>,
+) -> Result<(), AllocError> {
     let mut steps = Steps::new(Silent);
     // Two turns, the death of state 3, and a turn.
     let leaves = [
@@ -57,7 +64,7 @@ fn five_states(rt: HostRuntime) -> Result<(), Fail> {
         leaf(255, true, false),
         leaf(100, true, true),
     ];
-    held.build(0, Vec::from_slice(rt.alloc(), &leaves)?, 0, &mut steps)?;
+    held.build(0, Vec::from_slice(alloc, &leaves)?, 0, &mut steps)?;
     assert_eq!(rt; held.whole(0, 1, &mut steps), Some(4));
     assert_eq!(rt; held.descend(0, 1, &mut steps), Some(2));
     assert_eq!(rt; held.whole(0, 0, &mut steps), Some(3));
@@ -75,12 +82,17 @@ fn five_states(rt: HostRuntime) -> Result<(), Fail> {
 }
 
 #[test]
-fn slots_that_were_given_back_serve_again(rt: HostRuntime) -> Result<(), Fail> {
-    let mut held: Held<Digest> = Held::new(rt.alloc(), 1)?;
+fn five_states(rt: HostRuntime) -> Result<(), Fail> {
+    let mut held: Held<FiveStates> = Held::new(rt.alloc(), 1)?;
+    check_states(&rt, rt.alloc(), &mut held)?;
+    Ok(())
+}
+
+fn check_slots(rt: &impl Abort, alloc: Global, held: &mut Held<Digest>) -> Result<(), Fail> {
     let mut steps = Steps::new(Silent);
     let leaves = [UNIT; 4];
     for _ in 0..3u32 {
-        held.build(0, Vec::from_slice(rt.alloc(), &leaves)?, 0, &mut steps)?;
+        held.build(0, Vec::from_slice(alloc, &leaves)?, 0, &mut steps)?;
         held.remove(0, 1, &mut steps);
         held.insert(0, 2, leaf(5, true, true), 0, &mut steps)?;
         // Four leaves and three forks.
@@ -91,6 +103,13 @@ fn slots_that_were_given_back_serve_again(rt: HostRuntime) -> Result<(), Fail> {
         held.close(0);
         assert_eq!(rt; held.slots(), Slots { count: 8, free: 8 });
     }
+    Ok(())
+}
+
+#[test]
+fn slots_that_were_given_back_serve_again(rt: HostRuntime) -> Result<(), Fail> {
+    let mut held: Held<Digest> = Held::new(rt.alloc(), 1)?;
+    check_slots(&rt, rt.alloc(), &mut held)?;
     Ok(())
 }
 
@@ -118,12 +137,17 @@ fn make_calls<F: Fold, A: Abort>(rt: &A, both: &mut Both<F>, start: u64) -> Resu
     Ok(())
 }
 
+/// Makes drawn calls on lists with a fold, from a state on.
+fn draw<F: Fold, A: Abort>(rt: &A, mut both: Both<F>, start: u64) -> Result<(), AllocError> {
+    make_calls(rt, &mut both, start)
+}
+
 #[test]
 fn drawn_calls(rt: HostRuntime) -> Result<(), Fail> {
-    let mut digests: Both<Digest> = Both::new(rt.alloc(), 50)?;
-    make_calls(&rt, &mut digests, 7)?;
-    let mut states: Both<FiveStates> = Both::new(rt.alloc(), 50)?;
-    make_calls(&rt, &mut states, 2)?;
+    let digests: Both<Digest> = Both::new(rt.alloc(), 50)?;
+    draw(&rt, digests, 7)?;
+    let states: Both<FiveStates> = Both::new(rt.alloc(), 50)?;
+    draw(&rt, states, 2)?;
     Ok(())
 }
 
@@ -181,12 +205,17 @@ fn change_lists<F: Fold, A: Abort>(rt: &A, both: &mut Both<F>) -> Result<(), All
     change_list(rt, both, 100_000, 61_803)
 }
 
+/// Changes lists with a fold.
+fn change<F: Fold, A: Abort>(rt: &A, mut both: Both<F>) -> Result<(), AllocError> {
+    change_lists(rt, &mut both)
+}
+
 #[test]
 fn short_and_long_lists(rt: HostRuntime) -> Result<(), Fail> {
-    let mut digests: Both<Digest> = Both::new(rt.alloc(), 1)?;
-    change_lists(&rt, &mut digests)?;
-    let mut states: Both<FiveStates> = Both::new(rt.alloc(), 1)?;
-    change_lists(&rt, &mut states)?;
+    let digests: Both<Digest> = Both::new(rt.alloc(), 1)?;
+    change(&rt, digests)?;
+    let states: Both<FiveStates> = Both::new(rt.alloc(), 1)?;
+    change(&rt, states)?;
     Ok(())
 }
 
