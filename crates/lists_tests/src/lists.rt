@@ -23,24 +23,38 @@ const UNIT: Leaf<u8> = Leaf {
     marked: false,
 };
 
+/// Puts the letters 1, 2, 3 into a list.
+fn put_letters(held: &mut Held<Digest>, steps: &mut Steps<Silent>) -> Result<(), AllocError> {
+    held.open(0)?;
+    held.insert(0, 0, leaf(3, false, false), 0, steps)?;
+    held.insert(0, 0, leaf(1, false, false), 0, steps)?;
+    // The source adds 1 to this letter.
+    held.insert(0, 1, leaf(1, false, false), 1, steps)?;
+    Ok(())
+}
+
+fn check_letters(rt: &impl Abort, held: &Held<Digest>, steps: &mut Steps<Silent>) {
+    assert_eq!(rt; held.whole(0, 0, steps), Some((31 + 2) * 31 + 3));
+    assert_eq!(rt; held.upto(0, 2, 0, steps), Some(31 + 2));
+    assert_eq!(rt; held.prefix(0, 2, 0, steps), Some(31 + 2));
+    assert_eq!(rt; held.from(0, 1, 0, steps), Some(2 * 31 + 3));
+    assert_eq!(rt; held.descend(0, 0, steps), None);
+}
+
+fn check_changes(rt: &impl Abort, held: &mut Held<Digest>, steps: &mut Steps<Silent>) {
+    held.update(0, 0, UNIT, 0, steps);
+    assert_eq!(rt; held.whole(0, 5, steps), Some((5 * 31 + 2) * 31 + 3));
+    held.remove(0, 1, steps);
+    assert_eq!(rt; held.whole(0, 5, steps), Some(5 * 31 + 3));
+    held.close(0);
+    assert_eq!(rt; held.whole(0, 5, steps), None);
+}
+
 fn check_digests(rt: &impl Abort, held: &mut Held<Digest>) -> Result<(), AllocError> {
     let mut steps = Steps::new(Silent);
-    held.open(0)?;
-    held.insert(0, 0, leaf(3, false, false), 0, &mut steps)?;
-    held.insert(0, 0, leaf(1, false, false), 0, &mut steps)?;
-    // The source adds 1 to this letter. The digest is of 1, 2, 3.
-    held.insert(0, 1, leaf(1, false, false), 1, &mut steps)?;
-    assert_eq!(rt; held.whole(0, 0, &mut steps), Some((31 + 2) * 31 + 3));
-    assert_eq!(rt; held.upto(0, 2, 0, &mut steps), Some(31 + 2));
-    assert_eq!(rt; held.prefix(0, 2, 0, &mut steps), Some(31 + 2));
-    assert_eq!(rt; held.from(0, 1, 0, &mut steps), Some(2 * 31 + 3));
-    assert_eq!(rt; held.descend(0, 0, &mut steps), None);
-    held.update(0, 0, UNIT, 0, &mut steps);
-    assert_eq!(rt; held.whole(0, 5, &mut steps), Some((5 * 31 + 2) * 31 + 3));
-    held.remove(0, 1, &mut steps);
-    assert_eq!(rt; held.whole(0, 5, &mut steps), Some(5 * 31 + 3));
-    held.close(0);
-    assert_eq!(rt; held.whole(0, 5, &mut steps), None);
+    put_letters(held, &mut steps)?;
+    check_letters(rt, held, &mut steps);
+    check_changes(rt, held, &mut steps);
     Ok(())
 }
 
@@ -51,33 +65,49 @@ fn digests(rt: HostRuntime) -> Result<(), Fail> {
     Ok(())
 }
 
-fn check_states(
-    rt: &impl Abort,
-    alloc: Global,
-    held: &mut Held<FiveStates>,
-) -> Result<(), AllocError> {
-    let mut steps = Steps::new(Silent);
-    // Two turns, the death of state 3, and a turn.
+/// Two turns, the death of state 3, and a turn.
+fn turns(alloc: Global) -> Result<Vec<Leaf<u8>>, AllocError> {
     let leaves = [
         leaf(100, true, false),
         leaf(100, false, true),
         leaf(255, true, false),
         leaf(100, true, true),
     ];
-    held.build(0, Vec::from_slice(alloc, &leaves)?, 0, &mut steps)?;
-    assert_eq!(rt; held.whole(0, 1, &mut steps), Some(4));
-    assert_eq!(rt; held.descend(0, 1, &mut steps), Some(2));
-    assert_eq!(rt; held.whole(0, 0, &mut steps), Some(3));
-    assert_eq!(rt; held.descend(0, 0, &mut steps), None);
-    assert_eq!(rt; held.descend(0, 4, &mut steps), Some(0));
+    Vec::from_slice(alloc, &leaves)
+}
+
+fn check_turns(rt: &impl Abort, held: &Held<FiveStates>, steps: &mut Steps<Silent>) {
+    assert_eq!(rt; held.whole(0, 1, steps), Some(4));
+    assert_eq!(rt; held.descend(0, 1, steps), Some(2));
+    assert_eq!(rt; held.whole(0, 0, steps), Some(3));
+    assert_eq!(rt; held.descend(0, 0, steps), None);
+    assert_eq!(rt; held.descend(0, 4, steps), Some(0));
+}
+
+fn check_marks(rt: &impl Abort, held: &Held<FiveStates>) {
     assert_eq!(rt; held.elements_upto(0, 3), Some(2));
     assert_eq!(rt; held.nth_marked(0, 1), held.at(0, 3));
     assert_eq!(rt; held.nth_marked(0, 2), None);
-    // Without the first turn, state 2 dies at place 1.
-    held.remove(0, 0, &mut steps);
-    assert_eq!(rt; held.descend(0, 2, &mut steps), Some(1));
-    assert_eq!(rt; held.prefix(0, 1, 2, &mut steps), Some(3));
-    assert_eq!(rt; held.from(0, 1, 1, &mut steps), Some(2));
+}
+
+/// Without the first turn, state 2 dies at place 1.
+fn check_without_first(rt: &impl Abort, held: &mut Held<FiveStates>, steps: &mut Steps<Silent>) {
+    held.remove(0, 0, steps);
+    assert_eq!(rt; held.descend(0, 2, steps), Some(1));
+    assert_eq!(rt; held.prefix(0, 1, 2, steps), Some(3));
+    assert_eq!(rt; held.from(0, 1, 1, steps), Some(2));
+}
+
+fn check_states(
+    rt: &impl Abort,
+    alloc: Global,
+    held: &mut Held<FiveStates>,
+) -> Result<(), AllocError> {
+    let mut steps = Steps::new(Silent);
+    held.build(0, turns(alloc)?, 0, &mut steps)?;
+    check_turns(rt, held, &mut steps);
+    check_marks(rt, held);
+    check_without_first(rt, held, &mut steps);
     Ok(())
 }
 
