@@ -34,20 +34,20 @@ fn put_letters(held: &mut Held<Digest>, steps: &mut Steps<Silent>) -> Result<(),
 }
 
 fn check_letters(rt: &impl Abort, held: &Held<Digest>, steps: &mut Steps<Silent>) {
-    assert_eq!(rt; held.whole(0, 0, steps), Some((31 + 2) * 31 + 3));
-    assert_eq!(rt; held.upto(0, 2, 0, steps), Some(31 + 2));
-    assert_eq!(rt; held.prefix(0, 2, 0, steps), Some(31 + 2));
-    assert_eq!(rt; held.from(0, 1, 0, steps), Some(2 * 31 + 3));
-    assert_eq!(rt; held.descend(0, 0, steps), None);
+    assert!(rt; held.whole(0, 0, steps) == Some((31 + 2) * 31 + 3));
+    assert!(rt; held.upto(0, 2, 0, steps) == Some(31 + 2));
+    assert!(rt; held.prefix(0, 2, 0, steps) == Some(31 + 2));
+    assert!(rt; held.from(0, 1, 0, steps) == Some(2 * 31 + 3));
+    assert!(rt; held.descend(0, 0, steps).is_none());
 }
 
 fn check_changes(rt: &impl Abort, held: &mut Held<Digest>, steps: &mut Steps<Silent>) {
     held.update(0, 0, UNIT, 0, steps);
-    assert_eq!(rt; held.whole(0, 5, steps), Some((5 * 31 + 2) * 31 + 3));
+    assert!(rt; held.whole(0, 5, steps) == Some((5 * 31 + 2) * 31 + 3));
     held.remove(0, 1, steps);
-    assert_eq!(rt; held.whole(0, 5, steps), Some(5 * 31 + 3));
+    assert!(rt; held.whole(0, 5, steps) == Some(5 * 31 + 3));
     held.close(0);
-    assert_eq!(rt; held.whole(0, 5, steps), None);
+    assert!(rt; held.whole(0, 5, steps).is_none());
 }
 
 fn check_digests(rt: &impl Abort, held: &mut Held<Digest>) -> Result<(), AllocError> {
@@ -77,25 +77,25 @@ fn turns(alloc: Global) -> Result<Vec<Leaf<u8>>, AllocError> {
 }
 
 fn check_turns(rt: &impl Abort, held: &Held<FiveStates>, steps: &mut Steps<Silent>) {
-    assert_eq!(rt; held.whole(0, 1, steps), Some(4));
-    assert_eq!(rt; held.descend(0, 1, steps), Some(2));
-    assert_eq!(rt; held.whole(0, 0, steps), Some(3));
-    assert_eq!(rt; held.descend(0, 0, steps), None);
-    assert_eq!(rt; held.descend(0, 4, steps), Some(0));
+    assert!(rt; held.whole(0, 1, steps) == Some(4));
+    assert!(rt; held.descend(0, 1, steps) == Some(2));
+    assert!(rt; held.whole(0, 0, steps) == Some(3));
+    assert!(rt; held.descend(0, 0, steps).is_none());
+    assert!(rt; held.descend(0, 4, steps) == Some(0));
 }
 
 fn check_marks(rt: &impl Abort, held: &Held<FiveStates>) {
-    assert_eq!(rt; held.elements_upto(0, 3), Some(2));
-    assert_eq!(rt; held.nth_marked(0, 1), held.at(0, 3));
-    assert_eq!(rt; held.nth_marked(0, 2), None);
+    assert!(rt; held.elements_upto(0, 3) == Some(2));
+    assert!(rt; held.nth_marked(0, 1) == held.at(0, 3));
+    assert!(rt; held.nth_marked(0, 2).is_none());
 }
 
 /// Without the first turn, state 2 dies at place 1.
 fn check_without_first(rt: &impl Abort, held: &mut Held<FiveStates>, steps: &mut Steps<Silent>) {
     held.remove(0, 0, steps);
-    assert_eq!(rt; held.descend(0, 2, steps), Some(1));
-    assert_eq!(rt; held.prefix(0, 1, 2, steps), Some(3));
-    assert_eq!(rt; held.from(0, 1, 1, steps), Some(2));
+    assert!(rt; held.descend(0, 2, steps) == Some(1));
+    assert!(rt; held.prefix(0, 1, 2, steps) == Some(3));
+    assert!(rt; held.from(0, 1, 1, steps) == Some(2));
 }
 
 fn check_states(
