@@ -1,5 +1,5 @@
 use item_listing::{Item, Items, read_item};
-use std::alloc::Global;
+use std::alloc::{AllocError, Global};
 use std::test::Fail;
 use tag_names::{NameReason, Prefixes};
 use tree_building::{
@@ -8,45 +8,54 @@ use tree_building::{
 use tree_rows::{Content, Row};
 use xs_names::Text;
 
+/// Puts the item of a line behind others.
+fn push_line(alloc: Global, items: &mut Items, line: &str) -> Result<(), AllocError> {
+    match read_item(alloc, true, line.as_bytes())? {
+        Ok(item) => items.push(item),
+        Err(_) => Ok(()),
+    }
+}
+
 /// The items of these lines.
-fn items_of(alloc: Global, lines: &[&str]) -> Result<Items, Fail> {
+fn items_of(alloc: Global, lines: &[&str]) -> Result<Items, AllocError> {
     let mut items = Items::new(alloc);
     for line in lines {
-        if let Ok(item) = read_item(alloc, true, line.as_bytes())? {
-            items.push(item)?;
-        }
+        push_line(alloc, &mut items, line)?;
     }
     Ok(items)
 }
 
+/// Writes a node with its number, its depth, and its name or its characters.
+fn push_row(alloc: Global, out: &mut String, row: &Row) -> Result<(), AllocError> {
+    write!(out, "{}.{} ", row.number, row.depth)?;
+    match &row.content {
+        Content::Element(name) => {
+            let name = name.clark_name(alloc)?;
+            out.push_str(name.as_str())?;
+            out.push(' ')
+        }
+        Content::Chars(text) => {
+            let text = text.as_str();
+            write!(out, "'{text}' ")
+        }
+    }
+}
+
 /// The nodes, each with its number, its depth, and its name or its characters.
-fn shown(alloc: Global, rows: &[Row]) -> Result<String, Fail> {
+fn shown(alloc: Global, rows: &[Row]) -> Result<String, AllocError> {
     let mut out = String::new(alloc);
     for row in rows {
-        match &row.content {
-            Content::Element(name) => write!(
-                out,
-                "{}.{} {} ",
-                row.number,
-                row.depth,
-                name.clark_name(alloc)?.as_str()
-            )?,
-            Content::Chars(text) => write!(
-                out,
-                "{}.{} '{}' ",
-                row.number,
-                row.depth,
-                text.as_str()
-            )?,
-        }
+        push_row(alloc, &mut out, row)?;
     }
     Ok(out)
 }
 
 /// Why the items of a document are refused: the number of an item, and the reason.
-fn fault_of(alloc: Global, items: &Items) -> Result<Option<(u32, TreeReason)>, Fail> {
-    let fault = build_document(alloc, items.as_slice())?.err();
-    Ok(fault.map(|f| (f.item, f.reason)))
+fn fault_of(alloc: Global, items: &Items) -> Result<Option<(u32, TreeReason)>, AllocError> {
+    match build_document(alloc, items.as_slice())? {
+        Ok(_) => Ok(None),
+        Err(fault) => Ok(Some((fault.item, fault.reason))),
+    }
 }
 
 /// A document with all kinds of items.
@@ -70,11 +79,11 @@ const DOCUMENT: &[&str] = &[
 #[test]
 fn reads_a_document(rt: HostRuntime) -> Result<(), Fail> {
     let items = items_of(rt.alloc(), DOCUMENT)?;
-    let built = build_document(rt.alloc(), items.as_slice())?
-        .ok()
-        .ok_or("no tree")?;
+    let built = build_document(rt.alloc(), items.as_slice())?;
+    let built = built.ok().ok_or("no tree")?;
+    assert_eq!(rt; built.next, 4);
     let shown = shown(rt.alloc(), built.rows.as_slice())?;
-    assert!(rt; shown.as_str() == "1.1 {urn:d}r 2.2 'xy' 3.2 b " && built.next == 4);
+    assert!(rt; shown.as_str() == "1.1 {urn:d}r 2.2 'xy' 3.2 b ");
     Ok(())
 }
 
@@ -157,93 +166,186 @@ fn answers_the_first_reason(rt: HostRuntime) -> Result<(), Fail> {
     Ok(())
 }
 
-/// `levels` elements, each but the first below another.
-fn nested(alloc: Global, levels: u32) -> Result<Items, Fail> {
-    let mut items = Items::new(alloc);
-    for _ in 0..levels {
-        items.push(Item::Start(Text::new(alloc, "n")?))?;
-    }
-    for _ in 0..levels {
-        items.push(Item::Close(Text::new(alloc, "n")?))?;
-    }
-    Ok(items)
+/// A document that has many of something.
+enum Large {
+    /// So many elements, each but the first below another.
+    Levels(u32),
+    /// A root with so many attributes of different names, and then this line.
+    Attributes(u32, &'static str),
+    /// A root with children, so many elements in all, and then this line.
+    Elements(u32, &'static str),
 }
 
-/// A root with so many attributes of different names, and then this item.
-fn attributed(alloc: Global, count: u32, last: Item) -> Result<Items, Fail> {
-    let mut items = Items::new(alloc);
-    items.push(Item::Start(Text::new(alloc, "r")?))?;
+fn push_start(alloc: Global, items: &mut Items) -> Result<(), AllocError> {
+    let name = Text::new(alloc, "n")?;
+    items.push(Item::Start(name))
+}
+
+fn push_end(alloc: Global, items: &mut Items) -> Result<(), AllocError> {
+    let name = Text::new(alloc, "n")?;
+    items.push(Item::Close(name))
+}
+
+fn push_attribute(alloc: Global, items: &mut Items, number: u32) -> Result<(), AllocError> {
+    let name = Text::from_string(format!(in alloc; "a{number}")?)?;
+    let value = Text::new(alloc, "")?;
+    items.push(Item::Attr(name, value))
+}
+
+/// Elements, each but the first below another.
+fn push_levels(alloc: Global, items: &mut Items, levels: u32) -> Result<(), AllocError> {
+    for _ in 0..levels {
+        push_start(alloc, items)?;
+    }
+    for _ in 0..levels {
+        push_end(alloc, items)?;
+    }
+    Ok(())
+}
+
+fn push_attributes(alloc: Global, items: &mut Items, count: u32) -> Result<(), AllocError> {
     for number in 0..count {
-        let name = format!(in alloc; "a{number}")?;
-        items.push(Item::Attr(Text::from_string(name)?, Text::new(alloc, "")?))?;
+        push_attribute(alloc, items, number)?;
     }
-    items.push(last)?;
-    items.push(Item::Close(Text::new(alloc, "r")?))?;
-    Ok(items)
+    Ok(())
 }
 
-/// A root with children, so many nodes in all, and then this item.
-fn wide(alloc: Global, nodes: u32, last: Item) -> Result<Items, Fail> {
+/// The elements below a root, so many with it.
+fn push_children(alloc: Global, items: &mut Items, count: u32) -> Result<(), AllocError> {
+    for _ in 1..count {
+        push_start(alloc, items)?;
+        push_end(alloc, items)?;
+    }
+    Ok(())
+}
+
+/// Puts the items of a large document behind others.
+fn push_large(alloc: Global, items: &mut Items, large: &Large) -> Result<(), AllocError> {
+    let last = match large {
+        Large::Levels(levels) => return push_levels(alloc, items, *levels),
+        Large::Attributes(count, last) => {
+            push_start(alloc, items)?;
+            push_attributes(alloc, items, *count)?;
+            last
+        }
+        Large::Elements(count, last) => {
+            push_start(alloc, items)?;
+            push_children(alloc, items, *count)?;
+            last
+        }
+    };
+    push_line(alloc, items, last)?;
+    push_end(alloc, items)
+}
+
+fn large_items(alloc: Global, large: &Large) -> Result<Items, AllocError> {
     let mut items = Items::new(alloc);
-    items.push(Item::Start(Text::new(alloc, "r")?))?;
-    for _ in 1..nodes {
-        items.push(Item::Start(Text::new(alloc, "b")?))?;
-        items.push(Item::Close(Text::new(alloc, "b")?))?;
-    }
-    items.push(last)?;
-    items.push(Item::Close(Text::new(alloc, "r")?))?;
+    push_large(alloc, &mut items, large)?;
     Ok(items)
 }
 
+/// Large documents, and the item and the reason by which they are refused.
+const LIMITS: &[(Large, Option<(u32, TreeReason)>)] = &[
+    (Large::Levels(128), None),
+    (Large::Levels(129), Some((128, TreeReason::TooDeep))),
+    (Large::Attributes(256, "?p"), None),
+    (
+        Large::Attributes(257, "?p"),
+        Some((0, TreeReason::Name(NameReason::TooManyAttributes))),
+    ),
+    (
+        Large::Attributes(257, "Aa7 "),
+        Some((0, TreeReason::Name(NameReason::DoubleAttribute))),
+    ),
+    (Large::Elements(131_071, "-x"), None),
+    (
+        Large::Elements(131_072, "-x"),
+        Some((262_143, TreeReason::TooManyNodes)),
+    ),
+];
+
 #[test]
-fn keeps_the_limits_of_depth_and_attributes(rt: HostRuntime) -> Result<(), Fail> {
-    let alloc = rt.alloc();
-    let many = Some((0, TreeReason::Name(NameReason::TooManyAttributes)));
-    let double = Some((0, TreeReason::Name(NameReason::DoubleAttribute)));
-    let again = Item::Attr(Text::new(alloc, "a7")?, Text::new(alloc, "")?);
-    assert!(rt; fault_of(alloc, &nested(alloc, 128)?)?.is_none());
-    assert!(rt; fault_of(alloc, &nested(alloc, 129)?)? == Some((128, TreeReason::TooDeep)));
-    assert!(rt; fault_of(alloc, &attributed(alloc, 256, Item::Instruction)?)?.is_none());
-    assert!(rt; fault_of(alloc, &attributed(alloc, 257, Item::Instruction)?)? == many);
-    assert!(rt; fault_of(alloc, &attributed(alloc, 257, again)?)? == double);
+fn keeps_its_limits(rt: HostRuntime) -> Result<(), Fail> {
+    for (large, found) in LIMITS {
+        let items = large_items(rt.alloc(), large)?;
+        assert!(rt; fault_of(rt.alloc(), &items)? == *found);
+    }
     Ok(())
 }
 
-#[test]
-fn keeps_the_limit_of_nodes(rt: HostRuntime) -> Result<(), Fail> {
-    let alloc = rt.alloc();
-    let many = Some((262_143, TreeReason::TooManyNodes));
-    let last = wide(alloc, 131_071, Item::Chars(Text::new(alloc, "x")?))?;
-    assert!(rt; fault_of(alloc, &last)?.is_none());
-    let more = wide(alloc, 131_072, Item::Chars(Text::new(alloc, "x")?))?;
-    assert!(rt; fault_of(alloc, &more)? == many);
-    Ok(())
+const MISMATCH: TreeFault = TreeFault {
+    item: 1,
+    reason: TreeReason::EndMismatch,
+};
+
+/// Lines, one after another, and the fault that a builder answers.
+const TURNS: &[(&str, Option<TreeFault>)] = &[
+    ("?p", None),
+    (")r", Some(MISMATCH)),
+    ("?p", Some(MISMATCH)),
+];
+
+/// The fault that a builder answers to an item.
+fn fault_at(builder: &mut Builder, item: &Item) -> Result<Option<TreeFault>, AllocError> {
+    match builder.item(item)? {
+        Ok(()) => Ok(None),
+        Err(fault) => Ok(Some(fault)),
+    }
+}
+
+/// The fault that a builder answers to a line.
+fn fault_behind(
+    alloc: Global,
+    builder: &mut Builder,
+    line: &str,
+) -> Result<Option<TreeFault>, AllocError> {
+    match read_item(alloc, true, line.as_bytes())? {
+        Ok(item) => fault_at(builder, &item),
+        Err(_) => Ok(None),
+    }
+}
+
+/// How many lines there are before the first that is not answered so.
+fn answered(alloc: Global, builder: &mut Builder) -> Result<usize, AllocError> {
+    for (place, (line, fault)) in TURNS.iter().enumerate() {
+        if fault_behind(alloc, builder, line)? != *fault {
+            return Ok(place);
+        }
+    }
+    Ok(TURNS.len())
+}
+
+fn fault_at_end(builder: Builder) -> Result<Option<TreeFault>, AllocError> {
+    match builder.finish()? {
+        Ok(_) => Ok(None),
+        Err(fault) => Ok(Some(fault)),
+    }
 }
 
 #[test]
 fn keeps_its_fault(rt: HostRuntime) -> Result<(), Fail> {
-    let fault = Some(TreeFault {
-        item: 1,
-        reason: TreeReason::EndMismatch,
-    });
     let prefixes = Prefixes::new(rt.alloc())?;
-    let end = Item::Close(Text::new(rt.alloc(), "r")?);
     let mut builder = Builder::new(rt.alloc(), Rules::document(), prefixes);
-    assert!(rt; builder.item(&Item::Instruction)?.is_ok());
-    assert!(rt; builder.item(&end)?.err() == fault);
-    assert!(rt; builder.item(&Item::Instruction)?.err() == fault);
-    assert!(rt; builder.finish()?.err() == fault);
+    assert_eq!(rt; answered(rt.alloc(), &mut builder)?, 3);
+    assert!(rt; fault_at_end(builder)? == Some(MISMATCH));
     Ok(())
 }
 
-/// The nodes of a block outside of all elements; nothing where the items are not one element.
-fn block_of(alloc: Global, lines: &[&str]) -> Result<String, Fail> {
-    let items = items_of(alloc, lines)?;
-    if !is_one_element(alloc, items.as_slice())? {
+/// The nodes of a block in a scope; nothing where the items are not one element.
+fn block_shown(alloc: Global, scope: &Prefixes, items: &[Item]) -> Result<String, AllocError> {
+    if !is_one_element(alloc, items)? {
         return Ok(String::new(alloc));
     }
-    let rows = build_block(alloc, &Prefixes::new(alloc)?, items.as_slice())?;
+    let rows = build_block(alloc, scope, items)?;
     shown(alloc, rows.as_slice())
+}
+
+/// The nodes of a block outside of all elements.
+fn shown_alone(alloc: Global, items: &[Item]) -> Result<String, AllocError> {
+    match Prefixes::new(alloc) {
+        Ok(scope) => block_shown(alloc, &scope, items),
+        Err(error) => Err(error),
+    }
 }
 
 /// The lines of a block, and whether they are one element.
@@ -264,15 +366,21 @@ const BLOCKS: &[(&[&str], bool)] = &[
     (&["(a", "end", ")a"], false),
 ];
 
-const NAMED_BLOCK: &[&str] = &["(p:a", "Axmlns:p u", "-t", "(q:b", ")q:b", ")p:a"];
-
 #[test]
-fn builds_blocks_of_one_element(rt: HostRuntime) -> Result<(), Fail> {
+fn knows_blocks_of_one_element(rt: HostRuntime) -> Result<(), Fail> {
     for (lines, one) in BLOCKS {
         let items = items_of(rt.alloc(), lines)?;
         assert!(rt; is_one_element(rt.alloc(), items.as_slice())? == *one);
     }
-    let nodes = block_of(rt.alloc(), NAMED_BLOCK)?;
+    Ok(())
+}
+
+const NAMED_BLOCK: &[&str] = &["(p:a", "Axmlns:p u", "-t", "(q:b", ")q:b", ")p:a"];
+
+#[test]
+fn builds_a_block(rt: HostRuntime) -> Result<(), Fail> {
+    let items = items_of(rt.alloc(), NAMED_BLOCK)?;
+    let nodes = shown_alone(rt.alloc(), items.as_slice())?;
     assert!(rt; nodes.as_str() == "1.1 {u}a 2.2 't' 3.2 b ");
     Ok(())
 }

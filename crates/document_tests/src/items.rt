@@ -1,7 +1,8 @@
 ghost use Rattle.std.specs.Prelude.{◌<◌};
 
 use item_listing::{
-    Item, Items, Listing, ListingFault, MOST_BYTES, MOST_LINE, Reason, read_item, unescape,
+    Item, Items, Listing, ListingFault, Locations, MOST_BYTES, MOST_LINE, Reason, read_item,
+    unescape,
 };
 use std::alloc::{AllocError, Global};
 use std::test::Fail;
@@ -47,38 +48,53 @@ fn is_attribute(item: &Item, name: &str, value: &str) -> bool {
     }
 }
 
-fn is_schema_of_three(item: &Item) -> bool {
-    match item {
-        Item::Schema(locations) => {
-            locations.len() == 3
-                && locations.contains("a")
-                && locations.contains("")
-                && locations.contains("b")
+/// What a line says: an attribute, the locations of a schema section (each once), a command, or where a document begins.
+enum Said {
+    Attribute(&'static str, &'static str),
+    Schema(&'static [&'static str]),
+    Command(&'static str),
+    Document,
+}
+
+fn are_locations(locations: &Locations, wanted: &[&str]) -> bool {
+    if locations.len() != wanted.len() {
+        return false;
+    }
+    for location in wanted {
+        if !locations.contains(location) {
+            return false;
         }
+    }
+    true
+}
+
+fn says(item: &Item, said: &Said) -> bool {
+    match (item, said) {
+        (_, Said::Attribute(name, value)) => is_attribute(item, name, value),
+        (Item::Schema(locations), Said::Schema(wanted)) => are_locations(locations, wanted),
+        (Item::Command(text), Said::Command(line)) => text.as_str() == *line,
+        (Item::Document, Said::Document) => true,
         _ => false,
     }
 }
 
-fn is_command(item: &Item, line: &str) -> bool {
-    match item {
-        Item::Command(text) => text.as_str() == line,
-        _ => false,
-    }
-}
-
-/// The item of a line, if it has one.
-fn item_of(alloc: Global, tag_open: bool, line: &[u8]) -> Result<Item, Fail> {
-    Ok(read_item(alloc, tag_open, line)?.ok().ok_or("no item")?)
-}
+/// Lines, each with whether an attribute may follow what came before, and what they say.
+const SAID: &[(bool, &[u8], Said)] = &[
+    (true, b"Aname a\\nb c", Said::Attribute("name", "a\nb c")),
+    (false, b"schema\ta\t\tb", Said::Schema(&["a", "", "b"])),
+    (false, b"schema", Said::Command("schema")),
+    (false, b"document", Said::Document),
+];
 
 #[test]
 fn reads_what_lines_say(rt: HostRuntime) -> Result<(), Fail> {
-    let alloc = rt.alloc();
-    assert!(rt; is_attribute(&item_of(alloc, true, b"Aname a\\nb c")?, "name", "a\nb c"));
-    assert!(rt; is_schema_of_three(&item_of(alloc, false, b"schema\ta\t\tb")?));
-    assert!(rt; is_command(&item_of(alloc, false, b"schema")?, "schema"));
-    assert!(rt; matches!(&item_of(alloc, false, b"document")?, Item::Document));
-    assert!(rt; unescape(alloc, "a\\q")?.is_none());
+    for (tag_open, line, said) in SAID {
+        let item = read_item(rt.alloc(), *tag_open, line)?
+            .ok()
+            .ok_or("no item")?;
+        assert!(rt; says(&item, said));
+    }
+    assert!(rt; unescape(rt.alloc(), "a\\q")?.is_none());
     Ok(())
 }
 
@@ -98,6 +114,25 @@ fn take_items(
     Ok(None)
 }
 
+/// Takes the items of a stream that comes in pieces of this size, and answers the fault after them.
+fn take_stream(
+    listing: &mut Listing,
+    items: &mut Items,
+    stream: &[u8],
+    size: usize,
+) -> Result<Option<ListingFault>, AllocError>
+    requires { 0 < size }
+{
+    for piece in stream.chunks(size) {
+        listing.feed(piece)?;
+        if let Some(fault) = take_items(listing, items, 100)? {
+            return Ok(Some(fault));
+        }
+    }
+    listing.finish();
+    take_items(listing, items, 100)
+}
+
 /// The items of a stream that comes in pieces of this size, and the fault after them.
 fn read_stream(
     alloc: Global,
@@ -108,15 +143,8 @@ fn read_stream(
 {
     let mut listing = Listing::new(alloc);
     let mut items = Items::new(alloc);
-    for piece in stream.chunks(size) {
-        listing.feed(piece)?;
-        if let Some(fault) = take_items(&mut listing, &mut items, 100)? {
-            return Ok((items, Some(fault)));
-        }
-    }
-    listing.finish();
-    let last = take_items(&mut listing, &mut items, 100)?;
-    Ok((items, last))
+    let fault = take_stream(&mut listing, &mut items, stream, size)?;
+    Ok((items, fault))
 }
 
 /// Whether the items are those of the first stream of the table.
@@ -160,98 +188,111 @@ const STREAMS: &[(&[u8], usize, Option<(u32, Reason)>)] = &[
     (b"Ax 1\nend\nx", 0, Some((1, Reason::BadAttributePlace))),
 ];
 
-/// Whether a stream that comes in pieces of this size has so many items and then this fault.
-fn is_read(
+/// How many items a stream has that comes in pieces of this size, and the line and the reason of the fault after them.
+fn read_of(
     alloc: Global,
     stream: &[u8],
     size: usize,
-    count: usize,
-    fault: Option<(u32, Reason)>,
-) -> Result<bool, AllocError>
+) -> Result<(usize, Option<(u32, Reason)>), AllocError>
     requires { 0 < size }
 {
-    let (items, found) = read_stream(alloc, stream, size)?;
-    Ok(items.len() == count && found.map(|f| (f.line, f.reason)) == fault)
+    let (items, fault) = read_stream(alloc, stream, size)?;
+    let fault = match fault {
+        None => None,
+        Some(fault) => Some((fault.line, fault.reason)),
+    };
+    Ok((items.len(), fault))
 }
 
 #[test]
 fn reads_a_stream_whole_and_byte_by_byte(rt: HostRuntime) -> Result<(), Fail> {
     for (stream, count, fault) in STREAMS {
-        assert!(rt; is_read(rt.alloc(), stream, 100, *count, *fault)?);
-        assert!(rt; is_read(rt.alloc(), stream, 1, *count, *fault)?);
+        assert!(rt; read_of(rt.alloc(), stream, 100)? == (*count, *fault));
+        assert!(rt; read_of(rt.alloc(), stream, 1)? == (*count, *fault));
     }
+    Ok(())
+}
+
+#[test]
+fn reads_the_items_of_a_stream(rt: HostRuntime) -> Result<(), Fail> {
     let (items, _) = read_stream(rt.alloc(), b"(a\r\nAx 1\n-t\r\n)a\nend\n", 1)?;
     assert!(rt; is_small_tree(items.as_slice()) && !items.is_empty());
     Ok(())
 }
 
+/// The next answer of a listing: whether there is an item, or the line and the reason of its fault.
+type Answer = Result<bool, (u32, Reason)>;
+
+fn next_answer(listing: &mut Listing) -> Result<Answer, AllocError> {
+    match listing.next_item()? {
+        Ok(item) => Ok(Ok(item.is_some())),
+        Err(fault) => Ok(Err((fault.line, fault.reason))),
+    }
+}
+
+/// The answer behind one more piece.
+fn answer_behind(listing: &mut Listing, piece: &[u8]) -> Result<Answer, AllocError> {
+    listing.feed(piece)?;
+    next_answer(listing)
+}
+
 #[test]
 fn answers_a_fault_again(rt: HostRuntime) -> Result<(), Fail> {
-    let alloc = rt.alloc();
-    let mut listing = Listing::new(alloc);
-    listing.feed(b"(a\n(")?;
+    let missing = Err((2, Reason::EndMissing));
+    let mut listing = Listing::new(rt.alloc());
+    assert!(rt; answer_behind(&mut listing, b"(a\n(")? == Ok(true));
     listing.finish();
-    assert!(rt; matches!(listing.next_item()?, Ok(Some(_))));
     assert_eq!(rt; listing.line_count(), 1);
-    for _ in 0..2u8 {
-        let fault = ListingFault {
-            line: 2,
-            reason: Reason::EndMissing,
-        };
-        assert_eq!(rt; listing.next_item()?.err(), Some(fault));
-        listing.feed(b"b\nend\n")?;
-    }
+    assert!(rt; next_answer(&mut listing)? == missing);
+    assert!(rt; answer_behind(&mut listing, b"b\nend\n")? == missing);
     Ok(())
 }
 
-/// A line of text of so many bytes, without its line feed.
-fn long_line(alloc: Global, count: usize) -> Result<Vec<u8>, AllocError> {
-    Vec::from_elem(alloc, b'-', count)
+/// A piece of so many bytes of text, and this end.
+fn long_piece(alloc: Global, count: usize, end: &[u8]) -> Result<Vec<u8>, AllocError> {
+    let mut piece = Vec::from_elem(alloc, b'-', count)?;
+    piece.extend_from_slice(end)?;
+    Ok(piece)
 }
 
-/// Feeds a line so many times, and answers how many items there were and the fault after them.
-fn feed_again(
-    alloc: Global,
-    line: &[u8],
-    times: usize,
-) -> Result<(Listing, Option<ListingFault>), AllocError> {
-    let mut listing = Listing::new(alloc);
-    for _ in 0..times {
-        listing.feed(line)?;
-        if let Err(fault) = listing.next_item()? {
-            return Ok((listing, Some(fault)));
-        }
-    }
-    Ok((listing, None))
-}
-
-/// Whether the listing's next answer is this fault.
-fn is_at_fault(listing: &mut Listing, line: u32, reason: Reason) -> Result<bool, AllocError> {
-    Ok(listing.next_item()?.err() == Some(ListingFault { line, reason }))
-}
+/// Pieces of a stream, one after another, each with the answer behind it.
+const PIECES: &[(usize, &[u8], Answer)] = &[
+    (MOST_LINE, b"", Ok(false)),
+    (0, b"\n-", Ok(true)),
+    (MOST_LINE - 1, b"", Ok(false)),
+    (0, b"-", Err((2, Reason::LineTooLong))),
+];
 
 #[test]
 fn ends_lines_at_their_limit(rt: HostRuntime) -> Result<(), Fail> {
     let mut listing = Listing::new(rt.alloc());
-    listing.feed(&long_line(rt.alloc(), MOST_LINE)?)?;
-    assert!(rt; matches!(listing.next_item()?, Ok(None)));
-    listing.feed(b"\n-")?;
-    assert!(rt; matches!(listing.next_item()?, Ok(Some(_))));
-    listing.feed(&long_line(rt.alloc(), MOST_LINE - 1)?)?;
-    assert!(rt; matches!(listing.next_item()?, Ok(None)));
-    listing.feed(b"-")?;
-    assert!(rt; is_at_fault(&mut listing, 2, Reason::LineTooLong)?);
+    for (count, end, answer) in PIECES {
+        let piece = long_piece(rt.alloc(), *count, end)?;
+        assert!(rt; answer_behind(&mut listing, &piece)? == *answer);
+    }
     Ok(())
+}
+
+/// Feeds a line so many times, and answers how often there was an item then.
+fn feed_again(listing: &mut Listing, line: &[u8], times: usize) -> Result<usize, AllocError> {
+    for time in 0..times {
+        if answer_behind(listing, line)? != Ok(true) {
+            return Ok(time);
+        }
+    }
+    Ok(times)
 }
 
 #[test]
 fn ends_streams_at_their_limit(rt: HostRuntime) -> Result<(), Fail> {
-    let mut line = long_line(rt.alloc(), MOST_LINE - 1)?;
-    line.push(b'\n')?;
-    let (mut listing, fault) = feed_again(rt.alloc(), &line, MOST_BYTES / MOST_LINE)?;
-    assert!(rt; fault.is_none() && listing.line_count() == 64);
-    assert!(rt; matches!(listing.next_item()?, Ok(None)));
-    listing.feed(b"\n")?;
-    assert!(rt; is_at_fault(&mut listing, 65, Reason::TooManyBytes)?);
+    let line = long_piece(rt.alloc(), MOST_LINE - 1, b"\n")?;
+    let mut listing = Listing::new(rt.alloc());
+    assert_eq!(rt;
+        feed_again(&mut listing, &line, MOST_BYTES / MOST_LINE)?,
+        64
+    );
+    assert_eq!(rt; listing.line_count(), 64);
+    assert!(rt; next_answer(&mut listing)? == Ok(false));
+    assert!(rt; answer_behind(&mut listing, b"\n")? == Err((65, Reason::TooManyBytes)));
     Ok(())
 }

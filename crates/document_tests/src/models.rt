@@ -23,72 +23,109 @@ fn occurs(sign: char) -> Occurs {
     }
 }
 
-/// Puts a finished group in front of the particles behind it.
-fn close(
-    alloc: Global,
-    open: &mut Vec<Open>,
-    done: Open,
-) -> Result<Option<ContentModel>, AllocError> {
-    let Open {
-        compositor,
-        occurs,
-        particles,
-    } = done;
-    match open.pop() {
-        None => Ok(model(compositor, particles)),
-        Some(outer) => {
-            let particles = Particles::group(
-                alloc,
-                compositor,
-                occurs,
-                particles,
-                outer.particles,
-            )?;
-            open.push(Open {
-                compositor: outer.compositor,
-                occurs: outer.occurs,
-                particles,
-            })?;
-            Ok(None)
+/// What is read of a content model from its end.
+#[derive(Drop)]
+struct Reading {
+    open: Vec<Open>,
+    sign: char,
+}
+
+impl Reading {
+    /// Reads on at this character. The model, where it is whole.
+    fn take(&mut self, alloc: Global, c: char) -> Result<Option<ContentModel>, AllocError> {
+        match c {
+            '?' | '*' | '+' => self.sign = c,
+            ')' => self.begin()?,
+            '(' => return self.close(alloc),
+            '|' => self.choose(),
+            ',' => {}
+            _ => self.put_element(alloc, c)?,
+        }
+        Ok(None)
+    }
+
+    fn begin(&mut self) -> Result<(), AllocError> {
+        let occurs = occurs(self.sign);
+        self.sign = ' ';
+        self.open.push(Open {
+            compositor: Compositor::Sequence,
+            occurs,
+            particles: Particles::none(),
+        })?;
+        Ok(())
+    }
+
+    fn choose(&mut self) {
+        if let Some(inner) = self.open.last_mut() {
+            inner.compositor = Compositor::Choice;
+        }
+    }
+
+    /// Puts an element in front of the innermost group.
+    fn put_element(&mut self, alloc: Global, letter: char) -> Result<(), AllocError> {
+        let name = named(alloc, letter)?;
+        let occurs = occurs(self.sign);
+        self.sign = ' ';
+        if let Some(inner) = self.open.pop() {
+            self.open.push(with_element(alloc, inner, name, occurs)?)?;
+        }
+        Ok(())
+    }
+
+    /// Puts a finished group in front of the particles behind it.
+    fn close(&mut self, alloc: Global) -> Result<Option<ContentModel>, AllocError> {
+        let Some(done) = self.open.pop() else {
+            return Ok(None);
+        };
+        match self.open.pop() {
+            None => Ok(model(done.compositor, done.particles)),
+            Some(outer) => {
+                self.open.push(with_group(alloc, outer, done)?)?;
+                Ok(None)
+            }
         }
     }
 }
 
+fn with_element(
+    alloc: Global,
+    inner: Open,
+    name: Text,
+    occurs: Occurs,
+) -> Result<Open, AllocError> {
+    let declaration = inner.particles.count();
+    let particles = Particles::element(alloc, name, declaration, occurs, inner.particles)?;
+    Ok(Open {
+        compositor: inner.compositor,
+        occurs: inner.occurs,
+        particles,
+    })
+}
+
+fn with_group(alloc: Global, outer: Open, done: Open) -> Result<Open, AllocError> {
+    let particles = Particles::group(
+        alloc,
+        done.compositor,
+        done.occurs,
+        done.particles,
+        outer.particles,
+    )?;
+    Ok(Open {
+        compositor: outer.compositor,
+        occurs: outer.occurs,
+        particles,
+    })
+}
+
 /// Reads a content model in the notation of a DTD, with one letter a name, from its end.
 fn read_model(alloc: Global, text: &str) -> Result<Option<ContentModel>, AllocError> {
-    let mut open: Vec<Open> = Vec::new(alloc);
-    let mut sign = ' ';
+    let mut reading = Reading {
+        open: Vec::new(alloc),
+        sign: ' ',
+    };
     for c in text.chars().rev() {
-        if c == ')' {
-            open.push(Open {
-                compositor: Compositor::Sequence,
-                occurs: occurs(sign),
-                particles: Particles::none(),
-            })?;
-            sign = ' ';
-        } else if c == '?' || c == '*' || c == '+' {
-            sign = c;
-        } else if let Some(mut inner) = open.pop() {
-            if c == '(' {
-                if let Some(found) = close(alloc, &mut open, inner)? {
-                    return Ok(Some(found));
-                }
-            } else {
-                if c == '|' {
-                    inner.compositor = Compositor::Choice;
-                } else if c != ',' {
-                    let declaration = inner.particles.count();
-                    inner.particles = Particles::element(
-                        alloc,
-                        named(alloc, c)?,
-                        declaration,
-                        occurs(sign),
-                        inner.particles,
-                    )?;
-                    sign = ' ';
-                }
-                open.push(inner)?;
-            }
+        if let Some(found) = reading.take(alloc, c)? {
+            return Ok(Some(found));
         }
     }
     Ok(None)
@@ -105,19 +142,29 @@ fn model(compositor: Compositor, particles: Particles) -> Option<ContentModel> {
 fn names(alloc: Global, letters: &str) -> Result<Texts, AllocError> {
     let mut names = Texts::new(alloc);
     for letter in letters.chars() {
-        names.push(named(alloc, letter)?)?;
+        let name = named(alloc, letter)?;
+        names.push(name)?;
     }
     Ok(names)
 }
 
+/// The model of this text.
+fn model_of(alloc: Global, text: &str) -> Result<ContentModel, Fail> {
+    Ok(read_model(alloc, text)?.ok_or("no model")?)
+}
+
 /// Asserts stuck places: each row has names of one letter, a colon, and the stuck place if there is one.
-fn assert_stuck(rt: &impl Abort, alloc: Global, model: &str, rows: &str) -> Result<(), Fail> {
-    let found = read_model(alloc, model)?.ok_or("no model")?;
+fn assert_stuck(
+    rt: &impl Abort,
+    alloc: Global,
+    model: &ContentModel,
+    rows: &str,
+) -> Result<(), Fail> {
     for row in rows.split_whitespace() {
         let (letters, place) = row.split_once(':').ok_or("no colon")?;
         let names = names(alloc, letters)?;
         assert!(rt; names.len() < 100);
-        assert_eq!(rt; found.stuck(&names), place.parse().ok(), "{model} {row}");
+        assert_eq!(rt; model.stuck(&names), place.parse().ok(), "{row}");
     }
     Ok(())
 }
@@ -161,8 +208,9 @@ const STUCK: &[(&str, &str)] = &[
 
 #[test]
 fn finds_stuck_places(rt: HostRuntime) -> Result<(), Fail> {
-    for (model, rows) in STUCK {
-        assert_stuck(&rt, rt.alloc(), model, rows)?;
+    for (text, rows) in STUCK {
+        let model = model_of(rt.alloc(), text)?;
+        assert_stuck(&rt, rt.alloc(), &model, rows)?;
     }
     Ok(())
 }
@@ -180,9 +228,9 @@ const NO_MODELS: &[&str] = &["()", "(a,())", "(a,b,a)", "((a|b),(c|a))"];
 
 #[test]
 fn makes_models(rt: HostRuntime) -> Result<(), Fail> {
-    let found = read_model(rt.alloc(), "(a,(b|c))")?.ok_or("no model")?;
+    let model = model_of(rt.alloc(), "(a,(b|c))")?;
     for (name, number) in DECLARATIONS {
-        assert!(rt; found.declaration_of(name) == *number);
+        assert!(rt; model.declaration_of(name) == *number);
     }
     for text in NO_MODELS {
         assert!(rt; read_model(rt.alloc(), text)?.is_none());
@@ -190,13 +238,45 @@ fn makes_models(rt: HostRuntime) -> Result<(), Fail> {
     Ok(())
 }
 
+/// What may come behind a name of `(a,b?)`, or at the beginning: a name, or the end.
+const STEPS: &[(Option<char>, Option<char>, bool)] = &[
+    (None, Some('a'), true),
+    (Some('a'), Some('b'), true),
+    (None, Some('b'), false),
+    (Some('a'), Some('a'), false),
+    (Some('a'), None, true),
+    (Some('b'), None, true),
+    (None, None, false),
+];
+
+/// The name of this letter.
+fn maybe_named(alloc: Global, letter: Option<char>) -> Result<Option<Text>, AllocError> {
+    match letter {
+        None => Ok(None),
+        Some(letter) => Ok(Some(named(alloc, letter)?)),
+    }
+}
+
+/// Whether the second name, or the end, may come behind the first.
+fn may_come(
+    alloc: Global,
+    model: &ContentModel,
+    before: Option<char>,
+    name: Option<char>,
+) -> Result<bool, AllocError> {
+    let before = maybe_named(alloc, before)?;
+    let name = maybe_named(alloc, name)?;
+    Ok(match name.as_ref() {
+        None => model.may_stop(before.as_ref()),
+        Some(name) => model.may_come(before.as_ref(), name),
+    })
+}
+
 #[test]
 fn steps_from_name_to_name(rt: HostRuntime) -> Result<(), Fail> {
-    let found = read_model(rt.alloc(), "(a,b?)")?.ok_or("no model")?;
-    let a = named(rt.alloc(), 'a')?;
-    let b = named(rt.alloc(), 'b')?;
-    assert!(rt; found.may_come(None, &a) && found.may_come(Some(&a), &b));
-    assert!(rt; !found.may_come(None, &b) && !found.may_come(Some(&a), &a));
-    assert!(rt; found.may_stop(Some(&a)) && found.may_stop(Some(&b)) && !found.may_stop(None));
+    let model = model_of(rt.alloc(), "(a,b?)")?;
+    for (before, name, may) in STEPS {
+        assert!(rt; may_come(rt.alloc(), &model, *before, *name)? == *may);
+    }
     Ok(())
 }

@@ -1,66 +1,149 @@
-use std::alloc::Global;
+use std::alloc::{AllocError, Global};
+use std::process::Abort;
 use std::test::Fail;
-use tag_names::{AttributeLine, AttributeLines, NameReason, Prefixes, Tag};
+use tag_names::{AttributeLine, AttributeLines, JudgedTag, NameReason, Named, Prefixes, Tag};
 use tree_rows::{Binding, Expanded};
 use xs_names::{Text, TextPool, XML_NAMESPACE, XMLNS_NAMESPACE};
 
+/// The attribute line of this name and value.
+fn attribute_line(alloc: Global, name: &str, value: &str) -> Result<AttributeLine, AllocError> {
+    let name = Text::new(alloc, name)?;
+    let value = Text::new(alloc, value)?;
+    Ok(AttributeLine { name, value })
+}
+
+/// Puts an attribute line at the end.
+fn push_line(
+    alloc: Global,
+    lines: &mut AttributeLines,
+    name: &str,
+    value: &str,
+) -> Result<(), AllocError> {
+    let line = attribute_line(alloc, name, value)?;
+    lines.push(line)
+}
+
 /// A tag of this name with these attribute lines.
-fn tag_of(alloc: Global, name: &str, lines: &[(&str, &str)]) -> Result<Tag, Fail> {
+fn tag_of(alloc: Global, name: &str, lines: &[(&str, &str)]) -> Result<Tag, AllocError> {
     let mut attributes = AttributeLines::new(alloc);
     for (name, value) in lines {
-        attributes.push(AttributeLine {
-            name: Text::new(alloc, name)?,
-            value: Text::new(alloc, value)?,
-        })?;
+        push_line(alloc, &mut attributes, name, value)?;
     }
-    Ok(Tag {
-        name: Text::new(alloc, name)?,
-        attributes,
-    })
+    let name = Text::new(alloc, name)?;
+    Ok(Tag { name, attributes })
 }
 
-fn binding(alloc: Global, prefix: &str, namespace: &str) -> Result<Binding, Fail> {
-    Ok(Binding {
-        prefix: Text::new(alloc, prefix)?,
-        namespace: Text::new(alloc, namespace)?,
-    })
+/// Binds a prefix to a namespace.
+fn bind(
+    alloc: Global,
+    scope: &mut Prefixes,
+    prefix: &str,
+    namespace: &str,
+) -> Result<(), AllocError> {
+    let prefix = Text::new(alloc, prefix)?;
+    let namespace = Text::new(alloc, namespace)?;
+    scope.bind(Binding { prefix, namespace })
 }
 
-/// Whether a name is written so.
-fn is_named(alloc: Global, name: &Expanded, text: &str) -> Result<bool, Fail> {
-    Ok(name.clark_name(alloc)?.as_str() == text)
+/// The scope in which `p` is bound to `u`.
+fn scope_of_p(alloc: Global) -> Result<Prefixes, AllocError> {
+    let mut scope = Prefixes::new(alloc)?;
+    bind(alloc, &mut scope, "p", "u")?;
+    Ok(scope)
 }
 
-/// Whether the prefix is bound to this namespace.
-fn is_bound_to(scope: &Prefixes, prefix: &str, namespace: &str) -> bool {
-    match scope.of_prefix(prefix) {
-        None => false,
-        Some(space) => space.as_str() == namespace,
+/// What the tag is in a scope.
+fn judged(alloc: Global, scope: &Prefixes, tag: &Tag) -> Result<JudgedTag, AllocError> {
+    let mut pool = TextPool::new(alloc);
+    tag.judge(alloc, scope, &mut pool)
+}
+
+/// The names of a tag, or the first reason against it, with no prefix bound around it.
+fn resolved(alloc: Global, tag: &Tag) -> Result<Result<Named, NameReason>, AllocError> {
+    let scope = Prefixes::new(alloc)?;
+    let mut pool = TextPool::new(alloc);
+    tag.resolve(alloc, &scope, &mut pool)
+}
+
+/// The first reason against a tag, with no prefix bound around it.
+fn reason_of(alloc: Global, tag: &Tag) -> Result<Option<NameReason>, AllocError> {
+    let end = resolved(alloc, tag)?;
+    Ok(end.err())
+}
+
+/// Whether the prefix is bound to this namespace, or to none.
+fn is_bound_to(scope: &Prefixes, prefix: &str, namespace: Option<&str>) -> bool {
+    match (scope.of_prefix(prefix), namespace) {
+        (None, None) => true,
+        (Some(space), Some(namespace)) => space.as_str() == namespace,
+        _ => false,
     }
 }
 
 /// Bindings of one prefix, the later hiding the earlier, and of the default namespace.
 const HIDING: &[(&str, &str)] = &[("xmlns:p", "v"), ("xmlns:p", "w"), ("xmlns", "d")];
 
+/// Puts the bindings of a tag behind those of a scope.
+fn bind_tag(alloc: Global, scope: &mut Prefixes, tag: &Tag) -> Result<(), AllocError> {
+    let judged = judged(alloc, scope, tag)?;
+    scope.bind_all(judged.named.bindings.as_slice())
+}
+
+/// Lengths to which the scope is cut, one after another, with a prefix and what it is bound to then.
+const CUTS: &[(usize, &str, Option<&str>)] = &[
+    (5, "p", Some("v")),
+    (5, "", Some("d")),
+    (4, "p", Some("w")),
+    (3, "p", Some("u")),
+    (3, "", Some("d")),
+    (1, "p", None),
+    (1, "", None),
+];
+
+fn check_hiding(rt: &impl Abort, alloc: Global, scope: &mut Prefixes) -> Result<(), Fail> {
+    let tag = tag_of(alloc, "a", HIDING)?;
+    bind_tag(alloc, scope, &tag)?;
+    assert_eq!(rt; scope.len(), 5);
+    for (length, prefix, namespace) in CUTS {
+        scope.truncate(*length);
+        assert!(rt; is_bound_to(scope, prefix, *namespace));
+    }
+    bind(alloc, scope, "q", "y")?;
+    assert!(rt; is_bound_to(scope, "q", Some("y")));
+    Ok(())
+}
+
 #[test]
 fn shows_hidden_bindings_again(rt: HostRuntime) -> Result<(), Fail> {
-    let alloc = rt.alloc();
-    let mut scope = Prefixes::new(alloc)?;
-    scope.bind(binding(alloc, "p", "u")?)?;
+    match scope_of_p(rt.alloc()) {
+        Ok(mut scope) => check_hiding(&rt, rt.alloc(), &mut scope),
+        Err(error) => Err(error.into()),
+    }
+}
+
+/// A copy of a scope, which is changed behind it.
+fn copy_before_change(alloc: Global, scope: &mut Prefixes) -> Result<Prefixes, AllocError> {
     let copy = scope.try_clone(alloc)?;
-    let tag = tag_of(alloc, "a", HIDING)?;
-    let judged = tag.judge(alloc, &scope, &mut TextPool::new(alloc))?;
-    scope.bind_all(judged.named.bindings.as_slice())?;
-    assert!(rt; is_bound_to(&scope, "p", "v") && is_bound_to(&scope, "", "d"));
-    scope.truncate(4);
-    assert!(rt; is_bound_to(&scope, "p", "w"));
-    scope.truncate(3);
-    assert!(rt; is_bound_to(&scope, "p", "u") && is_bound_to(&scope, "", "d"));
-    scope.truncate(1);
-    assert!(rt; scope.of_prefix("p").is_none() && scope.of_prefix("").is_none());
-    scope.bind(binding(alloc, "q", "y")?)?;
-    assert!(rt; is_bound_to(&scope, "q", "y"));
-    assert!(rt; is_bound_to(&copy, "p", "u") && copy.len() == 2);
+    bind(alloc, scope, "p", "v")?;
+    Ok(copy)
+}
+
+/// Whether a copy keeps its bindings where the scope is changed.
+fn is_kept(alloc: Global, scope: &mut Prefixes) -> Result<bool, AllocError> {
+    let copy = copy_before_change(alloc, scope)?;
+    Ok(is_bound_to(&copy, "p", Some("u")) && copy.len() == 2)
+}
+
+fn keeps_bindings(alloc: Global) -> Result<bool, AllocError> {
+    match scope_of_p(alloc) {
+        Ok(mut scope) => is_kept(alloc, &mut scope),
+        Err(error) => Err(error),
+    }
+}
+
+#[test]
+fn keeps_the_bindings_of_a_copy(rt: HostRuntime) -> Result<(), Fail> {
+    assert!(rt; keeps_bindings(rt.alloc())?);
     Ok(())
 }
 
@@ -73,32 +156,30 @@ const NAMED: &[(&str, &str)] = &[
     ("xml:lang", "en"),
 ];
 
-/// The names of its attributes.
-const NAMES: &[&str] = &["a", "{u}b", "{http://www.w3.org/XML/1998/namespace}lang"];
+/// The names of the element and of its attributes, as they are written.
+fn written(alloc: Global, named: &Named) -> Result<String, AllocError> {
+    let mut all = String::new(alloc);
+    push_name(alloc, &mut all, &named.name)?;
+    for attribute in named.attributes.as_slice() {
+        push_name(alloc, &mut all, &attribute.name)?;
+    }
+    Ok(all)
+}
+
+fn push_name(alloc: Global, all: &mut String, name: &Expanded) -> Result<(), AllocError> {
+    let text = name.clark_name(alloc)?;
+    all.push_str(text.as_str())?;
+    all.push(' ')
+}
 
 #[test]
 fn names_an_element(rt: HostRuntime) -> Result<(), Fail> {
-    let scope = Prefixes::new(rt.alloc())?;
     let tag = tag_of(rt.alloc(), "r", NAMED)?;
-    let mut pool = TextPool::new(rt.alloc());
-    let named = tag
-        .resolve(rt.alloc(), &scope, &mut pool)?
-        .ok()
-        .ok_or("refused")?;
-    assert!(rt; is_named(rt.alloc(), &named.name, "{d}r")?);
-    assert!(rt; named.bindings.as_slice().len() == 2 && named.attributes.as_slice().len() == 3);
-    for (attribute, text) in named.attributes.as_slice().iter().zip(NAMES) {
-        assert!(rt; is_named(rt.alloc(), &attribute.name, text)?);
-    }
+    let named = resolved(rt.alloc(), &tag)?.ok().ok_or("refused")?;
+    let names = written(rt.alloc(), &named)?;
+    assert_eq!(rt; named.bindings.as_slice().len(), 2);
+    assert!(rt; names.as_str() == "{d}r a {u}b {http://www.w3.org/XML/1998/namespace}lang ");
     Ok(())
-}
-
-/// The first reason against such a tag, with no prefix bound around it.
-fn fault_of(alloc: Global, name: &str, lines: &[(&str, &str)]) -> Result<Option<NameReason>, Fail> {
-    let scope = Prefixes::new(alloc)?;
-    let tag = tag_of(alloc, name, lines)?;
-    let end = tag.resolve(alloc, &scope, &mut TextPool::new(alloc))?;
-    Ok(end.err())
 }
 
 /// Tags, by their name and attribute lines, and why they are refused.
@@ -157,69 +238,67 @@ const REFUSED: &[(&str, &[(&str, &str)], Option<NameReason>)] = &[
 #[test]
 fn refuses_names_by_their_first_reason(rt: HostRuntime) -> Result<(), Fail> {
     for (name, lines, fault) in REFUSED {
-        assert_eq!(rt; fault_of(rt.alloc(), name, lines)?, *fault, "{name}");
+        let tag = tag_of(rt.alloc(), name, lines)?;
+        assert_eq!(rt; reason_of(rt.alloc(), &tag)?, *fault, "{name}");
     }
     Ok(())
 }
 
-/// Puts an attribute line at the end.
-fn push_line(alloc: Global, tag: &mut Tag, name: &str) -> Result<(), Fail> {
-    tag.attributes.push(AttributeLine {
-        name: Text::new(alloc, name)?,
-        value: Text::new(alloc, "u")?,
-    })?;
-    Ok(())
+/// Puts a binding of a prefix to a namespace of its own at the end, and an attribute of the prefix.
+fn push_prefix(alloc: Global, lines: &mut AttributeLines, number: u32) -> Result<(), AllocError> {
+    let binding = format!(in alloc; "xmlns:p{number}")?;
+    push_line(alloc, lines, binding.as_str(), binding.as_str())?;
+    let attribute = format!(in alloc; "p{number}:a")?;
+    push_line(alloc, lines, attribute.as_str(), "")
 }
 
 /// A tag that binds 10,000 prefixes to namespaces of their own, with an attribute of each prefix.
-fn long_tag(alloc: Global) -> Result<Tag, Fail> {
+fn long_tag(alloc: Global) -> Result<Tag, AllocError> {
     let mut attributes = AttributeLines::new(alloc);
-    for i in 0..10_000u32 {
-        let text = format!(in alloc; "xmlns:p{i}")?;
-        attributes.push(AttributeLine {
-            name: Text::new(alloc, text.as_str())?,
-            value: Text::new(alloc, text.as_str())?,
-        })?;
-        let text = format!(in alloc; "p{i}:a")?;
-        attributes.push(AttributeLine {
-            name: Text::new(alloc, text.as_str())?,
-            value: Text::new(alloc, "")?,
-        })?;
+    for number in 0..10_000u32 {
+        push_prefix(alloc, &mut attributes, number)?;
     }
-    Ok(Tag {
-        name: Text::new(alloc, "p0:r")?,
-        attributes,
-    })
+    let name = Text::new(alloc, "p0:r")?;
+    Ok(Tag { name, attributes })
 }
 
-/// The first reason against a tag, with no prefix bound around it.
-fn reason_of(alloc: Global, tag: &Tag) -> Result<Option<NameReason>, Fail> {
-    let scope = Prefixes::new(alloc)?;
-    let end = tag.resolve(alloc, &scope, &mut TextPool::new(alloc))?;
-    Ok(end.err())
-}
+/// Attributes that are put behind a long tag, one after another, and the first reason against it then.
+const BEHIND: &[(&str, NameReason)] = &[
+    ("p0:a", NameReason::DoubleAttribute),
+    ("q:a", NameReason::UnboundPrefix),
+];
 
 #[test]
 fn judges_a_long_tag_at_once(rt: HostRuntime) -> Result<(), Fail> {
-    let alloc = rt.alloc();
-    let mut tag = long_tag(alloc)?;
-    let too_many = Some(NameReason::TooManyAttributes);
-    assert_eq!(rt; reason_of(alloc, &tag)?, too_many);
-    push_line(alloc, &mut tag, "p0:a")?;
-    let double = Some(NameReason::DoubleAttribute);
-    assert_eq!(rt; reason_of(alloc, &tag)?, double);
-    push_line(alloc, &mut tag, "q:a")?;
-    let unbound = Some(NameReason::UnboundPrefix);
-    assert_eq!(rt; reason_of(alloc, &tag)?, unbound);
+    let mut tag = long_tag(rt.alloc())?;
+    assert_eq!(rt;
+        reason_of(rt.alloc(), &tag)?,
+        Some(NameReason::TooManyAttributes)
+    );
+    for (name, reason) in BEHIND {
+        push_line(rt.alloc(), &mut tag.attributes, name, "u")?;
+        assert_eq!(rt; reason_of(rt.alloc(), &tag)?, Some(*reason));
+    }
     Ok(())
+}
+
+fn count_in(alloc: Global, scope: &Prefixes, tag: &Tag) -> Result<usize, AllocError> {
+    let judged = judged(alloc, scope, tag)?;
+    Ok(judged.named.attributes.as_slice().len())
+}
+
+/// How many attributes of a tag are kept, with no prefix bound around it.
+fn count_kept(alloc: Global, tag: &Tag) -> Result<usize, AllocError> {
+    match Prefixes::new(alloc) {
+        Ok(scope) => count_in(alloc, &scope, tag),
+        Err(error) => Err(error),
+    }
 }
 
 #[test]
 fn keeps_all_attributes_of_a_long_tag(rt: HostRuntime) -> Result<(), Fail> {
-    let alloc = rt.alloc();
-    let scope = Prefixes::new(alloc)?;
-    let judged = long_tag(alloc)?.judge(alloc, &scope, &mut TextPool::new(alloc))?;
-    assert_eq!(rt; judged.named.attributes.as_slice().len(), 10_000);
+    let tag = long_tag(rt.alloc())?;
+    assert_eq!(rt; count_kept(rt.alloc(), &tag)?, 10_000);
     Ok(())
 }
 
@@ -241,29 +320,60 @@ const QNAMES: &[(&str, &str, &str)] = &[
 ];
 
 /// A name, or the number of the refusal.
-fn shown(alloc: Global, end: Result<Expanded, NameReason>) -> Result<Text, Fail> {
+fn shown(alloc: Global, end: Result<Expanded, NameReason>) -> Result<Text, AllocError> {
     let refusal = match end {
-        Ok(name) => return Ok(name.clark_name(alloc)?),
+        Ok(name) => return name.clark_name(alloc),
         Err(NameReason::BadName) => "!6",
         Err(NameReason::UnboundPrefix) => "!7",
         Err(NameReason::ReservedName) => "!8",
         Err(_) => "!",
     };
-    Ok(Text::new(alloc, refusal)?)
+    Text::new(alloc, refusal)
+}
+
+/// The scope in which `p` is bound to `u` and the default namespace is `d`.
+fn scope_of_both(alloc: Global) -> Result<Prefixes, AllocError> {
+    let mut scope = scope_of_p(alloc)?;
+    bind(alloc, &mut scope, "", "d")?;
+    Ok(scope)
+}
+
+/// What a name is as an element's.
+fn element_shown(alloc: Global, scope: &Prefixes, name: &str) -> Result<Text, AllocError> {
+    let mut pool = TextPool::new(alloc);
+    match scope.element_name(&mut pool, name) {
+        Ok(end) => shown(alloc, end),
+        Err(error) => Err(error),
+    }
+}
+
+/// What a name is as an attribute's.
+fn attribute_shown(alloc: Global, scope: &Prefixes, name: &str) -> Result<Text, AllocError> {
+    let mut pool = TextPool::new(alloc);
+    match scope.attribute_name(&mut pool, name) {
+        Ok(end) => shown(alloc, end),
+        Err(error) => Err(error),
+    }
+}
+
+fn check_names(rt: &impl Abort, alloc: Global, scope: &Prefixes) -> Result<(), Fail> {
+    for (name, element, attribute) in QNAMES {
+        assert!(rt;
+            element_shown(alloc, scope, name)?.as_str() == *element,
+            "{name}"
+        );
+        assert!(rt;
+            attribute_shown(alloc, scope, name)?.as_str() == *attribute,
+            "{name}"
+        );
+    }
+    Ok(())
 }
 
 #[test]
 fn resolves_a_name_by_itself(rt: HostRuntime) -> Result<(), Fail> {
-    let alloc = rt.alloc();
-    let mut scope = Prefixes::new(alloc)?;
-    scope.bind(binding(alloc, "p", "u")?)?;
-    scope.bind(binding(alloc, "", "d")?)?;
-    let mut pool = TextPool::new(alloc);
-    for (name, element, attribute) in QNAMES {
-        let end = scope.element_name(&mut pool, name)?;
-        assert!(rt; shown(alloc, end)?.as_str() == *element, "{name}");
-        let end = scope.attribute_name(&mut pool, name)?;
-        assert!(rt; shown(alloc, end)?.as_str() == *attribute, "{name}");
+    match scope_of_both(rt.alloc()) {
+        Ok(scope) => check_names(&rt, rt.alloc(), &scope),
+        Err(error) => Err(error.into()),
     }
-    Ok(())
 }

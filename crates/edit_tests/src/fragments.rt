@@ -1,55 +1,67 @@
-ghost use Rattle.std.specs.Prelude.{◌<◌, All, length, IfOk};
-
 use crate::lines::items_of;
+use item_listing::Item;
 use plain_tree::{Tree, TreeFault, TreeReason, fragment, read_tree};
-use std::alloc::Global;
+use std::alloc::{AllocError, Global};
 use std::test::Fail;
 use tag_names::NameReason;
 use xs_names::{Names, Scope};
 
-/// A scope that binds the prefix `p` to the namespace `u`, and the names of its namespaces.
-fn scope_of_p(alloc: Global) -> Result<(Names, Scope), Fail>
-    ensures { IfOk result (λ bound. All (λ binding. binding.1 < length bound.0.spaces) bound.1) }
-{
-    let mut names = Names::new(alloc)?;
+/// What these items are in a scope that binds the prefix `p` to the namespace `u`.
+fn read_below(
+    alloc: Global,
+    names: &mut Names,
+    items: &[Item],
+) -> Result<Result<Tree, TreeFault>, AllocError> {
     let space = names.namespace_id("u")?;
     let mut scope = Scope::new(alloc)?;
     scope.bind("p", space)?;
-    Ok((names, scope))
+    fragment(alloc, names, &scope, items)
 }
 
 /// What these lines are in that scope.
-fn read_in_p(alloc: Global, lines: &[&str]) -> Result<Result<Tree, TreeFault>, Fail> {
+fn read_in_p(alloc: Global, lines: &[&str]) -> Result<Result<Tree, TreeFault>, AllocError> {
     let items = items_of(alloc, lines)?;
-    let (names, scope) = scope_of_p(alloc)?;
-    Ok(fragment(alloc, &names, &scope, items.as_slice())?)
+    match Names::new(alloc) {
+        Ok(mut names) => read_below(alloc, &mut names, items.as_slice()),
+        Err(error) => Err(error),
+    }
+}
+
+const LINES: &[&str] = &["(p:r", "-x", "(p:s", ")p:s", ")p:r"];
+
+/// Whether a node is the element of this name in the namespace `u`.
+fn is_in_u(tree: &Tree, node: u32, local: &str) -> bool {
+    let Some(name) = tree.name(node) else {
+        return false;
+    };
+    match &name.namespace {
+        None => false,
+        Some(space) => space.as_str() == "u" && name.local.as_str() == local,
+    }
 }
 
 #[test]
 fn reads_a_fragment_in_its_scope(rt: HostRuntime) -> Result<(), Fail> {
-    let alloc = rt.alloc();
-    let lines = ["(p:r", "-x", "(p:s", ")p:s", ")p:r"];
-    let tree = read_in_p(alloc, &lines)?.ok().ok_or("no tree")?;
+    let tree = read_in_p(rt.alloc(), LINES)?.ok().ok_or("no tree")?;
     assert_eq!(rt; tree.rows().len(), 3);
     assert_eq!(rt; tree.next_free(), 4);
-    let name = tree.name(3).ok_or("no element")?;
-    assert!(rt; name.local.as_str() == "s");
-    assert!(rt;
-        name.namespace
-            .as_ref()
-            .is_some_and(|space| space.as_str() == "u")
-    );
+    assert!(rt; is_in_u(&tree, 3, "s"));
     assert!(rt; tree.binding_at(1, 0).is_none());
-    let items = items_of(alloc, &lines)?;
-    assert!(rt; read_tree(alloc, items.as_slice())?.is_err());
     Ok(())
 }
 
 #[test]
+fn refuses_a_fragment_as_a_tree(rt: HostRuntime) -> Result<(), Fail> {
+    let items = items_of(rt.alloc(), LINES)?;
+    assert!(rt; read_tree(rt.alloc(), items.as_slice())?.is_err());
+    Ok(())
+}
+
+const UNBOUND: &[&str] = &["(p:r", "-x", "(q:s", ")q:s", ")p:r"];
+
+#[test]
 fn answers_the_first_reason_against_a_fragment(rt: HostRuntime) -> Result<(), Fail> {
-    let alloc = rt.alloc();
-    let lines = ["(p:r", "-x", "(q:s", ")q:s", ")p:r"];
-    let fault = read_in_p(alloc, &lines)?.err().ok_or("read")?;
+    let fault = read_in_p(rt.alloc(), UNBOUND)?.err().ok_or("read")?;
     assert_eq!(rt; fault.reason, TreeReason::Name(NameReason::UnboundPrefix));
     assert_eq!(rt; fault.item, 2);
     Ok(())

@@ -2,18 +2,25 @@ use crate::draw::Draw;
 use identity_tables::{KeyTables, Tuple};
 use simple_values::{Atom, Key};
 use std::alloc::{AllocError, Global};
+use std::process::Abort;
 use std::test::Fail;
 use value_strings::Characters;
 use xs_codes::Code;
 
 const TEXTS: [&str; 5] = ["", "a", "b", "ab", "é"];
 
+// The key of a text.
+fn key_of(alloc: Global, text: &str) -> Result<Key, AllocError> {
+    let characters = Characters::new(alloc, text)?;
+    Ok(Key::Atom(Atom::Text(characters)))
+}
+
 // The tuple of two texts of that number.
 fn tuple_of(alloc: Global, number: u32) -> Result<Tuple, AllocError> {
     let mut tuple = Tuple::new(alloc);
     for place in [number % 5, number / 5 % 5] {
-        let text = TEXTS[place as usize % 5];
-        tuple.push(Key::Atom(Atom::Text(Characters::new(alloc, text)?)))?;
+        let key = key_of(alloc, TEXTS[place as usize % 5])?;
+        tuple.push(key)?;
     }
     Ok(tuple)
 }
@@ -67,15 +74,37 @@ fn keys_as_in_a_plain_list(rt: HostRuntime) -> Result<(), Fail> {
     Ok(())
 }
 
+// Whether the key at a place is that of a text.
+fn is_text_at(alloc: Global, tuple: &Tuple, place: usize, text: &str) -> Result<bool, AllocError> {
+    let key = key_of(alloc, text)?;
+    Ok(tuple.get(place) == Some(&key))
+}
+
+// Whether a tuple is the one of that number.
+fn is_numbered(alloc: Global, tuple: &Tuple, number: u32) -> Result<bool, AllocError> {
+    let other = tuple_of(alloc, number)?;
+    Ok(*tuple == other)
+}
+
+// Whether a tuple is the same as its copy.
+fn is_its_copy(tuple: &Tuple) -> Result<bool, AllocError> {
+    let copy = tuple.clone()?;
+    Ok(*tuple == copy)
+}
+
+fn check_tuple(rt: &impl Abort, alloc: Global, tuple: &Tuple) -> Result<(), Fail> {
+    assert_eq!(rt; tuple.len(), 2);
+    assert!(rt; !tuple.is_empty() && tuple.get(2).is_none());
+    assert!(rt; is_text_at(alloc, tuple, 0, "b")?);
+    assert!(rt; is_its_copy(tuple)?);
+    assert!(rt; !is_numbered(alloc, tuple, 11)?);
+    Ok(())
+}
+
 #[test]
 fn tuples_by_their_keys(rt: HostRuntime) -> Result<(), Fail> {
-    let alloc = rt.alloc();
-    let tuple = tuple_of(alloc, 7)?;
-    assert_eq!(rt; tuple.len(), 2);
-    assert!(rt; !tuple.is_empty());
-    assert!(rt; tuple == tuple.clone()?);
-    assert!(rt; tuple != tuple_of(alloc, 11)?);
-    assert!(rt; tuple.get(0) == Some(&Key::Atom(Atom::Text(Characters::new(alloc, "b")?))));
-    assert!(rt; tuple.get(2).is_none());
-    Ok(())
+    match tuple_of(rt.alloc(), 7) {
+        Ok(tuple) => check_tuple(&rt, rt.alloc(), &tuple),
+        Err(error) => Err(error.into()),
+    }
 }

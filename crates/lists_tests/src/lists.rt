@@ -3,7 +3,7 @@ use crate::calls::{Call, Random};
 use crate::folds::{Digest, FiveStates, Fold};
 use crate::held::Held;
 use child_trees::{Leaf, Slots};
-use std::alloc::AllocError;
+use std::alloc::{AllocError, Global};
 use std::process::Abort;
 use std::test::Fail;
 use xsv_steps::{Silent, Steps};
@@ -23,64 +23,106 @@ const UNIT: Leaf<u8> = Leaf {
     marked: false,
 };
 
-#[test]
-fn digests(rt: HostRuntime) -> Result<(), Fail> {
-    let mut held: Held<Digest> = Held::new(rt.alloc(), 1)?;
-    let mut steps = Steps::new(Silent);
+/// Puts the letters 1, 2, 3 into a list.
+fn put_letters(held: &mut Held<Digest>, steps: &mut Steps<Silent>) -> Result<(), AllocError> {
     held.open(0)?;
-    held.insert(0, 0, leaf(3, false, false), 0, &mut steps)?;
-    held.insert(0, 0, leaf(1, false, false), 0, &mut steps)?;
-    // The source adds 1 to this letter. The digest is of 1, 2, 3.
-    held.insert(0, 1, leaf(1, false, false), 1, &mut steps)?;
-    assert_eq!(rt; held.whole(0, 0, &mut steps), Some((31 + 2) * 31 + 3));
-    assert_eq!(rt; held.upto(0, 2, 0, &mut steps), Some(31 + 2));
-    assert_eq!(rt; held.prefix(0, 2, 0, &mut steps), Some(31 + 2));
-    assert_eq!(rt; held.from(0, 1, 0, &mut steps), Some(2 * 31 + 3));
-    assert_eq!(rt; held.descend(0, 0, &mut steps), None);
-    held.update(0, 0, UNIT, 0, &mut steps);
-    assert_eq!(rt; held.whole(0, 5, &mut steps), Some((5 * 31 + 2) * 31 + 3));
-    held.remove(0, 1, &mut steps);
-    assert_eq!(rt; held.whole(0, 5, &mut steps), Some(5 * 31 + 3));
+    held.insert(0, 0, leaf(3, false, false), 0, steps)?;
+    held.insert(0, 0, leaf(1, false, false), 0, steps)?;
+    // The source adds 1 to this letter.
+    held.insert(0, 1, leaf(1, false, false), 1, steps)?;
+    Ok(())
+}
+
+fn check_letters(rt: &impl Abort, held: &Held<Digest>, steps: &mut Steps<Silent>) {
+    assert!(rt; held.whole(0, 0, steps) == Some((31 + 2) * 31 + 3));
+    assert!(rt; held.upto(0, 2, 0, steps) == Some(31 + 2));
+    assert!(rt; held.prefix(0, 2, 0, steps) == Some(31 + 2));
+    assert!(rt; held.from(0, 1, 0, steps) == Some(2 * 31 + 3));
+    assert!(rt; held.descend(0, 0, steps).is_none());
+}
+
+fn check_changes(rt: &impl Abort, held: &mut Held<Digest>, steps: &mut Steps<Silent>) {
+    held.update(0, 0, UNIT, 0, steps);
+    assert!(rt; held.whole(0, 5, steps) == Some((5 * 31 + 2) * 31 + 3));
+    held.remove(0, 1, steps);
+    assert!(rt; held.whole(0, 5, steps) == Some(5 * 31 + 3));
     held.close(0);
-    assert_eq!(rt; held.whole(0, 5, &mut steps), None);
+    assert!(rt; held.whole(0, 5, steps).is_none());
+}
+
+fn check_digests(rt: &impl Abort, held: &mut Held<Digest>) -> Result<(), AllocError> {
+    let mut steps = Steps::new(Silent);
+    put_letters(held, &mut steps)?;
+    check_letters(rt, held, &mut steps);
+    check_changes(rt, held, &mut steps);
     Ok(())
 }
 
 #[test]
-fn five_states(rt: HostRuntime) -> Result<(), Fail> {
-    let mut held: Held<FiveStates> = Held::new(rt.alloc(), 1)?;
-    let mut steps = Steps::new(Silent);
-    // Two turns, the death of state 3, and a turn.
+fn digests(rt: HostRuntime) -> Result<(), Fail> {
+    let mut held: Held<Digest> = Held::new(rt.alloc(), 1)?;
+    check_digests(&rt, &mut held)?;
+    Ok(())
+}
+
+/// Two turns, the death of state 3, and a turn.
+fn turns(alloc: Global) -> Result<Vec<Leaf<u8>>, AllocError> {
     let leaves = [
         leaf(100, true, false),
         leaf(100, false, true),
         leaf(255, true, false),
         leaf(100, true, true),
     ];
-    held.build(0, Vec::from_slice(rt.alloc(), &leaves)?, 0, &mut steps)?;
-    assert_eq!(rt; held.whole(0, 1, &mut steps), Some(4));
-    assert_eq!(rt; held.descend(0, 1, &mut steps), Some(2));
-    assert_eq!(rt; held.whole(0, 0, &mut steps), Some(3));
-    assert_eq!(rt; held.descend(0, 0, &mut steps), None);
-    assert_eq!(rt; held.descend(0, 4, &mut steps), Some(0));
-    assert_eq!(rt; held.elements_upto(0, 3), Some(2));
-    assert_eq!(rt; held.nth_marked(0, 1), held.at(0, 3));
-    assert_eq!(rt; held.nth_marked(0, 2), None);
-    // Without the first turn, state 2 dies at place 1.
-    held.remove(0, 0, &mut steps);
-    assert_eq!(rt; held.descend(0, 2, &mut steps), Some(1));
-    assert_eq!(rt; held.prefix(0, 1, 2, &mut steps), Some(3));
-    assert_eq!(rt; held.from(0, 1, 1, &mut steps), Some(2));
+    Vec::from_slice(alloc, &leaves)
+}
+
+fn check_turns(rt: &impl Abort, held: &Held<FiveStates>, steps: &mut Steps<Silent>) {
+    assert!(rt; held.whole(0, 1, steps) == Some(4));
+    assert!(rt; held.descend(0, 1, steps) == Some(2));
+    assert!(rt; held.whole(0, 0, steps) == Some(3));
+    assert!(rt; held.descend(0, 0, steps).is_none());
+    assert!(rt; held.descend(0, 4, steps) == Some(0));
+}
+
+fn check_marks(rt: &impl Abort, held: &Held<FiveStates>) {
+    assert!(rt; held.elements_upto(0, 3) == Some(2));
+    assert!(rt; held.nth_marked(0, 1) == held.at(0, 3));
+    assert!(rt; held.nth_marked(0, 2).is_none());
+}
+
+/// Without the first turn, state 2 dies at place 1.
+fn check_without_first(rt: &impl Abort, held: &mut Held<FiveStates>, steps: &mut Steps<Silent>) {
+    held.remove(0, 0, steps);
+    assert!(rt; held.descend(0, 2, steps) == Some(1));
+    assert!(rt; held.prefix(0, 1, 2, steps) == Some(3));
+    assert!(rt; held.from(0, 1, 1, steps) == Some(2));
+}
+
+fn check_states(
+    rt: &impl Abort,
+    alloc: Global,
+    held: &mut Held<FiveStates>,
+) -> Result<(), AllocError> {
+    let mut steps = Steps::new(Silent);
+    held.build(0, turns(alloc)?, 0, &mut steps)?;
+    check_turns(rt, held, &mut steps);
+    check_marks(rt, held);
+    check_without_first(rt, held, &mut steps);
     Ok(())
 }
 
 #[test]
-fn slots_that_were_given_back_serve_again(rt: HostRuntime) -> Result<(), Fail> {
-    let mut held: Held<Digest> = Held::new(rt.alloc(), 1)?;
+fn five_states(rt: HostRuntime) -> Result<(), Fail> {
+    let mut held: Held<FiveStates> = Held::new(rt.alloc(), 1)?;
+    check_states(&rt, rt.alloc(), &mut held)?;
+    Ok(())
+}
+
+fn check_slots(rt: &impl Abort, alloc: Global, held: &mut Held<Digest>) -> Result<(), Fail> {
     let mut steps = Steps::new(Silent);
     let leaves = [UNIT; 4];
     for _ in 0..3u32 {
-        held.build(0, Vec::from_slice(rt.alloc(), &leaves)?, 0, &mut steps)?;
+        held.build(0, Vec::from_slice(alloc, &leaves)?, 0, &mut steps)?;
         held.remove(0, 1, &mut steps);
         held.insert(0, 2, leaf(5, true, true), 0, &mut steps)?;
         // Four leaves and three forks.
@@ -91,6 +133,13 @@ fn slots_that_were_given_back_serve_again(rt: HostRuntime) -> Result<(), Fail> {
         held.close(0);
         assert_eq!(rt; held.slots(), Slots { count: 8, free: 8 });
     }
+    Ok(())
+}
+
+#[test]
+fn slots_that_were_given_back_serve_again(rt: HostRuntime) -> Result<(), Fail> {
+    let mut held: Held<Digest> = Held::new(rt.alloc(), 1)?;
+    check_slots(&rt, rt.alloc(), &mut held)?;
     Ok(())
 }
 
@@ -118,12 +167,17 @@ fn make_calls<F: Fold, A: Abort>(rt: &A, both: &mut Both<F>, start: u64) -> Resu
     Ok(())
 }
 
+/// Makes drawn calls on lists with a fold, from a state on.
+fn draw<F: Fold, A: Abort>(rt: &A, mut both: Both<F>, start: u64) -> Result<(), AllocError> {
+    make_calls(rt, &mut both, start)
+}
+
 #[test]
 fn drawn_calls(rt: HostRuntime) -> Result<(), Fail> {
-    let mut digests: Both<Digest> = Both::new(rt.alloc(), 50)?;
-    make_calls(&rt, &mut digests, 7)?;
-    let mut states: Both<FiveStates> = Both::new(rt.alloc(), 50)?;
-    make_calls(&rt, &mut states, 2)?;
+    let digests: Both<Digest> = Both::new(rt.alloc(), 50)?;
+    draw(&rt, digests, 7)?;
+    let states: Both<FiveStates> = Both::new(rt.alloc(), 50)?;
+    draw(&rt, states, 2)?;
     Ok(())
 }
 
@@ -181,12 +235,17 @@ fn change_lists<F: Fold, A: Abort>(rt: &A, both: &mut Both<F>) -> Result<(), All
     change_list(rt, both, 100_000, 61_803)
 }
 
+/// Changes lists with a fold.
+fn change<F: Fold, A: Abort>(rt: &A, mut both: Both<F>) -> Result<(), AllocError> {
+    change_lists(rt, &mut both)
+}
+
 #[test]
 fn short_and_long_lists(rt: HostRuntime) -> Result<(), Fail> {
-    let mut digests: Both<Digest> = Both::new(rt.alloc(), 1)?;
-    change_lists(&rt, &mut digests)?;
-    let mut states: Both<FiveStates> = Both::new(rt.alloc(), 1)?;
-    change_lists(&rt, &mut states)?;
+    let digests: Both<Digest> = Both::new(rt.alloc(), 1)?;
+    change(&rt, digests)?;
+    let states: Both<FiveStates> = Both::new(rt.alloc(), 1)?;
+    change(&rt, states)?;
     Ok(())
 }
 

@@ -2,6 +2,7 @@
 
 ghost use Rattle.model_symbols.specs.Symbols.{AreNamesOf};
 
+use crate::checks::{Check, check_model};
 use all_models::AllAutomaton;
 use model_notation::{CompiledAll, Schema};
 use std::alloc::Global;
@@ -46,7 +47,7 @@ fn check_compiled(rt: &impl Abort, schema: &Schema, compiled: &CompiledAll)
     check_terms(rt, compiled, b);
 }
 
-fn check_schema(rt: &impl Abort, alloc: Global, schema: &Schema) -> Result<(), Fail> {
+pub(crate) fn check_schema(rt: &impl Abort, alloc: Global, schema: &Schema) -> Result<(), Fail> {
     match schema.compile_all(alloc)? {
         Ok(compiled) => check_compiled(rt, schema, &compiled),
         Err(_) => panic!(rt; "there is an automaton"),
@@ -56,13 +57,10 @@ fn check_schema(rt: &impl Abort, alloc: Global, schema: &Schema) -> Result<(), F
 
 #[test]
 fn members_by_names(rt: HostRuntime) -> Result<(), Fail> {
-    match Schema::read(rt.alloc(), "all( a b? )") {
-        Ok(schema) => check_schema(&rt, rt.alloc(), &schema),
-        Err(error) => Err(error.into()),
-    }
+    check_model(&rt, rt.alloc(), "all( a b? )", Check::AllByNames)
 }
 
-fn check_pair(rt: &impl Abort, alloc: Global, schema: &Schema) -> Result<(), Fail> {
+pub(crate) fn check_pair(rt: &impl Abort, alloc: Global, schema: &Schema) -> Result<(), Fail> {
     match schema.compile_all(alloc)? {
         Ok(compiled) => assert!(rt; compiled.automaton.ambiguous().is_some()),
         Err(_) => panic!(rt; "there is an automaton"),
@@ -72,8 +70,5 @@ fn check_pair(rt: &impl Abort, alloc: Global, schema: &Schema) -> Result<(), Fai
 
 #[test]
 fn two_members_accept_one_name(rt: HostRuntime) -> Result<(), Fail> {
-    match Schema::read(rt.alloc(), "all( a+b? c b? )") {
-        Ok(schema) => check_pair(&rt, rt.alloc(), &schema),
-        Err(error) => Err(error.into()),
-    }
+    check_model(&rt, rt.alloc(), "all( a+b? c b? )", Check::AmbiguousAll)
 }

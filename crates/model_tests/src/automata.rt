@@ -3,6 +3,7 @@
 ghost use Rattle.std.specs.Prelude.{◌<◌};
 ghost use Rattle.model_symbols.specs.Symbols.{AreNamesOf, count_of};
 
+use crate::checks::{Check, check_model};
 use content_automaton::Automaton;
 use model_notation::{Compiled, Schema};
 use std::alloc::Global;
@@ -52,7 +53,7 @@ fn check_compiled(rt: &impl Abort, schema: &Schema, compiled: &Compiled)
     check_terms(rt, &compiled.automaton, compiled.form.terms(), symbol);
 }
 
-fn check_schema(rt: &impl Abort, alloc: Global, schema: &Schema) -> Result<(), Fail> {
+pub(crate) fn check_schema(rt: &impl Abort, alloc: Global, schema: &Schema) -> Result<(), Fail> {
     match schema.compile(alloc)? {
         Ok(compiled) => check_compiled(rt, schema, &compiled),
         Err(_) => panic!(rt; "there is an automaton"),
@@ -62,8 +63,5 @@ fn check_schema(rt: &impl Abort, alloc: Global, schema: &Schema) -> Result<(), F
 
 #[test]
 fn runs_and_attributes(rt: HostRuntime) -> Result<(), Fail> {
-    match Schema::read(rt.alloc(), "seq( a#1 b? a#2 )") {
-        Ok(schema) => check_schema(&rt, rt.alloc(), &schema),
-        Err(error) => Err(error.into()),
-    }
+    check_model(&rt, rt.alloc(), "seq( a#1 b? a#2 )", Check::Automaton)
 }

@@ -1,5 +1,6 @@
 //! Positions and ranges of particles.
 
+use crate::checks::{Check, check_model};
 use crate::roots::root_of;
 use model_notation::Schema;
 use particle_forms::{Inhabited, Ranges, Unrolled, unroll, unroll_by};
@@ -15,7 +16,7 @@ fn check_form(rt: &impl Abort, form: &Unrolled) {
     assert!(rt; form.term_of(3) == 1 && !form.nullable());
 }
 
-fn check_positions(rt: &impl Abort, alloc: Global, schema: &Schema) -> Result<(), Fail> {
+pub(crate) fn check_positions(rt: &impl Abort, alloc: Global, schema: &Schema) -> Result<(), Fail> {
     let root = root_of(rt, schema);
     let members = schema.members(alloc)?;
     let inhabited = Inhabited::of(alloc, &schema.parts, &members)?;
@@ -28,13 +29,10 @@ fn check_positions(rt: &impl Abort, alloc: Global, schema: &Schema) -> Result<()
 
 #[test]
 fn positions_of_a_group_that_comes_twice(rt: HostRuntime) -> Result<(), Fail> {
-    match Schema::read(rt.alloc(), "seq( a b? ){1,2}") {
-        Ok(schema) => check_positions(&rt, rt.alloc(), &schema),
-        Err(error) => Err(error.into()),
-    }
+    check_model(&rt, rt.alloc(), "seq( a b? ){1,2}", Check::Positions)
 }
 
-fn check_too_many(rt: &impl Abort, alloc: Global, schema: &Schema) -> Result<(), Fail> {
+pub(crate) fn check_too_many(rt: &impl Abort, alloc: Global, schema: &Schema) -> Result<(), Fail> {
     let root = root_of(rt, schema);
     let members = schema.members(alloc)?;
     match unroll(alloc, &schema.parts, &members, root)? {
@@ -45,13 +43,15 @@ fn check_too_many(rt: &impl Abort, alloc: Global, schema: &Schema) -> Result<(),
 
 #[test]
 fn one_position_too_many(rt: HostRuntime) -> Result<(), Fail> {
-    match Schema::read(rt.alloc(), "seq( a{2048} b? )") {
-        Ok(schema) => check_too_many(&rt, rt.alloc(), &schema),
-        Err(error) => Err(error.into()),
-    }
+    check_model(
+        &rt,
+        rt.alloc(),
+        "seq( a{2048} b? )",
+        Check::TooManyPositions,
+    )
 }
 
-fn check_range(rt: &impl Abort, alloc: Global, schema: &Schema) -> Result<(), Fail> {
+pub(crate) fn check_range(rt: &impl Abort, alloc: Global, schema: &Schema) -> Result<(), Fail> {
     let root = root_of(rt, schema);
     let ranges = Ranges::of(alloc, &schema.parts)?;
     assert!(rt; ranges.range(root) == (0, None) && ranges.emptiable(root));
@@ -60,8 +60,5 @@ fn check_range(rt: &impl Abort, alloc: Global, schema: &Schema) -> Result<(), Fa
 
 #[test]
 fn range_of_a_choice(rt: HostRuntime) -> Result<(), Fail> {
-    match Schema::read(rt.alloc(), "or( seq( a b? ){2} c* )") {
-        Ok(schema) => check_range(&rt, rt.alloc(), &schema),
-        Err(error) => Err(error.into()),
-    }
+    check_model(&rt, rt.alloc(), "or( seq( a b? ){2} c* )", Check::Range)
 }

@@ -8,6 +8,8 @@ mod automata;
 #[cfg(test)]
 mod built;
 #[cfg(test)]
+mod checks;
+#[cfg(test)]
 mod forms;
 #[cfg(test)]
 mod machines;

@@ -1,5 +1,6 @@
 //! Members of substitution groups.
 
+use crate::checks::{Check, check_model};
 use model_notation::Schema;
 use std::alloc::{AllocError, Global};
 use std::process::Abort;
@@ -23,7 +24,7 @@ fn check_groups(rt: &impl Abort, members: &Members, ids: [ElementId; 2], names: 
     assert!(rt; members.names_of(ids[1]) == [c].as_slice());
 }
 
-fn check_schema(rt: &impl Abort, alloc: Global, schema: &Schema) -> Result<(), Fail> {
+pub(crate) fn check_schema(rt: &impl Abort, alloc: Global, schema: &Schema) -> Result<(), Fail> {
     let (Some(a), Some(b), Some(c)) = (schema.name("a"), schema.name("b"), schema.name("c")) else {
         panic!(rt; "the names have numbers");
     };
@@ -38,8 +39,5 @@ fn check_schema(rt: &impl Abort, alloc: Global, schema: &Schema) -> Result<(), F
 
 #[test]
 fn groups_are_found_by_their_heads(rt: HostRuntime) -> Result<(), Fail> {
-    match Schema::read(rt.alloc(), "seq( a+b c )") {
-        Ok(schema) => check_schema(&rt, rt.alloc(), &schema),
-        Err(error) => Err(error.into()),
-    }
+    check_model(&rt, rt.alloc(), "seq( a+b c )", Check::Groups)
 }

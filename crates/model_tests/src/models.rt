@@ -277,10 +277,9 @@ fn check_machine(rt: &impl Abort, row: &Row, machine: &Machine) {
     }
 }
 
-fn check_row(rt: &impl Abort, alloc: Global, row: &Row) -> Result<(), Fail> {
-    let nodes = nodes_of(alloc, row.parts)?;
-    match build(alloc, &nodes, row.accepts, 3)? {
-        Outcome::Machine(machine) => check_machine(rt, row, &machine),
+fn check_outcome(rt: &impl Abort, row: &Row, outcome: &Outcome) {
+    match outcome {
+        Outcome::Machine(machine) => check_machine(rt, row, machine),
         Outcome::TooManyPositions => assert!(rt;
             matches!(row.expected, TooManyPositions),
             "{}",
@@ -293,7 +292,25 @@ fn check_row(rt: &impl Abort, alloc: Global, row: &Row) -> Result<(), Fail> {
         ),
         Outcome::Malformed => panic!(rt; "{} is not ordered", row.model),
     }
+}
+
+/// Builds the automaton of these nodes, whose particles accept these symbols, and checks it by a row.
+fn check_nodes(
+    rt: &impl Abort,
+    alloc: Global,
+    row: &Row,
+    nodes: &[Node],
+    accepts: &[u32],
+    symbols: u32,
+) -> Result<(), Fail> {
+    let outcome = build(alloc, nodes, accepts, symbols)?;
+    check_outcome(rt, row, &outcome);
     Ok(())
+}
+
+fn check_row(rt: &impl Abort, alloc: Global, row: &Row) -> Result<(), Fail> {
+    let nodes = nodes_of(alloc, row.parts)?;
+    check_nodes(rt, alloc, row, &nodes, row.accepts, 3)
 }
 
 #[test]
@@ -317,34 +334,73 @@ fn doubled(alloc: Global, least: Node) -> Result<Vec<Node>, AllocError> {
 /// A choice of a thousand elements, any number of times.
 fn thousand_elements(alloc: Global) -> Result<Vec<Node>, AllocError> {
     let mut nodes = Vec::new(alloc);
-    let mut members = Vec::new(alloc);
-    for k in 0..1_000u32 {
-        nodes.push(Node::Term(k))?;
-        members.push(k)?;
-    }
-    nodes.push(Node::Choice(Listed::from_vec(members)))?;
+    push_elements(alloc, &mut nodes)?;
     nodes.push(Node::Occurs(1_000, 0, None))?;
     Ok(nodes)
 }
 
-#[test]
-fn large_models(rt: HostRuntime) -> Result<(), Fail> {
-    let alloc = rt.alloc();
-    let elements = doubled(alloc, Node::Term(0))?;
-    assert!(rt; matches!(build(alloc, &elements, &[0], 1)?, Outcome::TooManyPositions));
-    let empty = doubled(alloc, Node::Sequence(Listed::new(alloc)))?;
-    let Outcome::Machine(machine) = build(alloc, &empty, &[], 1)? else {
-        panic!(rt; "no automaton of empty groups");
-    };
-    assert!(rt; machine.dead() == 1 && stuck_place(&machine, &[]).is_none());
-    let mut accepts = Vec::new(alloc);
-    for k in 0..1_000u32 {
-        accepts.push(k)?;
+/// A thousand elements, and the choice of them.
+fn push_elements(alloc: Global, nodes: &mut Vec<Node>) -> Result<(), AllocError> {
+    for number in 0..1_000u32 {
+        nodes.push(Node::Term(number))?;
     }
-    let Outcome::Machine(machine) = build(alloc, &thousand_elements(alloc)?, &accepts, 1_000)?
-    else {
-        panic!(rt; "no automaton of a thousand elements");
-    };
-    assert!(rt; machine.dead() == 1_001 && machine.ambiguous().is_none());
+    let members = numbers_below(alloc, 1_000)?;
+    nodes.push(Node::Choice(Listed::from_vec(members)))?;
     Ok(())
+}
+
+/// Models whose nodes are made.
+static DOUBLED: Row = Row {
+    model: "an element in fifty groups, each of twice the one below it",
+    parts: &[],
+    accepts: &[0],
+    expected: TooManyPositions,
+    words: &[],
+};
+
+static DOUBLED_EMPTY: Row = Row {
+    model: "an empty group in fifty groups, each of twice the one below it",
+    parts: &[],
+    accepts: &[],
+    expected: States(1, None),
+    words: &[Word {
+        symbols: &[],
+        stuck: None,
+    }],
+};
+
+static THOUSAND: Row = Row {
+    model: "a thousand elements in any order",
+    parts: &[],
+    accepts: &[],
+    expected: States(1_001, None),
+    words: &[],
+};
+
+fn check_doubled(rt: &impl Abort, alloc: Global, row: &Row, least: Node) -> Result<(), Fail> {
+    let nodes = doubled(alloc, least)?;
+    check_nodes(rt, alloc, row, &nodes, row.accepts, 1)
+}
+
+#[test]
+fn fifty_groups(rt: HostRuntime) -> Result<(), Fail> {
+    check_doubled(&rt, rt.alloc(), &DOUBLED, Node::Term(0))?;
+    let empty = Node::Sequence(Listed::new(rt.alloc()));
+    check_doubled(&rt, rt.alloc(), &DOUBLED_EMPTY, empty)
+}
+
+/// The numbers below this one.
+fn numbers_below(alloc: Global, count: u32) -> Result<Vec<u32>, AllocError> {
+    let mut numbers = Vec::new(alloc);
+    for number in 0..count {
+        numbers.push(number)?;
+    }
+    Ok(numbers)
+}
+
+#[test]
+fn a_thousand_elements(rt: HostRuntime) -> Result<(), Fail> {
+    let accepts = numbers_below(rt.alloc(), 1_000)?;
+    let nodes = thousand_elements(rt.alloc())?;
+    check_nodes(&rt, rt.alloc(), &THOUSAND, &nodes, &accepts, 1_000)
 }

@@ -1,5 +1,6 @@
 //! Models at the limits and past them, and models that are ambiguous or seem so.
 
+use crate::checks::{Check, check_model};
 use Expected::{Ambiguous, Clear, Not};
 use content_automaton::Automaton;
 use model_notation::{Refused, Schema};
@@ -10,7 +11,7 @@ use upa::ambiguous;
 
 /// What is to become of a model: an automaton with so many states, the dead one left out, or none.
 #[derive(Clone, Copy)]
-enum Expected {
+pub(crate) enum Expected {
     Clear(u16),
     Ambiguous(u16),
     Not(Refused),
@@ -49,7 +50,7 @@ fn check_refused(rt: &impl Abort, refused: Refused, expected: Expected) {
     }
 }
 
-fn check_schema(
+pub(crate) fn check_schema(
     rt: &impl Abort,
     alloc: Global,
     schema: &Schema,
@@ -62,17 +63,10 @@ fn check_schema(
     Ok(())
 }
 
-fn check_row(rt: &impl Abort, alloc: Global, model: &str, expected: Expected) -> Result<(), Fail> {
-    match Schema::read(alloc, model) {
-        Ok(schema) => check_schema(rt, alloc, &schema, expected),
-        Err(error) => Err(error.into()),
-    }
-}
-
 #[test]
 fn rows_by_hand(rt: HostRuntime) -> Result<(), Fail> {
     for (model, expected) in ROWS {
-        check_row(&rt, rt.alloc(), model, expected)?;
+        check_model(&rt, rt.alloc(), model, Check::Outcome(expected))?;
     }
     Ok(())
 }

@@ -2,6 +2,7 @@
 
 ghost use Rattle.model_symbols.specs.Symbols.{AreNamesOf};
 
+use crate::checks::{Check, check_model};
 use model_notation::{Accepted, Schema};
 use model_symbols::{Attribution, Listing};
 use std::alloc::Global;
@@ -37,7 +38,7 @@ fn check_found(rt: &impl Abort, schema: &Schema, found: &Accepted)
     check_listing(rt, &found.listing);
 }
 
-fn check_schema(rt: &impl Abort, alloc: Global, schema: &Schema) -> Result<(), Fail> {
+pub(crate) fn check_schema(rt: &impl Abort, alloc: Global, schema: &Schema) -> Result<(), Fail> {
     match schema.accepted(alloc, &[0, 1, 2])? {
         Some(found) => check_found(rt, schema, &found),
         None => panic!(rt; "the three particles are terms"),
@@ -47,8 +48,10 @@ fn check_schema(rt: &impl Abort, alloc: Global, schema: &Schema) -> Result<(), F
 
 #[test]
 fn symbols_of_two_elements_and_a_wildcard(rt: HostRuntime) -> Result<(), Fail> {
-    match Schema::read(rt.alloc(), "seq( a#1 ##other a#2+p:b )") {
-        Ok(schema) => check_schema(&rt, rt.alloc(), &schema),
-        Err(error) => Err(error.into()),
-    }
+    check_model(
+        &rt,
+        rt.alloc(),
+        "seq( a#1 ##other a#2+p:b )",
+        Check::Symbols,
+    )
 }

@@ -3,6 +3,7 @@
 ghost use Rattle.std.specs.Prelude.{◌<◌, length};
 ghost use Rattle.xs_references.specs.Ranked.{IsRanked};
 
+use crate::checks::{Check, check_model};
 use crate::roots::root_of;
 use element_consistency::consistent;
 use element_types::Declarations;
@@ -25,7 +26,7 @@ fn check_declarations(rt: &impl Abort, schema: &Schema, declarations: &Declarati
     assert!(rt; declarations.type_of(b) == TypeId::AnyType);
 }
 
-fn check_schema(rt: &impl Abort, alloc: Global, schema: &Schema) -> Result<(), Fail> {
+pub(crate) fn check_schema(rt: &impl Abort, alloc: Global, schema: &Schema) -> Result<(), Fail> {
     let _ = root_of(rt, schema);
     let declarations = Declarations::of(alloc, &schema.parts)?;
     check_declarations(rt, schema, &declarations);
@@ -34,10 +35,12 @@ fn check_schema(rt: &impl Abort, alloc: Global, schema: &Schema) -> Result<(), F
 
 #[test]
 fn a_head_and_its_member(rt: HostRuntime) -> Result<(), Fail> {
-    match Schema::read(rt.alloc(), "G = b; seq( a#1+b c )") {
-        Ok(schema) => check_schema(&rt, rt.alloc(), &schema),
-        Err(error) => Err(error.into()),
-    }
+    check_model(
+        &rt,
+        rt.alloc(),
+        "G = b; seq( a#1+b c )",
+        Check::Declarations,
+    )
 }
 
 fn agree(alloc: Global, schema: &Schema, root: ParticleId) -> Result<bool, AllocError>
@@ -49,7 +52,7 @@ fn agree(alloc: Global, schema: &Schema, root: ParticleId) -> Result<bool, Alloc
     consistent(alloc, &schema.parts, &members, &declarations, root)
 }
 
-fn check_agree(
+pub(crate) fn check_agree(
     rt: &impl Abort,
     alloc: Global,
     schema: &Schema,
@@ -60,16 +63,9 @@ fn check_agree(
     Ok(())
 }
 
-fn check_model(rt: &impl Abort, alloc: Global, model: &str, expected: bool) -> Result<(), Fail> {
-    match Schema::read(alloc, model) {
-        Ok(schema) => check_agree(rt, alloc, &schema, expected),
-        Err(error) => Err(error.into()),
-    }
-}
-
 #[test]
 fn one_name_has_one_type(rt: HostRuntime) -> Result<(), Fail> {
-    check_model(&rt, rt.alloc(), "seq( a#1 b#2 a#1 )", true)?;
-    check_model(&rt, rt.alloc(), "G = b#2; seq( a#1+b b#1 )", false)?;
-    Ok(())
+    let (agree, differ) = (Check::Agreement(true), Check::Agreement(false));
+    check_model(&rt, rt.alloc(), "seq( a#1 b#2 a#1 )", agree)?;
+    check_model(&rt, rt.alloc(), "G = b#2; seq( a#1+b b#1 )", differ)
 }

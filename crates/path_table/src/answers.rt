@@ -6,9 +6,9 @@ use xpath_subset::{
 };
 use xs_names::{NameId, Names, NsId, Scope};
 
-/// The names and the bindings of the table.
+// The names and the bindings of the table.
 #[derive(Drop)]
-pub struct Table {
+struct Table {
     names: Names,
     scope: Scope,
     spaces: Spaces,
@@ -22,19 +22,33 @@ struct Spaces {
     default: NsId,
 }
 
+/// The answer to a line.
+pub fn answer(alloc: Global, line: &str) -> Result<String, AllocError> {
+    match Table::new(alloc) {
+        Ok(mut table) => table.answer(alloc, line),
+        Err(error) => Err(error),
+    }
+}
+
+// The namespaces of the table, and the scope in which they are bound.
+fn bound(alloc: Global, names: &mut Names) -> Result<(Spaces, Scope), AllocError> {
+    let spaces = Spaces {
+        p: names.namespace_id("urn:p")?,
+        q: names.namespace_id("urn:q")?,
+        default: names.namespace_id("urn:d")?,
+    };
+    let mut scope = Scope::new(alloc)?;
+    scope.bind("p", spaces.p)?;
+    scope.bind("q", spaces.q)?;
+    scope.bind("", spaces.default)?;
+    Ok((spaces, scope))
+}
+
 impl Table {
-    /// The prefixes `p` and `q` and the default namespace bound.
-    pub fn new(alloc: Global) -> Result<Self, AllocError> {
+    // The prefixes `p` and `q` and the default namespace bound.
+    fn new(alloc: Global) -> Result<Self, AllocError> {
         let mut names = Names::new(alloc)?;
-        let spaces = Spaces {
-            p: names.namespace_id("urn:p")?,
-            q: names.namespace_id("urn:q")?,
-            default: names.namespace_id("urn:d")?,
-        };
-        let mut scope = Scope::new(alloc)?;
-        scope.bind("p", spaces.p)?;
-        scope.bind("q", spaces.q)?;
-        scope.bind("", spaces.default)?;
+        let (spaces, scope) = bound(alloc, &mut names)?;
         Ok(Table {
             names,
             scope,
@@ -42,8 +56,7 @@ impl Table {
         })
     }
 
-    /// The answer to a line.
-    pub fn answer(&mut self, alloc: Global, line: &str) -> Result<String, AllocError> {
+    fn answer(&mut self, alloc: Global, line: &str) -> Result<String, AllocError> {
         let Some((kind, rest)) = line.split_once(';') else {
             return String::from_str(alloc, "?");
         };
@@ -74,9 +87,18 @@ impl Table {
         let Some((text, way)) = rest.split_once(';') else {
             return String::from_str(alloc, "?");
         };
-        let Ok(paths) = read_field(alloc, text, &self.scope)? else {
-            return String::from_str(alloc, "?");
-        };
+        match read_field(alloc, text, &self.scope)? {
+            Ok(paths) => String::from_str(alloc, self.reached(alloc, &paths, way)?),
+            Err(_) => String::from_str(alloc, "?"),
+        }
+    }
+
+    fn reached(
+        &mut self,
+        alloc: Global,
+        paths: &Paths,
+        way: &str,
+    ) -> Result<&'static str, AllocError> {
         let (front, last) = match way.split_once('@') {
             Some((front, last)) => (front, Some(last)),
             None => (way, None),
@@ -87,9 +109,12 @@ impl Table {
             self.intern_word(word)?;
         }
         let elements = self.elements(alloc, words.as_slice())?;
-        let attribute = last.and_then(|word| self.name(word));
-        let reached = is_reached(&paths, &self.names, elements.as_slice(), attribute);
-        String::from_str(alloc, if reached { "yes" } else { "no" })
+        let attribute = match last {
+            Some(word) => self.name(word),
+            None => None,
+        };
+        let reached = is_reached(paths, &self.names, elements.as_slice(), attribute);
+        Ok(if reached { "yes" } else { "no" })
     }
 
     // Gives numbers to the names of these words.
@@ -157,11 +182,14 @@ fn unescaped(alloc: Global, text: &str) -> Result<String, AllocError> {
 impl Spaces {
     // What was read.
     fn shown(&self, alloc: Global, read: Result<Paths, XPathFault>) -> Result<String, AllocError> {
-        let paths = match read {
-            Err(XPathFault::Syntax) => return String::from_str(alloc, "Syntax"),
-            Err(XPathFault::Unbound) => return String::from_str(alloc, "Unbound"),
-            Ok(paths) => paths,
-        };
+        match read {
+            Ok(paths) => self.shown_paths(alloc, &paths),
+            Err(XPathFault::Syntax) => String::from_str(alloc, "Syntax"),
+            Err(XPathFault::Unbound) => String::from_str(alloc, "Unbound"),
+        }
+    }
+
+    fn shown_paths(&self, alloc: Global, paths: &Paths) -> Result<String, AllocError> {
         let mut out = String::new(alloc);
         for (index, path) in paths.as_slice().iter().enumerate() {
             if index > 0 {

@@ -7,9 +7,8 @@ use std::io;
 
 fn main(rt: HostRuntime) -> io::Result<()> {
     let alloc = rt.alloc();
-    let mut table = answers::Table::new(alloc)?;
     for line in rt.lines(alloc) {
-        let answer = table.answer(alloc, line?.as_str())?;
+        let answer = answers::answer(alloc, line?.as_str())?;
         println!(rt; "{answer}")?;
     }
     Ok(())

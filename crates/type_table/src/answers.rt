@@ -1,5 +1,5 @@
 //! The answer to a line of the table.
-use crate::making::{Making, made_by};
+use crate::making::Making;
 use crate::ranked::are_ranked;
 use simple_types::SimpleTypes;
 use simple_values::{Value, name_of};
@@ -10,7 +10,13 @@ use xs_names::{Names, Scope};
 
 /// The scope of the table: `p` is bound.
 pub fn table_scope(alloc: Global) -> Result<Scope, AllocError> {
-    let mut names = Names::new(alloc)?;
+    match Names::new(alloc) {
+        Ok(mut names) => scope_of_p(alloc, &mut names),
+        Err(error) => Err(error),
+    }
+}
+
+fn scope_of_p(alloc: Global, names: &mut Names) -> Result<Scope, AllocError> {
     let space = names.namespace_id("urn:p")?;
     let mut scope = Scope::new(alloc)?;
     scope.bind("p", space)?;
@@ -37,10 +43,23 @@ pub fn answer(alloc: Global, line: &str, scope: &Scope) -> Result<String, AllocE
         Some((head, literal)) => (head, Some(literal)),
         None => (line, None),
     };
-    let Some(making) = made_by(alloc, head, scope)? else {
+    match Making::new(alloc) {
+        Ok(mut making) => answer_by(alloc, &mut making, head, literal, scope),
+        Err(error) => Err(error),
+    }
+}
+
+fn answer_by(
+    alloc: Global,
+    making: &mut Making,
+    steps: &str,
+    literal: Option<&str>,
+    scope: &Scope,
+) -> Result<String, AllocError> {
+    if !making.take(alloc, steps, scope)? {
         return String::from_str(alloc, "no type");
-    };
-    judged(alloc, &making, literal, scope)
+    }
+    judged(alloc, making, literal, scope)
 }
 
 // What the types that are made say.

@@ -1,21 +1,27 @@
 //! The names of facets.
 use xs_components::FacetKind;
 
+const NAMES: &[(&str, FacetKind)] = &[
+    ("length", FacetKind::Length),
+    ("minLength", FacetKind::MinLength),
+    ("maxLength", FacetKind::MaxLength),
+    ("pattern", FacetKind::Pattern),
+    ("enumeration", FacetKind::Enumeration),
+    ("whiteSpace", FacetKind::WhiteSpace),
+    ("maxInclusive", FacetKind::MaxInclusive),
+    ("maxExclusive", FacetKind::MaxExclusive),
+    ("minExclusive", FacetKind::MinExclusive),
+    ("minInclusive", FacetKind::MinInclusive),
+    ("totalDigits", FacetKind::TotalDigits),
+    ("fractionDigits", FacetKind::FractionDigits),
+];
+
 /// The facet with a name.
 pub fn facet_named(name: &str) -> Option<FacetKind> {
-    match name {
-        "length" => Some(FacetKind::Length),
-        "minLength" => Some(FacetKind::MinLength),
-        "maxLength" => Some(FacetKind::MaxLength),
-        "pattern" => Some(FacetKind::Pattern),
-        "enumeration" => Some(FacetKind::Enumeration),
-        "whiteSpace" => Some(FacetKind::WhiteSpace),
-        "maxInclusive" => Some(FacetKind::MaxInclusive),
-        "maxExclusive" => Some(FacetKind::MaxExclusive),
-        "minExclusive" => Some(FacetKind::MinExclusive),
-        "minInclusive" => Some(FacetKind::MinInclusive),
-        "totalDigits" => Some(FacetKind::TotalDigits),
-        "fractionDigits" => Some(FacetKind::FractionDigits),
-        _ => None,
+    for (text, kind) in NAMES {
+        if *text == name {
+            return Some(*kind);
+        }
     }
+    None
 }

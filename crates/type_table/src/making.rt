@@ -9,7 +9,7 @@ use xs_components::{
 use xs_names::Scope;
 
 /// The types that are made so far, and the pile of those that others are made of.
-#[derive(Debug, Drop)]
+#[derive(Drop)]
 pub struct Making {
     pub parts: Components,
     pile: Vec<TypeId>,
@@ -17,25 +17,29 @@ pub struct Making {
     rank: u32,
 }
 
-/// The types that the steps of a line make; `None` where a step cannot be made.
-pub fn made_by(alloc: Global, head: &str, scope: &Scope) -> Result<Option<Making>, AllocError> {
-    let mut making = Making {
-        parts: Components::new(alloc)?,
-        pile: Vec::new(alloc),
-        rank: 0,
-    };
-    let mut number = 0;
-    for text in head.split("\t/\t") {
-        number = next(number);
-        let step = step_of(alloc, number, text, scope)?;
-        if !making.goes_on(alloc, step)? {
-            return Ok(None);
-        }
-    }
-    Ok(Some(making))
-}
-
 impl Making {
+    /// No types.
+    pub fn new(alloc: Global) -> Result<Making, AllocError> {
+        Ok(Making {
+            parts: Components::new(alloc)?,
+            pile: Vec::new(alloc),
+            rank: 0,
+        })
+    }
+
+    /// Makes what the steps of a line say; false where one cannot be made.
+    pub fn take(&mut self, alloc: Global, steps: &str, scope: &Scope) -> Result<bool, AllocError> {
+        let mut number = 0;
+        for text in steps.split("\t/\t") {
+            number = next(number);
+            let step = step_of(alloc, number, text, scope)?;
+            if !self.goes_on(alloc, step)? {
+                return Ok(false);
+            }
+        }
+        Ok(true)
+    }
+
     /// The type on top of the pile.
     pub fn last(&self) -> Option<TypeId> {
         self.pile.last().copied()

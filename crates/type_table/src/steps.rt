@@ -6,7 +6,7 @@ use xs_components::{FacetItem, FacetStep, Methods, Place};
 use xs_names::{Scope, Text};
 
 /// A step, read.
-#[derive(Debug, Drop)]
+#[derive(Drop)]
 pub struct Step<'a> {
     /// What is done; nothing where the type on top is restricted.
     pub word: &'a str,
@@ -31,16 +31,26 @@ pub fn step_of<'a>(
         finals: no_methods(),
         facets: FacetStep::new(alloc),
     };
+    read_fields(alloc, &mut step, text, scope)?;
+    Ok(step)
+}
+
+fn read_fields<'a>(
+    alloc: Global,
+    step: &mut Step<'a>,
+    text: &'a str,
+    scope: &Scope,
+) -> Result<(), AllocError> {
     let mut item = 0;
     for field in text.split('\t') {
         if let Some((name, value)) = field.split_once('=') {
             item = next(item);
-            push_facet(alloc, &mut step, item, name, value, scope)?;
+            push_facet(alloc, step, item, name, value, scope)?;
         } else {
-            with_word(&mut step, field);
+            with_word(step, field);
         }
     }
-    Ok(step)
+    Ok(())
 }
 
 /// The number behind this one.
@@ -80,11 +90,13 @@ fn push_facet(
         document: step.at.document,
         item,
     };
+    let text = Text::new(alloc, value)?;
+    let scope = scope.try_clone()?;
     step.facets.push(FacetItem {
         kind,
-        text: Text::new(alloc, value)?,
+        text,
         fixed,
         at,
-        scope: scope.try_clone()?,
+        scope,
     })
 }

@@ -90,20 +90,37 @@ fn normalized_value(alloc: Global) -> Result<Option<Value>, AllocError> {
     Ok(read_normalized(alloc, Builtin::String, "a b", &scope)?.ok())
 }
 
+// Whether a value is that of the token.
+fn is_token(alloc: Global, value: &Value) -> Result<bool, AllocError> {
+    match value_at(alloc, Builtin::Token, " a  b ")? {
+        Some(token) => Ok(
+            same(value, &token) && less(value, &token).is_none() && length(&token) == Some(3),
+        ),
+        None => Ok(false),
+    }
+}
+
 #[test]
 fn white_space_is_collapsed(rt: HostRuntime) -> Result<(), Fail> {
     let normalized = normalized_value(rt.alloc())?.ok_or("no value")?;
-    let token = value_at(rt.alloc(), Builtin::Token, " a  b ")?.ok_or("no value")?;
-    assert!(rt; same(&normalized, &token) && less(&normalized, &token).is_none());
-    assert_eq!(rt; length(&token), Some(3));
+    assert!(rt; is_token(rt.alloc(), &normalized)?);
     Ok(())
 }
 
 // Whether the second literal's key is found in a map with the first one's. Both keys are compared, too.
 fn is_found(alloc: Global, kept: (Builtin, &str), asked: (Builtin, &str)) -> Result<bool, Fail> {
-    let kept = key_at(alloc, kept.0, kept.1)?.ok_or("no value")?;
-    let asked = key_at(alloc, asked.0, asked.1)?.ok_or("no value")?;
-    Ok(same_key(&kept, &asked) && is_in_map(alloc, kept, &asked)?)
+    match key_at(alloc, asked.0, asked.1)? {
+        Some(asked) => is_found_with(alloc, kept, &asked),
+        None => Err("no value".into()),
+    }
+}
+
+fn is_found_with(alloc: Global, kept: (Builtin, &str), asked: &Key) -> Result<bool, Fail> {
+    match key_at(alloc, kept.0, kept.1)? {
+        Some(kept) if same_key(&kept, asked) => is_in_map(alloc, kept, asked),
+        Some(_) => Ok(false),
+        None => Err("no value".into()),
+    }
 }
 
 // Whether a key is found in a map with another one.
