@@ -6,8 +6,10 @@ use Rattle.attr_added.proofs.lacking.lacking_in.Goals as goal
 
 pub loop-next-init : goal.loop-next-init
 loop-next-init c = λ ids value s. (
-  0, omega arith, c.next_needed-next.ensures.next c.args.schema.now.parts.now ids value s,
-  lacking-none c.args.schema.now.names.now c.args.schema.now.parts.now value.uses c.args.given.now c.new-lacking.result c.new-lacking.ensures.missing c.new-lacking.ensures.added
+  0,
+  omega arith,
+  c.next_needed-next.ensures.next c.args.schema.now.parts.now ids value s,
+  lacking-none c.args.schema.now.names.now c.args.schema.now.parts.now value.uses c.args.given.now c.new-lacking.result c.new-lacking.ensures.missing c.new-lacking.ensures.added,
 )
 
 pub loop-next-smaller : goal.loop-next-smaller
