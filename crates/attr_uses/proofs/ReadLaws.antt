@@ -9,7 +9,7 @@ use Rattle.use_maps.specs.declared.entry.Entry.{Entry}
 use Rattle.use_maps.specs.declared.entry.UseAt.{UseAt}
 use Rattle.attr_uses.specs.Written.{has_name}
 use Rattle.attr_uses.specs.Uses.{first_of, use_named}
-use Rattle.attr_uses.specs.Tables.{entry_of, entry_for, has_another, is_id_named, is_needed_named, HasTwoOfOneName, HasTwoIds, IsNext}
+use Rattle.attr_uses.specs.Tables.{entry_of, entry_for, has_another, is_id_named, is_needed_named, HasTwoOfOneName, HasTwoIds, IsNext, IsNextUnlike}
 
 module _ (t : Tables) (ids : List Bool) where
   entry-first : (us : List UseAt) → option_map (λ e. e.first) (entry_of t ids us) ≡ first_of us
@@ -58,3 +58,14 @@ module _ (t : Tables) (ids : List Bool) where
       needed = sym (entry-needed (filter (has_name t name) uses)) ∙ is.needed;
       none = λ other a b. sym (entry-needed (filter (has_name t other) uses)) ∙ is.none other a b;
     }
+
+  same-named : (uses others : List UseAt) (name : ℕ) → entry_for t ids uses name ≡ entry_for t ids others name → use_named t uses name ≡ use_named t others name
+  same-named uses others name e = sym (entry-first (filter (has_name t name) uses)) ∙ (ap (option_map (λ x. x.first)) e ∙ entry-first (filter (has_name t name) others))
+
+  pub next-unlike : (uses others : List UseAt) (depth : ℕ) → depth ≡ 32 → (from : ℕ) (next : Option ℕ) → maps.IsNextUnlike depth (entry_for t ids uses) (entry_for t ids others) from next → IsNextUnlike t uses others from next
+  next-unlike uses others depth deep from None alike = λ name a b. same-named uses others name (alike name a (subst (λ d. name < 2 ^ d) (sym deep) b))
+  next-unlike uses others depth deep from (Some name) is = record {
+    behind = is.behind;
+    within = subst (λ d. name < 2 ^ d) deep is.within;
+    alike = λ other a b. same-named uses others other (is.alike other a b);
+  }

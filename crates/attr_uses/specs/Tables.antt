@@ -141,6 +141,20 @@ pub record IsNextNeeded (t : Tables) (uses : List UseAt) (from name : ℕ) : Typ
 abbrev pub IsNext : Tables → List UseAt → ℕ → Option ℕ → Type 0
 IsNext t uses from next = MatchOption next (NoneNeeded t uses from (2 ^ 32)) (IsNextNeeded t uses from)
 
+-- two lists of uses have the same first use of each name from one number on and below another
+abbrev pub AreAlike : Tables → List UseAt → List UseAt → ℕ → ℕ → Type 0
+AreAlike t uses others from bound = (name : ℕ) → from ≤ name → name < bound → use_named t uses name ≡ use_named t others name
+
+pub record IsUnlikeNext (t : Tables) (uses others : List UseAt) (from name : ℕ) : Type 0 where
+  pub behind : from ≤ name
+  pub within : name < 2 ^ 32
+  pub alike : AreAlike t uses others from name
+
+-- the number of a name, from a number on, such that both have the same first use of each name before it; or they have the same for all
+-- from there on
+abbrev pub IsNextUnlike : Tables → List UseAt → List UseAt → ℕ → Option ℕ → Type 0
+IsNextUnlike t uses others from next = MatchOption next (AreAlike t uses others from (2 ^ 32)) (IsUnlikeNext t uses others from)
+
 -- the table stands alone for some attribute uses
 abbrev pub IsTableOf : Tables → List Bool → Result AttrTable Fault → Result AttrUses Fault → Type 0
 IsTableOf t ids (Ok table) value = Answers t ids table.tables.store (Ok table.kept) value

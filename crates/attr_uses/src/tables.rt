@@ -7,7 +7,7 @@ ghost use Rattle.xs_references.specs.Ranked.{IsRanked};
 ghost use Rattle.attr_uses.specs.Written as written;
 ghost use Rattle.attr_uses.specs.Uses as spec;
 ghost use Rattle.attr_uses.specs.Uses.{AttrUses};
-ghost use Rattle.attr_uses.specs.Tables.{StandsFor, Answers, AreTablesOf, IsTableOf, HasTwoOfOneName, HasTwoIds, IsNext, IsWildcard, IsStore};
+ghost use Rattle.attr_uses.specs.Tables.{StandsFor, Answers, AreTablesOf, IsTableOf, HasTwoOfOneName, HasTwoIds, IsNext, IsNextUnlike, IsWildcard, IsStore};
 
 use crate::groups::Answer;
 use crate::own::uses_in;
@@ -127,6 +127,17 @@ impl AttrTables {
         ensures next { (t : Tables) (ids : List Bool) (value : AttrUses) → StandsFor t ids self.now.store table value → IsNext t value.uses from result }
     {
         self.store.maps.next_needed(table.uses, from)
+    }
+
+    /// The next number of a name, from this one on, for which two tables may have different first uses: they have the same for
+    /// each name that is passed over. What the tables share is passed over whole.
+    pub fn next_unlike(&self, one: KeptTable, other: KeptTable, from: u32) -> Option<u32>
+        requires store { IsStore self.now.store }
+        requires one { (t : Tables) × (ids : List Bool) × (value : AttrUses) × StandsFor t ids self.now.store one value }
+        requires other { (t : Tables) × (ids : List Bool) × (value : AttrUses) × StandsFor t ids self.now.store other value }
+        ensures next { (t : Tables) (ids : List Bool) (value also : AttrUses) → StandsFor t ids self.now.store one value → StandsFor t ids self.now.store other also → IsNextUnlike t value.uses also.uses from result }
+    {
+        self.store.maps.next_unlike(one.uses, other.uses, from)
     }
 
     /// The attribute wildcard.

@@ -6,6 +6,7 @@ pub mod Chains
 pub mod Counting
 pub mod Digits
 pub mod Keeping
+pub mod Ordering
 pub mod Reading
 pub mod Spending
 pub mod Split

@@ -1,5 +1,5 @@
 -- What a contract sees of many lists.
-use Rattle.std.specs.Prelude.{◌≡◌, ◌≢◌, ℕ, ◌+◌, ◌-◌, ◌*◌, ◌<◌, ◌≤◌, Bool, true, false, List, [], ◌∷◌, length, map, take, sum_by, Option, Some, None, slice_index_or, slice_index}
+use Rattle.std.specs.Prelude.{◌≡◌, ◌≢◌, ℕ, ◌+◌, ◌-◌, ◌*◌, ◌<◌, ◌≤◌, Bool, true, false, List, [], ◌∷◌, length, map, take, sum_by, Option, Some, None, slice_index_or, slice_get, slice_index}
 use Rattle.child_trees.specs.declared.leaf.Leaf.{Leaf}
 
 -- a leaf in a list: its number, whether it is an element, whether it is marked, and its map
@@ -47,6 +47,14 @@ module _ {Shape Map : Type 0} where
   -- the item lies in some list
   abbrev pub HasItem : Lists Shape Map → ℕ → Type 0
   HasItem v item = (q : ℕ) × (p : ℕ) × (xs : List (Entry Map)) × IsAt v item q p xs
+
+-- the entry is that of the item, in some list
+pub record IsEntryOf {Shape Map : Type 0} (v : Lists Shape Map) (item : ℕ) (e : Entry Map) : Type 0 where
+  pub list : ℕ
+  pub place : ℕ
+  pub entries : List (Entry Map)
+  pub at : IsAt v item list place entries
+  pub is : slice_get entries place ≡ Some e
 
 -- the slots that a list takes: one for each leaf, and one for each fork between two
 abbrev pub list_slots : {Map : Type 0} → Option (List (Entry Map)) → ℕ

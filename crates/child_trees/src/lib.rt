@@ -9,6 +9,7 @@ mod cells;
 mod edits;
 mod find;
 mod leaf;
+mod order;
 mod seqs;
 mod summary;
 mod sums;

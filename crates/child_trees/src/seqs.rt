@@ -3,12 +3,13 @@
 ghost use Rattle.std.specs.Prelude.{◌≡◌, ℕ, ◌+◌, ◌*◌, ◌^◌, ◌<◌, ◌≤◌, Bool, List, [], length, map, filter, take, drop, insert, remove, slice_get, slice_set, Option, Some, None, All, MatchOption, IfOk, OnErr, vec_len};
 ghost use Rattle.std.specs.Option.{ForSome};
 ghost use Rattle.child_trees.specs.Bits.{bits};
-ghost use Rattle.child_trees.specs.Lists.{Entry, get, IsLive, IsUpTo, Updates, IsAt, HasItem, LiesOnce, entry, AreEntries, AreNew, items, acts_along, IsFirstDead, NoneIsDead, slots_used};
+ghost use Rattle.child_trees.specs.Lists.{Entry, get, IsLive, IsUpTo, Updates, IsAt, HasItem, IsEntryOf, LiesOnce, entry, AreEntries, AreNew, items, acts_along, IsFirstDead, NoneIsDead, slots_used};
 
 use crate::cells::Cells;
 use crate::edits::{build_tree, insert_leaf, plant, remove_leaf, reserve, write_leaf};
 use crate::find::find;
 use crate::leaf::{ItemId, Leaf, SeqId, flags_of};
+use crate::order::push_items;
 use crate::summary::Summary;
 use crate::tops::Tops;
 use crate::walks::{first_dead, run_between};
@@ -263,6 +264,36 @@ impl<M: Summary> Seqs<M> {
         } else {
             None
         }
+    }
+
+    /// The items of a list, in order. Each leaf and each fork of its tree is come to once, so it takes work in proportion to the leaves.
+    ///
+    /// # Errors
+    /// When memory runs out.
+    pub fn items(&self, seq: SeqId) -> Result<Vec<ItemId>, AllocError>
+        requires { IsLive self.now seq }
+        ensures { (xs : List (Entry M.Map)) → get self.now seq ≡ Some xs → IfOk result (λ found. found.items ≡ items xs) }
+    {
+        let mut found = Vec::new(self.alloc);
+        match self.tops.top(seq.number) {
+            None => Ok(found),
+            Some(top) => {
+                push_items(self.trees.nodes(), top, &mut found)?;
+                Ok(found)
+            }
+        }
+    }
+
+    /// The state after the leaf of an item alone. It takes one step at most.
+    pub fn act<L: Ledger>(&self, item: ItemId, state: M::State, steps: &mut Steps<L>) -> M::State
+        requires item { HasItem self.now item }
+        requires state { M.is_state self.now.shape state }
+        ensures value { (e : Entry M.Map) → IsEntryOf self.now item e → result ≡ M.acts e.act state }
+        ensures state { M.is_state self.now.shape result }
+        ensures least { steps.old ≤ steps.new }
+        ensures steps { steps.new ≤ steps.old + 1 }
+    {
+        self.cells.act(item.number, state, steps)
     }
 
     /// The item of a marked leaf, by its number among the marked leaves of the list, from 0, or none past the last.

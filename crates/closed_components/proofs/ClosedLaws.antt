@@ -27,11 +27,11 @@ use Rattle.build_types.specs.SimpleTypes as simple
 use Rattle.build_types.specs.Numbers.{simples_in}
 use Rattle.build_attributes.specs.Declarations.{attributes_of}
 use Rattle.build_attributes.specs.Groups as attr
-use Rattle.build_elements.specs.Constraints.{constraints as all_constraints}
-use Rattle.build_elements.specs.Elements as elements
-use Rattle.build_elements.proofs.HeadLaws.{heads_one}
-use Rattle.build_particles.specs.Groups as models
-use Rattle.build_particles.proofs.GroupLaws.{groups_one}
+use Rattle.build_components.specs.Constraints.{constraints as all_constraints}
+use Rattle.build_components.specs.Elements as elements
+use Rattle.build_components.proofs.HeadLaws.{heads_one}
+use Rattle.build_components.specs.Groups as models
+use Rattle.build_components.proofs.GroupLaws.{groups_one}
 use Rattle.build_components.specs.Built as built
 use Rattle.build_components.proofs.StepLaws.{attr-groups-many}
 use Rattle.closed_components.specs.There.{AreThere, own_type}

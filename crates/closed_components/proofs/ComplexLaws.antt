@@ -20,8 +20,8 @@ use Rattle.representations.specs.declared.source.Source.{Source}
 use Rattle.component_numbers.specs.Numbers.{number_at}
 use Rattle.build_types.specs.Numbers.{complexes_in}
 use Rattle.build_types.specs.Types.{type_at, meant_type}
-use Rattle.build_particles.specs.Contents.{is_empty_in, explicit_at, explicit_content, particle_place, effective_content, has_simple_content, holder}
-use Rattle.build_complex.specs.Complexes.{base_by, simple_content, complex_content, complex_type, complexes_by, complexes_from}
+use Rattle.build_components.specs.Contents.{is_empty_in, explicit_at, explicit_content, particle_place, effective_content, has_simple_content, holder}
+use Rattle.build_components.specs.Complexes.{base_by, simple_content, complex_content, complex_type, complexes_by, complexes_from}
 use Rattle.closed_components.specs.There.{own_type}
 use Rattle.closed_components.proofs.ListLaws.{all-one}
 use Rattle.closed_components.proofs.ThereLaws.{AreBelow, if-some, either-below}

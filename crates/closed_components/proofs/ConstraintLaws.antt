@@ -14,9 +14,9 @@ use Rattle.representations.specs.declared.parts.Representation.{Representation}
 use Rattle.representations.specs.declared.source.Source.{Source}
 use Rattle.component_numbers.specs.Numbers.{number_at}
 use Rattle.component_numbers.proofs.NumberLaws.{numbers_below}
-use Rattle.build_elements.specs.Paths.{selector, fields}
-use Rattle.build_elements.specs.Constraints.{selecting, keys_by, keys_of, keys, key_referred, referring, keyrefs_by, keyrefs_of, keyrefs, key_numbers, constraints, constraint_numbers}
-use Rattle.build_elements.specs.Elements.{constraint_at, constraints_in}
+use Rattle.build_components.specs.Paths.{selector, fields}
+use Rattle.build_components.specs.Constraints.{selecting, keys_by, keys_of, keys, key_referred, referring, keyrefs_by, keyrefs_of, keyrefs, key_numbers, constraints, constraint_numbers}
+use Rattle.build_components.specs.Elements.{constraint_at, constraints_in}
 use Rattle.closed_components.specs.There.{referred_key}
 use Rattle.closed_components.proofs.ListLaws.{all-flat_map, all-option, all-one}
 use Rattle.closed_components.proofs.ThereLaws.{AreBelow, referred-below, either-below}

@@ -14,8 +14,8 @@ use Rattle.representations.specs.declared.parts.Represented.TheVariants as forms
 use Rattle.representations.specs.declared.parts.Representation.{Representation}
 use Rattle.representations.specs.declared.source.Source.{Source}
 use Rattle.build_types.specs.Types.{type_at}
-use Rattle.build_elements.specs.Elements.{declaration, declared, elements_by, elements_of, head_of, named_head}
-use Rattle.build_elements.specs.declared.constraints.ConstraintNumbers.{ConstraintNumbers}
+use Rattle.build_components.specs.Elements.{declaration, declared, elements_by, elements_of, head_of, named_head}
+use Rattle.build_components.specs.ConstraintNumbers.{ConstraintNumbers}
 use Rattle.closed_components.proofs.ListLaws.{all-flat_map, all-one}
 use Rattle.closed_components.proofs.ThereLaws.{AreBelow, if-some, referred-below}
 use Rattle.closed_components.proofs.TypeLaws.{named-there}

@@ -15,8 +15,8 @@ use Rattle.representations.specs.declared.parts.Represented.TheVariants as forms
 use Rattle.representations.specs.declared.parts.Representation.{Representation}
 use Rattle.representations.specs.declared.source.Source.{Source}
 use Rattle.component_numbers.specs.Numbers.{number_of, number_named, numbers_in}
-use Rattle.build_particles.specs.Terms.{is_never, meant_element, term_by, particle_with, has_empty_sequence, empty_sequence, empty_content, particles_of}
-use Rattle.build_particles.specs.Particles.{Particles, padded, particles_at, particles_from}
+use Rattle.build_components.specs.Terms.{is_never, meant_element, term_by, particle_with, has_empty_sequence, empty_sequence, empty_content, particles_of}
+use Rattle.build_components.specs.Particles.{Particles, padded, particles_at, particles_from}
 use Rattle.closed_components.specs.There.{named_element}
 use Rattle.closed_components.proofs.ListLaws.{all-at, all-one}
 use Rattle.closed_components.proofs.ThereLaws.{AreBelow, in-below, named-below, referred-below}

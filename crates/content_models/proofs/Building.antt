@@ -118,7 +118,7 @@ module _ (names : NameTable) (t : Tables) (members : List (List ℕ)) (d : Decla
           pub states-room : (a : ModelAutomaton) → OfModels (λ f g m. HasRoomFor a.symbols cells f g m u.table a.machine.count) → HasRoom names t members p cells (States a)
           states-room a room =
               let h = of-model (λ f g m. HasRoomFor a.symbols cells f g m u.table a.machine.count) room in
-              (few, a.machine.count, total a.machine.count h.0, h.1, h.2)
+              (few, total a.machine.count h.0, h.1, h.2)
 
           pub states-passed : OfModels (λ f g m. PassesStates f g m u.table) → HasTooManyStates names t members p
           states-passed passes = (few, passed)
@@ -185,7 +185,7 @@ module _ (names : NameTable) (t : Tables) (members : List (List ℕ)) (d : Decla
 
           module _ (cells count : ℕ) (a : AllModel) (count_is : count ≡ count_of a.symbols) where
             pub all-room : count ≤ cells → HasRoom names t members p cells (All a)
-            all-room l = (all-positions read optional model all-limited, 1, one-state, omega arith, omega arith)
+            all-room l = (all-positions read optional model all-limited, one-state, omega arith, omega arith)
 
             pub all-passed : cells < count → AreSymbolsOf terms a.symbols → HasTooLargeTable names t members classes p cells
             all-passed l symbols = (

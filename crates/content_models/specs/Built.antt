@@ -53,6 +53,15 @@ abbrev pub symbols_of : ContentAutomaton → SymbolTable
 symbols_of (States a) = a.symbols
 symbols_of (All a) = a.symbols
 
+-- how many states there are; an all counts one
+abbrev pub states_of : ContentAutomaton → ℕ
+states_of (States a) = a.machine.count
+states_of (All a) = 1
+
+-- the cells of its table: states times symbols
+abbrev pub cells_of : ContentAutomaton → ℕ
+cells_of a = states_of a * count_of (symbols_of a)
+
 module _ (names : NameTable) (t : Tables) (members : List (List ℕ)) where
   -- So many states the content model of a particle has: the sets of positions in which a prefix with some names may end, and one
   -- before the first name. An all counts one.
@@ -102,4 +111,4 @@ module _ (names : NameTable) (t : Tables) (members : List (List ℕ)) where
   -- none of these
   abbrev pub HasRoom : ℕ → ℕ → ContentAutomaton → Type 0
   HasRoom p cells_left a =
-      (positions_of (model_of t p) ≤ 2048) × (count : ℕ) × IsStateTotal p count × (count ≤ 2048) × (count * count_of (symbols_of a) ≤ cells_left)
+      (positions_of (model_of t p) ≤ 2048) × IsStateTotal p (states_of a) × (states_of a ≤ 2048) × (cells_of a ≤ cells_left)

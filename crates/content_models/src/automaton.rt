@@ -1,6 +1,6 @@
 //! The automaton of a content model.
 
-ghost use Rattle.std.specs.Prelude.{◌≡◌, ◌↔◌, ◌<◌, ℕ, List, IsTrue, length, IfOk, IfErr};
+ghost use Rattle.std.specs.Prelude.{◌≡◌, ◌↔◌, ◌<◌, ◌^◌, ℕ, List, IsTrue, length, IfOk, IfErr};
 ghost use Rattle.xs_names.specs.Names.{NameTable, Grown};
 ghost use Rattle.xs_components.specs.Tables.{Tables};
 ghost use Rattle.model_symbols.specs.Symbols.{AreNamesOf, symbol_of, count_of};
@@ -12,7 +12,7 @@ ghost use Rattle.particle_forms.specs.Accepted.{accepts};
 ghost use Rattle.content_automaton.specs.Modelled.{IsAmbiguousBy};
 ghost use Rattle.content_models.specs.Terms.{model_terms};
 ghost use Rattle.content_models.specs.Ways.{IsAllFound};
-ghost use Rattle.content_models.specs.Built.{IsSource, IsLimited, IsBuilt, HasRoom, IsRefused, IsFirstIn, is_all, symbols_of};
+ghost use Rattle.content_models.specs.Built.{IsSource, IsLimited, IsBuilt, HasRoom, IsRefused, IsFirstIn, is_all, symbols_of, cells_of};
 
 use crate::all_content::{AllFound, find_all, read_members};
 use crate::reading::{read_terms, term_ids};
@@ -68,6 +68,19 @@ impl ContentAutomaton {
         match self {
             ContentAutomaton::States(_) => false,
             ContentAutomaton::All(_) => true,
+        }
+    }
+
+    /// The cells of its table: states times symbols, where an `all` counts one state.
+    pub fn cells(&self) -> u32
+        requires { cells_of self.now < 2 ^ 32 }
+        ensures cells { result ≡ cells_of self.now }
+    {
+        match self {
+            ContentAutomaton::States(automaton) => {
+                u32::from(automaton.width() - 1) * automaton.symbol_count()
+            },
+            ContentAutomaton::All(automaton) => automaton.symbol_count(),
         }
     }
 

@@ -1,12 +1,10 @@
-//! Tests of the public calls from lines to trees: items, names of tags, building, and content models.
+//! Tests of the public calls from lines to trees: items, names of tags, and building.
 #![tactic(auto)]
 
 #[cfg(test)]
 mod building;
 #[cfg(test)]
 mod items;
-#[cfg(test)]
-mod models;
 #[cfg(test)]
 mod names;
 #[cfg(test)]

@@ -1,16 +1,18 @@
--- The entry of an element, by its name and its record.
+-- The entry of an element, by its records.
 use Rattle.std.proofs.Common.{◌≡◌, ℕ, List, [], ◌∷◌, Bool, true, false, ◌==◌, Option, Some, None, refl, sym, ap, ◌∙◌, arith}
 use Rattle.std.specs.Option.{option_map}
 use Rattle.std.proofs.lemmas.Bool.Decides.{nat_tests}
-use Rattle.assess_model.specs.Assessment.{Entry}
-use Rattle.assess_model.specs.declared.record.ElementRecord.{ElementRecord}
-use Rattle.report_text.specs.Report.{record_line}
-use Rattle.session_model.specs.Asking.{entry_of}
 use Rattle.tree_rows.specs.declared.row.NodeKind.{NodeKind}
-use Rattle.edit_replies.specs.Replies.{assess_reply, no_element}
+use Rattle.session_model.specs.Asking.{entry_at}
+use Rattle.session_model.specs.Assessment.{Entry}
+use Rattle.session_model.specs.Compiled.{Compiled}
+use Rattle.session_model.specs.Lines.{records_text}
+use Rattle.assess_records.specs.declared.record.AttrRecord.{AttrRecord}
+use Rattle.assess_records.specs.declared.record.ElementRecord.{ElementRecord}
+use Rattle.edit_replies.specs.Replies.{records_reply, no_element}
 
-number_step : (key : ℕ) (e : Entry) (more : List Entry) (found : Entry) → (entry_of key more ≡ Some found → found.number ≡ key) → (t : Bool) → (e.number == key) ≡ t
-    → entry_of key (e ∷ more) ≡ Some found → found.number ≡ key
+number_step : (key : ℕ) (e : Entry) (more : List Entry) (found : Entry) → (entry_at key more ≡ Some found → found.number ≡ key) → (t : Bool) → (e.number == key) ≡ t
+    → entry_at key (e ∷ more) ≡ Some found → found.number ≡ key
 number_step key e more found later true t h =
     let same : Some e ≡ Some found = (rw t at h) in
     let is : e ≡ found = cc in
@@ -18,26 +20,29 @@ number_step key e more found later true t h =
     ap (λ (x : Entry). x.number) (sym is) ∙ number
 number_step key e more found later false t h = later (rw t at h)
 
-entry_of-number : (key : ℕ) (es : List Entry) (found : Entry) → entry_of key es ≡ Some found → found.number ≡ key
-entry_of-number key [] found h = cc
-entry_of-number key (e ∷ more) found h = number_step key e more found (entry_of-number key more found) (e.number == key) refl h
+entry_at-number : (key : ℕ) (es : List Entry) (found : Entry) → entry_at key es ≡ Some found → found.number ≡ key
+entry_at-number key [] found h = cc
+entry_at-number key (e ∷ more) found h = number_step key e more found (entry_at-number key more found) (e.number == key) refl h
 
-line_of : (kind : Option NodeKind) (key : ℕ) (found : Option Entry) (name : List ℕ) (known : ElementRecord) → ((e : Entry) → found ≡ Some e → e.number ≡ key)
-    → Some name ≡ option_map (λ (e : Entry). e.name) found → Some known ≡ option_map (λ (e : Entry). e.known) found
-    → assess_reply kind found ≡ record_line key name known
-line_of kind key None name known numbered n k = cc
-line_of kind key (Some e) name known numbered n k =
-    let same_name : e.name ≡ name = cc in
-    let same_known : e.known ≡ known = cc in
-    ap (λ x. record_line x e.name e.known) (numbered e refl) ∙ ap (λ x. record_line key x e.known) same_name ∙ ap (record_line key name) same_known
+module _ (set : Compiled) (kind : Option NodeKind) where
+  text_of : (key : ℕ) (found : Option Entry) (element : ElementRecord) (attrs : List AttrRecord) → ((e : Entry) → found ≡ Some e → e.number ≡ key)
+      → Some element ≡ option_map (λ (e : Entry). e.element) found → Some attrs ≡ option_map (λ (e : Entry). e.attrs) found
+      → records_reply set kind found ≡ records_text set.names set.parts key element attrs
+  text_of key None element attrs numbered at also = cc
+  text_of key (Some e) element attrs numbered at also =
+      let same_element : e.element ≡ element = cc in
+      let same_attrs : e.attrs ≡ attrs = cc in
+      ap (λ n. records_text set.names set.parts n e.element e.attrs) (numbered e refl) ∙ ap (λ r. records_text set.names set.parts key r e.attrs) same_element
+      ∙ ap (records_text set.names set.parts key element) same_attrs
 
-pub assess_line : (kind : Option NodeKind) (key : ℕ) (es : List Entry) (name : List ℕ) (known : ElementRecord) → Some name ≡ option_map (λ (e : Entry). e.name) (entry_of key es)
-    → Some known ≡ option_map (λ (e : Entry). e.known) (entry_of key es) → assess_reply kind (entry_of key es) ≡ record_line key name known
-assess_line kind key es name known n k = line_of kind key (entry_of key es) name known (entry_of-number key es) n k
+  pub found_text : (key : ℕ) (es : List Entry) (element : ElementRecord) (attrs : List AttrRecord)
+      → Some element ≡ option_map (λ (e : Entry). e.element) (entry_at key es) → Some attrs ≡ option_map (λ (e : Entry). e.attrs) (entry_at key es)
+      → records_reply set kind (entry_at key es) ≡ records_text set.names set.parts key element attrs
+  found_text key es element attrs at also = text_of key (entry_at key es) element attrs (entry_at-number key es) at also
 
-none_of : (kind : Option NodeKind) (found : Option Entry) → None ≡ option_map (λ (e : Entry). e.name) found → assess_reply kind found ≡ no_element kind
-none_of kind None n = refl
-none_of kind (Some e) n = cc
+  none_of : (found : Option Entry) → None ≡ option_map (λ (e : Entry). e.element) found → records_reply set kind found ≡ no_element kind
+  none_of None n = refl
+  none_of (Some e) n = cc
 
-pub no_line : (kind : Option NodeKind) (key : ℕ) (es : List Entry) → None ≡ option_map (λ (e : Entry). e.name) (entry_of key es) → assess_reply kind (entry_of key es) ≡ no_element kind
-no_line kind key es n = none_of kind (entry_of key es) n
+  pub no_text : (key : ℕ) (es : List Entry) → None ≡ option_map (λ (e : Entry). e.element) (entry_at key es) → records_reply set kind (entry_at key es) ≡ no_element kind
+  no_text key es n = none_of (entry_at key es) n

@@ -1,3 +1,14 @@
 pub mod Replies
 pub mod Costs
 pub mod Tells
+pub use Rattle.session_model.specs.Assessor
+pub use Rattle.session_model.specs.Assessment
+pub use Rattle.session_model.specs.Asking
+pub use Rattle.session_model.specs.Compiled
+pub use Rattle.session_model.specs.CompiledRow
+pub use Rattle.session_model.specs.Counting
+pub use Rattle.session_model.specs.Reports
+pub use Rattle.session_model.specs.State
+pub use Rattle.session_model.specs.StateCode
+pub use Rattle.session_model.specs.Usable
+pub use Rattle.session_model.specs.Words

@@ -1,33 +1,40 @@
--- The replies to the lines of an edit script, as a fold over the tree.
-use Rattle.std.specs.Prelude.{◌≡◌, ℕ, List, [], ◌∷◌, ◌++◌, false, Option, Some, None, Result, Ok, Err, codes}
+-- The replies to the lines of an edit script, and what these do to a session.
+use Rattle.std.specs.Prelude.{ℕ, List, [], ◌∷◌, ◌++◌, Option, Some, None, Result, Ok, Err, codes}
 use Rattle.std.specs.Fmt.{decimal}
 use Rattle.tree_rows.specs.Forest.{Document}
-use Rattle.tree_edits.specs.Tests.{edited}
-use Rattle.tree_edits.specs.Refusals as refusals
-use Rattle.tree_edits.specs.declared.edit.EditError.{EditError}
-use Rattle.assess_model.specs.Tables.{Tables}
-use Rattle.assess_model.specs.Assessment.{Entry, assessment, code_total}
-use Rattle.report_text.specs.Report.{entry_line}
-use Rattle.session_model.specs.State.{State}
-use Rattle.session_model.specs.Applying.{next_revision}
-use Rattle.session_model.specs.Asking.{entry_of}
 use Rattle.tree_rows.specs.Kinds.{kind_of}
 use Rattle.tree_rows.specs.declared.row.NodeKind.{NodeKind}
 use Rattle.tree_rows.specs.declared.row.NodeKind.TheVariants.{Element, Chars}
+use Rattle.tree_edits.specs.Tests.{edited}
+use Rattle.tree_edits.specs.Refusals as refusals
+use Rattle.tree_edits.specs.declared.edit.EditError.{EditError}
 use Rattle.edit_script.specs.Faults as faults
 use Rattle.edit_script.specs.declared.command.Command.{Command}
 use Rattle.edit_script.specs.declared.command.Command.TheVariants as commands
 use Rattle.edit_script.specs.declared.command.ScriptFault.{ScriptFault}
+use Rattle.session_model.specs.Applying.{next_revision}
+use Rattle.session_model.specs.Asking.{entry_at, code_total}
+use Rattle.session_model.specs.Assessment.{Entry}
+use Rattle.session_model.specs.Assessor.{RightAssessor}
+use Rattle.session_model.specs.Compiled.{Compiled}
+use Rattle.session_model.specs.Reports.{entry_lines}
+use Rattle.session_model.specs.State.{State, with_names, known}
 
--- the document as it stands, and its revision
-pub record Standing : Type 0 where
-  pub document : Document
-  pub revision : ℕ
+-- ---- how the session stands then
 
--- what is written, and how the document then stands
-pub record Reply : Type 0 where
-  pub text : List ℕ
-  pub next : Standing
+-- an edit that is made gives the next revision, and the set has the names of the new tree; one that is refused changes nothing
+abbrev pub changed : State → Result Document EditError → State
+changed s (Ok d) = record { set = with_names s.set d.forest; document = d; revision = next_revision s.revision; closed = s.closed }
+changed s (Err e) = s
+
+-- a question, or a line that is no command, changes nothing
+abbrev pub next_state : State → Result Command ScriptFault → State
+next_state s (Ok (commands.Change edit)) = changed s (edited s.document edit)
+next_state s (Ok (commands.Assess node)) = s
+next_state s (Ok commands.Total) = s
+next_state s (Err fault) = s
+
+-- ---- what is written
 
 abbrev pub refusal : ℕ → List ℕ → List ℕ
 refusal number name = codes "no " ++ decimal number ++ codes " " ++ name ++ 10 ∷ []
@@ -38,41 +45,32 @@ made revision total = codes "ok " ++ decimal revision ++ codes " " ++ decimal to
 abbrev pub total_line : ℕ → List ℕ
 total_line total = codes "total " ++ decimal total ++ 10 ∷ []
 
--- the number of codes of a document
-abbrev pub total_of : Tables → Document → ℕ
-total_of t d = code_total (assessment t d.forest)
-
--- an edit that is made gives the next revision and the number of codes of the new tree; one that is refused changes nothing
-abbrev pub change_reply : Tables → Standing → Result Document EditError → Reply
-change_reply t s (Ok d) = record {
-  text = made (next_revision s.revision) (total_of t d);
-  next = record { document = d; revision = next_revision s.revision };
-}
-change_reply t s (Err e) = record { text = refusal (refusals.number_of e) (refusals.name_of e); next = s }
-
 -- why a number is of no element: it is of a text, or of no node
 abbrev pub no_element : Option NodeKind → List ℕ
 no_element (Some Chars) = refusal 2 (codes "NotElement")
 no_element (Some Element) = refusal 1 (codes "UnknownNode")
 no_element None = refusal 1 (codes "UnknownNode")
 
--- the record line of an element
-abbrev pub assess_reply : Option NodeKind → Option Entry → List ℕ
-assess_reply kind (Some e) = entry_line e
-assess_reply kind None = no_element kind
+-- the record lines of an element and its attributes
+abbrev pub records_reply : Compiled → Option NodeKind → Option Entry → List ℕ
+records_reply set kind (Some e) = entry_lines set e
+records_reply set kind None = no_element kind
 
-abbrev pub reply : Tables → Standing → Result Command ScriptFault → Reply
-reply t s (Ok (commands.Change edit)) = change_reply t s (edited s.document edit)
-reply t s (Ok (commands.Assess node)) =
-    record { text = assess_reply (kind_of node s.document.forest) (entry_of node (assessment t s.document.forest)); next = s }
-reply t s (Ok commands.Total) = record { text = total_line (total_of t s.document); next = s }
-reply t s (Err fault) = record { text = refusal (faults.number_of fault) (faults.name_of fault); next = s }
+module _ (p : RightAssessor) where
+  -- the number of codes of the present document
+  abbrev pub total_of : State → ℕ
+  total_of s = code_total (known p s)
 
-abbrev pub standing_of : State → Standing
-standing_of s = record { document = s.document; revision = s.revision }
+  -- the revision and the number of codes of the new tree; or why the edit is refused
+  abbrev pub change_reply : State → Result Document EditError → List ℕ
+  change_reply s (Ok d) = made (next_revision s.revision) (total_of (changed s (Ok d)))
+  change_reply s (Err e) = refusal (refusals.number_of e) (refusals.name_of e)
 
--- the session stands as the reply says
-pub record Stands (old new : State) (said : Reply) : Type 0 where
-  pub stands : standing_of new ≡ said.next
-  pub open_still : new.closed ≡ false
-  pub tables : new.tables ≡ old.tables
+  abbrev pub assess_reply : State → ℕ → List ℕ
+  assess_reply s node = records_reply s.set (kind_of node s.document.forest) (entry_at node (known p s))
+
+  abbrev pub reply : State → Result Command ScriptFault → List ℕ
+  reply s (Ok (commands.Change edit)) = change_reply s (edited s.document edit)
+  reply s (Ok (commands.Assess node)) = assess_reply s node
+  reply s (Ok commands.Total) = total_line (total_of s)
+  reply s (Err fault) = refusal (faults.number_of fault) (faults.name_of fault)

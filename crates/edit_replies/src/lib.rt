@@ -8,3 +8,4 @@ mod reply;
 pub use break_off::BreakOff;
 pub use line::answer_line;
 pub use reply::{write_answer, write_made, write_total};
+pub use session_model::{Compiled, Session, Validity, validity_word};

@@ -1,9 +1,11 @@
 ghost use Rattle.std.specs.Prelude.{◌≡◌, false, OnOk};
+ghost use Rattle.xsv_io.specs.Causes.{KeepsCount};
 ghost use Rattle.edit_script.specs.Commands.{command};
+ghost use Rattle.session_model.specs.Assessor.{RightAssessor};
 ghost use Rattle.session_model.specs.Counting.{Counts};
 ghost use Rattle.edit_replies.specs.Costs.{command_cost};
-ghost use Rattle.edit_replies.specs.Replies.{reply, standing_of, Stands};
-ghost use Rattle.edit_replies.specs.Tells.{Tells};
+ghost use Rattle.edit_replies.specs.Replies.{reply, next_state};
+ghost use Rattle.edit_replies.specs.Tells.{Wrote, IsWriteFault};
 
 use crate::BreakOff;
 use crate::reply::{answer_assess, answer_change, answer_total, write_refusal};
@@ -30,16 +32,15 @@ pub fn answer_line<S: Session, W: Sink, L: Ledger>(
     steps: &mut Steps<L>,
 ) -> Result<(), BreakOff>
     requires { (S.state session.old).closed ≡ false }
-    ensures tells { Tells W.taken W.faults W.fault_bound sink.old sink.new result
-        (reply (S.state session.old).tables (standing_of (S.state session.old)) (command line.now block)).text }
-    ensures stands { OnOk result (Stands (S.state session.old) (S.state session.new)
-        (reply (S.state session.old).tables (standing_of (S.state session.old)) (command line.now block))) }
+    ensures wrote { (p : RightAssessor) → Wrote result (W.taken sink.old) (W.taken sink.new) (reply p (S.state session.old) (command line.now block)) }
+    ensures writes { KeepsCount W.faults W.fault_bound sink.old sink.new (IsWriteFault result) }
+    ensures stands { OnOk result (S.state session.new ≡ next_state (S.state session.old) (command line.now block)) }
     ensures steps { Counts steps.old steps.new (command_cost (S.cost session.old) (command line.now block)) }
 {
     match read_command(alloc, line, block)? {
         Ok(Command::Change(edit)) => answer_change(session, &edit, sink, steps),
         Ok(Command::Assess(node)) => answer_assess(session, node, sink),
-        Ok(Command::Total) => answer_total(sink, session.code_total()),
+        Ok(Command::Total) => answer_total(session, sink),
         Err(fault) => write_refusal(sink, fault.number(), fault.name()),
     }
 }

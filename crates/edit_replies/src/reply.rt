@@ -1,19 +1,18 @@
-ghost use Rattle.std.specs.Prelude.{◌≡◌, Some, true, false, OnOk};
-ghost use Rattle.tree_edits.specs.Edits.{can_be_made};
-ghost use Rattle.tree_edits.specs.Tests.{edited};
-ghost use Rattle.session_model.specs.State.{known};
-ghost use Rattle.session_model.specs.Asking.{entry_of};
-ghost use Rattle.session_model.specs.Counting.{Counts};
-ghost use Rattle.tree_rows.specs.Kinds.{kind_of};
+ghost use Rattle.std.specs.Prelude.{◌≡◌, Some, IfSome, true, false, OnOk};
+ghost use Rattle.xsv_io.specs.Causes.{KeepsCount};
 ghost use Rattle.text_sink.specs.Parts.{parts_text};
 ghost use Rattle.text_sink.specs.Written.{Written};
-ghost use Rattle.report_text.specs.Report.{record_line};
-ghost use Rattle.edit_replies.specs.Replies.{made, total_line, refusal, no_element, assess_reply, change_reply, standing_of, Stands};
-ghost use Rattle.edit_replies.specs.Tells.{Tells};
+ghost use Rattle.tree_edits.specs.Edits.{can_be_made};
+ghost use Rattle.tree_edits.specs.Tests.{edited};
+ghost use Rattle.session_model.specs.Assessor.{RightAssessor};
+ghost use Rattle.session_model.specs.Counting.{Counts};
+ghost use Rattle.session_model.specs.Lines.{records_text};
+ghost use Rattle.session_model.specs.Named.{IsNamed, AreNamed};
+ghost use Rattle.edit_replies.specs.Replies.{made, total_line, total_of, refusal, no_element, change_reply, assess_reply, changed};
+ghost use Rattle.edit_replies.specs.Tells.{Tells, Wrote, IsWriteFault};
 
 use crate::BreakOff;
-use assess_model::ElementRecord;
-use session_model::{Session, SessionError};
+use session_model::{Compiled, Records, Session, SessionError, write_records};
 use text_sink::{Part, write_parts};
 use tree_edits::Edit;
 use tree_rows::NodeKind;
@@ -68,14 +67,23 @@ pub fn write_total<W: Sink>(sink: &mut W, total: u64) -> Result<(), Failed>
     )
 }
 
-/// Answers with the number of codes.
-pub fn answer_total<W: Sink>(sink: &mut W, total: u64) -> Result<(), BreakOff>
+/// Writes the number of codes as an answer.
+fn tell_total<W: Sink>(sink: &mut W, total: u64) -> Result<(), BreakOff>
     ensures tells { Tells W.taken W.faults W.fault_bound sink.old sink.new result (total_line total) }
 {
     match write_total(sink, total) {
         Ok(()) => Ok(()),
         Err(_) => Err(BreakOff::WriteFault),
     }
+}
+
+/// Answers with the number of codes.
+pub fn answer_total<S: Session, W: Sink>(session: &S, sink: &mut W) -> Result<(), BreakOff>
+    requires { (S.state session.now).closed ≡ false }
+    ensures wrote { (p : RightAssessor) → Wrote result (W.taken sink.old) (W.taken sink.new) (total_line (total_of p (S.state session.now))) }
+    ensures writes { KeepsCount W.faults W.fault_bound sink.old sink.new (IsWriteFault result) }
+{
+    tell_total(sink, session.code_total())
 }
 
 /// Writes a refusal.
@@ -94,16 +102,18 @@ pub fn write_refusal<W: Sink>(sink: &mut W, number: u8, name: &str) -> Result<()
     )
 }
 
-/// Writes the record line of an element.
-fn write_record<W: Sink>(
+/// Writes the record lines of an element and of its attributes.
+fn tell_records<W: Sink>(
     sink: &mut W,
+    set: &Compiled,
     node: u32,
-    name: &str,
-    record: &ElementRecord,
+    records: Records<'_>,
 ) -> Result<(), BreakOff>
-    ensures tells { Tells W.taken W.faults W.fault_bound sink.old sink.new result (record_line node name.now record.now) }
+    requires element { IsNamed set.now.names set.now.parts records.element.now.name records.element.now.of }
+    requires attrs { AreNamed set.now.names set.now.parts records.attrs.now }
+    ensures tells { Tells W.taken W.faults W.fault_bound sink.old sink.new result (records_text set.now.names set.now.parts node records.entry.element.now records.entry.attrs.now) }
 {
-    match report_text::write_record(sink, node, name, record) {
+    match write_records(sink, &set.names, &set.parts, node, records) {
         Ok(()) => Ok(()),
         Err(_) => Err(BreakOff::WriteFault),
     }
@@ -118,10 +128,9 @@ pub fn answer_change<S: Session, W: Sink, L: Ledger>(
 ) -> Result<(), BreakOff>
     requires made { can_be_made edit.now ≡ true }
     requires live { (S.state session.old).closed ≡ false }
-    ensures tells { Tells W.taken W.faults W.fault_bound sink.old sink.new result
-        (change_reply (S.state session.old).tables (standing_of (S.state session.old)) (edited (S.state session.old).document edit.now)).text }
-    ensures stands { OnOk result (Stands (S.state session.old) (S.state session.new)
-        (change_reply (S.state session.old).tables (standing_of (S.state session.old)) (edited (S.state session.old).document edit.now))) }
+    ensures wrote { (p : RightAssessor) → Wrote result (W.taken sink.old) (W.taken sink.new) (change_reply p (S.state session.old) (edited (S.state session.old).document edit.now)) }
+    ensures writes { KeepsCount W.faults W.fault_bound sink.old sink.new (IsWriteFault result) }
+    ensures stands { OnOk result (S.state session.new ≡ changed (S.state session.old) (edited (S.state session.old).document edit.now)) }
     ensures steps { Counts steps.old steps.new (S.cost session.old edit.now) }
 {
     match session.apply(edit, steps) {
@@ -156,21 +165,18 @@ fn refuse_element<W: Sink>(kind: Option<NodeKind>, sink: &mut W) -> Result<(), B
     }
 }
 
-/// Writes the record line of an element, or why there is none.
+/// Writes the record lines of an element and of its attributes, or why there are none.
 pub fn answer_assess<S: Session, W: Sink>(
     session: &S,
     node: u32,
     sink: &mut W,
 ) -> Result<(), BreakOff>
     requires { (S.state session.now).closed ≡ false }
-    ensures tells { Tells W.taken W.faults W.fault_bound sink.old sink.new result
-        (assess_reply (kind_of node (S.state session.now).document.forest) (entry_of node (known (S.state session.now)))) }
+    ensures wrote { (p : RightAssessor) → Wrote result (W.taken sink.old) (W.taken sink.new) (assess_reply p (S.state session.now) node) }
+    ensures writes { KeepsCount W.faults W.fault_bound sink.old sink.new (IsWriteFault result) }
 {
-    match session.element_name(node) {
-        Some(name) => match session.element_record(node) {
-            Some(record) => write_record(sink, node, name.as_str(), record),
-            None => unreachable!(),
-        },
+    match session.records(node) {
+        Some(records) => tell_records(sink, session.compiled(), node, records),
         None => refuse_element(session.live(node), sink),
     }
 }

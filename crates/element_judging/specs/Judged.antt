@@ -6,8 +6,8 @@ use Rattle.simple_values.specs.declared.value.Value.{Value}
 use Rattle.assess_records.specs.declared.record.AttrRecord.{AttrRecord}
 use Rattle.assess_records.specs.declared.record.ElementRecord.{ElementRecord}
 use Rattle.assess_records.specs.declared.shape.ElementShape.{ElementShape}
-use Rattle.elem_governing.specs.declared.pairs.Governing.{Governing}
-use Rattle.elem_governing.specs.declared.local_types.XsiType.{XsiType}
+use Rattle.element_codes.specs.Governing.{Governing}
+use Rattle.element_codes.specs.XsiType.{XsiType}
 use Rattle.element_codes.specs.declared.outcome.TextOutcome.{TextOutcome}
 use Rattle.element_codes.specs.Used.{value_in}
 use Rattle.element_codes.specs.Records.{nil, constraint, element_record}

@@ -6,3 +6,4 @@ mod outcomes;
 mod texts;
 
 pub use judged::{JudgedElement, judge_element};
+pub use simple_types::SimpleTypes;

@@ -137,6 +137,27 @@ impl<F: Fold> Held<F> {
         Some(self.seqs.place_of(item))
     }
 
+    /// The items of a slot's list, in order.
+    pub fn items(&self, slot: usize) -> Option<Result<Vec<ItemId>, AllocError>> {
+        Some(self.seqs.items(in_slot(&self.slots, slot)?))
+    }
+
+    /// What `act` says of the item at a place.
+    pub fn act<L: Ledger>(
+        &self,
+        slot: usize,
+        place: u32,
+        state: u64,
+        steps: &mut Steps<L>,
+    ) -> Option<u64> {
+        let item = self.at(slot, place)?;
+        if F::is_one_of_states(state) {
+            Some(self.seqs.act(item, state, steps))
+        } else {
+            None
+        }
+    }
+
     pub fn nth_marked(&self, slot: usize, k: u32) -> Option<ItemId> {
         self.seqs.nth_marked(in_slot(&self.slots, slot)?, k)
     }

@@ -38,7 +38,20 @@ fn check_letters(rt: &impl Abort, held: &Held<Digest>, steps: &mut Steps<Silent>
     assert!(rt; held.upto(0, 2, 0, steps) == Some(31 + 2));
     assert!(rt; held.prefix(0, 2, 0, steps) == Some(31 + 2));
     assert!(rt; held.from(0, 1, 0, steps) == Some(2 * 31 + 3));
+    assert!(rt; held.act(0, 1, 5, steps) == Some(5 * 31 + 2));
     assert!(rt; held.descend(0, 0, steps).is_none());
+}
+
+fn check_items(rt: &impl Abort, held: &Held<Digest>) -> Result<(), AllocError> {
+    assert!(rt; held.items(1).is_none());
+    if let Some(items) = held.items(0) {
+        let items = items?;
+        assert!(rt; items.len() == 3);
+        assert!(rt; items.get(0).copied() == held.at(0, 0));
+        assert!(rt; items.get(1).copied() == held.at(0, 1));
+        assert!(rt; items.get(2).copied() == held.at(0, 2));
+    }
+    Ok(())
 }
 
 fn check_changes(rt: &impl Abort, held: &mut Held<Digest>, steps: &mut Steps<Silent>) {
@@ -54,6 +67,7 @@ fn check_digests(rt: &impl Abort, held: &mut Held<Digest>) -> Result<(), AllocEr
     let mut steps = Steps::new(Silent);
     put_letters(held, &mut steps)?;
     check_letters(rt, held, &mut steps);
+    check_items(rt, held)?;
     check_changes(rt, held, &mut steps);
     Ok(())
 }

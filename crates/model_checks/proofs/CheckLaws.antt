@@ -7,24 +7,24 @@ use Rattle.particle_forms.specs.Accepted.{accepts}
 use Rattle.model_symbols.specs.Symbols.{AreSymbolsOf}
 use Rattle.content_automaton.specs.Modelled.{IsAmbiguousBy}
 use Rattle.content_models.specs.Terms.{model_terms}
-use Rattle.content_models.specs.Built.{IsBuilt, HasRoom, IsRefused, symbols_of}
+use Rattle.content_models.specs.Built.{IsBuilt, HasRoom, IsRefused, symbols_of, states_of}
 use Rattle.content_models.specs.declared.automaton.ContentAutomaton.{ContentAutomaton}
 use Rattle.content_models.specs.declared.automaton.ContentAutomaton.TheVariants.{States, All}
 use Rattle.content_models.specs.declared.refused.ModelError.{ModelError}
 use Rattle.content_models.specs.declared.refused.ModelError.TheVariants as errors
 use Rattle.element_consistency.specs.Consistency.{IsConsistent}
-use Rattle.model_checks.specs.Checks.{KeepsLimits, IsFirstFault, IsChecked}
-use Rattle.model_checks.specs.inside.Found.{IsFaultOf, IsFound}
+use Rattle.model_checks.specs.Checks.{KeepsLimits, IsFirstFault, IsChecked, IsJudged}
+use Rattle.model_checks.specs.inside.Found.{IsFaultOf}
 use Rattle.model_checks.specs.declared.fault.ModelFault.{ModelFault}
 use Rattle.model_checks.specs.declared.fault.ModelFault.TheVariants.{TooManyPositions, TooManyStates, TableTooLarge, Inconsistent, Ambiguous}
 
 module _ (names : NameTable) (t : Tables) (members : List (List ℕ)) (p : ℕ) where
   module _ (same : IsConsistent members t p) where
     -- two places were found, or none
-    pub found-some : (pair : ℕ × ℕ) (result : Option (ℕ × ℕ)) → result ≡ Some pair → IsAmbiguousBy (accepts names members t) (model_of t p) result → IsFound names t members p (Some Ambiguous)
+    pub found-some : (pair : ℕ × ℕ) (result : Option (ℕ × ℕ)) → result ≡ Some pair → IsAmbiguousBy (accepts names members t) (model_of t p) result → IsJudged names t members p (Some Ambiguous)
     found-some pair result is by = let b = subst (IsAmbiguousBy (accepts names members t) (model_of t p)) is by in (same, (b.0, b.1, b.2))
 
-    pub found-none : (result : Option (ℕ × ℕ)) → result ≡ None → IsAmbiguousBy (accepts names members t) (model_of t p) result → IsFound names t members p None
+    pub found-none : (result : Option (ℕ × ℕ)) → result ≡ None → IsAmbiguousBy (accepts names members t) (model_of t p) result → IsJudged names t members p None
     found-none result is by = let b = subst (IsAmbiguousBy (accepts names members t) (model_of t p)) is by in (same, (λ x. b x.0 x.1 x.2))
 
   module _ (classes : List ℕ) (cells_left : ℕ) where
@@ -39,15 +39,15 @@ module _ (names : NameTable) (t : Tables) (members : List (List ℕ)) (p : ℕ) 
       symbols-are (All s) is = is.1
 
       limits : KeepsLimits names t members classes p cells_left
-      limits = (room.0, room.1, symbols_of a, room.2, symbols-are a built, room.3, room.4)
+      limits = (room.0, states_of a, symbols_of a, room.1, symbols-are a built, room.2, room.3)
 
       -- with what was found
-      pub found-first : (fault : ModelFault) → IsFound names t members p (Some fault) → IsFirstFault names t members classes p cells_left fault
+      pub found-first : (fault : ModelFault) → IsJudged names t members p (Some fault) → IsFirstFault names t members classes p cells_left fault
       found-first TooManyPositions f = absurd f
       found-first TooManyStates f = absurd f
       found-first TableTooLarge f = absurd f
       found-first Inconsistent f = (limits, f)
       found-first Ambiguous f = (limits, f.0, f.1)
 
-      pub all-checked : IsFound names t members p None → IsChecked names t members classes p cells_left a
+      pub all-checked : IsJudged names t members p None → IsChecked names t members classes p cells_left a
       all-checked f = record { built = built; limits = limits; consistent = f.0; unambiguous = f.1 }

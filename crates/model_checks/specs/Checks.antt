@@ -1,5 +1,5 @@
 -- Constraints on content models.
-use Rattle.std.specs.Prelude.{ℕ, ◌*◌, ◌≤◌, List}
+use Rattle.std.specs.Prelude.{ℕ, ◌*◌, ◌≤◌, List, Option, None, Some}
 use Rattle.xs_names.specs.Names.{NameTable}
 use Rattle.xs_components.specs.Tables.{Tables}
 use Rattle.particle_models.specs.Particles.{Place}
@@ -20,6 +20,15 @@ module _ (names : NameTable) (t : Tables) (members : List (List ℕ)) where
   -- places.
   abbrev pub IsAmbiguousModel : ℕ → Type 0
   IsAmbiguousModel p = (x : Place) × (y : Place) × IsAmbiguous (accepts names members t) (model_of t p) x y
+
+  -- What is broken first of the content model of a particle that has an automaton: cos-element-consistent, else cos-nonambig.
+  abbrev pub IsJudged : ℕ → Option ModelFault → Type 0
+  IsJudged p None = IsConsistent members t p × (IsAmbiguousModel p → ⊥)
+  IsJudged p (Some TooManyPositions) = ⊥
+  IsJudged p (Some TooManyStates) = ⊥
+  IsJudged p (Some TableTooLarge) = ⊥
+  IsJudged p (Some Inconsistent) = IsConsistent members t p → ⊥
+  IsJudged p (Some Ambiguous) = IsConsistent members t p × IsAmbiguousModel p
 
   module _ (classes : List ℕ) where
     -- the content model of a particle keeps the limits, where so many cells are left

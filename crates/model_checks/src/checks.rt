@@ -2,8 +2,8 @@ ghost use Rattle.std.specs.Prelude.{◌<◌, length, IfOk, IfErr, IfSome, MatchO
 ghost use Rattle.content_models.specs.Built.{IsSource, IsLimited, IsBuilt, HasRoom, IsRefused};
 ghost use Rattle.particle_forms.specs.Models.{model_of};
 ghost use Rattle.element_consistency.specs.Consistency.{IsConsistent};
-ghost use Rattle.model_checks.specs.Checks.{IsChecked, IsFirstFault, IsAmbiguousModel, KeepsLimits};
-ghost use Rattle.model_checks.specs.inside.Found.{IsFaultOf, IsFound};
+ghost use Rattle.model_checks.specs.Checks.{IsChecked, IsFirstFault, IsJudged};
+ghost use Rattle.model_checks.specs.inside.Found.{IsFaultOf};
 
 use crate::ModelFault;
 use content_models::{ContentAutomaton, ModelError, ModelSource};
@@ -22,8 +22,13 @@ fn fault_of(error: ModelError) -> ModelFault
     }
 }
 
-// What is broken of a content model that has an automaton.
-fn find_fault(
+/// What is broken of a content model that has this automaton (Structures 3.8.6): terms of one name with different types, else
+/// words with the same names that end at different places.
+///
+/// # Errors
+///
+/// `AllocError` is want of memory.
+pub fn judge(
     alloc: Global,
     source: ModelSource,
     p: ParticleId,
@@ -32,7 +37,7 @@ fn find_fault(
     requires source { IsSource source.names.now source.parts.now source.members.now source.declarations.now source.inhabited.now }
     requires there { p < length source.parts.now.particles.parts }
     requires built { IsBuilt source.names.now source.parts.now source.members.now source.classes.now p automaton.now }
-    ensures { IfOk result (IsFound source.entry.names.now source.entry.parts.now source.entry.members.now p) }
+    ensures judged { IfOk result (IsJudged source.entry.names.now source.entry.parts.now source.entry.members.now p) }
 {
     if !consistent(alloc, source.parts, source.members, source.declarations, p)? {
         return Ok(Some(ModelFault::Inconsistent));
@@ -64,7 +69,7 @@ pub fn check(
 {
     match ContentAutomaton::build(alloc, source, p, cells_left)? {
         Err(error) => Ok(Err(fault_of(error))),
-        Ok(automaton) => match find_fault(alloc, source, p, &automaton)? {
+        Ok(automaton) => match judge(alloc, source, p, &automaton)? {
             Some(fault) => Ok(Err(fault)),
             None => Ok(Ok(automaton)),
         },

@@ -4,5 +4,5 @@
 mod checks;
 mod fault;
 
-pub use checks::check;
+pub use checks::{check, judge};
 pub use fault::ModelFault;

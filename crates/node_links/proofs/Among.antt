@@ -1,5 +1,5 @@
 -- Lists with one item more in the middle, and without it.
-use Rattle.std.proofs.Common.{◌≡◌, ◌≢◌, ◌⊎◌, ℕ, suc, ◌+◌, ◌<◌, ◌≤◌, List, [], ◌∷◌, ◌++◌, length, map, get_or, sym, ap, ◌∙◌, subst, Bool, true, false, nat_eq, refl, inl, inr, take, drop, insert, remove, arith, drop-cons}
+use Rattle.std.proofs.Common.{◌≡◌, ◌≢◌, ◌⊎◌, ℕ, suc, ◌<◌, List, [], ◌∷◌, ◌++◌, length, map, get_or, sym, ap, ◌∙◌, subst, true, false, nat_eq, refl, inl, inr, take, drop, insert, remove, arith, drop-cons}
 use Rattle.std.proofs.lemmas.Bool.Decides.{nat_tests}
 use Rattle.std.proofs.lemmas.List.{take-append-drop, map-append, take-map, drop-map}
 use Rattle.node_links.specs.Nodes.{Has, Lacks, Distinct}

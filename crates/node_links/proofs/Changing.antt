@@ -1,12 +1,12 @@
 -- Numbers without nodes, more of them and less.
-use Rattle.std.proofs.Common.{◌≡◌, ◌≢◌, ◌⊎◌, ℕ, zero, suc, ◌+◌, ◌<◌, ◌≤◌, ◌^◌, List, [], ◌∷◌, ◌++◌, length, map, take, get_or, sym, ap, ◌∙◌, subst, Option, Some, None, Result, Ok, Err, OnOk, OnErr, refl, inl, inr, arith}
+use Rattle.std.proofs.Common.{◌≡◌, ℕ, zero, suc, ◌<◌, ◌≤◌, ◌^◌, List, [], ◌∷◌, ◌++◌, length, take, sym, ap, ◌∙◌, subst, Option, Some, None, Result, Ok, Err, OnOk, OnErr, refl, inl, inr, arith}
 use Rattle.std.specs.Option.{option_map}
 use Rattle.std.proofs.Math.ListN.{get_or-eq_default}
 use Rattle.std.proofs.lemmas.Bool.{cases_lt}
 use Rattle.std.proofs.lemmas.List.{take-map, get_or-take}
 use Rattle.std.proofs.lemmas.Option.{none-some}
 use Rattle.node_links.specs.declared.slots.Slot.{Slot}
-use Rattle.node_links.specs.Nodes.{Node, node}
+use Rattle.node_links.specs.Nodes.{node}
 use Rattle.node_links.specs.Slots.{slot}
 use Rattle.node_links.specs.Linked.{Orders, node_in, nodes_of, IsLinked}
 use Rattle.node_links.proofs.Keyed.{push_none}

@@ -1,15 +1,15 @@
 -- What the writes of a removal leave.
-use Rattle.std.proofs.Common.{◌≡◌, ◌≢◌, ℕ, ◌+◌, ◌-◌, ◌<◌, ◌≤◌, List, [], ◌∷◌, length, remove, sym, ap, ◌∙◌, subst, Option, Some, None, refl, arith}
+use Rattle.std.proofs.Common.{◌≡◌, ◌≢◌, ℕ, ◌+◌, ◌-◌, ◌<◌, List, [], ◌∷◌, length, remove, sym, ap, ◌∙◌, subst, Option, Some, None, refl, arith}
 use Rattle.std.specs.Option.{option_map}
-use Rattle.std.proofs.lemmas.Option.{same_Some, none-some}
-use Rattle.child_trees.specs.Lists.{Entry, get, IsLive, IsAt, HasItem, Updates}
+use Rattle.std.proofs.lemmas.Option.{same_Some}
+use Rattle.child_trees.specs.Lists.{Entry, IsAt, Updates}
 use Rattle.node_links.specs.declared.firsts.First.{First}
 use Rattle.node_links.specs.declared.slots.Slot.{Slot}
 use Rattle.node_links.specs.declared.slots.Hook.{Hook}
-use Rattle.node_links.specs.Nodes.{Node, node, IsNode, IsChildAt}
+use Rattle.node_links.specs.Nodes.{Node, IsNode}
 use Rattle.node_links.specs.Slots.{slot, Writes}
 use Rattle.node_links.specs.Linked.{Orders, list_or, entries, numbers, node_in, nodes_of, IsLinked, Takes}
-use Rattle.node_links.proofs.Placed.{IsItemAt, IsPlaced, has-place, live_list, item-at}
+use Rattle.node_links.proofs.Placed.{IsPlaced, has-place, live_list, item-at}
 use Rattle.node_links.proofs.Seen.{shown}
 
 module _ (ss : List (Option Slot)) (v : Orders) (p place c : ℕ) (old : Slot) (i : IsLinked ss v) (u : IsPlaced ss v p place c) (was : slot ss c ≡ Some old) where

@@ -1,16 +1,16 @@
 -- What is found among the children of a node.
-use Rattle.std.proofs.Common.{◌≡◌, ℕ, zero, suc, ◌<◌, ◌≤◌, List, [], ◌∷◌, length, map, drop, sym, ap, ◌∙◌, subst, Option, Some, None, Bool, refl, arith}
+use Rattle.std.proofs.Common.{◌≡◌, ℕ, ◌<◌, ◌≤◌, List, [], length, drop, sym, ap, ◌∙◌, Option, Some, None, Bool, refl, arith}
 use Rattle.std.specs.Prelude.{slice_get, find}
 use Rattle.std.specs.Option.{option_map}
-use Rattle.std.proofs.lemmas.List.{length-map, drop-map, drop_all}
+use Rattle.std.proofs.lemmas.List.{drop-map, drop_all}
 use Rattle.std.proofs.lemmas.Option.{same_Some, slice_get_past}
-use Rattle.child_trees.specs.Lists.{Entry, get, IsUpTo, acts_along}
+use Rattle.child_trees.specs.Lists.{Entry, IsUpTo, acts_along}
 use Rattle.node_links.specs.declared.firsts.First.{First}
 use Rattle.node_links.specs.declared.slots.Slot.{Slot}
 use Rattle.node_links.specs.Nodes.{Node, node, is_element, is_element_by, is_element_at, children_by, Has}
 use Rattle.node_links.specs.Slots.{slot}
 use Rattle.node_links.specs.Firsts.{no_child, number_if, first_found}
-use Rattle.node_links.specs.Linked.{Orders, list_or, entries, numbers, number_of, node_in, nodes_of, IsLinked}
+use Rattle.node_links.specs.Linked.{Orders, entries, number_of, node_in, nodes_of, IsLinked}
 use Rattle.node_links.proofs.Leading.{first_child, first_element, has-drop}
 use Rattle.node_links.proofs.Seen.{node_is, shown, counted, has_child, number_hung}
 

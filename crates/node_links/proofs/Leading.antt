@@ -1,5 +1,5 @@
 -- The first child of those from a place on.
-use Rattle.std.proofs.Common.{◌≡◌, ℕ, zero, suc, List, [], ◌∷◌, drop, sym, ap, ◌∙◌, Option, Some, None, Bool, true, false, if◌then◌else◌, refl, inl, inr}
+use Rattle.std.proofs.Common.{◌≡◌, ℕ, zero, suc, List, [], ◌∷◌, drop, ap, ◌∙◌, Option, Some, None, Bool, true, false, if◌then◌else◌, refl, inl, inr}
 use Rattle.std.specs.Prelude.{slice_get, find}
 use Rattle.child_trees.specs.Lists.{Entry, acts_along}
 use Rattle.node_links.specs.declared.firsts.First.{First}

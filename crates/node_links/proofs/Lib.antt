@@ -11,3 +11,7 @@ pub mod Placed
 pub mod Cutting
 pub mod Rooted
 pub mod Found
+pub mod Ordered
+pub mod Hanging
+pub mod Unrolling
+pub mod Settling

@@ -11,7 +11,7 @@ use Rattle.node_links.specs.declared.links.Hung.{Hung}
 use Rattle.node_links.specs.Nodes.{Node, is_element}
 use Rattle.node_links.specs.declared.slots.Owner.{Owner}
 use Rattle.node_links.specs.Slots.{slot, owner_of, Writes}
-use Rattle.node_links.specs.Linked.{Orders, list_or, entries, number_of, node_in, HangsMore, KeepsLists, entry_of, Puts}
+use Rattle.node_links.specs.Linked.{Orders, list_or, entries, number_of, node_in, IsLinked, HangsMore, KeepsLists, entry_of, Puts}
 
 -- the slot of a new node
 abbrev pub new_slot : ℕ → ℕ → Slot → Hung → Content → Slot
@@ -28,12 +28,12 @@ abbrev pub child_of : ℕ → Content → Child
 child_of c content = record { number = c; is_element = is_element content }
 
 pub puts : (ss ps ts : List (Option Slot)) (v w : Orders) (p place c : ℕ) (s : Slot) (hung : Hung) (content : Content)
-    → slot ss p ≡ Some s → slot ss c ≡ None → place ≤ length (entries v s.list)
+    → IsLinked ss v → slot ss p ≡ Some s → slot ss c ≡ None → place ≤ length (entries v s.list)
     → HangsMore v w s.list place (child_of c content) hung
     → Writes ss ps c (Some (new_slot c p s hung content))
     → ((x : Slot) → slot ps p ≡ Some x → Writes ps ts p (Some (record x { count = s.count + 1 })))
     → Puts ss v ts w p s place c (new_slot c p s hung content) (entry_of (child_of c content) hung.item)
-puts ss ps ts v w p place c s hung content was free within more put counted =
+puts ss ps ts v w p place c s hung content i was free within more put counted =
     let not_c : p ≢ c = λ k. none-some s (sym free ∙ ap (slot ss) (sym k) ∙ was) in
     let still : slot ps p ≡ Some s = put.others p not_c ∙ was in
     let write = counted s still in
@@ -44,7 +44,7 @@ puts ss ps ts v w p place c s hung content was free within more put counted =
       free = free;
       here = write.others c (λ k. not_c (sym k)) ∙ put.changed;
       others = λ m a b. write.others m a ∙ put.others m b;
-      fresh = more.fresh;
+      fresh = λ m t h k. let o = i.owner m t h in more.fresh (o.list, ap (get v) (sym k) ∙ o.is);
       empty = more.empty;
       edited = more.edited;
       rest = more.rest;
@@ -82,13 +82,13 @@ keeps_lists v w y list fresh u z = λ q live.
 
 -- the same by what was read of the parent
 pub puts_by : (ss rs ps ts : List (Option Slot)) (v w : Orders) (p place c : ℕ) (s : Slot) (y : Owner) (b : Bool) (hung : Hung) (content : Content)
-    → y ≡ owner_of s → b ≡ is_element content → rs ≡ ss → slot ss p ≡ Some s → slot ss c ≡ None → place ≤ length (entries v s.list)
+    → IsLinked ss v → y ≡ owner_of s → b ≡ is_element content → rs ≡ ss → slot ss p ≡ Some s → slot ss c ≡ None → place ≤ length (entries v s.list)
     → HangsMore v w y.list place (record { number = c; is_element = b }) hung
     → Writes rs ps c (Some (record { number = c; hook = Some (record { parent = p; item = hung.item }); depth = y.depth + 1; list = hung.list; count = 0; content = content }))
     → ((x : Slot) → slot ps p ≡ Some x → Writes ps ts p (Some (record x { count = y.count + 1 })))
     → Puts ss v ts w p s place c (new_slot c p s hung content) (entry_of (child_of c content) hung.item)
-puts_by ss rs ps ts v w p place c s y b hung content y_is b_is rs_is was free within more put counted =
-    puts ss ps ts v w p place c s hung content was free within
+puts_by ss rs ps ts v w p place c s y b hung content i y_is b_is rs_is was free within more put counted =
+    puts ss ps ts v w p place c s hung content i was free within
     (subst (λ (z : Bool). HangsMore v w s.list place (record { number = c; is_element = z }) hung) b_is
     (subst (λ (z : Owner). HangsMore v w z.list place (record { number = c; is_element = b }) hung) y_is more))
     (subst (λ (z : Owner). Writes ss ps c (Some (record { number = c; hook = Some (record { parent = p; item = hung.item }); depth = z.depth + 1; list = hung.list; count = 0; content = content }))) y_is

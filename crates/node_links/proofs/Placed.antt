@@ -1,18 +1,17 @@
 -- The place of a child in its parent's list.
-use Rattle.std.proofs.Common.{◌≡◌, ◌⊎◌, ℕ, zero, suc, ◌<◌, List, [], ◌∷◌, length, map, get_or, sym, ap, ◌∙◌, subst, Option, Some, None, refl, inl, inr, arith}
-use Rattle.std.specs.Prelude.{slice_get, slice_index}
-use Rattle.std.specs.Option.{option_map, option_and_then}
+use Rattle.std.proofs.Common.{◌≡◌, ℕ, zero, suc, ◌<◌, List, [], ◌∷◌, length, map, get_or, sym, ap, ◌∙◌, subst, Option, Some, None, refl, inl, inr, arith}
+use Rattle.std.specs.Prelude.{slice_get}
 use Rattle.std.proofs.lemmas.List.{get_or-map}
 use Rattle.std.proofs.lemmas.Option.{same_Some, none-some}
-use Rattle.child_trees.specs.Lists.{Entry, get, IsLive, IsAt, HasItem}
+use Rattle.child_trees.specs.Lists.{Entry, get, IsAt, HasItem}
 use Rattle.node_links.specs.declared.firsts.First.{First}
 use Rattle.node_links.specs.declared.slots.Slot.{Slot}
 use Rattle.node_links.specs.declared.slots.Hook.{Hook}
-use Rattle.node_links.specs.Nodes.{Node, node, IsNode, IsChildAt, Has}
+use Rattle.node_links.specs.Nodes.{Node, IsChildAt, Has}
 use Rattle.node_links.specs.Slots.{slot}
-use Rattle.node_links.specs.Linked.{Orders, list_or, entries, numbers, number_of, node_in, nodes_of, IsHung, IsLinked}
+use Rattle.node_links.specs.Linked.{Orders, list_or, entries, number_of, nodes_of, IsLinked}
 use Rattle.node_links.proofs.Among.{has-at}
-use Rattle.node_links.proofs.Seen.{node_is, seen, number_hung}
+use Rattle.node_links.proofs.Seen.{seen, number_hung}
 
 -- the item of this place
 pub record IsItemAt {A : Type 0} (xs : List A) (place : ℕ) (x : A) : Type 0 where

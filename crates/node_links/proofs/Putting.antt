@@ -1,14 +1,14 @@
 -- A node more.
-use Rattle.std.proofs.Common.{◌≡◌, ◌≢◌, ◌⊎◌, ℕ, ◌+◌, ◌<◌, ◌≤◌, ◌^◌, List, [], ◌∷◌, length, map, insert, get_or, sym, ap, ◌∙◌, subst, Option, Some, None, refl, inl, inr, arith}
+use Rattle.std.proofs.Common.{◌≡◌, ◌≢◌, ◌⊎◌, ℕ, ◌+◌, ◌<◌, ◌^◌, List, [], length, insert, sym, ap, ◌∙◌, subst, Option, Some, None, refl, inl, inr}
 use Rattle.std.specs.Option.{option_map}
 use Rattle.std.proofs.lemmas.List.{length-map}
 use Rattle.std.proofs.lemmas.List.Edits.{length-insert}
 use Rattle.std.proofs.lemmas.Option.{same_Some, none-some}
-use Rattle.child_trees.specs.Lists.{Entry, get, IsLive}
+use Rattle.child_trees.specs.Lists.{Entry, get}
 use Rattle.node_links.specs.declared.firsts.First.{First}
 use Rattle.node_links.specs.declared.slots.Slot.{Slot}
 use Rattle.node_links.specs.declared.slots.Hook.{Hook}
-use Rattle.node_links.specs.Nodes.{Node, node, IsNode, is_element, Has, Lacks, Distinct, Inserts}
+use Rattle.node_links.specs.Nodes.{Node, is_element, Has, Lacks, Distinct, Inserts}
 use Rattle.node_links.specs.Slots.{slot}
 use Rattle.node_links.specs.Firsts.{firsts_of}
 use Rattle.node_links.specs.Linked.{Orders, list_or, entries, numbers, number_of, or_zero, node_in, nodes_of, IsHung, IsOwner, Hangs, IsLinked, Puts}
@@ -28,7 +28,7 @@ module _ (ss : List (Option Slot)) (v : Orders) (ts : List (Option Slot)) (w : O
 
   -- a list that was there is not the new one
   old_list : (m : ℕ) (t : Slot) → slot ss m ≡ Some t → t.list ≢ new.list
-  old_list m t h k = let o = i.owner m t h in r.fresh (o.list, ap (get v) (sym k) ∙ o.is)
+  old_list = r.fresh
 
   -- that of another node is not the parent's
   other_list : (m : ℕ) (t : Slot) → slot ss m ≡ Some t → m ≢ p → t.list ≢ s.list

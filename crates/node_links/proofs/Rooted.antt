@@ -1,15 +1,14 @@
 -- A root alone.
-use Rattle.std.proofs.Common.{◌≡◌, ◌≢◌, ℕ, zero, suc, ◌<◌, ◌^◌, List, [], ◌∷◌, ◌++◌, length, map, sym, ap, ◌∙◌, subst, Option, Some, None, refl, arith}
+use Rattle.std.proofs.Common.{◌≡◌, ℕ, zero, suc, ◌<◌, ◌^◌, List, [], ◌∷◌, length, sym, ap, ◌∙◌, subst, Option, Some, None, refl, arith}
 use Rattle.std.specs.Option.{option_map}
 use Rattle.std.proofs.lemmas.Option.{same_Some, none-some}
-use Rattle.child_trees.specs.Lists.{Entry, get, IsLive, Updates}
+use Rattle.child_trees.specs.Lists.{get}
 use Rattle.node_links.specs.declared.content.Content.{Content}
-use Rattle.node_links.specs.declared.firsts.First.{First}
 use Rattle.node_links.specs.declared.slots.Slot.{Slot}
 use Rattle.node_links.specs.declared.slots.Hook.{Hook}
-use Rattle.node_links.specs.Nodes.{Node, Nodes, node, IsNode, Has, Distinct, alone}
+use Rattle.node_links.specs.Nodes.{Has, Distinct, alone}
 use Rattle.node_links.specs.Slots.{slot, Writes}
-use Rattle.node_links.specs.Linked.{Orders, list_or, entries, numbers, node_in, nodes_of, IsLinked}
+use Rattle.node_links.specs.Linked.{Orders, list_or, entries, numbers, nodes_of, IsLinked}
 
 -- where no number is of a node, all is linked
 pub none_linked : (ss : List (Option Slot)) (v : Orders) → ((n : ℕ) → slot ss n ≡ None) → length ss < 2 ^ 32 → IsLinked ss v

@@ -1,5 +1,5 @@
 -- What is seen of slots and orders is sound.
-use Rattle.std.proofs.Common.{◌≡◌, ◌≢◌, ◌⊎◌, ℕ, zero, suc, ◌+◌, ◌<◌, ◌^◌, List, [], ◌∷◌, length, map, get_or, sym, ap, ◌∙◌, subst, Option, Some, None, refl, inl, inr, arith}
+use Rattle.std.proofs.Common.{◌≡◌, ℕ, zero, suc, ◌+◌, ◌<◌, ◌^◌, List, [], ◌∷◌, length, sym, ap, ◌∙◌, subst, Option, Some, None, refl}
 use Rattle.std.specs.Option.{option_map}
 use Rattle.std.proofs.Math.ListN.{get_or-map}
 use Rattle.std.proofs.lemmas.List.{length-map}
@@ -8,9 +8,9 @@ use Rattle.child_trees.specs.Lists.{Entry, get}
 use Rattle.node_links.specs.declared.firsts.First.{First}
 use Rattle.node_links.specs.declared.slots.Slot.{Slot}
 use Rattle.node_links.specs.declared.slots.Hook.{Hook}
-use Rattle.node_links.specs.Nodes.{Node, Nodes, node, IsNode, children_by, Has, Distinct, IsChildOf, HasChild, IsSound}
+use Rattle.node_links.specs.Nodes.{Node, node, IsNode, children_by, Has, Distinct, IsSound}
 use Rattle.node_links.specs.Slots.{slot}
-use Rattle.node_links.specs.Linked.{Orders, list_or, entries, numbers, number_of, or_zero, node_in, nodes_of, IsHung, Hangs, IsLinked}
+use Rattle.node_links.specs.Linked.{Orders, list_or, entries, numbers, number_of, or_zero, node_in, nodes_of, IsHung, IsLinked}
 use Rattle.node_links.proofs.Among.{from-map, has-map}
 
 pub node_is : (ss : List (Option Slot)) (v : Orders) (n : ℕ) → node (nodes_of ss v) n ≡ option_map (node_in v) (slot ss n)

@@ -1,18 +1,18 @@
 -- A node less.
-use Rattle.std.proofs.Common.{◌≡◌, ◌≢◌, ◌⊎◌, ℕ, suc, ◌+◌, ◌<◌, ◌≤◌, ◌^◌, List, [], ◌∷◌, length, map, remove, get_or, sym, ap, ◌∙◌, subst, Option, Some, None, refl, inl, inr, arith}
+use Rattle.std.proofs.Common.{◌≡◌, ◌≢◌, ◌⊎◌, ℕ, ◌+◌, ◌<◌, ◌^◌, List, length, remove, get_or, sym, ap, ◌∙◌, subst, Option, Some, None, refl, inl, inr, arith}
 use Rattle.std.specs.Option.{option_map}
 use Rattle.std.proofs.lemmas.List.{length-map, get_or-map}
 use Rattle.std.proofs.lemmas.List.Edits.{length-remove}
 use Rattle.std.proofs.lemmas.Option.{same_Some, none-some}
-use Rattle.child_trees.specs.Lists.{Entry, get, IsLive}
+use Rattle.child_trees.specs.Lists.{Entry, get}
 use Rattle.node_links.specs.declared.firsts.First.{First}
 use Rattle.node_links.specs.declared.slots.Slot.{Slot}
 use Rattle.node_links.specs.declared.slots.Hook.{Hook}
-use Rattle.node_links.specs.Nodes.{Node, node, IsNode, is_element, Has, Lacks, Distinct, Removes}
+use Rattle.node_links.specs.Nodes.{Node, is_element, Has, Lacks, Distinct, Removes}
 use Rattle.node_links.specs.Slots.{slot}
 use Rattle.node_links.specs.Firsts.{firsts_of}
-use Rattle.node_links.specs.Linked.{Orders, list_or, entries, numbers, number_of, or_zero, node_in, nodes_of, IsHung, IsOwner, Hangs, IsLinked, Takes}
-use Rattle.node_links.proofs.Among.{same_or_other, map-remove, has-at, has-map, has-remove, from-remove, distinct-remove, lacks-has, from-map}
+use Rattle.node_links.specs.Linked.{Orders, list_or, entries, numbers, number_of, node_in, nodes_of, IsHung, IsOwner, Hangs, IsLinked, Takes}
+use Rattle.node_links.proofs.Among.{same_or_other, map-remove, has-at, has-map, has-remove, from-remove, distinct-remove, lacks-has}
 use Rattle.node_links.proofs.Seen.{node_is, seen, shown, number_hung}
 
 module _ (ss : List (Option Slot)) (v : Orders) (ts : List (Option Slot)) (w : Orders) (p : ℕ) (s : Slot) (place c : ℕ) (old : Slot) (e : Entry First)

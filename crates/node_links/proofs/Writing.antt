@@ -1,5 +1,5 @@
 -- A node holds something else.
-use Rattle.std.proofs.Common.{◌≡◌, ◌≢◌, ◌⊎◌, ℕ, ◌+◌, ◌<◌, ◌^◌, List, length, sym, ap, ◌∙◌, subst, Option, Some, None, refl, inl, inr}
+use Rattle.std.proofs.Common.{◌≡◌, ℕ, ◌+◌, ◌<◌, ◌^◌, List, sym, ap, ◌∙◌, subst, Option, Some, refl, inl, inr}
 use Rattle.std.specs.Option.{option_map}
 use Rattle.std.proofs.lemmas.List.{length-map}
 use Rattle.std.proofs.lemmas.Option.{same_Some}
@@ -7,11 +7,10 @@ use Rattle.child_trees.specs.Lists.{Entry, get}
 use Rattle.node_links.specs.declared.firsts.First.{First}
 use Rattle.node_links.specs.declared.content.Content.{Content}
 use Rattle.node_links.specs.declared.slots.Slot.{Slot}
-use Rattle.node_links.specs.declared.slots.Hook.{Hook}
-use Rattle.node_links.specs.Nodes.{Node, node, IsNode, is_element, Has, Distinct, Holds}
+use Rattle.node_links.specs.Nodes.{Node, is_element, Has, Distinct, Holds}
 use Rattle.node_links.specs.Slots.{slot, Writes}
 use Rattle.node_links.specs.Firsts.{firsts_of}
-use Rattle.node_links.specs.Linked.{Orders, entries, numbers, node_in, nodes_of, IsHung, IsOwner, Hangs, IsLinked}
+use Rattle.node_links.specs.Linked.{Orders, entries, numbers, node_in, nodes_of, IsHung, IsLinked}
 use Rattle.node_links.proofs.Among.{same_or_other}
 use Rattle.node_links.proofs.Seen.{node_is, seen, shown}
 

@@ -1,5 +1,5 @@
 -- The laws of what is kept of some children.
-use Rattle.std.proofs.Common.{◌≡◌, ℕ, Option, Some, None, Bool, true, false, refl, sym, ap, ◌∙◌}
+use Rattle.std.proofs.Common.{◌≡◌, ℕ, Option, Some, None, false, refl, sym, ap, ◌∙◌}
 use Rattle.child_trees.specs.Laws.{SummaryLaws}
 use Rattle.node_links.specs.declared.firsts.First.{First}
 use Rattle.node_links.specs.Firsts.{no_child, either, firsts_joined, first_found}

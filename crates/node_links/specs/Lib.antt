@@ -3,3 +3,4 @@ pub mod Firsts
 pub mod FirstLaws
 pub mod Slots
 pub mod Linked
+pub mod Families

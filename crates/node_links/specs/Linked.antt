@@ -1,5 +1,5 @@
 -- What the slots of nodes and the lists of their children are to each other.
-use Rattle.std.specs.Prelude.{◌≡◌, ◌≢◌, ◌⊎◌, ℕ, ◌+◌, ◌^◌, ◌<◌, ◌≤◌, List, [], ◌∷◌, length, map, insert, remove, slice_index_or, Option, Some, None}
+use Rattle.std.specs.Prelude.{◌≡◌, ◌≢◌, ℕ, ◌+◌, ◌^◌, ◌<◌, ◌≤◌, List, [], length, map, insert, remove, slice_index_or, Option, Some, None}
 use Rattle.std.specs.Option.{option_map}
 use Rattle.child_trees.specs.Lists.{Lists, Entry, get, IsLive}
 use Rattle.node_links.specs.declared.firsts.First.{First}
@@ -88,7 +88,7 @@ pub record Puts (ss : List (Option Slot)) (v : Orders) (ts : List (Option Slot))
   pub free : slot ss c ≡ None
   pub here : slot ts c ≡ Some new
   pub others : (m : ℕ) → m ≢ p → m ≢ c → slot ts m ≡ slot ss m
-  pub fresh : ¬ IsLive v new.list
+  pub fresh : (m : ℕ) (t : Slot) → slot ss m ≡ Some t → t.list ≢ new.list
   pub empty : get w new.list ≡ Some []
   pub edited : get w s.list ≡ Some (insert (entries v s.list) place e)
   pub rest : (q : ℕ) → q ≢ s.list → q ≢ new.list → get w q ≡ get v q

@@ -1,7 +1,8 @@
 -- Nodes by their numbers: what each holds, its parent and its children.
-use Rattle.std.specs.Prelude.{◌≡◌, ◌≢◌, ℕ, ◌+◌, ◌^◌, ◌<◌, ◌≤◌, List, [], ◌∷◌, ◌⊎◌, length, insert, remove, slice_get, Option, Some, None, Bool, true, false, slice_index_or}
+use Rattle.std.specs.Prelude.{◌≡◌, ◌≢◌, ℕ, ◌+◌, ◌^◌, ◌<◌, List, [], ◌∷◌, ◌⊎◌, length, map, insert, remove, slice_get, Option, Some, None, Bool, true, false, slice_index_or}
 use Rattle.node_links.specs.declared.content.Content.{Content}
 use Rattle.node_links.specs.declared.content.Content.TheVariants.{Element, Chars}
+use Rattle.node_links.specs.declared.content.NewNode.{NewNode}
 
 abbrev pub is_element : Content → Bool
 is_element (Element e) = true
@@ -89,6 +90,17 @@ pub record Inserts (old new : Nodes) (p place c : ℕ) (content : Content) : Typ
   pub parent : (it : Node) → IsNode old p it → IsNode new p (record it { children = insert it.children place c })
   pub child : (it : Node) → IsNode old p it → IsNode new c (record { parent = Some p; depth = it.depth + 1; content = content; children = [] })
   pub others : (m : ℕ) → m ≢ p → m ≢ c → node new m ≡ node old m
+
+-- the numbers of these were given out, and are of no nodes
+abbrev pub AreFree : Nodes → List NewNode → Type 0
+AreFree ns cs = (c : NewNode) → Has c cs → (node ns c.number ≡ None) × (c.number < length ns)
+
+-- p, which had no children, has these new ones in order, which have none
+pub record InsertsAll (old new : Nodes) (p : ℕ) (cs : List NewNode) : Type 0 where
+  pub size : length new ≡ length old
+  pub parent : (it : Node) → IsNode old p it → IsNode new p (record it { children = map (λ c. c.number) cs })
+  pub children : (it : Node) (c : NewNode) → IsNode old p it → Has c cs → IsNode new c.number (record { parent = Some p; depth = it.depth + 1; content = c.content; children = [] })
+  pub others : (m : ℕ) → m ≢ p → Lacks m (map (λ c. c.number) cs) → node new m ≡ node old m
 
 -- c was the child of p at a place, and is no node any more
 pub record Removes (old new : Nodes) (p place c : ℕ) : Type 0 where

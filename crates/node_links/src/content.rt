@@ -34,6 +34,13 @@ pub enum Content {
     Chars(Text),
 }
 
+/// A node that is still to be put, under this number.
+#[derive(Debug, Drop)]
+pub struct NewNode {
+    pub number: u32,
+    pub content: Content,
+}
+
 impl Content {
     ghost use Rattle.std.specs.Prelude.{◌≡◌};
     ghost use Rattle.node_links.specs.Nodes.{is_element};

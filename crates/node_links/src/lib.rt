@@ -2,9 +2,10 @@
 #![tactic(auto)]
 
 mod content;
+mod families;
 mod firsts;
 mod links;
 mod slots;
 
-pub use content::{Content, Element, NameAttribute, NameBinding};
+pub use content::{Content, Element, NameAttribute, NameBinding, NewNode};
 pub use links::NodeLinks;

@@ -1,14 +1,17 @@
 //! Nodes by number, linked.
 
-ghost use Rattle.std.specs.Prelude.{◌≡◌, ◌≢◌, ℕ, ◌+◌, ◌^◌, ◌<◌, ◌≤◌, ◌++◌, [], ◌∷◌, length, drop, take, find, slice_get, None, Some, OnOk, OnErr, IfOk};
+ghost use Rattle.std.specs.Prelude.{◌≡◌, ◌≢◌, ℕ, ◌+◌, ◌^◌, ◌<◌, ◌≤◌, ◌++◌, [], ◌∷◌, length, map, drop, take, find, slice_get, None, Some, OnOk, OnErr, IfOk};
 ghost use Rattle.std.specs.Option.{option_map, option_and_then, option_copied};
-ghost use Rattle.child_trees.specs.Lists.{IsLive, IsUpTo, acts_along};
+ghost use Rattle.child_trees.specs.Lists.{Entry, IsLive, IsUpTo, IsEntryOf, acts_along};
 ghost use Rattle.node_links.specs.Firsts.{no_child, first_found};
-ghost use Rattle.node_links.specs.Linked.{entries, HangsMore, KeepsLists};
+ghost use Rattle.node_links.specs.declared.firsts.First.{First};
+ghost use Rattle.node_links.specs.Nodes.{Has};
+ghost use Rattle.node_links.specs.Linked.{entries, number_of, numbers, HangsMore, KeepsLists};
 
-use crate::Content;
+use crate::families::put_family;
 use crate::firsts::{Child, First, Firsts, NO_CHILD};
 use crate::slots::{Hook, Slot, Slots};
+use crate::{Content, NewNode};
 use child_trees::{ItemId, Leaf, SeqId, Seqs};
 use std::alloc::{AllocError, Global};
 use std::marker::Model;
@@ -78,8 +81,33 @@ fn hang(
     }
 }
 
+/// The child of an item.
+fn child_of(lists: &Seqs<Firsts>, item: ItemId) -> u32
+    requires { (e : Entry First) × IsEntryOf lists.now item e × (e.act.child ≡ Some (number_of e)) }
+    ensures { (e : Entry First) → IsEntryOf lists.now item e → result ≡ number_of e }
+{
+    match lists.act(item, NO_CHILD, &mut Steps::new(Silent)).child {
+        Some(child) => child,
+        None => unreachable!(),
+    }
+}
+
+/// The children of a list, in order.
+fn children_in(alloc: Global, lists: &Seqs<Firsts>, list: SeqId) -> Result<Vec<u32>, AllocError>
+    requires live { IsLive lists.now list }
+    requires full { (e : Entry First) → Has e (entries lists.now list) → e.act.child ≡ Some (number_of e) }
+    ensures { IfOk result (λ children. children.items ≡ numbers (entries lists.now list)) }
+{
+    let items = lists.items(list)?;
+    let mut children = Vec::new(alloc);
+    for item in &items {
+        children.push(child_of(lists, *item))?;
+    }
+    Ok(children)
+}
+
 impl NodeLinks {
-    ghost use Rattle.node_links.specs.Nodes.{Node, node, IsNode, IsChildAt, IsSound, Inserts, Removes, Holds, is_element, is_element_at, depth_by, children_by, alone};
+    ghost use Rattle.node_links.specs.Nodes.{Node, node, IsNode, IsChildAt, IsSound, Inserts, InsertsAll, AreFree, Distinct, Removes, Holds, is_element, is_element_at, depth_by, children_by, alone};
 
     /// A root alone, which has the number 1 and depth 1.
     ///
@@ -106,7 +134,7 @@ impl NodeLinks {
     {
         self.slots.add_number()?;
         self.slots.add_number()?;
-        self.slots.reserve()?;
+        self.slots.reserve(1)?;
         let list = self.lists.new_seq()?;
         self.slots.put(Slot {
             number: 1,
@@ -189,6 +217,21 @@ impl NodeLinks {
                     None
                 }
             }
+        }
+    }
+
+    /// The children of a node, in order; none where the number is of no node. It takes work in proportion to their number.
+    ///
+    /// # Errors
+    ///
+    /// `AllocError` is want of memory.
+    pub fn children(&self, alloc: Global, number: u32) -> Result<Vec<u32>, AllocError>
+        ensures children { IfOk result (λ children. children.items ≡ children_by (node self.now number)) }
+        ensures sound { IsSound self.now }
+    {
+        match self.slots.get(number) {
+            None => Ok(Vec::new(alloc)),
+            Some(slot) => children_in(alloc, &self.lists, slot.list),
         }
     }
 
@@ -283,7 +326,7 @@ impl NodeLinks {
         if above.count == u32::MAX {
             return Err(AllocError);
         }
-        self.slots.reserve()?;
+        self.slots.reserve(1)?;
         let is_element = content.is_element();
         let child = Child { number, is_element };
         let hung = hang(&mut self.lists, above.list, place, child)?;
@@ -298,6 +341,28 @@ impl NodeLinks {
         });
         self.slots.set_count(parent, above.count + 1);
         Ok(())
+    }
+
+    /// Puts nodes without children under numbers that no nodes have, as the children of a node that has none, in this order. It
+    /// takes work in proportion to their number.
+    ///
+    /// # Errors
+    ///
+    /// `AllocError` is want of memory. All is then as it was.
+    pub fn put_children(
+        &mut self,
+        alloc: Global,
+        parent: u32,
+        children: Vec<NewNode>,
+    ) -> Result<(), AllocError>
+        requires parent { (it : Node) × IsNode self.old parent it × (it.children ≡ []) × (it.depth + 1 < 2 ^ 32) }
+        requires free { AreFree self.old children.items }
+        requires distinct { Distinct (map (λ c. c.number) children.items) }
+        ensures ok { OnOk result (InsertsAll self.old self.new parent children.items) }
+        ensures err { OnErr result (self.new ≡ self.old) }
+        ensures sound { IsSound self.new }
+    {
+        put_family(alloc, &mut self.slots, &mut self.lists, parent, children)
     }
 
     /// Takes a node away that is no root and has no children, and answers what it held. It takes no memory.

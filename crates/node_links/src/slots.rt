@@ -74,12 +74,12 @@ impl Slots {
         self.keys.len()
     }
 
-    /// Makes sure that there is room for a node more.
-    pub fn reserve(&mut self) -> Result<(), AllocError>
-        ensures ok { OnOk result (1 ≤ self.new.room) }
+    /// Makes sure that there is room for so many nodes more.
+    pub fn reserve(&mut self, nodes: usize) -> Result<(), AllocError>
+        ensures ok { OnOk result (nodes ≤ self.new.room) }
         ensures slots { self.new.slots ≡ self.old.slots }
     {
-        self.slab.reserve(1)
+        self.slab.reserve(nodes)
     }
 
     /// The node of a number.
@@ -112,7 +112,8 @@ impl Slots {
         requires within { slot.number < length self.old.slots }
         requires free { slot_of self.old.slots slot.number ≡ None }
         requires room { 1 ≤ self.old.room }
-        ensures { Writes self.old.slots self.new.slots slot.number (Some slot) }
+        ensures change { Writes self.old.slots self.new.slots slot.number (Some slot) }
+        ensures room { self.old.room ≤ self.new.room + 1 }
     {
         let number = slot.number;
         let key = self.slab.insert_reserved(slot);
@@ -166,6 +167,17 @@ impl Slots {
         ensures { (s : Slot) → slot_of self.old.slots number ≡ Some s → Writes self.old.slots self.new.slots number (Some (record s { count = count })) }
     {
         let mut slot = self.take(number);
+        slot.count = count;
+        self.put(slot);
+    }
+
+    /// Writes the list of a node's children, and how many it has.
+    pub fn set_list(&mut self, number: u32, list: SeqId, count: u32)
+        requires { (s : Slot) × (slot_of self.old.slots number ≡ Some s) × (s.number ≡ number) }
+        ensures { (s : Slot) → slot_of self.old.slots number ≡ Some s → Writes self.old.slots self.new.slots number (Some (record s { list = list; count = count })) }
+    {
+        let mut slot = self.take(number);
+        slot.list = list;
         slot.count = count;
         self.put(slot);
     }

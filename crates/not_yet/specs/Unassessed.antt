@@ -3,13 +3,9 @@ use Rattle.std.specs.Prelude.{ℕ, Bool, true, false, ◌||◌, ◌&&◌, List, 
 use Rattle.std.specs.List.{list_any}
 use Rattle.tree_rows.specs.declared.name.Expanded.{Expanded}
 use Rattle.schema_grammar.specs.Names.{schema_namespace}
-use Rattle.schema_shape.specs.declared.forms.ComplexTypeForm.{ComplexTypeForm}
-use Rattle.schema_shape.specs.declared.forms.Compositor.{Compositor}
-use Rattle.schema_shape.specs.declared.forms.Compositor.TheVariants as compositors
 use Rattle.schema_shape.specs.declared.forms.ElementForm.{ElementForm}
 use Rattle.schema_shape.specs.declared.forms.Form.{Form}
 use Rattle.schema_shape.specs.declared.forms.Form.TheVariants as forms
-use Rattle.schema_shape.specs.declared.forms.SchemaForm.{SchemaForm}
 use Rattle.schema_shape.specs.declared.forms.Shape.{Shape}
 
 -- the built-in types of ids and references to ids (Datatypes 3.3.8 to 3.3.10)
@@ -28,41 +24,27 @@ abbrev pub names_id_type : Option Expanded → Bool
 names_id_type None = false
 names_id_type (Some name) = is_id_type name
 
--- the attributes finalDefault and blockDefault
-abbrev pub is_unassessed_schema : SchemaForm → Bool
-is_unassessed_schema form = is_some form.finals || is_some form.blocks
-
--- the attributes substitutionGroup, default, fixed, nillable, abstract, final and block, and a reference to a type of ids
+-- the attributes default and fixed, and a reference to a type of ids
 abbrev pub is_unassessed_element : ElementForm → Bool
-is_unassessed_element form =
-    is_some form.head || is_some form.value || is_some form.nillable || is_some form.is_abstract || is_some form.finals || is_some form.blocks
-    || names_id_type form.of
+is_unassessed_element form = is_some form.value || names_id_type form.of
 
--- the attributes abstract, final, block and mixed
-abbrev pub is_unassessed_type : ComplexTypeForm → Bool
-is_unassessed_type form = is_some form.is_abstract || is_some form.finals || is_some form.blocks || is_some form.mixed
-
-abbrev pub is_all : Compositor → Bool
-is_all compositors.All = true
-is_all _ = false
-
--- What is not assessed yet: attributes in one of these lists, references to types of ids, and the elements include, import,
--- redefine, attribute, attributeGroup, anyAttribute, simpleContent, complexContent, all, any, unique, key and keyref.
+-- What is not assessed yet: value constraints of elements, references to types of ids, and the elements include, import, redefine,
+-- attribute, attributeGroup, anyAttribute, simpleContent, complexContent, unique, key and keyref. So a set without them is one document,
+-- in which no complex type is derived and nothing has attributes. What else elements and types may say is looked at: mixed, abstract
+-- and nillable by the assessment alone; the methods in block and final, where no complex type is derived, by simple types, substitution
+-- groups and xsi:type; an `all` by its limits and its automaton; a wildcard by the automata and by how strictly what it admits is
+-- assessed.
 abbrev pub is_unassessed_form : Form → Bool
-is_unassessed_form (forms.Schema form) = is_unassessed_schema form
 is_unassessed_form (forms.Include location) = true
 is_unassessed_form (forms.Import namespace location) = true
 is_unassessed_form (forms.Redefine location) = true
 is_unassessed_form (forms.Element form) = is_unassessed_element form
 is_unassessed_form (forms.Attribute form) = true
-is_unassessed_form (forms.ComplexType form) = is_unassessed_type form
 is_unassessed_form (forms.AttributeGroup name) = true
 is_unassessed_form (forms.AttributeGroupReference to) = true
 is_unassessed_form (forms.AnyAttribute wildcard) = true
 is_unassessed_form forms.SimpleContent = true
 is_unassessed_form (forms.ComplexContent mixed) = true
-is_unassessed_form (forms.ModelGroup compositor occurs) = is_all compositor
-is_unassessed_form (forms.Any wildcard occurs) = true
 is_unassessed_form (forms.Identity kind name refer) = true
 is_unassessed_form (forms.Restriction base) = names_id_type base
 is_unassessed_form (forms.ItemType of) = names_id_type of

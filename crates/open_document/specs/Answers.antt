@@ -1,68 +1,85 @@
--- What is written of an open document, and what a command does to it.
-use Rattle.std.specs.Prelude.{◌≡◌, ℕ, List, ◌++◌, false, Option, Result}
+-- What schema documents come to, what is written of an open document, and what a command does to it.
+use Rattle.std.specs.Prelude.{◌≡◌, ℕ, List, ◌++◌, Option, Result}
 use Rattle.item_listing.specs.declared.item.Item.{Item}
 use Rattle.tree_rows.specs.Forest.{Document}
-use Rattle.assess_model.specs.Tables.{Tables}
-use Rattle.assess_model.specs.Assessment.{Entry, code_total, root_validity}
-use Rattle.report_text.specs.Report.{record_lines}
-use Rattle.session_model.specs.State.{State, known}
+use Rattle.edit_replies.specs.Assessment.{Entry}
+use Rattle.edit_replies.specs.Assessor.{RightAssessor}
+use Rattle.edit_replies.specs.Asking.{code_total, root_validity}
+use Rattle.edit_replies.specs.Compiled.{Compiled}
+use Rattle.edit_replies.specs.Reports as reports
+use Rattle.edit_replies.specs.State as sessions
+use Rattle.edit_replies.specs.State.{State, known}
+use Rattle.schema_compile.specs.Outcomes.{IsOutcome}
+use Rattle.schema_compile.specs.SchemaInput.{SchemaInput}
+use Rattle.schema_compile.specs.declared.outcome.Outcome.{Outcome}
+use Rattle.schema_compile.specs.declared.outcome.Outcome.TheVariants as outcomes
 use Rattle.plain_session.specs.Costs.{edit_cost}
 use Rattle.edit_script.specs.Commands.{command}
-use Rattle.edit_script.specs.declared.command.Command.{Command}
-use Rattle.edit_script.specs.declared.command.ScriptFault.{ScriptFault}
 use Rattle.edit_replies.specs.Costs.{command_cost}
-use Rattle.edit_replies.specs.Replies.{Standing, Reply, made, reply, standing_of, total_line}
-use Rattle.open_document.specs.State.{OpenState}
-use Rattle.open_document.specs.declared.document.Verdict.{Verdict}
+use Rattle.edit_replies.specs.Replies.{made, next_state, reply, total_line}
+use Rattle.open_document.specs.State.{OpenState, WorkState, ready}
+use Rattle.open_document.specs.declared.verdict.SetVerdict.{SetVerdict}
+use Rattle.open_document.specs.declared.verdict.SetVerdict.TheVariants.{Accepted, Broken, NotYet}
+use Rattle.open_document.specs.declared.verdict.Verdict.{Verdict}
 
--- want of memory has not closed it
-abbrev pub IsOpen : OpenState → Type 0
-IsOpen s = s.session.closed ≡ false
+-- ---- schema documents
 
--- a document that stands so, by the schema of these tables
-abbrev pub standing : Tables → Standing → OpenState
-standing t s = record { session = record { tables = t; document = s.document; revision = s.revision; closed = false } }
+-- what is told of schema documents
+abbrev pub verdict_of : Outcome → SetVerdict
+verdict_of (outcomes.Accepted set) = Accepted
+verdict_of (outcomes.Broken fault) = Broken fault
+verdict_of outcomes.NotYet = NotYet
 
--- a document that was just opened: its revision is 0
-abbrev pub opened : Tables → Document → OpenState
-opened t d = standing t (record { document = d; revision = 0 })
+-- a set that is accepted is worked by from then on
+abbrev pub work_after : WorkState → Outcome → WorkState
+work_after work (outcomes.Accepted set) = ready set
+work_after work (outcomes.Broken fault) = work
+work_after work outcomes.NotYet = work
 
--- the records of its elements, in document order, and how many codes they have
-abbrev pub records : OpenState → List Entry
-records s = known s.session
+-- schema documents were compiled: one of their outcomes is told and worked by
+pub record IsCompiled (documents : List SchemaInput) (old : WorkState) (told : SetVerdict) (new : WorkState) : Type 0 where
+  pub outcome : Outcome
+  pub is_outcome : IsOutcome documents outcome
+  pub told_is : told ≡ verdict_of outcome
+  pub work_is : new ≡ work_after old outcome
 
-abbrev pub total : OpenState → ℕ
-total s = code_total (records s)
+-- ---- an open document
 
-abbrev pub records_text : State → List ℕ
-records_text s = record_lines (known s) ++ total_line (code_total (known s))
+-- a document that was just opened by a schema set, whose table gets the names of the document; its revision is 0
+abbrev pub opened : Compiled → Document → OpenState
+opened set d = record { session = sessions.opened set d }
 
--- the report: a line for each element, and how many codes there are
-abbrev pub report : OpenState → List ℕ
-report s = records_text s.session
+-- a command with its block does this to the document, whatever its reply is
+abbrev pub next_of : OpenState → List ℕ → Option (List Item) → OpenState
+next_of s line block = record { session = next_state s.session (command line block) }
 
--- the first line of a session
-abbrev pub first_line : OpenState → List ℕ
-first_line s = made s.session.revision (total s)
+-- and costs so many steps at most
+abbrev pub cost_of : OpenState → List ℕ → Option (List Item) → ℕ
+cost_of s line block = command_cost (edit_cost s.session) (command line block)
 
--- what is written, how many steps it costs, and how the document then stands
-pub record Answer : Type 0 where
-  pub text : List ℕ
-  pub cost : ℕ
-  pub next : OpenState
+module _ (p : RightAssessor) where
+  -- what is found out about its elements, in document order, and how many codes there are
+  abbrev pub records : OpenState → List Entry
+  records s = known p s.session
 
-abbrev pub answer_by : Tables → ℕ → Reply → Answer
-answer_by t cost r = record { text = r.text; cost = cost; next = standing t r.next }
+  abbrev pub total : OpenState → ℕ
+  total s = code_total (records s)
 
--- what a command costs the session that is behind
-abbrev pub cost_of : State → Result Command ScriptFault → ℕ
-cost_of s c = command_cost (edit_cost s) c
+  abbrev pub records_text : State → List ℕ
+  records_text s = reports.report p s ++ total_line (code_total (known p s))
 
--- a command with its block
-abbrev pub answered : OpenState → List ℕ → Option (List Item) → Answer
-answered s line block =
-    answer_by s.session.tables (cost_of s.session (command line block)) (reply s.session.tables (standing_of s.session) (command line block))
+  -- the report: the lines of each element, and how many codes there are
+  abbrev pub report : OpenState → List ℕ
+  report s = records_text s.session
 
--- what the last line tells
-abbrev pub verdict : OpenState → Verdict
-verdict s = record { validity = root_validity (records s); total = total s }
+  -- the first line of a session
+  abbrev pub first_line : OpenState → List ℕ
+  first_line s = made s.session.revision (total s)
+
+  -- the reply to a command with its block
+  abbrev pub reply_of : OpenState → List ℕ → Option (List Item) → List ℕ
+  reply_of s line block = reply p s.session (command line block)
+
+  -- what the last line tells
+  abbrev pub verdict : OpenState → Verdict
+  verdict s = record { validity = root_validity (records s); total = total s }

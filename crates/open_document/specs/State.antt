@@ -1,12 +1,26 @@
--- What is open.
-use Rattle.std.specs.Prelude.{refl}
-use Rattle.std.specs.Coded.{Coded, code_by}
-use Rattle.session_model.specs.State.{State}
-use Rattle.session_model.specs.StateCode.{state_code}
+-- What a stream works on.
+use Rattle.std.specs.Prelude.{◌≡◌, false}
+use Rattle.edit_replies.specs.Compiled.{Compiled}
+use Rattle.edit_replies.specs.State.{State}
 
--- a session over a document. What else commands come to need, a history, another set of schemas, a log of authors, has its field here
+-- A session over a document. What else commands come to need, a history, another set of schemas, a log of authors, has its field here.
 pub record OpenState : Type 0 where
   pub session : State
 
-abbrev pub open_code : Coded OpenState
-open_code = code_by State state_code (λ s. s.session) (λ p. record { session = p }) (λ _. refl)
+-- nothing yet, the schema set that documents are assessed by, or the document that is open
+pub data WorkState : Type 0 where
+  empty : WorkState
+  ready : (set : Compiled) → WorkState
+  working : (document : OpenState) → WorkState
+
+-- there is a schema set, and no document yet
+abbrev pub IsReady : WorkState → Type 0
+IsReady empty = ⊥
+IsReady (ready set) = Unit {0}
+IsReady (working s) = ⊥
+
+-- a document is open, and want of memory has not closed it
+abbrev pub IsOpen : WorkState → Type 0
+IsOpen empty = ⊥
+IsOpen (ready set) = ⊥
+IsOpen (working s) = s.session.closed ≡ false

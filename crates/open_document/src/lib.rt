@@ -1,6 +1,13 @@
-//! A document that is open, with the session that assesses it: what is written of it, and what a command does to it.
+//! What a stream works on: the schema set that documents are assessed by, then the document that is open.
 #![tactic(auto)]
 
-mod document;
+mod compiling;
+mod held;
+mod verdict;
+mod working;
+mod workspace;
 
-pub use document::{OpenDocument, Verdict};
+pub use edit_replies::{BreakOff, Validity, validity_word, write_answer};
+pub use schema_compile::SchemaInput;
+pub use verdict::{SetVerdict, Verdict};
+pub use workspace::Workspace;

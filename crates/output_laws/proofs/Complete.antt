@@ -1,85 +1,174 @@
 -- Streams of which no line is refused.
-use Rattle.std.proofs.Common.{◌≡◌, ℕ, List, [], ◌∷◌, ◌++◌, true, Option, Some, refl, sym, ap, ◌∙◌, append_assoc, append-nil, if◌then◌else◌, ◌+◌, arith}
-use Rattle.item_listing.specs.Listed.{listed}
+use Rattle.std.proofs.Common.{◌≡◌, ◌⊎◌, inl, inr, ℕ, List, [], ◌∷◌, ◌++◌, true, Option, Some, refl, sym, ap, ◌∙◌, subst, append_assoc, append-nil, if◌then◌else◌, ◌+◌, arith}
+use Rattle.item_listing.specs.Listed.{listed, Listed}
 use Rattle.item_listing.specs.State.{unread}
 use Rattle.item_listing.specs.declared.item.Item.{Item}
 use Rattle.tree_rows.specs.Forest.{Document}
-use Rattle.assess_model.specs.Tables.{Tables}
-use Rattle.open_document.specs.State.{OpenState}
-use Rattle.open_document.specs.Answers.{answered, verdict}
 use Rattle.stream_sections.specs.Sections as sections
 use Rattle.stream_sections.specs.Spelled.{whole, given, Order, SpellsCheck, SpellsStream}
 use Rattle.stream_sections.specs.declared.asked.Asked.{Asked}
 use Rattle.stream_sections.specs.declared.asked.Asked.TheVariants.{Check, Assess, Session}
 use Rattle.stream_sections.specs.declared.schemas.SchemaSection.{SchemaSection}
-use Rattle.stream_answers.specs.Output.{Told, free, before, over, said_by, schema_ok, ending_of, unsupported, sections_told, stream_told, compiled_told, first_tables, check_told, opened_told, opening, commands_told}
-use Rattle.stream_answers.specs.declared.ending.Ending.TheVariants as endings
-use Rattle.xsv_run.specs.Output.{asked, output, output_by, output_of}
+use Rattle.xsv_run.specs.Assessor.{RightAssessor}
+use Rattle.xsv_run.specs.Answers.{next_of, verdict}
+use Rattle.xsv_run.specs.Compiled.{Compiled}
+use Rattle.xsv_run.specs.Outcome.{Outcome}
+use Rattle.xsv_run.specs.Outcome.TheVariants.{Accepted, Broken, NotYet}
+use Rattle.xsv_run.specs.Outcomes.{IsOutcome}
+use Rattle.xsv_run.specs.State.{OpenState}
+use Rattle.xsv_run.specs.Told.{Last, Told, over, asks, Leads, free, before, answered, schema_ok, ending_of, not_yet, inputs, sections_told, stream_told, compiled_told, check_told, opened_told, opening, commands_told}
+use Rattle.xsv_run.specs.Output.{Output, asked, refused_words, output_of, ComesTo, IsOutput, IsOutputBy, told_of}
 use Rattle.xsv_run.specs.declared.status.Status.TheVariants.{Valid}
-use Rattle.output_laws.specs.Complete.{Accepts, HasNoAttributes, replies, state_after, first_state, costs, last_line, last_status, stream_text, answer}
+use Rattle.output_laws.specs.Complete.{HasNoAttributes, IsByOutcome, replies, state_after, first_state, costs, last_line, answer, check_output, stream_output}
+
+-- the output of what is told, where nothing is asked
+abbrev output_told : Told → Output
+output_told (over last) = output_of last
+output_told (asks documents next) = refused_words
+
+-- nothing is asked
+abbrev IsLast : Told → Type 0
+IsLast (over last) = Unit {0}
+IsLast (asks documents next) = ⊥
+
+-- all that is told goes by what the documents come to
+module _ (all : List SchemaSection) (next : Outcome → Told) (written : Outcome → Output) (ended : Outcome → Last)
+    (tells : (o : Outcome) → next o ≡ over (ended o)) (writes : (o : Outcome) → output_of (ended o) ≡ written o) where
+  told_last : (o : Outcome) (last : Last) → Leads (next o) (over last) → output_of last ≡ written o
+  told_last o last h =
+      let same : over last ≡ over (ended o) = subst (λ t. Leads t (over last)) (tells o) h in
+      ap output_told same ∙ writes o
+
+  by_leads : (out : Output) (last : Last) → Leads (asks (inputs all) next) (over last) → out ≡ output_of last → IsByOutcome all written out
+  by_leads out last (inl e) is = absurd (subst IsLast e tt)
+  by_leads out last (inr h) is = (h.0, h.1, is ∙ told_last h.0 last h.2)
+
+  by_outcome : (out : Output) → ComesTo (asks (inputs all) next) out → IsByOutcome all written out
+  by_outcome out h = by_leads out h.0 h.1 h.2
+
+  of_outcome : (out : Output) → IsByOutcome all written out → ComesTo (asks (inputs all) next) out
+  of_outcome out h = (ended h.0, inr (h.0, h.1, subst (λ t. Leads t (over (ended h.0))) (sym (tells h.0)) refl), h.2 ∙ sym (writes h.0))
 
 -- what is asked for is told of the items of the bytes
-output_is : (a : Asked) (words : List (List ℕ)) (bytes : List ℕ) (its : List Item) → asked words ≡ Some a → listed unread bytes true ≡ whole its
-    → output words bytes ≡ output_of (sections_told a (whole its))
-output_is a words bytes its asks_for reads =
-    ap (λ (q : Option Asked). output_by q bytes true) asks_for ∙ ap (λ l. output_of (sections_told a l)) reads
+told_is : (p : RightAssessor) (a : Asked) (bytes : List ℕ) (its : List Item) (t : Told) → listed unread bytes true ≡ whole its → sections_told p a (whole its) ≡ t
+    → told_of p a bytes true ≡ t
+told_is p a bytes its t reads tells = ap (sections_told p a) reads ∙ tells
 
-compiled_first : (all : List SchemaSection) (t : Tables) (next : Tables → Told) → Accepts all t → compiled_told (first_tables all) next ≡ before (free schema_ok) (next t)
-compiled_first all t next is = ap (λ found. compiled_told found next) is
+module _ (p : RightAssessor) (a : Asked) (words : List (List ℕ)) (bytes : List ℕ) (t : Told) (out : Output) (asks_for : asked words ≡ Some a) (is : told_of p a bytes true ≡ t) where
+  comes_from : IsOutput p words bytes out → ComesTo t out
+  comes_from h = subst (λ u. ComesTo u out) is (subst (λ (q : Option Asked). IsOutputBy p q bytes true out) asks_for h)
 
-pub check_answered : ((all : List SchemaSection) (its : List Item) → SpellsCheck all its → sections.schemas_alone Check (whole its) ≡ sections.schemas all sections.ended)
-    → (words : List (List ℕ)) (bytes : List ℕ) (its : List Item) (all : List SchemaSection) (t : Tables)
-    → asked words ≡ Some Check → listed unread bytes true ≡ whole its → SpellsCheck all its → Accepts all t → output words bytes ≡ answer schema_ok 0 Valid
-check_answered law words bytes its all t asks_for reads spells accepts =
-    output_is Check words bytes its asks_for reads ∙ ap (λ s. output_of (stream_told check_told s)) (law all its spells)
-    ∙ ap output_of (compiled_first all t (λ x. check_told x sections.ended) accepts) ∙ ap (λ text. answer text 0 Valid) (append-nil schema_ok)
+  comes_to : ComesTo t out → IsOutput p words bytes out
+  comes_to h = subst (λ (q : Option Asked). IsOutputBy p q bytes true out) (sym asks_for) (subst (λ u. ComesTo u out) (sym is) h)
 
--- the stream has ended, with what its commands cost
-abbrev ended_at : List ℕ → ℕ → OpenState → Told
-ended_at text cost s = record { text = text; cost = cost; ending = Some (ending_of (verdict s).validity) }
+-- a stream for `check`
+abbrev check_next : Outcome → Told
+check_next = compiled_told (λ set. check_told set sections.ended)
 
--- a text before that costs no step
-free_first : (text more : List ℕ) (cost : ℕ) (s : OpenState) → before (free text) (ended_at more cost s) ≡ ended_at (text ++ more) cost s
-free_first text more cost s =
-    let same : 0 + cost ≡ cost = omega arith in
-    ap (λ k. ended_at (text ++ more) k s) same
+abbrev last_of : Told → Last
+last_of (over last) = last
+last_of (asks documents next) = not_yet
 
-orders_told : (s : OpenState) (orders : List Order) → commands_told s (given orders)
-    ≡ ended_at (replies s orders ++ last_line (state_after s orders)) (costs s orders) (state_after s orders)
-orders_told s [] = refl
-orders_told s (o ∷ more) =
-    ap (before (said_by (answered s o.line o.block))) (orders_told (answered s o.line o.block).next more)
-    ∙ ap (λ text. ended_at text (costs s (o ∷ more)) (state_after s (o ∷ more)))
-    (sym (append_assoc (answered s o.line o.block).text (replies (answered s o.line o.block).next more) (last_line (state_after s (o ∷ more)))))
+check_tells : (o : Outcome) → check_next o ≡ over (last_of (check_next o))
+check_tells (Accepted set) = refl
+check_tells (Broken fault) = refl
+check_tells NotYet = refl
 
-opened_is : (a : Asked) (t : Tables) (d : Document) (orders : List Order) → HasNoAttributes d
-    → opened_told a t (sections.document d (given orders))
-    ≡ ended_at (opening a (first_state t d) ++ (replies (first_state t d) orders ++ last_line (state_after (first_state t d) orders)))
-    (costs (first_state t d) orders) (state_after (first_state t d) orders)
-opened_is a t d orders plain =
-    ap (λ r. if r then over unsupported endings.Unsupported else before (free (opening a (first_state t d))) (commands_told (first_state t d) (given orders))) plain
-    ∙ ap (before (free (opening a (first_state t d)))) (orders_told (first_state t d) orders)
-    ∙ free_first (opening a (first_state t d)) (replies (first_state t d) orders ++ last_line (state_after (first_state t d) orders))
-    (costs (first_state t d) orders) (state_after (first_state t d) orders)
+check_writes : (o : Outcome) → output_of (last_of (check_next o)) ≡ check_output o
+check_writes (Accepted set) = ap (λ text. answer text 0 Valid) (append-nil schema_ok)
+check_writes (Broken fault) = refl
+check_writes NotYet = refl
 
-with_document_is : (a : Asked) (t : Tables) (d : Document) (orders : List Order) (all : List SchemaSection) → Accepts all t → HasNoAttributes d
-    → output_of (stream_told (opened_told a) (sections.schemas all (sections.document d (given orders))))
-    ≡ answer (stream_text a (first_state t d) orders) (costs (first_state t d) orders) (last_status (state_after (first_state t d) orders))
-with_document_is a t d orders all accepts plain =
-    ap output_of (compiled_first all t (λ x. opened_told a x (sections.document d (given orders))) accepts)
-    ∙ ap (λ x. output_of (before (free schema_ok) x)) (opened_is a t d orders plain)
-    ∙ ap output_of (free_first schema_ok (opening a (first_state t d) ++ (replies (first_state t d) orders ++ last_line (state_after (first_state t d) orders)))
-    (costs (first_state t d) orders) (state_after (first_state t d) orders))
+module _ (law : (all : List SchemaSection) (its : List Item) → SpellsCheck all its → sections.schemas_alone Check (whole its) ≡ sections.schemas all sections.ended)
+    (p : RightAssessor) (words : List (List ℕ)) (bytes : List ℕ) (its : List Item) (all : List SchemaSection) (out : Output)
+    (asks_for : asked words ≡ Some Check) (reads : listed unread bytes true ≡ whole its) (spells : SpellsCheck all its) where
+  check_told_is : told_of p Check bytes true ≡ asks (inputs all) check_next
+  check_told_is = told_is p Check bytes its (asks (inputs all) check_next) reads (ap (stream_told check_told) (law all its spells))
 
+  pub check_answered : IsOutput p words bytes out → IsByOutcome all check_output out
+  check_answered h =
+      by_outcome all check_next check_output (λ o. last_of (check_next o)) check_tells check_writes out (comes_from p Check words bytes (asks (inputs all) check_next) out asks_for check_told_is h)
+
+  pub check_comes : IsByOutcome all check_output out → IsOutput p words bytes out
+  check_comes h =
+      comes_to p Check words bytes (asks (inputs all) check_next) out asks_for check_told_is
+      (of_outcome all check_next check_output (λ o. last_of (check_next o)) check_tells check_writes out h)
+
+-- a stream with a document
+module _ (p : RightAssessor) where
+  -- the stream has ended, with what its commands cost
+  abbrev ended_at : List ℕ → ℕ → OpenState → Last
+  ended_at text cost s = record { said = record { text = text; cost = cost }; ending = Some (ending_of (verdict p s).validity) }
+
+  -- a text before that costs no step
+  free_first : (text more : List ℕ) (cost : ℕ) (s : OpenState) → before (free text) (over (ended_at more cost s)) ≡ over (ended_at (text ++ more) cost s)
+  free_first text more cost s =
+      let same : 0 + cost ≡ cost = omega arith in
+      ap (λ k. over (ended_at (text ++ more) k s)) same
+
+  orders_told : (s : OpenState) (orders : List Order) → commands_told p s (given orders)
+      ≡ over (ended_at (replies p s orders ++ last_line p (state_after s orders)) (costs s orders) (state_after s orders))
+  orders_told s [] = refl
+  orders_told s (o ∷ more) =
+      let next = next_of s o.line o.block in
+      ap (before (answered p s o.line o.block)) (orders_told next more)
+      ∙ ap (λ text. over (ended_at text (costs s (o ∷ more)) (state_after s (o ∷ more))))
+      (sym (append_assoc (answered p s o.line o.block).text (replies p next more) (last_line p (state_after s (o ∷ more)))))
+
+  module _ (a : Asked) (d : Document) (orders : List Order) where
+    abbrev stream_next : Outcome → Told
+    stream_next = compiled_told (λ set. opened_told p a set (sections.document d (given orders)))
+
+    -- what is written last of a document that was opened in this state
+    abbrev ended_in : OpenState → Last
+    ended_in s = ended_at (schema_ok ++ (opening p a s ++ (replies p s orders ++ last_line p (state_after s orders)))) (costs s orders) (state_after s orders)
+
+    abbrev stream_last : Outcome → Last
+    stream_last (Accepted set) = ended_in (first_state set d)
+    stream_last (Broken fault) = last_of (stream_next (Broken fault))
+    stream_last NotYet = not_yet
+
+    opened_is : (set : Compiled) → HasNoAttributes d → opened_told p a set (sections.document d (given orders))
+        ≡ over (ended_at (opening p a (first_state set d) ++ (replies p (first_state set d) orders ++ last_line p (state_after (first_state set d) orders)))
+        (costs (first_state set d) orders) (state_after (first_state set d) orders))
+    opened_is set plain =
+        ap (λ r. if r then over not_yet else before (free (opening p a (first_state set d))) (commands_told p (first_state set d) (given orders))) plain
+        ∙ ap (before (free (opening p a (first_state set d)))) (orders_told (first_state set d) orders)
+        ∙ free_first (opening p a (first_state set d)) (replies p (first_state set d) orders ++ last_line p (state_after (first_state set d) orders))
+        (costs (first_state set d) orders) (state_after (first_state set d) orders)
+
+    stream_tells : HasNoAttributes d → (o : Outcome) → stream_next o ≡ over (stream_last o)
+    stream_tells plain (Accepted set) =
+        ap (before (free schema_ok)) (opened_is set plain)
+        ∙ free_first schema_ok (opening p a (first_state set d) ++ (replies p (first_state set d) orders ++ last_line p (state_after (first_state set d) orders)))
+        (costs (first_state set d) orders) (state_after (first_state set d) orders)
+    stream_tells plain (Broken fault) = refl
+    stream_tells plain NotYet = refl
+
+    stream_writes : (o : Outcome) → output_of (stream_last o) ≡ stream_output p a d orders o
+    stream_writes (Accepted set) = refl
+    stream_writes (Broken fault) = refl
+    stream_writes NotYet = refl
+
+-- `check` has no document
 module _ (law : (a : Asked) (all : List SchemaSection) (d : Document) (orders : List Order) (its : List Item) → SpellsStream a all d orders its
-    → sections.with_document a (whole its) ≡ sections.schemas all (sections.document d (given orders))) where
-  pub stream_answered : (a : Asked) (words : List (List ℕ)) (bytes : List ℕ) (its : List Item) (all : List SchemaSection) (d : Document) (orders : List Order) (t : Tables)
-      → asked words ≡ Some a → listed unread bytes true ≡ whole its → SpellsStream a all d orders its → Accepts all t → HasNoAttributes d
-      → output words bytes ≡ answer (stream_text a (first_state t d) orders) (costs (first_state t d) orders) (last_status (state_after (first_state t d) orders))
-  stream_answered Check words bytes its all d orders t asks_for reads spells accepts plain = cc
-  stream_answered Assess words bytes its all d orders t asks_for reads spells accepts plain =
-      output_is Assess words bytes its asks_for reads ∙ ap (λ s. output_of (stream_told (opened_told Assess) s)) (law Assess all d orders its spells)
-      ∙ with_document_is Assess t d orders all accepts plain
-  stream_answered Session words bytes its all d orders t asks_for reads spells accepts plain =
-      output_is Session words bytes its asks_for reads ∙ ap (λ s. output_of (stream_told (opened_told Session) s)) (law Session all d orders its spells)
-      ∙ with_document_is Session t d orders all accepts plain
+    → sections.with_document a (whole its) ≡ sections.schemas all (sections.document d (given orders))) (p : RightAssessor) where
+  stream_told_is : (a : Asked) (bytes : List ℕ) (its : List Item) (all : List SchemaSection) (d : Document) (orders : List Order)
+      → listed unread bytes true ≡ whole its → SpellsStream a all d orders its → told_of p a bytes true ≡ asks (inputs all) (stream_next p a d orders)
+  stream_told_is Check bytes its all d orders reads spells = cc
+  stream_told_is Assess bytes its all d orders reads spells =
+      told_is p Assess bytes its (asks (inputs all) (stream_next p Assess d orders)) reads (ap (stream_told (opened_told p Assess)) (law Assess all d orders its spells))
+  stream_told_is Session bytes its all d orders reads spells =
+      told_is p Session bytes its (asks (inputs all) (stream_next p Session d orders)) reads (ap (stream_told (opened_told p Session)) (law Session all d orders its spells))
+
+  module _ (a : Asked) (words : List (List ℕ)) (bytes : List ℕ) (its : List Item) (all : List SchemaSection) (d : Document) (orders : List Order) (out : Output)
+      (asks_for : asked words ≡ Some a) (reads : listed unread bytes true ≡ whole its) (spells : SpellsStream a all d orders its) (plain : HasNoAttributes d) where
+    pub stream_answered : IsOutput p words bytes out → IsByOutcome all (stream_output p a d orders) out
+    stream_answered h =
+        by_outcome all (stream_next p a d orders) (stream_output p a d orders) (stream_last p a d orders) (stream_tells p a d orders plain) (stream_writes p a d orders) out
+        (comes_from p a words bytes (asks (inputs all) (stream_next p a d orders)) out asks_for (stream_told_is a bytes its all d orders reads spells) h)
+
+    pub stream_comes : IsByOutcome all (stream_output p a d orders) out → IsOutput p words bytes out
+    stream_comes h =
+        comes_to p a words bytes (asks (inputs all) (stream_next p a d orders)) out asks_for (stream_told_is a bytes its all d orders reads spells)
+        (of_outcome all (stream_next p a d orders) (stream_output p a d orders) (stream_last p a d orders) (stream_tells p a d orders plain) (stream_writes p a d orders) out h)

@@ -1,30 +1,33 @@
-ghost use Rattle.std.specs.Prelude.{◌≡◌, ℕ, List, true, Some};
+ghost use Rattle.std.specs.Prelude.{◌≡◌, List, ℕ, true, Some};
 ghost use Rattle.item_listing.specs.Listed.{listed};
 ghost use Rattle.item_listing.specs.State.{unread};
 ghost use Rattle.item_listing.specs.declared.item.Item.{Item};
 ghost use Rattle.tree_rows.specs.Forest.{Document};
-ghost use Rattle.assess_model.specs.Tables.{Tables};
 ghost use Rattle.stream_sections.specs.Spelled.{whole, Order, SpellsCheck, SpellsStream};
 ghost use Rattle.stream_sections.specs.declared.asked.Asked.{Asked};
 ghost use Rattle.stream_sections.specs.declared.asked.Asked.TheVariants.{Check};
 ghost use Rattle.stream_sections.specs.declared.schemas.SchemaSection.{SchemaSection};
-ghost use Rattle.stream_answers.specs.Output.{schema_ok};
-ghost use Rattle.xsv_run.specs.Output.{asked, output};
-ghost use Rattle.xsv_run.specs.declared.status.Status.TheVariants.{Valid};
-ghost use Rattle.output_laws.specs.Complete.{Accepts, HasNoAttributes, costs, first_state, state_after, last_status, stream_text, answer};
+ghost use Rattle.xsv_run.specs.Assessor.{RightAssessor};
+ghost use Rattle.xsv_run.specs.Output.{Output, asked, IsOutput};
+ghost use Rattle.output_laws.specs.Complete.{HasNoAttributes, IsByOutcome, check_output, stream_output};
 
 use stream_sections::streams_are_read;
 
-/// Where no line of a stream is refused and its schema is accepted, `check` is answered Valid, and `assess` and `session` by the report or the replies and the record of the root of the
-/// last tree.
+/// Where no line of a stream is refused, its output goes by what its schema documents come to: a broken constraint is named; else `check` is answered Valid, and `assess` and
+/// `session` by the report or the replies and the record of the root of the last tree.
 pub fn streams_are_answered()
-    ensures check { (words : List (List ℕ)) (bytes : List ℕ) (its : List Item) (all : List SchemaSection) (t : Tables)
-        → asked words ≡ Some Check → listed unread bytes true ≡ whole its → SpellsCheck all its → Accepts all t
-        → output words bytes ≡ answer schema_ok 0 Valid }
-    ensures stream { (a : Asked) (words : List (List ℕ)) (bytes : List ℕ) (its : List Item) (all : List SchemaSection) (d : Document) (orders : List Order)
-        (t : Tables) → asked words ≡ Some a → listed unread bytes true ≡ whole its → SpellsStream a all d orders its → Accepts all t
-        → HasNoAttributes d
-        → output words bytes ≡ answer (stream_text a (first_state t d) orders) (costs (first_state t d) orders) (last_status (state_after (first_state t d) orders)) }
+    ensures check { (p : RightAssessor) (words : List (List ℕ)) (bytes : List ℕ) (its : List Item) (all : List SchemaSection) (out : Output)
+        → asked words ≡ Some Check → listed unread bytes true ≡ whole its → SpellsCheck all its
+        → IsOutput p words bytes out → IsByOutcome all check_output out }
+    ensures checked { (p : RightAssessor) (words : List (List ℕ)) (bytes : List ℕ) (its : List Item) (all : List SchemaSection) (out : Output)
+        → asked words ≡ Some Check → listed unread bytes true ≡ whole its → SpellsCheck all its
+        → IsByOutcome all check_output out → IsOutput p words bytes out }
+    ensures stream { (p : RightAssessor) (a : Asked) (words : List (List ℕ)) (bytes : List ℕ) (its : List Item) (all : List SchemaSection) (d : Document) (orders : List Order) (out : Output)
+        → asked words ≡ Some a → listed unread bytes true ≡ whole its → SpellsStream a all d orders its → HasNoAttributes d
+        → IsOutput p words bytes out → IsByOutcome all (stream_output p a d orders) out }
+    ensures streamed { (p : RightAssessor) (a : Asked) (words : List (List ℕ)) (bytes : List ℕ) (its : List Item) (all : List SchemaSection) (d : Document) (orders : List Order) (out : Output)
+        → asked words ≡ Some a → listed unread bytes true ≡ whole its → SpellsStream a all d orders its → HasNoAttributes d
+        → IsByOutcome all (stream_output p a d orders) out → IsOutput p words bytes out }
 {
     streams_are_read();
 }

@@ -1,1 +1,1 @@
-pub mod RowKinds
+pub mod Known

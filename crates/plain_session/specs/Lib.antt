@@ -1,4 +1,3 @@
-pub mod Finding
 pub mod Stocks
 pub mod Held
 pub mod Costs

@@ -1,15 +1,21 @@
 -- What is known of a tree.
-use Rattle.std.specs.Prelude.{◌≡◌, map}
+use Rattle.std.specs.Prelude.{◌≡◌, All, map}
+use Rattle.xs_names.specs.Names.{IsSound}
 use Rattle.tree_rows.specs.Forest.{Forest}
-use Rattle.tree_rows.specs.Rows.{rows_of}
-use Rattle.assess_model.specs.Tables.{Tables}
-use Rattle.assess_model.specs.Assessment.{assessment, code_total}
-use Rattle.first_assess.specs.Rows.{row_entries}
-use Rattle.plain_session.specs.Finding.{name_of}
+use Rattle.entry_reports.specs.Entries.{AreEntries, entry_of}
+use Rattle.entry_reports.specs.Asking.{code_total}
+use Rattle.entry_reports.specs.Compiled.{Compiled}
+use Rattle.entry_reports.specs.Reports.{IsEntryNamed}
+use Rattle.entry_reports.specs.Usable.{IsUsable, set_of}
 use Rattle.plain_session.specs.declared.stock.Stock.{Stock}
 
--- the records, the names and the number of codes are those of the tree
-pub record IsStock (tables : Tables) (forest : Forest) (s : Stock) : Type 0 where
-  pub records : row_entries (rows_of 1 forest) s.records ≡ assessment tables forest
-  pub names : s.names.items ≡ map name_of (rows_of 1 forest)
-  pub total : s.total ≡ code_total (assessment tables forest)
+-- documents may be assessed by the set, and names may be put into its table
+pub record IsReady (set : Compiled) : Type 0 where
+  pub usable : IsUsable set
+  pub sound : IsSound set.names
+
+-- the entries are those of the tree, by names and types of the set, and the total is the number of their codes
+pub record IsStock (set : Compiled) (forest : Forest) (s : Stock) : Type 0 where
+  pub entries_are : AreEntries (set_of set) forest s.entries.items
+  pub named : All (IsEntryNamed set) (map entry_of s.entries.items)
+  pub total_is : s.total ≡ code_total (map entry_of s.entries.items)

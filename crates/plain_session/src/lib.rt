@@ -1,9 +1,6 @@
 //! A session that assesses the whole tree again after each edit.
 #![tactic(auto)]
 
-mod count;
-mod find;
-mod names;
 mod session;
 mod stock;
 

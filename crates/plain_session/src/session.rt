@@ -1,19 +1,18 @@
 ghost use Rattle.std.specs.Prelude.{◌≡◌, false, IfOk};
 ghost use Rattle.text_sink.specs.Written.{Written};
-ghost use Rattle.report_text.specs.Report.{record_lines};
-ghost use Rattle.session_model.specs.State.{known};
+ghost use Rattle.xsv_io.specs.Causes.{HasCause};
+ghost use Rattle.entry_reports.specs.Assessor.{RightAssessor};
+ghost use Rattle.entry_reports.specs.Reports.{report};
+ghost use Rattle.entry_reports.specs.State.{opened};
+ghost use Rattle.entry_reports.specs.Usable.{IsUsable};
 
-use crate::find::{find_element, find_kind};
-use crate::stock::{Stock, take_stock};
-use assess_model::{ElementRecord, Schema, Validity};
-use plain_tree::Tree;
-use report_text::{find_root_validity, write_report};
-use session_model::{Session, SessionError};
+use crate::stock::{Stock, first_stock, take_stock};
+use entry_reports::{
+    Compiled, Records, Session, SessionError, Validity, find_records, root_validity, write_report,
+};
+use plain_tree::{Edit, EditError, NodeKind, Tree};
 use std::alloc::{AllocError, Global};
 use std::marker::Model;
-use tree_edits::{Edit, EditError};
-use tree_rows::NodeKind;
-use xs_names::Text;
 use xsv_io::{Failed, Sink};
 use xsv_steps::{Ledger, Steps};
 
@@ -21,7 +20,7 @@ use xsv_steps::{Ledger, Steps};
 #[derive(Drop)]
 pub struct PlainSession {
     alloc: Global,
-    schema: Schema,
+    set: Box<Compiled>,
     tree: Tree,
     stock: Stock,
     revision: u64,
@@ -29,8 +28,8 @@ pub struct PlainSession {
 }
 
 impl Model for PlainSession {
-    ghost use Rattle.session_model.specs.State.{State};
-    ghost use Rattle.session_model.specs.StateCode.{state_code};
+    ghost use Rattle.entry_reports.specs.State.{State};
+    ghost use Rattle.entry_reports.specs.StateCode.{state_code};
 
     ghost Value = { State };
 
@@ -44,23 +43,28 @@ impl Model for PlainSession {
 }
 
 impl PlainSession {
-    /// Opens a session over a document: its revision is 0.
+    /// Opens a session over a document, by a set that documents may be assessed by: its revision is 0, and the set has the names of
+    /// the document.
     ///
     /// # Errors
     ///
     /// `AllocError` is want of memory.
-    pub fn open(alloc: Global, schema: Schema, tree: Tree) -> Result<Self, AllocError>
-        ensures { IfOk result (λ s. s ≡ record { tables = schema; document = tree; revision = 0; closed = false }) }
+    pub fn open(alloc: Global, set: Box<Compiled>, tree: Tree) -> Result<Self, AllocError>
+        requires usable { IsUsable set.value }
+        ensures opened { IfOk result (λ s. s ≡ opened set.value tree) }
     {
-        let stock = take_stock(alloc, &schema, &tree)?;
-        Ok(PlainSession {
-            alloc,
-            schema,
-            tree,
-            stock,
-            revision: 0,
-            closed: false,
-        })
+        let mut set = set;
+        match first_stock(alloc, &mut set, &tree) {
+            Ok(stock) => Ok(PlainSession {
+                alloc,
+                set,
+                tree,
+                stock,
+                revision: 0,
+                closed: false,
+            }),
+            Err(error) => Err(error),
+        }
     }
 
     /// Writes the record line of each element, in document order.
@@ -70,14 +74,11 @@ impl PlainSession {
     /// `Failed` where the sink failed; a front was then written.
     pub fn write_report<W: Sink>(&self, sink: &mut W) -> Result<(), Failed>
         requires { self.now.closed ≡ false }
-        ensures written { Written W.taken W.faults W.fault_bound sink.old sink.new result (record_lines (known self.now)) }
+        ensures written { (p : RightAssessor) → Written W.taken W.faults W.fault_bound sink.old sink.new result (report p self.now) }
+        ensures cause { HasCause (W.faults sink.old) (W.faults sink.new) result }
+        ensures kept { W.fault_bound sink.new ≡ W.fault_bound sink.old }
     {
-        write_report(
-            sink,
-            self.tree.rows(),
-            &self.stock.names,
-            self.stock.records.as_slice(),
-        )
+        write_report(sink, &self.set, &self.stock.entries)
     }
 }
 
@@ -100,7 +101,7 @@ impl Session for PlainSession {
             }
             Err(refusal) => return Err(SessionError::Refused(refusal)),
         }
-        match take_stock(self.alloc, &self.schema, &self.tree) {
+        match take_stock(self.alloc, &mut self.set, &self.tree) {
             Ok(stock) => {
                 self.stock = stock;
                 self.revision = self.revision.saturating_add(1);
@@ -113,28 +114,12 @@ impl Session for PlainSession {
         }
     }
 
-    fn element_record(&self, node: u32) -> Option<&ElementRecord> {
-        match find_element(
-            self.tree.rows(),
-            &self.stock.names,
-            self.stock.records.as_slice(),
-            node,
-        ) {
-            Some(found) => Some(found.known),
-            None => None,
-        }
+    fn records(&self, node: u32) -> Option<Records<'_>> {
+        find_records(&self.stock.entries, node)
     }
 
-    fn element_name(&self, node: u32) -> Option<&Text> {
-        match find_element(
-            self.tree.rows(),
-            &self.stock.names,
-            self.stock.records.as_slice(),
-            node,
-        ) {
-            Some(found) => Some(found.name),
-            None => None,
-        }
+    fn compiled(&self) -> &Compiled {
+        &self.set
     }
 
     fn code_total(&self) -> u64 {
@@ -142,11 +127,11 @@ impl Session for PlainSession {
     }
 
     fn root_validity(&self) -> Validity {
-        find_root_validity(self.tree.rows(), self.stock.records.as_slice())
+        root_validity(&self.stock.entries)
     }
 
     fn live(&self, node: u32) -> Option<NodeKind> {
-        find_kind(self.tree.rows(), node)
+        self.tree.kind(node)
     }
 
     fn revision(&self) -> u64 {

@@ -1,34 +1,81 @@
-ghost use Rattle.std.specs.Prelude.{IfOk};
-ghost use Rattle.plain_session.specs.Stocks.{IsStock};
+//! What is known of a tree.
 
-use crate::count::count_codes;
-use crate::names::name_rows;
-use assess_model::{ElementRecord, Schema};
-use first_assess::{Records, assess};
+ghost use Rattle.std.specs.Prelude.{◌≡◌, IfOk, OnOk};
+ghost use Rattle.entry_reports.specs.Found.{HasNames};
+ghost use Rattle.entry_reports.specs.State.{with_names};
+ghost use Rattle.entry_reports.specs.Usable.{IsUsable};
+ghost use Rattle.plain_session.specs.Stocks.{IsReady, IsStock};
+
+use entry_reports::{
+    Compiled, ElementEntry, add_names, assess, count_codes, document_names_are_found,
+    entries_are_named, entries_have_few_codes, usable_with_more_names,
+};
 use plain_tree::Tree;
 use std::alloc::{AllocError, Global};
-use xs_names::Text;
+use xs_names::NsId;
 
 /// What is known of a tree.
 #[derive(Drop)]
-pub struct Stock {
-    pub records: Records,
-    /// The names of the rows, each as one text.
-    pub names: Vec<Text>,
-    /// How many codes the records have.
+pub(crate) struct Stock {
+    /// The entries of its elements, in document order.
+    pub entries: Vec<ElementEntry>,
+    /// How many codes their records have.
     pub total: u64,
 }
 
-/// Assesses a tree.
-pub fn take_stock(alloc: Global, schema: &Schema, tree: &Tree) -> Result<Stock, AllocError>
-    ensures { IfOk result (IsStock schema.now tree.now.forest) }
+// The entries of a tree whose names are in the table of the set.
+fn assessed(alloc: Global, set: &mut Compiled, tree: &Tree) -> Result<Stock, AllocError>
+    requires ready { IsReady set.old }
+    requires names { HasNames set.old.names tree.now.forest }
+    ensures stock { IfOk result (IsStock set.old tree.now.forest) }
+    ensures same { set.new ≡ set.old }
 {
-    let records = assess(alloc, schema, tree.rows())?;
-    let names = name_rows(alloc, tree.rows())?;
-    let total = count_codes(tree.rows(), records.as_slice());
-    Ok(Stock {
-        records,
-        names,
-        total,
-    })
+    // Who reads a tree is told that it is within the limits: its codes can be counted.
+    let _whole = tree.next_free();
+    entries_are_named();
+    entries_have_few_codes();
+    let entries = assess(alloc, set, tree)?;
+    let total = count_codes(&entries);
+    Ok(Stock { entries, total })
+}
+
+/// Puts the names of a tree into the table of a set, and assesses it.
+///
+/// # Errors
+///
+/// `AllocError` is want of memory. Some names may then have been put there.
+pub(crate) fn take_stock(
+    alloc: Global,
+    set: &mut Compiled,
+    tree: &Tree,
+) -> Result<Stock, AllocError>
+    requires ready { IsReady set.old }
+    ensures ready { OnOk result (IsReady set.new) }
+    ensures named { OnOk result (set.new ≡ with_names set.old tree.now.forest) }
+    ensures stock { IfOk result (IsStock set.new tree.now.forest) }
+{
+    document_names_are_found();
+    usable_with_more_names();
+    add_names(&mut set.names, tree)?;
+    assessed(alloc, set, tree)
+}
+
+/// Takes stock of a tree that is opened: no more is known of the set than that documents may be assessed by it.
+///
+/// # Errors
+///
+/// `AllocError` is want of memory. Some names may then have been put there.
+pub(crate) fn first_stock(
+    alloc: Global,
+    set: &mut Compiled,
+    tree: &Tree,
+) -> Result<Stock, AllocError>
+    requires usable { IsUsable set.old }
+    ensures ready { OnOk result (IsReady set.new) }
+    ensures named { OnOk result (set.new ≡ with_names set.old tree.now.forest) }
+    ensures stock { IfOk result (IsStock set.new tree.now.forest) }
+{
+    // Who reads a table of names is told that it is sound.
+    let _sound = set.names.lookup(NsId::ABSENT, "");
+    take_stock(alloc, set, tree)
 }

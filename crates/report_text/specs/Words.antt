@@ -1,14 +1,25 @@
 -- The words and texts of record lines.
-use Rattle.std.specs.Prelude.{ℕ, List, [], ◌∷◌, ◌++◌, codes}
+use Rattle.std.specs.Prelude.{ℕ, List, [], ◌∷◌, ◌++◌, ◌==◌, Option, None, Some, slice_get, slice_index_or, if◌then◌else◌, codes}
 use Rattle.std.specs.Fmt.{decimal}
-use Rattle.assess_model.specs.declared.record.Validity.{Validity}
-use Rattle.assess_model.specs.declared.record.Validity.TheVariants.{Valid, Invalid, NotKnown}
-use Rattle.assess_model.specs.declared.record.Attempted.{Attempted}
-use Rattle.assess_model.specs.declared.record.Attempted.TheVariants.{Full, Partial, NoneAttempted}
-use Rattle.assess_model.specs.declared.record.Code.{Code}
-use Rattle.assess_model.specs.declared.record.Code.TheVariants.{Undeclared, HasElements, HasCharacters, Stuck}
-use Rattle.assess_model.specs.declared.record.TypeId.{TypeId}
-use Rattle.assess_model.specs.declared.record.TypeId.TheVariants.{AnyType, StringType, ComplexType}
+use Rattle.text_sink.specs.Escaping.{escaped}
+use Rattle.xs_names.specs.Names.{NameTable, absent_space, space_of, local_of}
+use Rattle.xs_codes.specs.Codes.{text_of}
+use Rattle.xs_codes.specs.declared.code.Code.{Code}
+use Rattle.xs_codes.specs.declared.code.Code.TheVariants.{CvcComplexType2_4}
+use Rattle.xs_codes.specs.declared.fault.Found.{Found}
+use Rattle.xs_components.specs.Tables.{Tables}
+use Rattle.xs_components.specs.declared.common.Place.{Place}
+use Rattle.xs_components.specs.declared.common.TypeId.{TypeId}
+use Rattle.xs_components.specs.declared.common.TypeId.TheVariants.{AnyType, Builtin, Simple, Complex}
+use Rattle.xs_components.specs.declared.complex.ComplexType.{ComplexType}
+use Rattle.xs_components.specs.declared.simple.SimpleType.{SimpleType}
+use Rattle.simple_values.specs.Builtins.{name_of}
+use Rattle.assess_records.specs.declared.outcome.Validity.{Validity}
+use Rattle.assess_records.specs.declared.outcome.Validity.TheVariants.{Valid, Invalid, NotKnown}
+use Rattle.assess_records.specs.declared.outcome.Attempted.{Attempted}
+use Rattle.assess_records.specs.declared.outcome.Attempted.TheVariants.{Full, Partial, Untried}
+use Rattle.assess_records.specs.declared.outcome.ValueSource.{ValueSource}
+use Rattle.assess_records.specs.declared.outcome.ValueSource.TheVariants.{Given, Schema}
 
 abbrev pub validity_word : Validity → List ℕ
 validity_word Valid = codes "valid"
@@ -18,26 +29,59 @@ validity_word NotKnown = codes "notKnown"
 abbrev pub attempted_word : Attempted → List ℕ
 attempted_word Full = codes "full"
 attempted_word Partial = codes "partial"
-attempted_word NoneAttempted = codes "none"
+attempted_word Untried = codes "none"
 
--- a stuck place stands behind its code
-abbrev pub code_text : Code → List ℕ
-code_text Undeclared = codes "cvc-elt.1"
-code_text HasElements = codes "cvc-type.3.1.2"
-code_text HasCharacters = codes "cvc-complex-type.2.3"
-code_text (Stuck place) = codes "cvc-complex-type.2.4@" ++ decimal place
+abbrev pub source_word : ValueSource → List ℕ
+source_word Given = codes "given"
+source_word Schema = codes "schema"
 
-abbrev pub more_codes : List Code → List ℕ
+-- cvc-complex-type.2.4: the place among the child elements where they get stuck stands behind the code, and behind no other
+abbrev pub place_text : Code → ℕ → List ℕ
+place_text CvcComplexType2_4 place = codes "@" ++ decimal place
+place_text _ place = []
+
+abbrev pub code_text : Found → List ℕ
+code_text found = text_of found.code ++ place_text found.code found.place
+
+abbrev pub more_codes : List Found → List ℕ
 more_codes [] = []
-more_codes (code ∷ more) = codes "," ++ code_text code ++ more_codes more
+more_codes (found ∷ more) = codes "," ++ code_text found ++ more_codes more
 
 -- codes are joined by commas; a hyphen stands for none
-abbrev pub codes_text : List Code → List ℕ
+abbrev pub codes_text : List Found → List ℕ
 codes_text [] = codes "-"
-codes_text (code ∷ more) = code_text code ++ more_codes more
+codes_text (found ∷ more) = code_text found ++ more_codes more
 
--- an anonymous type is named by the number of its schema section and its own number there
-abbrev pub type_text : TypeId → List ℕ
-type_text AnyType = codes "xs:anyType"
-type_text StringType = codes "xs:string"
-type_text (ComplexType place) = codes "#1." ++ decimal place
+-- an anonymous type goes by the place where it is represented: the number of the document, and its own number there
+abbrev pub place_name : Place → List ℕ
+place_name at = codes "#" ++ decimal at.document ++ codes "." ++ decimal at.item
+
+module _ (names : NameTable) where
+  -- the namespace of a name in braces; nothing for the absent one
+  abbrev pub space_text : ℕ → List ℕ
+  space_text space = if space == absent_space then [] else codes "{" ++ escaped (slice_index_or names.spaces space []) ++ codes "}"
+
+  -- an expanded name (Namespaces in XML 1.0, 2.1) as one text, with escapes
+  abbrev pub name_text : ℕ → List ℕ
+  name_text name = space_text (space_of names name) ++ escaped (local_of names name)
+
+  -- a type that is defined in a schema document
+  abbrev pub defined_text : Option ℕ → Place → List ℕ
+  defined_text None at = place_name at
+  defined_text (Some name) at = name_text name
+
+  abbrev pub simple_text : Option SimpleType → List ℕ
+  simple_text None = codes "-"
+  simple_text (Some part) = defined_text part.name part.at
+
+  abbrev pub complex_text : Option ComplexType → List ℕ
+  complex_text None = codes "-"
+  complex_text (Some part) = defined_text part.name part.at
+
+  -- a type; a hyphen stands for none
+  abbrev pub type_text : Tables → Option TypeId → List ℕ
+  type_text t None = codes "-"
+  type_text t (Some AnyType) = codes "xs:anyType"
+  type_text t (Some (Builtin kind)) = codes "xs:" ++ name_of kind
+  type_text t (Some (Simple id)) = simple_text (slice_get t.simples.parts id)
+  type_text t (Some (Complex id)) = complex_text (slice_get t.complexes.parts id)

@@ -1,11 +1,10 @@
-//! The lines that tell what is known of the elements of a document, written to a sink.
+//! The lines that tell what is found out about an element and its attributes, written to a sink.
 #![tactic(auto)]
 
 mod codes;
+mod names;
 mod record;
-mod report;
 mod words;
 
-pub use record::write_record;
-pub use report::{find_root_validity, write_report};
+pub use record::{Records, write_attr, write_record, write_records};
 pub use words::validity_word;

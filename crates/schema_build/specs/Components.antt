@@ -4,7 +4,7 @@ use Rattle.xs_codes.specs.declared.fault.Fault.{Fault}
 use Rattle.xs_components.specs.Tables.{Tables}
 use Rattle.xs_faults.specs.Least.{IsLeast}
 use Rattle.xs_names.specs.Names.{NameTable}
-use Rattle.schema_set.specs.declared.documents.SetDocument.{SetDocument}
+use Rattle.document_representations.specs.SetDocument.{SetDocument}
 use Rattle.representations.specs.declared.origins.Origin.{Origin}
 use Rattle.representations.specs.declared.parts.Representation.{Representation}
 use Rattle.representations.specs.declared.source.Source.{Source}

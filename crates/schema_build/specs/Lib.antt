@@ -1,1 +1,15 @@
 pub mod Components
+pub use Rattle.document_representations.specs.Documents
+pub use Rattle.build_components.specs.Built
+pub use Rattle.document_representations.specs.EffectiveSet
+pub use Rattle.document_representations.specs.SetDocument
+pub use Rattle.document_representations.specs.Available
+pub use Rattle.build_components.specs.Complexes
+pub use Rattle.document_representations.specs.Scopes
+pub use Rattle.document_representations.specs.Defaults
+pub use Rattle.document_representations.specs.Methods
+pub use Rattle.document_representations.specs.Forms
+pub use Rattle.document_representations.specs.Naming
+pub use Rattle.document_representations.specs.SchemaNamesNaming
+pub use Rattle.document_representations.specs.SchemaNamesForms
+pub use Rattle.document_representations.specs.SchemaNamesDocuments

@@ -5,10 +5,9 @@ ghost use Rattle.representations.specs.Names as symbols;
 ghost use Rattle.document_representations.specs.Documents.{set_table};
 ghost use Rattle.schema_build.specs.Components as spec;
 
-use document_representations::represent;
+use document_representations::{EffectiveSet, represent};
 use reference_faults::first_fault;
 use representations::{Origin, Representation, Source, spaces_of};
-use schema_set::EffectiveSet;
 use std::alloc::{AllocError, Global};
 use xs_codes::Fault;
 use xs_components::Components;

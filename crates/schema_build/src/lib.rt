@@ -4,3 +4,4 @@
 mod building;
 
 pub use building::build;
+pub use document_representations::{Available, EffectiveSet, close_set};

@@ -4,12 +4,12 @@ use Rattle.std.proofs.lemmas.Bool.{or_parts}
 use Rattle.std.proofs.lemmas.List.Elements.{All-nil, All-cons}
 use Rattle.std.proofs.Common.{◌≡◌, ◌⊎◌, inl, inr, Bool, false, List, [], ◌∷◌, Option, None, Some, Result, Ok, Err, ℕ, ◌<◌, length, refl, sym, subst, ◌∙◌, arith}
 use Rattle.xs_codes.specs.declared.fault.Fault.{Fault}
-use Rattle.schema_shape.specs.declared.forms.Shape.{Shape}
-use Rattle.schema_shape.specs.declared.forms.ShapedSchema.{ShapedSchema}
-use Rattle.schema_shape.specs.Shaped as shape_of
-use Rattle.schema_set.specs.declared.documents.Available.{Available}
-use Rattle.schema_set.specs.declared.documents.SetDocument.{SetDocument}
-use Rattle.schema_set.specs.EffectiveSet.{is_composition, AreAlone, IsEffectiveSet}
+use Rattle.set_types.specs.Shape.{Shape}
+use Rattle.set_types.specs.ShapedSchema.{ShapedSchema}
+use Rattle.set_types.specs.SchemaShapeShaped as shape_of
+use Rattle.schema_build.specs.Available.{Available}
+use Rattle.schema_build.specs.SetDocument.{SetDocument}
+use Rattle.schema_build.specs.EffectiveSet.{is_composition, AreAlone, IsEffectiveSet}
 use Rattle.schema_check.specs.declared.documents.CompiledSet.{CompiledSet}
 use Rattle.schema_check.specs.declared.documents.Refusal.{Refusal}
 use Rattle.schema_check.specs.declared.documents.Refusal.TheVariants.{Broken, Composed}

@@ -2,3 +2,5 @@ pub mod PhaseLaws
 pub mod TypedLaws
 pub mod SetLaws
 pub mod CompilationLaws
+pub mod CompiledLaws
+pub use Rattle.set_types.proofs.ListLaws

@@ -5,13 +5,13 @@ use Rattle.xs_codes.specs.declared.fault.Fault.{Fault}
 use Rattle.xs_components.specs.Tables.{Tables}
 use Rattle.xs_faults.specs.Least.{IsLeast}
 use Rattle.xs_names.specs.Names.{NameTable, no_names}
-use Rattle.document_representations.specs.Documents.{set_table}
-use Rattle.schema_shape.specs.declared.forms.ShapedSchema.{ShapedSchema}
-use Rattle.schema_set.specs.declared.documents.Available.{Available}
-use Rattle.schema_set.specs.declared.documents.SetDocument.{SetDocument}
-use Rattle.schema_set.specs.EffectiveSet.{IsEffectiveSet}
+use Rattle.schema_build.specs.Documents.{set_table}
+use Rattle.set_types.specs.ShapedSchema.{ShapedSchema}
+use Rattle.schema_build.specs.Available.{Available}
+use Rattle.schema_build.specs.SetDocument.{SetDocument}
+use Rattle.schema_build.specs.EffectiveSet.{IsEffectiveSet}
 use Rattle.representations.specs.declared.source.Source.{Source}
-use Rattle.build_components.specs.Built.{built}
+use Rattle.schema_build.specs.Built.{built}
 use Rattle.schema_build.specs.Components.{IsBuilt, IsNameFault, AreComponents}
 use Rattle.schema_check.specs.Phases.{IsFirstOfPhases}
 use Rattle.schema_check.specs.SetPhases.{names, name_phase, AreParts, set_phases, base_phase, type_phase, part_phases, by_components, IsSetCompiled, IsAloneCompiled}

@@ -2,12 +2,12 @@
 use Rattle.std.specs.Prelude.{◌≡◌, Bool, true, false, List, [], ◌∷◌, Option, None, Some, Result, Ok, Err, slice_get}
 use Rattle.std.specs.List.{list_any}
 use Rattle.xs_codes.specs.declared.fault.Fault.{Fault}
-use Rattle.schema_shape.specs.declared.forms.Shape.{Shape}
-use Rattle.schema_shape.specs.declared.forms.ShapedSchema.{ShapedSchema}
-use Rattle.schema_shape.specs.Shaped.{shaped}
-use Rattle.schema_set.specs.declared.documents.Available.{Available}
-use Rattle.schema_set.specs.declared.documents.SetDocument.{SetDocument}
-use Rattle.schema_set.specs.EffectiveSet.{is_composition, IsEffectiveSet}
+use Rattle.set_types.specs.Shape.{Shape}
+use Rattle.set_types.specs.ShapedSchema.{ShapedSchema}
+use Rattle.set_types.specs.SchemaShapeShaped.{shaped}
+use Rattle.schema_build.specs.Available.{Available}
+use Rattle.schema_build.specs.SetDocument.{SetDocument}
+use Rattle.schema_build.specs.EffectiveSet.{is_composition, IsEffectiveSet}
 use Rattle.schema_check.specs.declared.documents.CompiledSet.{CompiledSet}
 use Rattle.schema_check.specs.declared.documents.Refusal.{Refusal}
 use Rattle.schema_check.specs.declared.documents.Refusal.TheVariants.{Broken, Composed}

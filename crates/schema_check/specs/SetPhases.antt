@@ -10,11 +10,11 @@ use Rattle.type_derivation.specs.Cycles.{IsBroken, IsGrown}
 use Rattle.type_derivation.specs.Particles.{AreContentsSet}
 use Rattle.simple_types.specs.declared.types.SimpleTypes.{SimpleTypes}
 use Rattle.simple_types.specs.SimpleTypes.{AreTypesOf, AreWhole, first_fault_of}
-use Rattle.schema_shape.specs.declared.forms.ShapedSchema.{ShapedSchema}
-use Rattle.schema_set.specs.declared.documents.Available.{Available}
-use Rattle.schema_set.specs.declared.documents.SetDocument.{SetDocument}
-use Rattle.schema_set.specs.EffectiveSet.{IsEffectiveSet}
-use Rattle.document_representations.specs.Documents.{set_table}
+use Rattle.set_types.specs.ShapedSchema.{ShapedSchema}
+use Rattle.schema_build.specs.Available.{Available}
+use Rattle.schema_build.specs.SetDocument.{SetDocument}
+use Rattle.schema_build.specs.EffectiveSet.{IsEffectiveSet}
+use Rattle.schema_build.specs.Documents.{set_table}
 use Rattle.schema_build.specs.Components.{IsNameFault, AreComponents}
 use Rattle.schema_check.specs.declared.documents.CompiledSet.{CompiledSet}
 use Rattle.schema_check.specs.Phases.{IsFirstOfPhases}

@@ -1,15 +1,13 @@
 ghost use Rattle.std.specs.Prelude.{◌≡◌, ◌<◌, false, length, IfOk};
-ghost use Rattle.schema_set.specs.EffectiveSet.{is_composition};
+ghost use Rattle.schema_build.specs.EffectiveSet.{is_composition};
 ghost use Rattle.schema_check.specs.SetPhases.{IsSetCompiled, IsAloneCompiled};
 ghost use Rattle.schema_check.specs.Compilation as spec;
 ghost use Rattle.schema_check.specs.inside.Typed as inside;
 
 use crate::documents::{CompiledSet, Refusal, SchemaInput};
 use crate::types::compile_parts;
-use closed_components::tables_are_closed;
-use schema_build::build;
-use schema_set::{Available, EffectiveSet, close_set};
-use schema_shape::{Form, Shape, ShapedSchema, shape};
+use schema_build::{Available, EffectiveSet, build, close_set};
+use set_types::{Form, Shape, ShapedSchema, shape, tables_are_closed};
 use std::alloc::{AllocError, Global};
 use xs_codes::Fault;
 use xs_lists::Listed;

@@ -1,4 +1,5 @@
 ghost use Rattle.std.specs.Prelude.{◌≡◌, All, IfOk};
+ghost use Rattle.xs_components.specs.Tables.{Tables};
 ghost use Rattle.component_circles.specs.References.{IsClosed};
 ghost use Rattle.schema_check.specs.inside.Typed as spec;
 
@@ -30,6 +31,24 @@ fn judge_types(
     }
 }
 
+// The set of what was judged, or the fault that was found.
+fn judged_set(
+    names: Names,
+    parts: Components,
+    judged: Result<SimpleTypes, Fault>,
+) -> Result<CompiledSet, Fault>
+    ensures { (old : Tables) → spec.IsTyped old parts judged → spec.ArePartsCompiled names old result }
+{
+    match judged {
+        Ok(types) => Ok(CompiledSet {
+            names,
+            parts,
+            types,
+        }),
+        Err(fault) => Err(fault),
+    }
+}
+
 /// The compiled set of these names and components, or the first fault of circles and bases, else of simple types.
 pub(crate) fn compile_parts(
     alloc: Global,
@@ -40,13 +59,8 @@ pub(crate) fn compile_parts(
     requires none { All (λ content. content ≡ None) parts.contents }
     ensures { IfOk result (spec.ArePartsCompiled names parts) }
 {
-    let answer = judge_types(alloc, &mut parts)?;
-    match answer {
-        Ok(types) => Ok(Ok(CompiledSet {
-            names,
-            parts,
-            types,
-        })),
-        Err(fault) => Ok(Err(fault)),
+    match judge_types(alloc, &mut parts) {
+        Ok(judged) => Ok(judged_set(names, parts, judged)),
+        Err(error) => Err(error),
     }
 }

@@ -1,5 +1,19 @@
+pub mod Assessor
 pub mod State
 pub mod StateCode
+pub mod Asking
+pub mod Reports
 pub mod Applying
 pub mod Counting
-pub mod Asking
+pub use Rattle.document_names.specs.Numbered
+pub use Rattle.document_names.specs.Assessment
+pub use Rattle.document_names.specs.Attribution
+pub use Rattle.document_names.specs.Plain
+pub use Rattle.document_names.specs.Table
+pub use Rattle.document_names.specs.Found
+pub use Rattle.compiled_schema.specs.Usable
+pub use Rattle.compiled_schema.specs.declared.compiled.Compiled
+pub use Rattle.compiled_schema.specs.contracts.compiled.Compiled as CompiledRow
+pub use Rattle.report_text.specs.Words
+pub use Rattle.report_text.specs.Named
+pub use Rattle.report_text.specs.Lines

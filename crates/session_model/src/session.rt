@@ -1,18 +1,20 @@
-ghost use Rattle.std.specs.Prelude.{◌≡◌, ℕ, true, false, Option};
+ghost use Rattle.std.specs.Prelude.{◌≡◌, ℕ, true, false, Option, IfSome};
 ghost use Rattle.std.specs.Option.{option_map};
 ghost use Rattle.tree_edits.specs.Edits.{can_be_made};
-ghost use Rattle.assess_model.specs.Assessment.{code_total, root_validity};
+ghost use Rattle.tree_edits.specs.declared.edit.Edit as edits;
+ghost use Rattle.tree_rows.specs.Kinds.{kind_of};
+ghost use Rattle.report_text.specs.Named.{IsNamed, AreNamed};
+ghost use Rattle.session_model.specs.Assessor.{RightAssessor};
 ghost use Rattle.session_model.specs.State.{State, known};
 ghost use Rattle.session_model.specs.Applying.{Applies};
+ghost use Rattle.session_model.specs.Asking.{entry_at, code_total, root_validity};
 ghost use Rattle.session_model.specs.Counting.{Counts, CountsRefused};
-ghost use Rattle.tree_edits.specs.declared.edit.Edit as edits;
-ghost use Rattle.session_model.specs.Asking.{entry_of};
-ghost use Rattle.tree_rows.specs.Kinds.{kind_of};
 
-use assess_model::{ElementRecord, Validity};
+use assess_records::Validity;
+use compiled_schema::Compiled;
+use report_text::Records;
 use tree_edits::{Edit, EditError};
 use tree_rows::NodeKind;
-use xs_names::Text;
 use xsv_steps::{Ledger, Steps};
 
 /// Why a session did not make an edit.
@@ -26,16 +28,17 @@ pub enum SessionError {
     Closed,
 }
 
-/// A document that is edited, with the records of its present tree. Contracts see the schema, the tree, the
-/// revision, whether the session is closed, and what an edit costs. The records of a closed session are not stated.
+/// A document that is edited, with what is found out about the elements of its present tree by a schema set (Structures 5.2).
+/// Contracts see the set, the tree, the revision, whether the session is closed, and what an edit costs. The records of a
+/// closed session are not stated. What depends on the assessment is said of each function that gives it.
 pub trait Session {
-    /// The schema, the tree, the revision, and whether the session is closed.
+    /// The schema set, the tree, the revision, and whether the session is closed.
     ghost state: { Self → State };
 
     /// How many steps an edit takes, at most.
     ghost cost: { Self → edits.Edit → ℕ };
 
-    /// Makes an edit, and adds one to the revision, which stays at its last value.
+    /// Makes an edit, and adds one to the revision, which stays at its last value. The set gets the names of the new tree.
     ///
     /// # Errors
     ///
@@ -47,23 +50,29 @@ pub trait Session {
         ensures steps { Counts steps.old steps.new (cost self.old edit.now) }
         ensures refused { CountsRefused result steps.old steps.new };
 
-    /// The record of an element, `None` where the number is of no element of the tree.
-    fn element_record(&self, node: u32) -> Option<&ElementRecord>
-        ensures { (state self.now).closed ≡ false
-            → option_map (λ r. r.now) result ≡ option_map (λ e. e.known) (entry_of node (known (state self.now))) };
+    /// The records of an element and of its attributes, `None` where the number is of no element of the tree. Their names and
+    /// types are those of the set.
+    fn records(&self, node: u32) -> Option<Records<'_>>
+        ensures element { (p : RightAssessor) → (state self.now).closed ≡ false
+            → option_map (λ r. r.element.now) result ≡ option_map (λ e. e.element) (entry_at node (known p (state self.now))) }
+        ensures attrs { (p : RightAssessor) → (state self.now).closed ≡ false
+            → option_map (λ r. r.attrs.now) result ≡ option_map (λ e. e.attrs) (entry_at node (known p (state self.now))) }
+        ensures element_named { (state self.now).closed ≡ false
+            → IfSome result (λ r. IsNamed (state self.now).set.names (state self.now).set.parts r.element.now.name r.element.now.of) }
+        ensures attrs_named { (state self.now).closed ≡ false
+            → IfSome result (λ r. AreNamed (state self.now).set.names (state self.now).set.parts r.attrs.now) };
 
-    /// The name of an element as one text, `local` or `{namespace}local`, `None` where the number is of no element of the tree.
-    fn element_name(&self, node: u32) -> Option<&Text>
-        ensures { (state self.now).closed ≡ false
-            → option_map (λ t. t.now) result ≡ option_map (λ e. e.name) (entry_of node (known (state self.now))) };
+    /// The schema set, with the names of the tree.
+    fn compiled(&self) -> &Compiled
+        ensures { (state self.now).closed ≡ false → result.now ≡ (state self.now).set };
 
     /// The number of all codes of all records.
     fn code_total(&self) -> u64
-        ensures { (state self.now).closed ≡ false → result ≡ code_total (known (state self.now)) };
+        ensures { (p : RightAssessor) → (state self.now).closed ≡ false → result ≡ code_total (known p (state self.now)) };
 
     /// The validity of the root.
     fn root_validity(&self) -> Validity
-        ensures { (state self.now).closed ≡ false → result ≡ root_validity (known (state self.now)) };
+        ensures { (p : RightAssessor) → (state self.now).closed ≡ false → result ≡ root_validity (known p (state self.now)) };
 
     /// What the node of a number is, `None` where it is of no node of the tree.
     fn live(&self, node: u32) -> Option<NodeKind>

@@ -11,7 +11,7 @@ use Rattle.assess_records.specs.Counts.{counts_of}
 use Rattle.assess_records.specs.declared.shape.ElementShape.{ElementShape}
 use Rattle.instance_names.specs.Instance.{instance_text}
 use Rattle.instance_names.specs.declared.InstanceAttribute.TheVariants.{TypeName}
-use Rattle.elem_governing.specs.declared.pairs.Governing.{Governing}
+use Rattle.element_judging.specs.Governing.{Governing}
 use Rattle.set_assessment.specs.Numbered.{Scope, Head, head_of, heads, names_of, name_in, named_texts, scope_in, characters, shape_of}
 use Rattle.set_assessment.specs.Attribution.{SchemaSet, content_particle, AreTerms}
 use Rattle.set_assessment.specs.Assessment.{Beside, governed, sibling_records, AreJudged, IsEntry, AreAssessed, IsAssessment}

@@ -13,9 +13,9 @@ use Rattle.assess_records.specs.declared.shape.ElementShape.{ElementShape}
 use Rattle.assess_records.specs.declared.shape.NamedText.{NamedText}
 use Rattle.instance_names.specs.Instance.{instance_text}
 use Rattle.instance_names.specs.declared.InstanceAttribute.TheVariants.{TypeName}
-use Rattle.elem_governing.specs.Governing.{skipped, govern_root, govern_child}
-use Rattle.elem_governing.specs.LocalType.{xsi_type}
-use Rattle.elem_governing.specs.declared.pairs.Governing.{Governing}
+use Rattle.element_judging.specs.ElemGoverningGoverning.{skipped, govern_root, govern_child}
+use Rattle.element_judging.specs.LocalType.{xsi_type}
+use Rattle.element_judging.specs.Governing.{Governing}
 use Rattle.element_judging.specs.Judged.{IsElementJudged}
 use Rattle.set_assessment.specs.Numbered.{Scope, Head, head_of, heads, names_of, named_texts, scope_in, characters, shape_of}
 use Rattle.set_assessment.specs.Attribution.{SchemaSet, content_particle, AreTerms}

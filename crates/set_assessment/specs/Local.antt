@@ -11,7 +11,7 @@ use Rattle.assess_records.specs.declared.record.ElementRecord.{ElementRecord}
 use Rattle.assess_records.specs.declared.shape.ElementShape.{ElementShape}
 use Rattle.instance_names.specs.Instance.{instance_text}
 use Rattle.instance_names.specs.declared.InstanceAttribute.TheVariants.{TypeName}
-use Rattle.elem_governing.specs.declared.pairs.Governing.{Governing}
+use Rattle.element_judging.specs.Governing.{Governing}
 use Rattle.set_assessment.specs.Numbered.{Scope, Head, name_in, named_texts, scope_in, heads, names_of, characters, shape_of}
 use Rattle.set_assessment.specs.Attribution.{SchemaSet, content_particle, AreTerms}
 use Rattle.set_assessment.specs.Assessment.{Entry, Assessed, nothing, entry, Beside, governed, root_pairs, AreJudged}

@@ -1,1 +1,17 @@
+pub mod FirstLaws
+pub mod FaultLaws
+pub mod KindLaws
+pub mod SimpleLaws
+pub mod AttributeLaws
+pub mod ContentLaws
+pub mod TagLaws
+pub mod KidLaws
+pub mod SoundLaws
+pub mod WalkLaws
+pub mod FormLaws
+pub mod NameLaws
+pub mod LaidLaws
+pub mod ShapeLaws
+pub mod SetLaws
 pub mod TypeLaws
+pub use Rattle.closed_components.proofs.ListLaws

@@ -5,16 +5,16 @@ use Rattle.std.proofs.lemmas.Option.{get_or_from_slice_get, slice_get_within}
 use Rattle.xs_components.specs.Tables.{Tables}
 use Rattle.component_circles.specs.Circles.{Ranks, with_all_ranks}
 use Rattle.type_derivation.specs.Cycles.{IsGrown}
-use Rattle.schema_set.specs.declared.documents.Available.{Available}
-use Rattle.schema_set.specs.declared.documents.SetDocument.{SetDocument}
-use Rattle.schema_set.specs.EffectiveSet.{IsDocument, IsEffectiveSet}
+use Rattle.document_representations.specs.Available.{Available}
+use Rattle.document_representations.specs.SetDocument.{SetDocument}
+use Rattle.document_representations.specs.EffectiveSet.{IsDocument, IsEffectiveSet}
 use Rattle.representations.specs.declared.parts.Representation.{Representation}
 use Rattle.representations.specs.declared.source.Source.{Source}
 use Rattle.representations.specs.Names.{spaces_of}
-use Rattle.build_components.specs.Built.{built}
-use Rattle.resolved_components.specs.Resolved.{AreResolved}
-use Rattle.resolved_components.specs.Shaped.{AreShaped}
-use Rattle.shaped_representations.specs.OfTree.{IsDeclared, IsOfTree}
+use Rattle.closed_components.specs.Built.{built}
+use Rattle.set_types.specs.Resolved.{AreResolved}
+use Rattle.set_types.specs.Shaped.{AreShaped}
+use Rattle.set_types.specs.OfTree.{IsDeclared, IsOfTree}
 use Rattle.set_types.specs.SimpleParts.{HasSimpleTypes}
 
 -- the documents of a set are among those that there are

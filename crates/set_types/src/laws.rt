@@ -4,20 +4,20 @@ ghost use Rattle.xs_names.specs.Names.{NameTable};
 ghost use Rattle.xs_components.specs.Tables.{Tables};
 ghost use Rattle.component_circles.specs.Circles.{Ranks, with_all_ranks};
 ghost use Rattle.type_derivation.specs.Cycles.{IsGrown};
-ghost use Rattle.schema_set.specs.declared.documents.Available.{Available};
-ghost use Rattle.schema_set.specs.declared.documents.SetDocument.{SetDocument};
-ghost use Rattle.schema_set.specs.EffectiveSet.{IsEffectiveSet};
+ghost use Rattle.document_representations.specs.Available.{Available};
+ghost use Rattle.document_representations.specs.SetDocument.{SetDocument};
+ghost use Rattle.document_representations.specs.EffectiveSet.{IsEffectiveSet};
 ghost use Rattle.representations.specs.declared.source.Source.{Source};
 ghost use Rattle.representations.specs.Names.{spaces_of};
 ghost use Rattle.document_representations.specs.Documents.{representations};
 ghost use Rattle.representations.specs.declared.origins.Origin.{Origin};
 ghost use Rattle.reference_faults.specs.Faults.{IsBroken};
-ghost use Rattle.build_components.specs.Built.{built};
-ghost use Rattle.shaped_representations.specs.OfTree.{IsDeclared, IsOfTree};
+ghost use Rattle.closed_components.specs.Built.{built};
+ghost use Rattle.set_types.specs.OfTree.{IsDeclared, IsOfTree};
 ghost use Rattle.set_types.specs.SimpleParts.{HasSimpleTypes};
 
-use resolved_components::{components_are_simple, names_resolve};
-use shaped_representations::representations_are_shaped;
+use crate::resolved::{components_are_simple, names_resolve};
+use crate::shaped::representations_are_shaped;
 
 /// Where no constraint on the shape of the documents of a schema set is broken, and none on names and references, what a simple
 /// type is made of is simple, and so are the types of attributes and those that stand in simple content. It stays so when ranks

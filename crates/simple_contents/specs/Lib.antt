@@ -1,1 +1,4 @@
 pub mod Own
+pub use Rattle.element_judging.specs.Texts
+pub use Rattle.simple_types.specs.SimpleTypes
+pub use Rattle.simple_types.specs.declared.types.SimpleTypes as SimpleTypesSimpleTypes

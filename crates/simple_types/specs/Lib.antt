@@ -5,3 +5,5 @@ pub mod Lookup
 pub mod SimpleTypes
 pub mod TypeRules
 pub mod inside
+pub use Rattle.simple_validity.specs.Trees
+pub use Rattle.facets.specs.Trying

@@ -1,3 +1,6 @@
 pub mod Readers
+pub mod Leading
 pub mod Moved
+pub mod Compiling
+pub mod Standing
 pub mod Sectioned

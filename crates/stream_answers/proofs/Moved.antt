@@ -1,34 +1,90 @@
--- An item that was taken: the stream stands where it moved to, or has ended.
-use Rattle.std.proofs.Common.{◌≡◌, ℕ, List, [], Option, Some, None, Result, Ok, IfOk, Box, Global, refl, sym, subst, le_refl}
+-- What a turn of the code has done is what was to be done.
+use Rattle.std.proofs.Common.{◌≡◌, ℕ, ◌+◌, ◌≤◌, List, [], Bool, false, Option, Result, Ok, Err, IfOk, IsErrAnd, if◌then◌else◌, refl, sym, ap, ◌∙◌, subst, le_refl, arith}
+use Rattle.std.proofs.lemmas.Result.{err_from_is_err_and}
 use Rattle.std.proofs.KnownBytes.{Appends-nil}
-use Rattle.edit_replies.specs.Tells.{Tells}
-use Rattle.edit_replies.specs.declared.break_off.BreakOff.{BreakOff}
-use Rattle.stream_answers.specs.inside.Turns.{Turned, goes, ends}
-use Rattle.stream_answers.specs.inside.Turning.{MovesTo, Stands, TurnsTo, said_of}
-use Rattle.stream_answers.specs.declared.ending.Ending.{Ending}
+use Rattle.open_document.specs.BreakOff.{BreakOff}
+use Rattle.open_document.specs.BreakOff.TheVariants.{Memory}
+use Rattle.open_document.specs.Compiled.{Compiled}
+use Rattle.open_document.specs.Counting.{Counts}
+use Rattle.open_document.specs.State.{OpenState, WorkState, empty, ready, working, IsReady, IsOpen as IsDocumentOpen}
+use Rattle.open_document.specs.Tells.{Wrote}
+use Rattle.stream_sections.specs.declared.commands.CommandReader.{CommandReader}
+use Rattle.stream_answers.specs.Output.{Said, Last}
+use Rattle.stream_answers.specs.inside.Turns.{Spot, commands, Turned, goes, stops, compiles, LeadsTo, silent, no_block}
+use Rattle.stream_answers.specs.inside.Turning.{spot_of, said_of, MovesTo, GoesTo, Takes}
 use Rattle.stream_answers.specs.declared.place.Place.{Place}
+use Rattle.stream_answers.specs.declared.place.Place.TheVariants as places
 use Rattle.stream_answers.specs.declared.turn.Turn.{Turn}
 use Rattle.stream_answers.specs.declared.turn.Turn.TheVariants as turns
+use Rattle.stream_answers.proofs.Leading.{turn_here}
 
-pub moved_end : (t : Turned) (p q : Place) (given : Ending) → MovesTo t p (turns.Ends given) → TurnsTo t q (Some given)
-moved_end (goes said next) p q given h = absurd h
-moved_end (ends last) p q given h = h
+-- ---- what a stream works on
 
-pub moved_on : (t : Turned) (p q : Place) (next : Box Place Global) → q ≡ next.value → MovesTo t p (turns.Goes next) → TurnsTo t q None
-moved_on (goes said there) p q next e h = subst (λ x. Stands there x) (sym e) h
-moved_on (ends last) p q next e h = absurd h
+pub ready_set : (w : WorkState) → IsReady w → (set : Compiled) × (w ≡ ready set)
+ready_set empty h = absurd h
+ready_set (ready set) h = (set, refl)
+ready_set (working s) h = absurd h
 
--- what was done is what is to be done, where both are the same
-module _ {W : Type 0} (taken : W → Option (List ℕ)) (faults : W → ℕ) (bound : W → Option ℕ) (old new : W) (result : Result Turn BreakOff) where
-  pub tells_by : (x y : Turned) → x ≡ y → Tells taken faults bound old new result (said_of y) → Tells taken faults bound old new result (said_of x)
-  tells_by x y e h = subst (λ t. Tells taken faults bound old new result (said_of t)) (sym e) h
+pub open_document : (w : WorkState) → IsDocumentOpen w → (s : OpenState) × (w ≡ working s)
+open_document empty h = absurd h
+open_document (ready set) h = absurd h
+open_document (working s) h = (s, refl)
 
-pub moves_by : (x y : Turned) (place : Place) (result : Result Turn BreakOff) → x ≡ y → IfOk result (MovesTo y place) → IfOk result (MovesTo x place)
-moves_by x y place result e h = subst (λ t. IfOk result (MovesTo t place)) (sym e) h
+-- ---- texts and steps
 
--- nothing was written
-pub tells_nothing : {W T : Type 0} (taken : W → Option (List ℕ)) (faults : W → ℕ) (bound : W → Option ℕ) (sink : W) (x : T) → Tells taken faults bound sink sink (Ok x) []
-tells_nothing taken faults bound sink x = record {
-  wrote = Appends-nil (taken sink);
-  counts = record { later = le_refl (faults sink); kept = refl; rose = λ h. absurd h };
-}
+pub counts_none : (n most : ℕ) → Counts n n most
+counts_none n most = record { later = le_refl n; few = omega arith }
+
+-- ---- turns
+
+module _ {T : Type 0} (moved : Turned → T → Type 0) where
+  -- what is to be done is this, and it was done
+  pub takes_as : (t u : Turned) (old new : Option (List ℕ)) (a b : ℕ) (result : Result T BreakOff) → t ≡ u
+      → Wrote result old new (said_of u).text → IfOk result (moved u) → Counts a b (said_of u).cost → Takes t old new a b result moved
+  takes_as t u old new a b result e wrote moves counts =
+      record { done = u; leads = subst (λ x. LeadsTo x u) (sym e) (turn_here u); wrote = wrote; moves = moves; counts = counts }
+
+  -- for want of memory nothing was done
+  pub takes_nothing : (t : Turned) (old : Option (List ℕ)) (n : ℕ) → Takes t old old n n (Err Memory) moved
+  takes_nothing t old n = record { done = t; leads = turn_here t; wrote = refl; moves = tt; counts = counts_none n (said_of t).cost }
+
+  pub takes_memory : (t : Turned) (old : Option (List ℕ)) (n : ℕ) (result : Result T BreakOff) → IsErrAnd result (λ e. e ≡ Memory) → Takes t old old n n result moved
+  takes_memory t old n result h =
+      let e = err_from_is_err_and result h in
+      subst (λ r. Takes t old old n n r moved) (sym (e.1 ∙ ap Err e.2)) (takes_nothing t old n)
+
+  -- nothing was written
+  pub takes_silently : (t u : Turned) (old : Option (List ℕ)) (n : ℕ) (x : T) → t ≡ u → (said_of u).text ≡ [] → moved u x → Takes t old old n n (Ok x) moved
+  takes_silently t u old n x e none h =
+      takes_as t u old old n n (Ok x) e (subst (λ text. Wrote (Ok x) old old text) (sym none) (Appends-nil old)) h (counts_none n (said_of u).cost)
+
+  -- what comes to this
+  pub takes_by : (t u : Turned) (old new : Option (List ℕ)) (a b : ℕ) (result : Result T BreakOff) → t ≡ u → Takes u old new a b result moved → Takes t old new a b result moved
+  takes_by t u old new a b result e h = subst (λ x. Takes x old new a b result moved) (sym e) h
+
+-- ---- the place of a turn
+
+-- the stream goes to this place
+pub goes_to : (said : Said) (next : Spot) (place stood : Place) (work : WorkState) (turn : Turn) → spot_of place work ≡ next → GoesTo place turn → MovesTo stood work (goes said next) turn
+goes_to said next place stood work turns.Stays e h = absurd h
+goes_to said next place stood work (turns.Goes other) e h = subst (λ x. spot_of x work ≡ next) (sym h) e
+goes_to said next place stood work (turns.Ends given) e h = absurd h
+
+pub if_goes : (result : Result Turn BreakOff) (said : Said) (next : Spot) (place stood : Place) (work : WorkState) → spot_of place work ≡ next → IfOk result (GoesTo place)
+    → IfOk result (MovesTo stood work (goes said next))
+if_goes (Ok turn) said next place stood work e h = goes_to said next place stood work turn e h
+if_goes (Err why) said next place stood work e h = tt
+
+-- the document is taken, where no element has an attribute
+pub unless_it_has : (has : Bool) (last : Last) (said : Said) (next : Spot) (result : Result Turn BreakOff) (place stood : Place) (work : WorkState) → false ≡ has
+    → spot_of place work ≡ next → IfOk result (GoesTo place) → IfOk result (MovesTo stood work (if has then stops last else goes said next))
+unless_it_has has last said next result place stood work none e h =
+    subst (λ x. IfOk result (MovesTo stood work (if x then stops last else goes said next))) none (if_goes result said next place stood work e h)
+
+-- a command was answered, and no block is open
+pub if_stays : (result : Result Turn BreakOff) (said : Said) (s : OpenState) (r : CommandReader) (work : WorkState) → r ≡ no_block
+    → IfOk result (λ turn. (turn ≡ turns.Stays) × (work ≡ working s)) → IfOk result (MovesTo (places.Commands r) work (goes said (commands s no_block)))
+if_stays (Ok turn) said s r work e h =
+    subst (λ x. MovesTo (places.Commands r) work (goes said (commands s no_block)) x) (sym h.0)
+    (ap (λ w. spot_of (places.Commands r) w) h.1 ∙ ap (commands s) e)
+if_stays (Err why) said s r work e h = tt

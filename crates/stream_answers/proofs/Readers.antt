@@ -1,17 +1,24 @@
 -- What a reader was to do, by what it has done.
-use Rattle.std.proofs.Common.{◌≡◌, ℕ, List, Option, refl, sym, ap, ◌∙◌}
+use Rattle.std.proofs.Common.{◌≡◌, ℕ, ◌+◌, ◌<◌, List, [], ◌∷◌, ◌++◌, length, nat_le, Bool, true, false, Option, Some, None, Result, Ok, Err, if◌then◌else◌, refl, sym, ap, subst, ◌∙◌, arith}
 use Rattle.item_listing.specs.declared.item.Item.{Item}
+use Rattle.item_listing.specs.declared.item.Item.TheVariants as items
 use Rattle.tree_rows.specs.Forest.{Document}
-use Rattle.stream_sections.specs.Sections.{refused, goes_on}
+use Rattle.tree_building.specs.declared.building.Building.{Building}
+use Rattle.tree_building.specs.declared.fault.TreeFault.{TreeFault}
+use Rattle.stream_sections.specs.Lines.{is_listing, ends_schemas}
+use Rattle.stream_sections.specs.Sections.{refused, goes_on, misplaced, grown_by, with_tree}
 use Rattle.stream_sections.specs.inside.CommandTurns as command_turns
 use Rattle.stream_sections.specs.inside.DocumentTurns as document_turns
 use Rattle.stream_sections.specs.inside.SchemaTurns as schema_turns
+use Rattle.stream_sections.specs.declared.asked.Asked.{Asked}
 use Rattle.stream_sections.specs.declared.commands.CommandReader.{CommandReader}
 use Rattle.stream_sections.specs.declared.commands.CommandTurn.TheVariants as commands
 use Rattle.stream_sections.specs.declared.document.DocumentReader.{DocumentReader}
 use Rattle.stream_sections.specs.declared.document.DocumentTurn.TheVariants as documents
 use Rattle.stream_sections.specs.declared.refusal.RefusedLine.{RefusedLine}
+use Rattle.stream_sections.specs.declared.schemas.Begun.{Begun}
 use Rattle.stream_sections.specs.declared.schemas.SchemaReader.{SchemaReader}
+use Rattle.stream_sections.specs.declared.schemas.TheConstants.{MOST_SCHEMAS}
 use Rattle.stream_sections.specs.declared.schemas.SchemaSection.{SchemaSection}
 use Rattle.stream_sections.specs.declared.schemas.SchemaTurn.TheVariants as schemas
 
@@ -91,3 +98,57 @@ commands_stop (command_turns.gives line block) given new h = absurd h
 commands_stop command_turns.ends given new h = absurd h
 commands_stop (command_turns.stops goes_on) given new h = absurd h
 commands_stop (command_turns.stops (refused spot)) given new h = ap (λ s. command_turns.stops (refused s)) (sym h)
+
+-- ---- sections that have ended are some
+
+abbrev HasSections : schema_turns.Turned → Type 0
+HasSections (schema_turns.goes next) = Unit {0}
+HasSections (schema_turns.ends all) = 0 < length all
+HasSections (schema_turns.stops stop) = Unit {0}
+
+last_one : (done : List SchemaSection) (section : SchemaSection) → 0 < length (done ++ section ∷ [])
+last_one [] section = omega arith
+last_one (first ∷ more) section = omega arith
+
+with_tree_some : (start : ℕ) (tree : Result Document TreeFault) (next : Document → schema_turns.Turned) → ((d : Document) → HasSections (next d))
+    → HasSections (with_tree start tree schema_turns.stops next)
+with_tree_some start (Ok d) next h = h d
+with_tree_some start (Err fault) next h = tt
+
+begun_if : (full : Bool) (stop next : schema_turns.Turned) → HasSections stop → HasSections next → HasSections (if full then stop else next)
+begun_if true stop next h k = h
+begun_if false stop next h k = k
+
+begun_some : (line : ℕ) (done : List SchemaSection) (locations : List (List ℕ)) (begun : Option Begun) → HasSections (schema_turns.begun_by line done locations begun)
+begun_some line done locations None = tt
+begun_some line done locations (Some s) =
+    begun_if (nat_le MOST_SCHEMAS (length done + 1)) _ _ tt (with_tree_some s.start (schema_turns.tree_of s.builder) _ (λ d. tt))
+
+grown_by_some : (start : ℕ) (built : Result Building TreeFault) (next : SchemaReader) → HasSections (grown_by start built schema_turns.stops (schema_turns.goes next))
+grown_by_some start (Ok b) next = tt
+grown_by_some start (Err fault) next = tt
+
+grown_some : (line : ℕ) (done : List SchemaSection) (it : Item) (begun : Option Begun) → HasSections (schema_turns.grown_in line done it begun)
+grown_some line done it None = tt
+grown_some line done it (Some s) = grown_by_some s.start _ _
+
+ended_some : (line : ℕ) (done : List SchemaSection) (begun : Option Begun) → HasSections (schema_turns.ended_by line done begun)
+ended_some line done None = tt
+ended_some line done (Some s) = with_tree_some s.start (schema_turns.tree_of s.builder) _ (λ d. last_one done _)
+
+sections_some : (a : Asked) (line : ℕ) (r : SchemaReader) (it : Item) → HasSections (schema_turns.turned a line r it)
+sections_some a line r (items.Schema locations) = begun_some line r.sections locations r.begun
+sections_some a line r (items.Start name) = grown_some line r.sections (items.Start name) r.begun
+sections_some a line r (items.Attr name value) = grown_some line r.sections (items.Attr name value) r.begun
+sections_some a line r (items.Chars text) = grown_some line r.sections (items.Chars text) r.begun
+sections_some a line r (items.Close name) = grown_some line r.sections (items.Close name) r.begun
+sections_some a line r items.Instruction = grown_some line r.sections items.Instruction r.begun
+sections_some a line r items.Document = begun_if (ends_schemas a items.Document) _ _ (ended_some line r.sections r.begun) tt
+sections_some a line r items.Edits = begun_if (ends_schemas a items.Edits) _ _ (ended_some line r.sections r.begun) tt
+sections_some a line r items.End = begun_if (ends_schemas a items.End) _ _ (ended_some line r.sections r.begun) tt
+sections_some a line r items.Dot = begun_if (ends_schemas a items.Dot) _ _ (ended_some line r.sections r.begun) tt
+sections_some a line r (items.Command text) = begun_if (ends_schemas a (items.Command text)) _ _ (ended_some line r.sections r.begun) tt
+
+pub some_sections : (a : Asked) (line : ℕ) (r : SchemaReader) (it : Item) (given : List SchemaSection) (new : SchemaReader)
+    → schema_turns.Turns (schema_turns.turned a line r it) (schemas.Ends given) new → 0 < length given
+some_sections a line r it given new h = subst HasSections (schemas_end (schema_turns.turned a line r it) given new h) (sections_some a line r it)

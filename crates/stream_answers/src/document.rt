@@ -1,22 +1,23 @@
-ghost use Rattle.std.specs.Prelude.{◌≡◌, IfOk};
-ghost use Rattle.edit_replies.specs.Tells.{Tells};
-ghost use Rattle.open_document.specs.Answers as answers;
-ghost use Rattle.open_document.specs.Answers.{IsOpen};
+ghost use Rattle.std.specs.Prelude.{◌≡◌, ℕ, Some, IfOk};
+ghost use Rattle.xsv_io.specs.Causes.{KeepsCount};
+ghost use Rattle.open_document.specs.Answers.{verdict};
+ghost use Rattle.open_document.specs.Assessor.{RightAssessor};
+ghost use Rattle.open_document.specs.Compiled.{Compiled};
+ghost use Rattle.open_document.specs.State.{OpenState, IsReady, IsOpen, ready, working};
+ghost use Rattle.open_document.specs.Tells.{Wrote, IsWriteFault};
 ghost use Rattle.stream_answers.specs.Output as output;
-ghost use Rattle.stream_answers.specs.inside.Turns as turns;
-ghost use Rattle.stream_answers.specs.inside.Turning.{GoesTo, MovesTo, said_of};
+ghost use Rattle.stream_answers.specs.inside.Turns.{turned, edits_begun, document_over, no_block};
+ghost use Rattle.stream_answers.specs.inside.Turning.{spot_of, said_of, Takes, MovesTo, MovesOpen, GoesTo};
+ghost use Rattle.stream_answers.specs.declared.place.Place.TheVariants as places;
 
 use crate::Place;
-use crate::place::{CommandSection, DocumentSection, boxed};
+use crate::place::boxed;
 use crate::turn::{Turn, not_yet, refuse};
-use assess_model::Schema;
-use edit_replies::BreakOff;
 use item_listing::Item;
-use open_document::OpenDocument;
+use open_document::{BreakOff, Workspace};
 use plain_tree::Tree;
-use std::alloc::{AllocError, Global};
-use std::mem;
-use stream_sections::{Asked, CommandReader, DocumentTurn};
+use std::alloc::Global;
+use stream_sections::{Asked, CommandReader, DocumentReader, DocumentTurn};
 use tree_rows::Row;
 use xsv_io::Sink;
 
@@ -27,69 +28,52 @@ fn have_attributes(rows: &[Row]) -> bool
     rows.iter().any(|row| !row.attributes.as_slice().is_empty())
 }
 
-/// Opens the document of a section with its schema. The section is then of no use.
-fn open(
-    alloc: Global,
-    section: &mut DocumentSection,
-    tree: Tree,
-) -> Result<OpenDocument, AllocError>
-    ensures { IfOk result (λ d. d ≡ answers.opened section.old.schema tree) }
-{
-    let nothing = Schema::new(Vec::new(alloc), Vec::new(alloc), Vec::new(alloc));
-    let schema = mem::replace(&mut section.schema, nothing);
-    OpenDocument::open(alloc, schema, tree)
-}
-
 /// Writes the report on a document that was opened, or the first line of a session.
-fn write_opening<W: Sink>(
-    asked: Asked,
-    document: &OpenDocument,
-    sink: &mut W,
-) -> Result<(), BreakOff>
-    requires { IsOpen document.now }
-    ensures tells { Tells W.taken W.faults W.fault_bound sink.old sink.new result (output.opening asked document.now) }
+fn write_opening<W: Sink>(asked: Asked, work: &Workspace, sink: &mut W) -> Result<(), BreakOff>
+    requires { IsOpen work.now }
+    ensures wrote { (p : RightAssessor) (s : OpenState) → work.now ≡ working s → Wrote result (W.taken sink.old) (W.taken sink.new) (output.opening p asked s) }
+    ensures writes { KeepsCount W.faults W.fault_bound sink.old sink.new (IsWriteFault result) }
 {
     match asked {
         Asked::Check => Ok(()),
-        Asked::Assess => document.write_report(sink),
-        Asked::Session => document.write_first(sink),
+        Asked::Assess => work.write_report(sink),
+        Asked::Session => work.write_first(sink),
     }
 }
 
-/// The document is whole, and commands follow.
+/// The document is open, and commands follow.
 fn begin_edits<W: Sink>(
     alloc: Global,
     asked: Asked,
-    document: OpenDocument,
+    work: &Workspace,
     sink: &mut W,
 ) -> Result<Turn, BreakOff>
-    requires { IsOpen document }
-    ensures tells { Tells W.taken W.faults W.fault_bound sink.old sink.new result (output.opening asked document) }
-    ensures moves { IfOk result (GoesTo (turns.commands_place document turns.no_block)) }
+    requires { IsOpen work.now }
+    ensures wrote { (p : RightAssessor) (s : OpenState) → work.now ≡ working s → Wrote result (W.taken sink.old) (W.taken sink.new) (output.opening p asked s) }
+    ensures goes { IfOk result (GoesTo (places.Commands no_block)) }
+    ensures writes { KeepsCount W.faults W.fault_bound sink.old sink.new (IsWriteFault result) }
 {
     // Memory is taken before anything is written.
-    let mut place = boxed(alloc, Place::Ended(None))?;
-    write_opening(asked, &document, sink)?;
-    *place = Place::Commands(CommandSection {
-        document,
-        reader: CommandReader::new(),
-    });
+    let place = boxed(alloc, Place::Commands(CommandReader::new()))?;
+    write_opening(asked, work, sink)?;
     Ok(Turn::Goes(place))
 }
 
-/// The document is whole, and the stream has ended.
+/// The document is open, and the stream has ended.
 fn end_document<W: Sink>(
     alloc: Global,
     asked: Asked,
-    document: &OpenDocument,
+    work: &Workspace,
     sink: &mut W,
 ) -> Result<Turn, BreakOff>
-    requires { IsOpen document.now }
-    ensures tells { Tells W.taken W.faults W.fault_bound sink.old sink.new result (output.opening asked document.now) }
-    ensures moves { IfOk result (GoesTo (turns.document_ended document.now)) }
+    requires { IsOpen work.now }
+    ensures wrote { (p : RightAssessor) (s : OpenState) → work.now ≡ working s → Wrote result (W.taken sink.old) (W.taken sink.new) (output.opening p asked s) }
+    ensures goes { (p : RightAssessor) (s : OpenState) → work.now ≡ working s → IfOk result (GoesTo (places.Ended (Some (verdict p s)))) }
+    ensures open { (stood : Place) → IfOk result (MovesOpen stood work.now) }
+    ensures writes { KeepsCount W.faults W.fault_bound sink.old sink.new (IsWriteFault result) }
 {
-    let place = boxed(alloc, Place::Ended(Some(document.verdict())))?;
-    write_opening(asked, document, sink)?;
+    let place = boxed(alloc, Place::Ended(Some(work.verdict())))?;
+    write_opening(asked, work, sink)?;
     Ok(Turn::Goes(place))
 }
 
@@ -97,34 +81,44 @@ fn end_document<W: Sink>(
 fn take_edits<W: Sink>(
     alloc: Global,
     asked: Asked,
-    section: &mut DocumentSection,
+    work: &mut Workspace,
     tree: Tree,
     sink: &mut W,
 ) -> Result<Turn, BreakOff>
-    ensures tells { Tells W.taken W.faults W.fault_bound sink.old sink.new result (said_of (turns.edits_begun asked section.old.schema tree)) }
-    ensures moves { (stood : Place) → IfOk result (MovesTo (turns.edits_begun asked section.old.schema tree) stood) }
+    requires { IsReady work.old }
+    ensures wrote { (p : RightAssessor) (set : Compiled) → work.old ≡ ready set
+        → Wrote result (W.taken sink.old) (W.taken sink.new) (said_of (edits_begun p asked set tree)).text }
+    ensures moves { (p : RightAssessor) (set : Compiled) (stood : Place) → work.old ≡ ready set → IfOk result (MovesTo stood work.new (edits_begun p asked set tree)) }
+    ensures open { (stood : Place) → IfOk result (MovesOpen stood work.new) }
+    ensures writes { KeepsCount W.faults W.fault_bound sink.old sink.new (IsWriteFault result) }
 {
     if have_attributes(tree.rows()) {
         return not_yet(sink);
     }
-    begin_edits(alloc, asked, open(alloc, section, tree)?, sink)
+    work.open(alloc, tree)?;
+    begin_edits(alloc, asked, work, sink)
 }
 
 /// Opens the document, where no element has an attribute, and ends the stream.
 fn take_end<W: Sink>(
     alloc: Global,
     asked: Asked,
-    section: &mut DocumentSection,
+    work: &mut Workspace,
     tree: Tree,
     sink: &mut W,
 ) -> Result<Turn, BreakOff>
-    ensures tells { Tells W.taken W.faults W.fault_bound sink.old sink.new result (said_of (turns.document_over asked section.old.schema tree)) }
-    ensures moves { (stood : Place) → IfOk result (MovesTo (turns.document_over asked section.old.schema tree) stood) }
+    requires { IsReady work.old }
+    ensures wrote { (p : RightAssessor) (set : Compiled) → work.old ≡ ready set
+        → Wrote result (W.taken sink.old) (W.taken sink.new) (said_of (document_over p asked set tree)).text }
+    ensures moves { (p : RightAssessor) (set : Compiled) (stood : Place) → work.old ≡ ready set → IfOk result (MovesTo stood work.new (document_over p asked set tree)) }
+    ensures open { (stood : Place) → IfOk result (MovesOpen stood work.new) }
+    ensures writes { KeepsCount W.faults W.fault_bound sink.old sink.new (IsWriteFault result) }
 {
     if have_attributes(tree.rows()) {
         return not_yet(sink);
     }
-    end_document(alloc, asked, &open(alloc, section, tree)?, sink)
+    work.open(alloc, tree)?;
+    end_document(alloc, asked, work, sink)
 }
 
 /// Answers an item in the document section.
@@ -132,17 +126,20 @@ pub fn answer_document<W: Sink>(
     alloc: Global,
     asked: Asked,
     line: u32,
-    section: &mut DocumentSection,
+    reader: &mut DocumentReader,
+    work: &mut Workspace,
     item: Item,
     sink: &mut W,
 ) -> Result<Turn, BreakOff>
-    ensures tells { Tells W.taken W.faults W.fault_bound sink.old sink.new result (said_of (turns.turned asked line (Place.Document section.old) item)) }
-    ensures moves { IfOk result (MovesTo (turns.turned asked line (Place.Document section.old) item) (Place.Document section.new)) }
+    requires { IsReady work.old }
+    ensures takes { (p : RightAssessor) (n : ℕ) → Takes (turned p asked line (spot_of (Place.Document reader.old) work.old) item) (W.taken sink.old) (W.taken sink.new) n n result (MovesTo (Place.Document reader.new) work.new) }
+    ensures open { IfOk result (MovesOpen (Place.Document reader.new) work.new) }
+    ensures writes { KeepsCount W.faults W.fault_bound sink.old sink.new (IsWriteFault result) }
 {
-    match section.reader.take(alloc, asked, line, item)? {
+    match reader.take(alloc, asked, line, item)? {
         DocumentTurn::Goes => Ok(Turn::Stays),
-        DocumentTurn::Edits(tree) => take_edits(alloc, asked, section, tree, sink),
-        DocumentTurn::Ends(tree) => take_end(alloc, asked, section, tree, sink),
+        DocumentTurn::Edits(tree) => take_edits(alloc, asked, work, tree, sink),
+        DocumentTurn::Ends(tree) => take_end(alloc, asked, work, tree, sink),
         DocumentTurn::Refused(spot) => refuse(sink, spot),
     }
 }

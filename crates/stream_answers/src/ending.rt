@@ -1,7 +1,7 @@
 ghost use Rattle.std.specs.Prelude.{◌≡◌};
 ghost use Rattle.stream_answers.specs.Output.{ending_of};
 
-use assess_model::Validity;
+use assess_records::Validity;
 
 /// How a stream ended.
 #[derive(Clone, Copy, Debug, PartialEq, Eq)]
@@ -10,11 +10,13 @@ pub enum Ending {
     Valid,
     /// The root is invalid, or its validity is not known.
     NotValid,
+    /// The schema set breaks a constraint.
+    SchemaRefused,
     /// A line of the stream is refused.
     ListingRefused,
     /// A limit is passed.
     Limit,
-    /// The schema or the document is not of the form that is accepted so far.
+    /// The schema set or the document has something that is not supported, or not assessed yet.
     Unsupported,
 }
 

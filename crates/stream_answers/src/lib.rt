@@ -1,10 +1,11 @@
-//! What is written for a stream, line by line: the schema's acceptance, the report, the replies to edits, the
+//! What is written for a stream, line by line: what its schema documents come to, the report, the replies to edits, the
 //! first line that is refused.
 #![tactic(auto)]
 
 mod commands;
 mod document;
 mod ending;
+mod fault;
 mod laws;
 mod place;
 mod refusal;
@@ -13,6 +14,7 @@ mod turn;
 
 pub use ending::Ending;
 pub use laws::places_answer_sections;
+pub use open_document::{BreakOff, Workspace};
 pub use place::Place;
 pub use refusal::write_refusal;
 pub use turn::{answer_item, write_end};

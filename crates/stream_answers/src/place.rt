@@ -1,31 +1,18 @@
 ghost use Rattle.std.specs.Prelude.{◌≡◌, IfOk};
 
-use assess_model::Schema;
-use open_document::{OpenDocument, Verdict};
+use open_document::Verdict;
 use std::alloc::{AllocError, Global};
 use stream_sections::{CommandReader, DocumentReader, SchemaReader};
 
-/// The document section, with the schema that was accepted.
-#[derive(Drop)]
-pub struct DocumentSection {
-    pub schema: Schema,
-    pub reader: DocumentReader,
-}
-
-/// The commands, with the document that they edit.
-#[derive(Drop)]
-pub struct CommandSection {
-    pub document: OpenDocument,
-    pub reader: CommandReader,
-}
-
-/// Where a stream stands between two lines.
+/// Where a stream stands between two lines. What it works on, a schema set or an open document, is held apart.
 #[derive(Drop)]
 pub enum Place {
     /// Among the schema sections, or before the first.
     Schemas(SchemaReader),
-    Document(DocumentSection),
-    Commands(CommandSection),
+    /// In the document section.
+    Document(DocumentReader),
+    /// Among the commands.
+    Commands(CommandReader),
     /// Behind the word `end`, with the verdict on the document where one was asked for.
     Ended(Option<Verdict>),
 }

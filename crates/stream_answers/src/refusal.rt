@@ -1,10 +1,10 @@
 ghost use Rattle.std.specs.Prelude.{◌≡◌, IfOk};
 ghost use Rattle.stream_answers.specs.Refusals as refusals;
-ghost use Rattle.edit_replies.specs.Tells.{Tells};
+ghost use Rattle.open_document.specs.Tells.{Tells};
 
 use crate::Ending;
-use edit_replies::{BreakOff, write_answer};
 use item_listing::Reason;
+use open_document::{BreakOff, write_answer};
 use stream_sections::{Refusal, RefusedLine};
 use tag_names::NameReason;
 use text_sink::Part;

@@ -1,10 +1,12 @@
-ghost use Rattle.std.specs.Prelude.{◌≡◌, Some, IfOk};
-ghost use Rattle.session_model.specs.Counting.{Counts};
-ghost use Rattle.edit_replies.specs.Tells.{Tells};
+ghost use Rattle.std.specs.Prelude.{◌≡◌, ◌≤◌, None, Some, IfOk};
+ghost use Rattle.xsv_io.specs.Causes.{KeepsCount};
+ghost use Rattle.open_document.specs.Assessor.{RightAssessor};
+ghost use Rattle.open_document.specs.Tells.{Tells, IsWriteFault};
+ghost use Rattle.open_document.specs.State.{WorkState};
 ghost use Rattle.stream_sections.specs.Sections as sections;
 ghost use Rattle.stream_answers.specs.Output as output;
-ghost use Rattle.stream_answers.specs.inside.Turns as turns;
-ghost use Rattle.stream_answers.specs.inside.Turning.{IsOpen, TurnsTo, MovesTo, said_of, cost_of};
+ghost use Rattle.stream_answers.specs.inside.Turns.{turned, finished, stops};
+ghost use Rattle.stream_answers.specs.inside.Turning.{IsOpen, spot_of, Takes, TurnsTo, MovesTo, MovesOpen, ending_by, place_by};
 
 use crate::commands::answer_commands;
 use crate::document::answer_document;
@@ -12,10 +14,8 @@ use crate::ending::ending_of;
 use crate::refusal::write_refusal;
 use crate::schemas::answer_schemas;
 use crate::{Ending, Place};
-use edit_replies::{BreakOff, write_answer};
 use item_listing::{Item, Reason};
-use open_document::Verdict;
-use report_text::validity_word;
+use open_document::{BreakOff, Verdict, Workspace, validity_word, write_answer};
 use std::alloc::Global;
 use stream_sections::{Asked, Refusal, RefusedLine};
 use text_sink::Part;
@@ -35,40 +35,44 @@ pub enum Turn {
 
 /// A line that is refused ends the stream.
 pub fn refuse<W: Sink>(sink: &mut W, spot: RefusedLine) -> Result<Turn, BreakOff>
-    ensures tells { Tells W.taken W.faults W.fault_bound sink.old sink.new result (output.stop_told (sections.refused spot)).text }
-    ensures moves { (stood : Place) → IfOk result (MovesTo (turns.ends (output.stop_told (sections.refused spot))) stood) }
+    ensures tells { Tells W.taken W.faults W.fault_bound sink.old sink.new result (output.stop_last (sections.refused spot)).said.text }
+    ensures moves { (stood : Place) (work : WorkState) → IfOk result (MovesTo stood work (stops (output.stop_last (sections.refused spot)))) }
+    ensures open { (stood : Place) (work : WorkState) → IfOk result (MovesOpen stood work) }
 {
     Ok(Turn::Ends(write_refusal(sink, spot)?))
 }
 
-/// The stream is not of the form that is accepted so far.
+/// The stream has something that is not assessed yet.
 pub fn not_yet<W: Sink>(sink: &mut W) -> Result<Turn, BreakOff>
-    ensures tells { Tells W.taken W.faults W.fault_bound sink.old sink.new result output.unsupported }
-    ensures moves { IfOk result (λ turn. turn ≡ Turn.Ends Ending.Unsupported) }
+    ensures tells { Tells W.taken W.faults W.fault_bound sink.old sink.new result output.not_yet.said.text }
+    ensures moves { (stood : Place) (work : WorkState) → IfOk result (MovesTo stood work (stops output.not_yet)) }
+    ensures open { (stood : Place) (work : WorkState) → IfOk result (MovesOpen stood work) }
 {
     write_answer(sink, &[Part::Text("unsupported NotYet\n")])?;
     Ok(Turn::Ends(Ending::Unsupported))
 }
 
-/// Answers an item, where the stream stands at `place`.
+/// Answers an item, where the stream stands at `place` and works on `work`.
 fn take_item<W: Sink, L: Ledger>(
     alloc: Global,
     asked: Asked,
     line: u32,
     place: &mut Place,
+    work: &mut Workspace,
     item: Item,
     sink: &mut W,
     steps: &mut Steps<L>,
 ) -> Result<Turn, BreakOff>
-    requires { IsOpen place.old }
-    ensures tells { Tells W.taken W.faults W.fault_bound sink.old sink.new result (said_of (turns.turned asked line place.old item)) }
-    ensures moves { IfOk result (MovesTo (turns.turned asked line place.old item) place.new) }
-    ensures steps { Counts steps.old steps.new (cost_of (turns.turned asked line place.old item)) }
+    requires { IsOpen place.old work.old }
+    ensures takes { (p : RightAssessor) → Takes (turned p asked line (spot_of place.old work.old) item) (W.taken sink.old) (W.taken sink.new) steps.old steps.new result (MovesTo place.new work.new) }
+    ensures open { IfOk result (MovesOpen place.new work.new) }
+    ensures writes { KeepsCount W.faults W.fault_bound sink.old sink.new (IsWriteFault result) }
+    ensures steps { steps.old ≤ steps.new }
 {
     match place {
-        Place::Schemas(reader) => answer_schemas(alloc, asked, line, reader, item, sink),
-        Place::Document(section) => answer_document(alloc, asked, line, section, item, sink),
-        Place::Commands(section) => answer_commands(alloc, line, section, item, sink, steps),
+        Place::Schemas(reader) => answer_schemas(alloc, asked, line, reader, work, item, sink),
+        Place::Document(reader) => answer_document(alloc, asked, line, reader, work, item, sink),
+        Place::Commands(reader) => answer_commands(alloc, line, reader, work, item, sink, steps),
         Place::Ended(_) => refuse(
             sink,
             RefusedLine {
@@ -79,34 +83,47 @@ fn take_item<W: Sink, L: Ledger>(
     }
 }
 
-/// Answers the item of a line, by its number from 1, where the stream stands at `place`, and answers how the stream ended,
-/// where it has.
+/// Goes to the place of a turn, and answers how the stream ended, where it has.
+fn settle(place: &mut Place, turn: Turn) -> Option<Ending>
+    ensures ended { result ≡ ending_by turn }
+    ensures place { place.new ≡ place_by place.old turn }
+{
+    match turn {
+        Turn::Stays => None,
+        Turn::Goes(next) => {
+            *place = Box::into_inner(next);
+            None
+        }
+        Turn::Ends(ending) => Some(ending),
+    }
+}
+
+/// Answers the item of a line, by its number from 1, where the stream stands at `place` and works on `work`, and answers how
+/// the stream ended, where it has.
 ///
 /// # Errors
 ///
 /// `Memory` is want of memory, and nothing was written. `WriteFault` where the sink failed; a front of the answer was then
-/// written. The place is then of no use.
+/// written. The place and the workspace are then of no use.
 pub fn answer_item<W: Sink, L: Ledger>(
     alloc: Global,
     asked: Asked,
     line: u32,
     place: &mut Place,
+    work: &mut Workspace,
     item: Item,
     sink: &mut W,
     steps: &mut Steps<L>,
 ) -> Result<Option<Ending>, BreakOff>
-    requires { IsOpen place.old }
-    ensures tells { Tells W.taken W.faults W.fault_bound sink.old sink.new result (said_of (turns.turned asked line place.old item)) }
-    ensures turns { IfOk result (TurnsTo (turns.turned asked line place.old item) place.new) }
-    ensures steps { Counts steps.old steps.new (cost_of (turns.turned asked line place.old item)) }
+    requires { IsOpen place.old work.old }
+    ensures takes { (p : RightAssessor) → Takes (turned p asked line (spot_of place.old work.old) item) (W.taken sink.old) (W.taken sink.new) steps.old steps.new result (TurnsTo (spot_of place.new work.new)) }
+    ensures open { IfOk result (λ ended. ended ≡ None → IsOpen place.new work.new) }
+    ensures writes { KeepsCount W.faults W.fault_bound sink.old sink.new (IsWriteFault result) }
+    ensures steps { steps.old ≤ steps.new }
 {
-    match take_item(alloc, asked, line, place, item, sink, steps)? {
-        Turn::Stays => Ok(None),
-        Turn::Goes(next) => {
-            *place = Box::into_inner(next);
-            Ok(None)
-        }
-        Turn::Ends(ending) => Ok(Some(ending)),
+    match take_item(alloc, asked, line, place, work, item, sink, steps) {
+        Ok(turn) => Ok(settle(place, turn)),
+        Err(why) => Err(why),
     }
 }
 
@@ -133,8 +150,8 @@ fn write_verdict<W: Sink>(sink: &mut W, verdict: &Verdict) -> Result<(), BreakOf
 ///
 /// `WriteFault` where the sink failed; a front was then written.
 pub fn write_end<W: Sink>(sink: &mut W, lines: u32, place: &Place) -> Result<Ending, BreakOff>
-    ensures tells { Tells W.taken W.faults W.fault_bound sink.old sink.new result (turns.finished lines place.now).text }
-    ensures ending { IfOk result (λ ending. (turns.finished lines place.now).ending ≡ Some ending) }
+    ensures tells { (work : WorkState) → IsOpen place.now work → Tells W.taken W.faults W.fault_bound sink.old sink.new result (finished lines (spot_of place.now work)).said.text }
+    ensures ending { (work : WorkState) → IsOpen place.now work → IfOk result (λ ending. (finished lines (spot_of place.now work)).ending ≡ Some ending) }
 {
     match place {
         Place::Ended(None) => Ok(Ending::Valid),

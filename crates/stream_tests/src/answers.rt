@@ -196,8 +196,8 @@ fn answers_streams(rt: HostRuntime) -> Result<(), Fail> {
             word: "check",
             head: b"schema\ts\n(schema\n)schema\n",
             lines: b"end\n",
-            text: "unsupported NotYet\n",
-            status: Status::Unsupported,
+            text: "schema refused 1 1 x-shape.root\n",
+            status: Status::SchemaRefused,
         },
         Case {
             word: "session",

@@ -7,3 +7,5 @@ mod answers;
 mod limits;
 #[cfg(test)]
 mod places;
+#[cfg(test)]
+mod schemas;

@@ -24,10 +24,9 @@ use Rattle.node_links.specs.Nodes.{Node, Nodes, node, IsNode, Inserts}
 use Rattle.node_links.specs.Nodes.{IsSound as AreSound}
 use Rattle.tree_changes.specs.Stands.{firsts}
 use Rattle.tree_changes.proofs.Standing.{stand_same, stand_append, stand_grown, firsts_append, append_assoc_forest, append_none, has_append, has_left, has_right, times_append, has_times}
-use Rattle.tree_planting.specs.declared.planting.Numbering.{Numbering}
 use Rattle.tree_planting.specs.Named.{IsCalled}
 use Rattle.tree_planting.proofs.Named.{called_grown}
-use Rattle.tree_planting.specs.inside.Growing.{PutsElement, numbered_by, number_by, behind, at_end, before, one_of, AreFree, CanPlant, Planted, PlantedFirst}
+use Rattle.tree_planting.specs.inside.Growing.{PutsElement, numbered_by, behind, at_end, before, one_of, AreFree, CanPlant, Planted, PlantedFirst}
 use Rattle.tree_planting.proofs.Numbering.{behind_none, behind_more, numbered_none, numbered_text, numbered_element, numbered_node}
 
 -- lists with new items
@@ -129,12 +128,12 @@ free_still t old new p f g a free apart = λ m h.
     let z = free m h in let y = apart m h in
     (a.others m y.0 y.1 ∙ z.0, subst (λ k. m < k) (sym a.size) z.1)
 
-names_left : (f g : Forest) → HaveNames (append f g) → HaveNames f
+pub names_left : (f g : Forest) → HaveNames (append f g) → HaveNames f
 names_left none g a = tt
 names_left (text number chars next) g a = names_left next g a
 names_left (element number name bindings attributes children next) g a = (a.0, a.1, names_left next g a.2)
 
-names_right : (f g : Forest) → HaveNames (append f g) → HaveNames g
+pub names_right : (f g : Forest) → HaveNames (append f g) → HaveNames g
 names_right none g a = a
 names_right (text number chars next) g a = names_right next g a
 names_right (element number name bindings attributes children next) g a = names_right next g a.2
@@ -147,7 +146,7 @@ pub parent_outside : (ns : Nodes) (p : ℕ) (f : Forest) → CanPlant ns p f →
 parent_outside ns p f can = false_from_ne_true (has p f) (λ h. not_parent ns p f can p h refl)
 
 -- some of the siblings were put, and these are left, with these numbers
-pub record PlantedSoFar (t u : NameTable) (old now : Nodes) (p : ℕ) (numbers : Numbering) (whole : Forest) (numbers_left : Numbering) (left : Forest) : Type 0 where
+pub record PlantedSoFar (t u : NameTable) (old now : Nodes) (p : ℕ) (numbers : ℕ) (whole : Forest) (numbers_left : ℕ) (left : Forest) : Type 0 where
   pub done : Forest
   pub split : numbered_by numbers whole ≡ append done (numbered_by numbers_left left)
   pub gone : ℕ
@@ -157,7 +156,7 @@ pub record PlantedSoFar (t u : NameTable) (old now : Nodes) (p : ℕ) (numbers :
   pub grown : Grown t u
   pub sound : IsSound u
 
-pub begun : (t : NameTable) (ns : Nodes) (p : ℕ) (numbers : Numbering) (whole : Forest) → IsSound t → AreSound ns → PlantedSoFar t t ns ns p numbers whole numbers whole
+pub begun : (t : NameTable) (ns : Nodes) (p : ℕ) (numbers : ℕ) (whole : Forest) → IsSound t → AreSound ns → PlantedSoFar t t ns ns p numbers whole numbers whole
 begun t ns p numbers whole table sound = record {
   done = none;
   split = refl;
@@ -169,7 +168,7 @@ begun t ns p numbers whole table sound = record {
   sound = table;
 }
 
-pub ended : (s u : NameTable) (old now : Nodes) (p : ℕ) (numbers : Numbering) (whole : Forest) (numbers_left : Numbering) (left : Forest)
+pub ended : (s u : NameTable) (old now : Nodes) (p : ℕ) (numbers : ℕ) (whole : Forest) (numbers_left : ℕ) (left : Forest)
     → PlantedSoFar s u old now p numbers whole numbers_left left → left ≡ none
     → Planted u old now p at_end (numbered_by numbers whole) × (numbers_left ≡ behind numbers (count whole))
 ended s u old now p numbers whole numbers_left left so e = (
@@ -188,13 +187,13 @@ count_taken row children next left e = (ap count e ∙ (sizes row.content).0, (s
     sizes (rows.Chars chars) = (omega arith, omega arith)
 
 -- the next of the siblings
-module _ (s t : NameTable) (old now : Nodes) (p : ℕ) (numbers : Numbering) (whole : Forest) (numbers_left : Numbering) (left : Forest)
+module _ (s t : NameTable) (old now : Nodes) (p : ℕ) (numbers : ℕ) (whole : Forest) (numbers_left : ℕ) (left : Forest)
     (can : CanPlant old p (numbered_by numbers whole)) (so : PlantedSoFar s t old now p numbers whole numbers_left left)
     (row : Row) (children next : Forest) (taken : left ≡ node_of row.number row.content row.bindings row.attributes children next) where
   abbrev one : Forest
   one = numbered_by numbers_left (one_of row children)
 
-  abbrev more : Numbering
+  abbrev more : ℕ
   more = behind numbers_left (count (one_of row children))
 
   abbrev rest : Forest
@@ -241,7 +240,7 @@ module _ (s t : NameTable) (old now : Nodes) (p : ℕ) (numbers : Numbering) (wh
   done_or_parent m h = (done_apart m h, not_parent old p (numbered_by numbers whole) can m (ap (has m) parted ∙ has_left m so.done (append one rest) h))
 
   module _ (u : NameTable) (new : Nodes) (place : ℕ) (g : Grown t u) (sound : IsSound u) where
-    pub next_so : ((it : Node) → IsNode now p it → place ≡ length it.children) → Planted u now new p (before place) one → (after : Numbering) → after ≡ more
+    pub next_so : ((it : Node) → IsNode now p it → place ≡ length it.children) → Planted u now new p (before place) one → (after : ℕ) → after ≡ more
         → PlantedSoFar s u old new p numbers whole after next
     next_so last put after is = record {
       done = append so.done one;
@@ -293,9 +292,9 @@ module _ (old mid : Nodes) (p place n : ℕ) (content : contents_of.Content) (na
   }
 
 -- a node of a row, under its number
-module _ (s : Numbering) (row : Row) (children : Forest) where
+module _ (s : ℕ) (row : Row) (children : Forest) where
   abbrev number : ℕ
-  number = number_by s row.number
+  number = s
 
   abbrev below : Forest
   below = numbered_by (behind s 1) children
@@ -325,11 +324,11 @@ module _ (s : Numbering) (row : Row) (children : Forest) where
   text_planted t old mid p place can k e chars is i sound =
       subst (Planted t old mid p (before place)) (ap (λ j. text j chars none) e ∙ sym (as_text chars is)) (planted_text t old mid p place k can.it can.is chars i sound)
 
-  pub text_counted : (chars : List ℕ) → row.content ≡ rows.Chars chars → (next : Numbering) → next ≡ behind s 1 → next ≡ behind s (count (one_of row children))
+  pub text_counted : (chars : List ℕ) → row.content ≡ rows.Chars chars → (next : ℕ) → next ≡ behind s 1 → next ≡ behind s (count (one_of row children))
   text_counted chars is next e = e ∙ ap (λ c. behind s (count (node_of row.number c row.bindings row.attributes children none))) (sym is)
 
   -- an element was put, and is to get its children
-  module _ (t : NameTable) (old mid : Nodes) (p place : ℕ) (can : CanPlant old p (numbered_by s (one_of row children))) (k : ℕ) (own : k ≡ number) (next : Numbering) (more : next ≡ behind s 1)
+  module _ (t : NameTable) (old mid : Nodes) (p place : ℕ) (can : CanPlant old p (numbered_by s (one_of row children))) (k : ℕ) (own : k ≡ number) (next : ℕ) (more : next ≡ behind s 1)
       (name : Expanded) (is : row.content ≡ rows.Element name) (puts : PutsElement t old mid p place k name row.bindings row.attributes) (sound : AreSound mid) where
     abbrev pub inner : Forest
     inner = numbered_by next children
@@ -357,11 +356,11 @@ module _ (s : Numbering) (row : Row) (children : Forest) where
         size : 1 + (count children + 0) ≡ 1 + count children
         size = omega arith
 
-    pub element_counted : (left : Numbering) → left ≡ behind next (count children) → left ≡ behind s (count (one_of row children))
+    pub element_counted : (left : ℕ) → left ≡ behind next (count children) → left ≡ behind s (count (one_of row children))
     element_counted left e =
         e ∙ ap (λ b. behind b (count children)) more ∙ behind_more s 1 (count children) ∙ ap (behind s) (sym element_size)
 
 -- the names of an element that can be put
-pub named_one : (old : Nodes) (p : ℕ) (s : Numbering) (row : Row) (children : Forest) → CanPlant old p (numbered_by s (one_of row children)) → (name : Expanded) → row.content ≡ rows.Element name
+pub named_one : (old : Nodes) (p : ℕ) (s : ℕ) (row : Row) (children : Forest) → CanPlant old p (numbered_by s (one_of row children)) → (name : Expanded) → row.content ≡ rows.Element name
     → IsNamed name row.bindings row.attributes
 named_one old p s row children can name is = (subst HaveNames (as_element s row children name is) can.names).0

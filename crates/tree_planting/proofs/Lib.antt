@@ -6,3 +6,4 @@ pub mod Rooting
 pub mod Placing
 pub mod Inserting
 pub mod Alike
+pub mod Spread

@@ -15,40 +15,31 @@ use Rattle.tree_edits.specs.Edits.{has, append, renumbered}
 use Rattle.tree_edits.proofs.BlockNaming.{HaveNames}
 use Rattle.tree_edits.proofs.Keeping.{count-renumbered, numbered_renumbered}
 use Rattle.tree_changes.proofs.Standing.{has_times}
-use Rattle.tree_planting.specs.declared.planting.Numbering.{Numbering}
-use Rattle.tree_planting.specs.declared.planting.Numbering.TheVariants as numbers
-use Rattle.tree_planting.specs.inside.Growing.{numbered_by, number_by, behind}
+use Rattle.tree_planting.specs.inside.Growing.{numbered_by, behind}
 
-pub behind_none : (s : Numbering) → behind s 0 ≡ s
-behind_none numbers.Own = refl
-behind_none (numbers.From free) = ap numbers.From (omega arith)
+pub behind_none : (s : ℕ) → behind s 0 ≡ s
+behind_none free = omega arith
 
-pub behind_more : (s : Numbering) (a b : ℕ) → behind (behind s a) b ≡ behind s (a + b)
-behind_more numbers.Own a b = refl
-behind_more (numbers.From free) a b = ap numbers.From (omega arith)
+pub behind_more : (s : ℕ) (a b : ℕ) → behind (behind s a) b ≡ behind s (a + b)
+behind_more free a b = omega arith
 
-pub numbered_none : (s : Numbering) → numbered_by s none ≡ none
-numbered_none numbers.Own = refl
-numbered_none (numbers.From free) = refl
+pub numbered_none : (s : ℕ) → numbered_by s none ≡ none
+numbered_none free = refl
 
-pub numbered_text : (s : Numbering) (n : ℕ) (chars : List ℕ) → numbered_by s (text n chars none) ≡ text (number_by s n) chars none
-numbered_text numbers.Own n chars = refl
-numbered_text (numbers.From free) n chars = refl
+pub numbered_text : (s : ℕ) (n : ℕ) (chars : List ℕ) → numbered_by s (text n chars none) ≡ text s chars none
+numbered_text free n chars = refl
 
-pub numbered_element : (s : Numbering) (n : ℕ) (name : Expanded) (bindings : List Binding) (attributes : List Attribute) (children : Forest)
-    → numbered_by s (element n name bindings attributes children none) ≡ element (number_by s n) name bindings attributes (numbered_by (behind s 1) children) none
-numbered_element numbers.Own n name bindings attributes children = refl
-numbered_element (numbers.From free) n name bindings attributes children = refl
+pub numbered_element : (s : ℕ) (n : ℕ) (name : Expanded) (bindings : List Binding) (attributes : List Attribute) (children : Forest)
+    → numbered_by s (element n name bindings attributes children none) ≡ element s name bindings attributes (numbered_by (behind s 1) children) none
+numbered_element free n name bindings attributes children = refl
 
 -- a node, and then its next siblings
-pub numbered_node : (s : Numbering) (n : ℕ) (c : Content) (b : List Binding) (a : List Attribute) (children next : Forest)
+pub numbered_node : (s : ℕ) (n : ℕ) (c : Content) (b : List Binding) (a : List Attribute) (children next : Forest)
     → numbered_by s (node_of n c b a children next)
     ≡ append (numbered_by s (node_of n c b a children none)) (numbered_by (behind s (count (node_of n c b a children none))) next)
-numbered_node numbers.Own n (rows.Element name) b a children next = refl
-numbered_node numbers.Own n (rows.Chars chars) b a children next = refl
-numbered_node (numbers.From free) n (rows.Element name) b a children next =
+numbered_node free n (rows.Element name) b a children next =
     ap (λ k. element free name b a (renumbered (free + 1) children) (renumbered k next)) (omega arith)
-numbered_node (numbers.From free) n (rows.Chars chars) b a children next = ap (λ k. text free chars (renumbered k next)) (omega arith)
+numbered_node free n (rows.Chars chars) b a children next = ap (λ k. text free chars (renumbered k next)) (omega arith)
 
 -- numbers change no shape
 deepest_renumbered : (free depth : ℕ) (f : Forest) → deepest_of depth (renumbered free f) ≡ deepest_of depth f
@@ -59,13 +50,11 @@ deepest_renumbered free depth (element n name bindings attributes children next)
     let later = deepest_renumbered (free + 1 + count children) depth next in
     omega (arith, below, later)
 
-pub deepest_numbered : (s : Numbering) (depth : ℕ) (f : Forest) → deepest_of depth (numbered_by s f) ≡ deepest_of depth f
-deepest_numbered numbers.Own depth f = refl
-deepest_numbered (numbers.From free) depth f = deepest_renumbered free depth f
+pub deepest_numbered : (s : ℕ) (depth : ℕ) (f : Forest) → deepest_of depth (numbered_by s f) ≡ deepest_of depth f
+deepest_numbered free depth f = deepest_renumbered free depth f
 
-pub count_numbered : (s : Numbering) (f : Forest) → count (numbered_by s f) ≡ count f
-count_numbered numbers.Own f = refl
-count_numbered (numbers.From free) f = count-renumbered free f
+pub count_numbered : (s : ℕ) (f : Forest) → count (numbered_by s f) ≡ count f
+count_numbered free f = count-renumbered free f
 
 names_renumbered : (free : ℕ) (f : Forest) → HaveNames f → HaveNames (renumbered free f)
 names_renumbered free none h = tt
@@ -73,9 +62,8 @@ names_renumbered free (text n chars next) h = names_renumbered (free + 1) next h
 names_renumbered free (element n name bindings attributes children next) h =
     (h.0, names_renumbered (free + 1) children h.1, names_renumbered (free + 1 + count children) next h.2)
 
-pub names_numbered : (s : Numbering) (f : Forest) → HaveNames f → HaveNames (numbered_by s f)
-names_numbered numbers.Own f h = h
-names_numbered (numbers.From free) f h = names_renumbered free f h
+pub names_numbered : (s : ℕ) (f : Forest) → HaveNames f → HaveNames (numbered_by s f)
+names_numbered free f h = names_renumbered free f h
 
 -- which numbers are given
 within_if : (m low high t : ℕ) → IsOnce m low high t → 1 ≤ t → (low ≤ m) × (m < high)

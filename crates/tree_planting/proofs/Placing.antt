@@ -22,7 +22,6 @@ use Rattle.node_links.specs.Nodes.{Node, Nodes, node, IsNode, Inserts}
 use Rattle.node_links.specs.Nodes.{IsSound as AreSound}
 use Rattle.tree_changes.specs.Stands.{firsts, IsElement, StandFor, StandsFor}
 use Rattle.tree_changes.proofs.Lain.{firsts_lies, stand_lies, at, depth_at}
-use Rattle.tree_planting.specs.declared.planting.Numbering.TheVariants as numbers
 use Rattle.tree_planting.specs.Fits.{Fits}
 use Rattle.tree_planting.specs.Planted.{Plants}
 use Rattle.tree_planting.specs.inside.Growing.{numbered_by, before, CanPlant, CanGrow, Planted}
@@ -147,20 +146,20 @@ module _ (t : NameTable) (ns : Nodes) (d : Document) (parent place : ℕ) (f : F
 -- numbers were given out, and no node is another
 module _ (old mid : Nodes) (p place until : ℕ) (f : Forest) (can : CanGrow old p place f until) (same : (m : ℕ) → node mid m ≡ node old m) (size : length mid ≡ until) (sound : AreSound mid) where
   abbrev part : Forest
-  part = numbered_by (numbers.From (length old)) f
+  part = numbered_by (length old) f
 
   pub can_grown : CanPlant mid p part
   can_grown = record {
     it = can.it;
     is = same p ∙ can.is;
     high = can.high;
-    shallow = (let a = deepest_numbered (numbers.From (length old)) (can.it.depth + 1) f in let b = can.shallow in omega (arith, a, b));
+    shallow = (let a = deepest_numbered (length old) (can.it.depth + 1) f in let b = can.shallow in omega (arith, a, b));
     free = λ m h.
         let w = number_within (length old) m f h in
         (same m ∙ no_node_past old m w.0, (let a = size in let b = can.numbers in omega (arith, a, b, w.1)));
     differ = λ m. numbers_differ m (length old) part (numbered_renumbered (length old) f);
-    names = names_numbered (numbers.From (length old)) f can.names;
-    few = (let a = count_numbered (numbers.From (length old)) f in let b = can.few in omega (arith, a, b));
+    names = names_numbered (length old) f can.names;
+    few = (let a = count_numbered (length old) f in let b = can.few in omega (arith, a, b));
     sound = sound;
   }
 

@@ -86,6 +86,10 @@ alone_free content zero d = refl
 alone_free content (suc zero) d = absurd (d refl)
 alone_free content (suc (suc m)) d = refl
 
+-- a root alone has no children
+pub bare_root : (mid : Nodes) (content : contents_of.Content) (it : Node) → node mid 1 ≡ node (alone content) 1 → IsNode mid 1 it → it.children ≡ []
+bare_root mid content it same h = sym (ap (λ (x : Node). x.children) (same_Some (record { parent = None; depth = 1; content = content; children = [] }) it (sym same ∙ h)))
+
 module _ (mid : Nodes) (free : ℕ) (content : contents_of.Content) (name : Expanded) (bindings : List Binding) (attributes : List Attribute) (children : Forest)
     (tree : IsTree (record { forest = element 1 name bindings attributes children none; next_free = free }))
     (nodes : (m : ℕ) → node mid m ≡ node (alone content) m) (size : length mid ≡ free) (sound : AreSound mid) where

@@ -5,6 +5,7 @@ mod naming;
 mod numbers;
 mod parts;
 mod planting;
+mod spreading;
 mod texts;
 mod trees;
 

@@ -11,7 +11,7 @@ ghost use Rattle.tree_planting.specs.Planted.{Plants};
 ghost use Rattle.tree_planting.specs.inside.Growing.{CanGrow, one_of};
 
 use crate::numbers::give_numbers;
-use crate::planting::{Numbering, Spot, put_one};
+use crate::planting::{Spot, put_one};
 use node_links::NodeLinks;
 use plain_tree::Tree;
 use std::alloc::{AllocError, Global};
@@ -39,7 +39,7 @@ fn grow(
     ensures names { IsSound names.new }
     ensures sound { AreSound links.new }
 {
-    let first = Numbering::From(links.next_free());
+    let first = links.next_free();
     give_numbers(links, until)?;
     put_one(alloc, links, names, spot, first, row, children)?;
     Ok(())

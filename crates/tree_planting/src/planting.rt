@@ -5,7 +5,7 @@ ghost use Rattle.xs_names.specs.Names.{Grown, IsSound};
 ghost use Rattle.tree_rows.specs.Forest.{count};
 ghost use Rattle.tree_rows.specs.Whole.{IsNamed};
 ghost use Rattle.node_links.specs.Nodes.{Node, node, IsNode, IsSound as AreSound};
-ghost use Rattle.tree_planting.specs.inside.Growing.{CanPlant, Planted, PlantedFirst, PutsElement, numbered_by, number_by, behind, one_of, at_end, before};
+ghost use Rattle.tree_planting.specs.inside.Growing.{CanPlant, Planted, PlantedFirst, PutsElement, numbered_by, behind, one_of, at_end, before};
 
 use crate::naming::name_element;
 use node_links::{Content, NodeLinks};
@@ -14,42 +14,6 @@ use tree_changes::prune;
 use tree_rows::{Expanded, Row};
 use tree_siblings::{Sibling, Siblings};
 use xs_names::Names;
-
-/// The numbers that planted nodes get.
-#[derive(Clone, Copy)]
-pub enum Numbering {
-    /// Each its own.
-    Own,
-    /// Those from this one on, in document order.
-    From(u32),
-}
-
-/// The number of a node, and the numbers of the nodes behind it.
-#[derive(Clone, Copy)]
-pub struct Numbered {
-    pub number: u32,
-    pub behind: Numbering,
-}
-
-impl Numbering {
-    /// The number of the node that comes next, whose own number this is.
-    fn next(self, own: u32) -> Numbered
-        requires { number_by self own + 1 < 2 ^ 32 }
-        ensures number { result.number ≡ number_by self own }
-        ensures behind { result.behind ≡ behind self 1 }
-    {
-        match self {
-            Numbering::Own => Numbered {
-                number: own,
-                behind: Numbering::Own,
-            },
-            Numbering::From(number) => Numbered {
-                number,
-                behind: Numbering::From(number + 1),
-            },
-        }
-    }
-}
 
 /// A place among the children of a node.
 #[derive(Clone, Copy)]
@@ -83,27 +47,27 @@ fn put_tag(
     Ok(())
 }
 
-/// Puts siblings, with all that is below them, behind the children of a node, and answers the numbers of what comes next.
-/// Where memory is wanting, the first of them stand there.
+/// Puts siblings, with all that is below them, behind the children of a node, under the numbers from one on in document order,
+/// and answers the number of what comes next. Where memory is wanting, the first of them stand there.
 #[cycle(put)]
 pub(crate) fn put_all(
     alloc: Global,
     links: &mut NodeLinks,
     names: &mut Names,
     parent: u32,
-    numbers: Numbering,
+    number: u32,
     siblings: Siblings<'_>,
-) -> Result<Numbering, AllocError>
-    requires can { CanPlant links.old parent (numbered_by numbers siblings) }
+) -> Result<u32, AllocError>
+    requires can { CanPlant links.old parent (numbered_by number siblings) }
     requires names { IsSound names.old }
-    ensures planted { OnOk result (Planted names.new links.old links.new parent at_end (numbered_by numbers siblings.entry)) }
-    ensures behind { IfOk result (λ left. left ≡ behind numbers (count siblings.entry)) }
-    ensures first { OnErr result (PlantedFirst names.new links.old links.new parent at_end (numbered_by numbers siblings.entry)) }
+    ensures planted { OnOk result (Planted names.new links.old links.new parent at_end (numbered_by number siblings.entry)) }
+    ensures behind { IfOk result (λ left. left ≡ behind number (count siblings.entry)) }
+    ensures first { OnErr result (PlantedFirst names.new links.old links.new parent at_end (numbered_by number siblings.entry)) }
     ensures grown { Grown names.old names.new }
     ensures names { IsSound names.new }
 {
     let mut left = siblings;
-    let mut numbers_left = numbers;
+    let mut numbers_left = number;
     'left: while let Some(
         Sibling {
             row,
@@ -120,28 +84,28 @@ pub(crate) fn put_all(
     Ok(numbers_left)
 }
 
-/// Puts a node, with all that is below it, before the child of a place, and answers the numbers of what comes next. Where
-/// memory is wanting, all is as it was.
+/// Puts a node, with all that is below it, before the child of a place, under the numbers from one on in document order, and
+/// answers the number of what comes next. Where memory is wanting, all is as it was.
 #[cycle(put)]
 pub(crate) fn put_one(
     alloc: Global,
     links: &mut NodeLinks,
     names: &mut Names,
     spot: Spot,
-    numbers: Numbering,
+    number: u32,
     row: &Row,
     children: Siblings<'_>,
-) -> Result<Numbering, AllocError>
-    requires can { CanPlant links.old spot.parent (numbered_by numbers (one_of row.now children)) }
+) -> Result<u32, AllocError>
+    requires can { CanPlant links.old spot.parent (numbered_by number (one_of row.now children)) }
     requires within { (it : Node) → IsNode links.old spot.parent it → spot.place ≤ length it.children }
     requires names { IsSound names.old }
-    ensures planted { OnOk result (Planted names.new links.old links.new spot.parent (before spot.place) (numbered_by numbers (one_of row.now children.entry))) }
-    ensures behind { IfOk result (λ left. left ≡ behind numbers (count (one_of row.now children.entry))) }
+    ensures planted { OnOk result (Planted names.new links.old links.new spot.parent (before spot.place) (numbered_by number (one_of row.now children.entry))) }
+    ensures behind { IfOk result (λ left. left ≡ behind number (count (one_of row.now children.entry))) }
     ensures err { OnErr result (links.new ≡ links.old) }
     ensures grown { Grown names.old names.new }
     ensures names { IsSound names.new }
 {
-    let Numbered { number, behind } = numbers.next(row.number);
+    let behind = number + 1;
     match &row.content {
         tree_rows::Content::Chars(text) => {
             let text = text.try_clone()?;

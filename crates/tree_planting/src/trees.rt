@@ -8,7 +8,7 @@ ghost use Rattle.tree_planting.specs.inside.Growing.{one_of};
 
 use crate::naming::name_element;
 use crate::numbers::give_numbers;
-use crate::planting::{Numbering, put_all};
+use crate::spreading::put_below;
 use node_links::{Content, NodeLinks};
 use plain_tree::Tree;
 use std::alloc::{AllocError, Global};
@@ -33,7 +33,7 @@ fn plant_root(
             let element = name_element(alloc, names, name, row)?;
             let mut links = NodeLinks::with_root(alloc, Content::Element(element))?;
             give_numbers(&mut links, next_free)?;
-            put_all(alloc, &mut links, names, 1, Numbering::Own, children)?;
+            put_below(alloc, &mut links, names, 1, children)?;
             Ok(links)
         }
         tree_rows::Content::Chars(_) => unreachable!(),

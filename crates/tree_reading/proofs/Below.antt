@@ -1,7 +1,7 @@
 -- The rows of siblings, read one after the other.
-use Rattle.std.proofs.Common.{◌≡◌, ◌≢◌, ◌⊎◌, ℕ, zero, suc, ◌+◌, ◌-◌, ◌<◌, ◌≤◌, List, [], ◌∷◌, ◌++◌, length, drop, map, sym, ap, ◌∙◌, subst, Option, Some, None, refl, inl, inr, arith, append_assoc, append-nil, max}
+use Rattle.std.proofs.Common.{◌≡◌, ◌≢◌, ◌⊎◌, ℕ, zero, suc, ◌+◌, ◌-◌, ◌<◌, ◌≤◌, List, [], ◌∷◌, ◌++◌, length, drop, map, get_or, sym, ap, ◌∙◌, subst, Option, Some, None, refl, inl, inr, arith, append_assoc, append-nil, max}
 use Rattle.std.specs.Prelude.{slice_get}
-use Rattle.std.proofs.lemmas.Option.{same_Some, none-some}
+use Rattle.std.proofs.lemmas.Option.{same_Some, none-some, slice_get-get_or, slice_get_past}
 use Rattle.xs_names.specs.Names.{NameTable}
 use Rattle.tree_rows.specs.Forest.{Forest, none, text, element, Document, count, deepest_of}
 use Rattle.tree_rows.specs.Rows.{rows_of, siblings}
@@ -117,6 +117,13 @@ begun t ns n depth old below under = record {
   few = omega arith;
 }
 
+-- the child of a place, and that there is none behind the last
+pub come_to : (xs ys : List ℕ) (k c : ℕ) → xs ≡ ys → k < length xs → c ≡ get_or xs k 0 → Some c ≡ slice_get ys k
+come_to xs ys k c same lt is = ap Some is ∙ sym (slice_get-get_or xs k 0 lt) ∙ ap (λ zs. slice_get zs k) same
+
+pub past_all : (xs ys : List ℕ) (k : ℕ) → xs ≡ ys → length xs ≤ k → None ≡ slice_get ys k
+past_all xs ys k same le = let size = ap length same in sym (slice_get_past ys k (omega (arith, size, le)))
+
 no_firsts : (f : Forest) → None ≡ slice_get (firsts f) 0 → f ≡ none
 no_firsts none e = refl
 no_firsts (text n chars next) e = absurd (none-some n e)
@@ -198,18 +205,6 @@ module _ (t : NameTable) (ns : Nodes) (n depth : ℕ) (old now : List Row) (plac
 
     pub lower : 130 - depth_by (node ns c) < 130 - depth_by (node ns n)
     lower = let a = child_level in let b = high_here in let d = level in omega (arith, a, b, d)
-
-    pub room : place + 1 ≤ 131072
-    room = let a = first.size in let b = so.few in let d = under.few in omega (arith, a, b, d)
-
-    pub fewer : length (children_by (node ns n)) - (place + 1) < length (children_by (node ns n)) - place
-    fewer = let a = within (children_by (node ns n)) place (sym e) in omega (arith, a)
-      where
-        within : (xs : List ℕ) (i : ℕ) → slice_get xs i ≡ Some c → i < length xs
-        within [] zero q = absurd (none-some c q)
-        within [] (suc i) q = absurd (none-some c q)
-        within (x ∷ xs) zero q = omega arith
-        within (x ∷ xs) (suc i) q = let h = within xs i q in omega (arith, h)
 
     pub next_so : (row : Row) (after : List Row) → row ≡ row_in t c (depth + 1) first.it.content → after ≡ (now ++ row ∷ []) ++ rows_of (depth + 1 + 1) first.below
         → ReadSoFar t ns depth old after (place + 1) below

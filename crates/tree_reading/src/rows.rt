@@ -56,11 +56,10 @@ pub(crate) fn read_below(
     requires depth { depth ≡ depth_by (node links.now number) }
     ensures { OnOk result ((below : Forest) → IsUnder names.now links.now number below → rows.new.items ≡ rows.old.items ++ rows_of (depth + 1) below) }
 {
-    let mut place = 0;
-    'children: while let Some(child) = links.child_at(number, place) {
-        rows.push(read_row(alloc, links, names, child, depth + 1)?)?;
-        read_below(alloc, links, names, rows, child, depth + 1)?;
-        place += 1;
+    let children = links.children(alloc, number)?;
+    for child in &children {
+        rows.push(read_row(alloc, links, names, *child, depth + 1)?)?;
+        read_below(alloc, links, names, rows, *child, depth + 1)?;
     }
     Ok(())
 }

@@ -3,6 +3,7 @@ pub mod MapLaws
 pub mod NodeLaws
 pub mod SumLaws
 pub mod NextLaws
+pub mod UnlikeLaws
 pub mod TwoLaws
 pub mod StepLaws
 pub mod CallLaws

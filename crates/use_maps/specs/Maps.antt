@@ -49,3 +49,16 @@ pub record IsLeast (depth : ℕ) (entries : ℕ → Option Entry) (from name : �
 -- the least name from a number on whose entry is needed, if there is one
 abbrev pub IsNext : ℕ → (ℕ → Option Entry) → ℕ → Option ℕ → Type 0
 IsNext depth entries from next = MatchOption next (NoneNeeded entries from (2 ^ depth)) (IsLeast depth entries from)
+
+-- two maps have the same for the names from a number on, below another
+abbrev pub AreAlike : (ℕ → Option Entry) → (ℕ → Option Entry) → ℕ → ℕ → Type 0
+AreAlike one other from bound = (name : ℕ) → from ≤ name → name < bound → one name ≡ other name
+
+pub record IsUnlikeNext (depth : ℕ) (one other : ℕ → Option Entry) (from name : ℕ) : Type 0 where
+  pub behind : from ≤ name
+  pub within : name < 2 ^ depth
+  pub alike : AreAlike one other from name
+
+-- a name from a number on, such that two maps have the same for each name before it; or they have the same for all names from there on
+abbrev pub IsNextUnlike : ℕ → (ℕ → Option Entry) → (ℕ → Option Entry) → ℕ → Option ℕ → Type 0
+IsNextUnlike depth one other from next = MatchOption next (AreAlike one other from (2 ^ depth)) (IsUnlikeNext depth one other from)

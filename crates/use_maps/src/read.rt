@@ -1,7 +1,7 @@
 ghost use Rattle.std.specs.Prelude.{◌≡◌, ℕ, ◌+◌, ◌^◌, ◌<◌, ◌≤◌, ◌↔◌, Option, length, IsTrue, IfSome};
 ghost use Rattle.std.specs.Option.{option_map};
 ghost use Rattle.use_maps.specs.Nodes.{find, IsMap, AreNodes};
-ghost use Rattle.use_maps.specs.Maps.{IsMapOf, SomeIs, TwoAre, IsNext};
+ghost use Rattle.use_maps.specs.Maps.{IsMapOf, SomeIs, TwoAre, IsNext, IsNextUnlike};
 ghost use Rattle.use_maps.specs.declared.entry.Entry.{Entry};
 
 use crate::grow::half_of;
@@ -39,6 +39,16 @@ impl UseMaps {
         ensures next { (has : ℕ → Option Entry) → IsMapOf self.now map.top has → IsNext self.now.depth has from result }
     {
         next_under(&self.nodes, self.depth, map.top, from)
+    }
+
+    /// The next name, from this number on, for which two maps may have different entries: they have the same for each name that
+    /// is passed over. Parts that the maps share are passed over whole.
+    pub fn next_unlike(&self, one: UseMap, other: UseMap, from: u32) -> Option<u32>
+        requires one { (has : ℕ → Option Entry) × IsMapOf self.now one.top has }
+        requires other { (has : ℕ → Option Entry) × IsMapOf self.now other.top has }
+        ensures next { (has also : ℕ → Option Entry) → IsMapOf self.now one.top has → IsMapOf self.now other.top also → IsNextUnlike self.now.depth has also from result }
+    {
+        unlike_under(&self.nodes, self.depth, one.top, other.top, from)
     }
 }
 
@@ -89,6 +99,37 @@ fn next_under(nodes: &[Node], levels: u32, at: u32, from: u32) -> Option<u32>
     match next_under(nodes, levels - 1, left, from) {
         Some(name) => Some(name),
         None => beyond(half, next_under(nodes, levels - 1, right, 0)),
+    }
+}
+
+// The next name from this number on for which two parts of so many levels may have different entries.
+fn unlike_under(nodes: &[Node], levels: u32, one: u32, other: u32, from: u32) -> Option<u32>
+    requires nodes { AreNodes nodes.now }
+    requires levels { levels ≤ 32 }
+    requires one { one < length nodes.now }
+    requires other { other < length nodes.now }
+    requires one_shape { IsMap nodes.now levels one }
+    requires other_shape { IsMap nodes.now levels other }
+    ensures next { IsNextUnlike levels (find nodes.now levels one) (find nodes.now levels other) from result }
+{
+    if one == other {
+        return None;
+    }
+    if levels == 0 {
+        return if from == 0 { Some(0) } else { None };
+    }
+    let half = half_of(levels - 1);
+    let (left, right) = node_of(nodes, one).sides();
+    let (other_left, other_right) = node_of(nodes, other).sides();
+    if from >= half {
+        return beyond(
+            half,
+            unlike_under(nodes, levels - 1, right, other_right, from - half),
+        );
+    }
+    match unlike_under(nodes, levels - 1, left, other_left, from) {
+        Some(name) => Some(name),
+        None => beyond(half, unlike_under(nodes, levels - 1, right, other_right, 0)),
     }
 }
 

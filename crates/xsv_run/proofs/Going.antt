@@ -1,75 +1,80 @@
 -- Lines and pieces, one after another.
-use Rattle.std.proofs.Common.{◌≡◌, ℕ, ◌+◌, ◌≤◌, List, [], ◌++◌, length, Bool, true, false, Option, Some, None, Result, Ok, Err, sym, ap, ◌∙◌, subst, append_assoc, length-append, arith, if◌then◌else◌}
+use Rattle.std.proofs.Common.{◌≡◌, ℕ, ◌+◌, ◌≤◌, List, [], ◌++◌, length, Bool, true, false, Option, Some, None, Result, Ok, Err, IfOk, sym, ap, ◌∙◌, subst, arith, length-append, if◌then◌else◌}
 use Rattle.item_listing.specs.State.{Reading}
 use Rattle.item_listing.specs.declared.past.Past.{Past}
 use Rattle.item_listing.specs.declared.limits.TheConstants.{MOST_BYTES}
 use Rattle.item_listing.specs.Listing.{bytes_taken, fed}
 use Rattle.item_listing.specs.Listed.{listed, Waits}
-use Rattle.stream_answers.specs.Output.{Said, Told, before}
-use Rattle.stream_answers.specs.inside.Turns.{silent, told, finished}
+use Rattle.stream_answers.specs.Assessor.{RightAssessor}
+use Rattle.stream_answers.specs.State.{WorkState}
+use Rattle.stream_answers.specs.Output.{Told, over, joined, before, Leads}
+use Rattle.stream_answers.specs.inside.Turns.{Spot, silent, told, finished}
 use Rattle.stream_answers.specs.inside.Turning.{IsOpen}
 use Rattle.stream_sections.specs.declared.asked.Asked.{Asked}
 use Rattle.stream_answers.specs.declared.place.Place.{Place}
-use Rattle.edit_replies.specs.declared.break_off.BreakOff.{BreakOff}
+use Rattle.stream_answers.specs.BreakOff.{BreakOff}
 use Rattle.stream_answers.specs.declared.ending.Ending.{Ending}
-use Rattle.xsv_run.specs.inside.Progress.{Trace, EndsAs, GoesOn, HasEnded, TakesNext, Progresses, Feeds, FeedsOn, to_tell}
+use Rattle.xsv_run.specs.Traces.{Trace}
+use Rattle.xsv_run.specs.inside.Progress.{EndsAs, GoesOn, HasEnded, TakesNext, Progresses, Feeds, EndsFed, FeedsOn, Pauses, PausesBy, PausesFedBy, to_tell}
 use Rattle.xsv_run.specs.declared.next.Next.TheVariants as nexts
-use Rattle.xsv_run.proofs.Tracing.{writes_none, writes_both, joined}
-use Rattle.xsv_run.proofs.Telling.{ends_behind}
+use Rattle.xsv_run.proofs.Tracing.{writes_none, writes_both}
+use Rattle.xsv_run.proofs.Telling.{before_nil, leads_same, leads_further, ends_leading, ends_behind}
 
-pub before-nil : (t : Told) → t ≡ before silent t
-before-nil t =
-    let none : t.cost ≡ 0 + t.cost = omega arith in
-    ap (λ (k : ℕ). record { text = t.text; cost = k; ending = t.ending }) none
-
-pub before-before : (said more : Said) (t : Told) → before said (before more t) ≡ before (joined said more) t
-before-before said more t =
-    ap (λ l. record { text = l; cost = said.cost + (more.cost + t.cost); ending = t.ending }) (sym (append_assoc said.text more.text t.text))
-    ∙ ap (λ k. record { text = (said.text ++ more.text) ++ t.text; cost = k; ending = t.ending }) (omega arith)
-
-pub goes_nowhere : (a : Asked) (p : Place) (r : Reading) (o : Trace) → IsOpen p → GoesOn a p r o p r o
-goes_nowhere a p r o opened = record { said = silent; written = writes_none o; told_on = λ more closed. before-nil (to_tell a p r more closed); is_open = opened }
-
-pub goes_further : (a : Asked) (p q x : Place) (r s t : Reading) (o m n : Trace) → GoesOn a p r o q s m → GoesOn a q s m x t n → GoesOn a p r o x t n
-goes_further a p q x r s t o m n one two = record {
-  said = joined one.said two.said;
-  written = writes_both o m n one.said two.said one.written two.written;
-  told_on = λ more closed. one.told_on more closed ∙ ap (before one.said) (two.told_on more closed) ∙ before-before one.said two.said (to_tell a x t more closed);
-  is_open = two.is_open;
+pub goes_nowhere : (p : RightAssessor) (a : Asked) (x : Spot) (r : Reading) (o : Trace) → GoesOn p a x r o x r o
+goes_nowhere p a x r o = record {
+  said = silent;
+  written = writes_none o;
+  told_on = λ more closed. leads_same (to_tell p a x r more closed) (before silent (to_tell p a x r more closed)) (before_nil (to_tell p a x r more closed));
 }
 
-pub ends_further : (a : Asked) (p q : Place) (r s : Reading) (o m n : Trace) (e : Result Ending BreakOff) → GoesOn a p r o q s m → HasEnded a q s m n e
-    → HasEnded a p r o n e
-ends_further a p q r s o m n e one two = λ more closed.
-    subst (EndsAs e o n) (sym (one.told_on more closed)) (ends_behind e o m n one.said (to_tell a q s more closed) one.written (two more closed))
+pub goes_further : (p : RightAssessor) (a : Asked) (x y z : Spot) (r s t : Reading) (o m n : Trace) → GoesOn p a x r o y s m → GoesOn p a y s m z t n → GoesOn p a x r o z t n
+goes_further p a x y z r s t o m n one two = record {
+  said = joined one.said two.said;
+  written = writes_both o m n one.said two.said one.written two.written;
+  told_on = λ more closed.
+      leads_further one.said two.said (to_tell p a x r more closed) (to_tell p a y s more closed) (to_tell p a z t more closed) (one.told_on more closed) (two.told_on more closed);
+}
 
-module _ (a : Asked) (p : Place) (r f : Reading) (bytes : List ℕ) (past : f.past ≡ r.past)
+pub ends_further : (p : RightAssessor) (a : Asked) (x y : Spot) (r s : Reading) (o m n : Trace) (e : Result Ending BreakOff) → GoesOn p a x r o y s m → HasEnded p a y s m n e
+    → HasEnded p a x r o n e
+ends_further p a x y r s o m n e one two = λ more closed.
+    ends_leading e o n (to_tell p a x r more closed) (before one.said (to_tell p a y s more closed)) (one.told_on more closed)
+    (ends_behind e o m n one.said (to_tell p a y s more closed) one.written (two more closed))
+
+-- no whole line is left
+pub waits_now : (p : RightAssessor) (a : Asked) (x y z : Spot) (r s t : Reading) (o m n : Trace) → GoesOn p a x r o y s m → TakesNext p a y s m z t n (Ok nexts.Waits)
+    → GoesOn p a x r o z t n
+waits_now p a x y z r s t o m n one two =
+    subst (λ v. GoesOn p a x r o z t v) (sym two.2) (subst (λ v. GoesOn p a x r o z v m) (sym two.1) (subst (λ v. GoesOn p a x r o v s m) (sym two.0) one))
+
+module _ (p : RightAssessor) (a : Asked) (x : Spot) (r f : Reading) (bytes : List ℕ) (past : f.past ≡ r.past)
     (reads : (more : List ℕ) (closed : Bool) → listed f more closed ≡ listed r (bytes ++ more) closed) where
-  same_told : (more : List ℕ) (closed : Bool) → to_tell a p r (bytes ++ more) closed ≡ to_tell a p f more closed
-  same_told more closed = ap (told a r.past.lines p) (sym (reads more closed)) ∙ ap (λ (q : Past). told a q.lines p (listed f more closed)) (sym past)
+  same_told : (more : List ℕ) (closed : Bool) → to_tell p a x r (bytes ++ more) closed ≡ to_tell p a x f more closed
+  same_told more closed = ap (told p a r.past.lines x) (sym (reads more closed)) ∙ ap (λ (q : Past). told p a q.lines x (listed f more closed)) (sym past)
 
-  pub feeds : (q : Place) (s : Reading) (o n : Trace) → GoesOn a p f o q s n → Waits s → bytes_taken s ≡ bytes_taken r + length bytes
-      → bytes_taken s ≤ MOST_BYTES → s.finished ≡ false → Feeds a p r o bytes q s n
-  feeds q s o n on waits counted few going = record {
+  feeds : (y : Spot) (s : Reading) (o n : Trace) → GoesOn p a x f o y s n → Feeds p a x r o bytes y s n
+  feeds y s o n on = record {
     said = on.said;
     written = on.written;
-    told_on = λ more closed. same_told more closed ∙ on.told_on more closed;
-    is_open = on.is_open;
-    waits = waits;
-    counted = counted;
-    few = few;
-    going = going;
+    told_on = λ more closed. subst (λ t. Leads t (before on.said (to_tell p a y s more closed))) (sym (same_told more closed)) (on.told_on more closed);
   }
 
-  pub ends_fed : (o n : Trace) (e : Result Ending BreakOff) → HasEnded a p f o n e
-      → (more : List ℕ) (closed : Bool) → EndsAs e o n (to_tell a p r (bytes ++ more) closed)
+  ends_fed : (o n : Trace) (e : Result Ending BreakOff) → HasEnded p a x f o n e → EndsFed p a x r o bytes n e
   ends_fed o n e ended = λ more closed. subst (EndsAs e o n) (sym (same_told more closed)) (ended more closed)
 
-  pub fed_on : (q : Place) (s : Reading) (o n : Trace) (x : Result (Option Ending) BreakOff) → Progresses a p f o q s n x → bytes_taken s ≡ bytes_taken r + length bytes → s.finished ≡ false
-      → FeedsOn a p r o bytes q s n x
-  fed_on q s o n (Ok None) h counted going = feeds q s o n h.0 h.1 counted h.2 going
-  fed_on q s o n (Ok (Some ending)) h counted going = ends_fed o n (Ok ending) h
-  fed_on q s o n (Err why) h counted going = ends_fed o n (Err why) h
+  pub fed_on : (y : Spot) (s : Reading) (o n : Trace) (found : Result (Option Ending) BreakOff) → Progresses p a x f o y s n found → FeedsOn p a x r o bytes y s n found
+  fed_on y s o n (Ok None) h = feeds y s o n h
+  fed_on y s o n (Ok (Some ending)) h = ends_fed o n (Ok ending) h
+  fed_on y s o n (Err why) h = ends_fed o n (Err why) h
+
+pub pauses_here : (place : Place) (work : WorkState) (s : Reading) → IsOpen place work × Waits s × (bytes_taken s ≤ MOST_BYTES) → Pauses place work s
+pauses_here place work s h = record { is_open = h.0; waits = h.1; few = h.2 }
+
+pub pauses_fed : (place : Place) (work : WorkState) (r : Reading) (bytes : List ℕ) (s : Reading) (found : Result (Option Ending) BreakOff) → IfOk found (PausesBy place work s)
+    → bytes_taken s ≡ bytes_taken r + length bytes → s.finished ≡ false → IfOk found (PausesFedBy place work r bytes s)
+pauses_fed place work r bytes s (Ok None) h counted going = record { pauses = h; counted = counted; going = going }
+pauses_fed place work r bytes s (Ok (Some ending)) h counted going = tt
+pauses_fed place work r bytes s (Err why) h counted going = tt
 
 -- a piece that came: the lines that were read are as before
 module _ (r f : Reading) (bytes : List ℕ) (going : r.finished ≡ false) (is : f ≡ fed r bytes) where
@@ -86,30 +91,23 @@ module _ (r f : Reading) (bytes : List ℕ) (going : r.finished ≡ false) (is :
   fed_counted = ap bytes_taken with_piece ∙ omega (arith, length-append r.held bytes)
 
 -- how many lines were read is what the listing says
-pub ended_behind : (e : Result Ending BreakOff) (m n : Trace) (place : Place) (count lines : ℕ) → count ≡ lines → EndsAs e m n (finished count place)
-    → EndsAs e m n (finished lines place)
-ended_behind e m n place count lines same ended = subst (λ k. EndsAs e m n (finished k place)) same ended
-
--- no whole line is left
-pub waits_now : (a : Asked) (p q x : Place) (r s t : Reading) (o m n : Trace) → GoesOn a p r o q s m → TakesNext a q s m x t n (Ok nexts.Waits) → bytes_taken t ≤ MOST_BYTES
-    → Progresses a p r o x t n (Ok None)
-waits_now a p q x r s t o m n one two few =
-    let on : GoesOn a p r o x t n =
-    subst (λ v. GoesOn a p r o x t v) (sym two.2) (subst (λ v. GoesOn a p r o x v m) (sym two.1) (subst (λ v. GoesOn a p r o v s m) (sym two.0) one)) in
-    (on, subst Waits (sym two.1) two.3, few)
+pub ended_behind : (e : Result Ending BreakOff) (m n : Trace) (x : Spot) (count lines : ℕ) → count ≡ lines → EndsAs e m n (over (finished count x))
+    → EndsAs e m n (over (finished lines x))
+ended_behind e m n x count lines same ended = subst (λ k. EndsAs e m n (over (finished k x))) same ended
 
 -- the source has ended: what was to be told is what the listing tells that is finished
-module _ (a : Asked) (p : Place) (r f : Reading) (past : f.past ≡ r.past)
+module _ (p : RightAssessor) (a : Asked) (x : Spot) (r f : Reading) (past : f.past ≡ r.past)
     (finish : (more : List ℕ) (closed : Bool) → listed f more closed ≡ listed r [] true) where
-  told_last : to_tell a p r [] true ≡ to_tell a p f [] true
-  told_last = ap (told a r.past.lines p) (sym (finish [] true)) ∙ ap (λ (q : Past). told a q.lines p (listed f [] true)) (sym past)
+  told_last : to_tell p a x r [] true ≡ to_tell p a x f [] true
+  told_last = ap (told p a r.past.lines x) (sym (finish [] true)) ∙ ap (λ (q : Past). told p a q.lines x (listed f [] true)) (sym past)
 
-  pub ends_last : (o n : Trace) (e : Result Ending BreakOff) → HasEnded a p f o n e → EndsAs e o n (to_tell a p r [] true)
+  pub ends_last : (o n : Trace) (e : Result Ending BreakOff) → HasEnded p a x f o n e → EndsAs e o n (to_tell p a x r [] true)
   ends_last o n e ended = subst (EndsAs e o n) (sym told_last) (ended [] true)
 
-  pub finished_last : (q : Place) (s : Reading) (o m n : Trace) (e : Result Ending BreakOff) → GoesOn a p f o q s m → Waits s → s.finished ≡ true
-      → EndsAs e m n (finished s.past.lines q) → EndsAs e o n (to_tell a p r [] true)
-  finished_last q s o m n e on waits done_now answers =
-      let last : to_tell a p f [] true ≡ before on.said (finished s.past.lines q) =
-      on.told_on [] true ∙ ap (λ l. before on.said (told a s.past.lines q l)) (waits.1 done_now [] true) in
-      subst (EndsAs e o n) (sym (told_last ∙ last)) (ends_behind e o m n on.said (finished s.past.lines q) on.written answers)
+  pub finished_last : (y : Spot) (s : Reading) (o m n : Trace) (e : Result Ending BreakOff) → GoesOn p a x f o y s m → Waits s → s.finished ≡ true
+      → EndsAs e m n (over (finished s.past.lines y)) → EndsAs e o n (to_tell p a x r [] true)
+  finished_last y s o m n e on waits done_now answers =
+      let last : to_tell p a y s [] true ≡ over (finished s.past.lines y) = ap (told p a s.past.lines y) (waits.1 done_now [] true) in
+      subst (EndsAs e o n) (sym told_last)
+      (ends_leading e o n (to_tell p a x f [] true) (before on.said (to_tell p a y s [] true)) (on.told_on [] true)
+      (ends_behind e o m n on.said (to_tell p a y s [] true) on.written (subst (EndsAs e m n) (sym last) answers)))

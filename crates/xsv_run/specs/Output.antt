@@ -1,4 +1,4 @@
--- What the program writes, and its status.
+-- What the program writes, and its status. What schema documents come to is a relation, and so is the output of a stream that has them.
 use Rattle.std.specs.Prelude.{◌≡◌, ℕ, List, [], ◌∷◌, ◌++◌, Bool, true, false, Option, Some, None, codes}
 use Rattle.std.specs.Option.{option_map}
 use Rattle.std.specs.Io.KnownBytes.{Appends, Consumes}
@@ -9,10 +9,12 @@ use Rattle.run_words.specs.Requests.{request}
 use Rattle.run_words.specs.declared.request.Request.{Request}
 use Rattle.run_words.specs.declared.request.Request.TheVariants.{Read, Generate, Trial}
 use Rattle.run_words.specs.declared.request.Task.TheVariants as tasks
-use Rattle.stream_answers.specs.Output.{Told, sections_told}
+use Rattle.stream_answers.specs.Assessor.{RightAssessor}
+use Rattle.stream_answers.specs.Output.{Said, free, Last, Told, over, before, Leads, sections_told}
 use Rattle.stream_sections.specs.declared.asked.Asked.{Asked}
 use Rattle.stream_sections.specs.declared.asked.Asked.TheVariants.{Check, Assess, Session}
 use Rattle.xsv_run.specs.Statuses.{status_of}
+use Rattle.xsv_run.specs.Traces.{Trace, Writes, WritesFront}
 use Rattle.xsv_run.specs.declared.status.Status.{Status}
 use Rattle.xsv_run.specs.declared.status.Status.TheVariants.{Words, ReadFault, WriteFault, Memory}
 
@@ -24,10 +26,6 @@ pub record Output : Type 0 where
 
 abbrev pub usage : List ℕ
 usage = codes "usage: xsv check|assess|session [--max-errors N] | xsv generate|trial NUMBER COUNT" ++ 10 ∷ []
-
--- words that ask for nothing
-abbrev pub refused_words : Output
-refused_words = record { text = usage; cost = 0; status = Some Words }
 
 -- what is asked for of what is built: a stream is read
 abbrev pub asked_by : Option Request → Option Asked
@@ -42,33 +40,67 @@ abbrev pub asked : List (List ℕ) → Option Asked
 asked words = asked_by (request words)
 
 -- what is told of a stream by these bytes, with none after them if closed
-abbrev pub told_of : Asked → List ℕ → Bool → Told
-told_of what bytes closed = sections_told what (listed unread bytes closed)
+abbrev pub told_of : RightAssessor → Asked → List ℕ → Bool → Told
+told_of p what bytes closed = sections_told p what (listed unread bytes closed)
 
-abbrev pub output_of : Told → Output
-output_of t = record { text = t.text; cost = t.cost; status = option_map status_of t.ending }
+abbrev pub output_of : Last → Output
+output_of last = record { text = last.said.text; cost = last.said.cost; status = option_map status_of last.ending }
 
-abbrev pub output_by : Option Asked → List ℕ → Bool → Output
-output_by None bytes closed = refused_words
-output_by (Some what) bytes closed = output_of (told_of what bytes closed)
+-- words that ask for nothing
+abbrev pub refused_words : Output
+refused_words = record { text = usage; cost = 0; status = Some Words }
+
+-- some way through what is told ends in this output
+abbrev pub ComesTo : Told → Output → Type 0
+ComesTo t out = (last : Last) × Leads t (over last) × (out ≡ output_of last)
+
+abbrev pub IsOutputBy : RightAssessor → Option Asked → List ℕ → Bool → Output → Type 0
+IsOutputBy p None bytes closed out = out ≡ refused_words
+IsOutputBy p (Some what) bytes closed out = ComesTo (told_of p what bytes closed) out
 
 -- what is written for these words and the bytes of a source to its end, the steps that it costs at most, and the status
-abbrev pub output : List (List ℕ) → List ℕ → Output
-output words bytes = output_by (asked words) bytes true
+abbrev pub IsOutput : RightAssessor → List (List ℕ) → List ℕ → Output → Type 0
+IsOutput p words bytes out = IsOutputBy p (asked words) bytes true out
 
--- what is written for these words and the first bytes of a source: by the lines that end in them, and where they tell already that
--- the begun line is refused
-abbrev pub output_so_far : List (List ℕ) → List ℕ → Output
-output_so_far words bytes = output_by (asked words) bytes false
+abbrev pub IsFirstBy : RightAssessor → Option Asked → List ℕ → Said → Type 0
+IsFirstBy p None bytes said = said ≡ free usage
+IsFirstBy p (Some what) bytes said = (rest : Told) × Leads (told_of p what bytes true) (before said rest)
 
--- the status is the output's, and its text was written; or the run broke off, and a front of the text was written
-abbrev pub Answers : Status → Option (List ℕ) → Option (List ℕ) → Output → Type 0
-Answers ReadFault old new out = AppendsFront old new out.text
-Answers WriteFault old new out = AppendsFront old new out.text
-Answers Memory old new out = AppendsFront old new out.text
-Answers status old new out = Appends old new out.text × (out.status ≡ Some status)
+-- the output for these words and the bytes of a source to its end begins with this text, whatever is still to come
+abbrev pub IsFirst : RightAssessor → List (List ℕ) → List ℕ → Said → Type 0
+IsFirst p words bytes said = IsFirstBy p (asked words) bytes said
 
--- a read failed behind some bytes: what they tell was written, and it does not end the run
-abbrev pub BreaksOff : List (List ℕ) → Option (List ℕ) → Option (List ℕ) → Option (List ℕ) → Option (List ℕ) → Type 0
-BreaksOff words rest_old rest_new old new =
-    (bytes : List ℕ) × Consumes rest_old rest_new bytes × Appends old new (output_so_far words bytes).text × ((output_so_far words bytes).status ≡ None)
+-- the status is the output's, and its text was written
+abbrev pub EndsBy : RightAssessor → Option Asked → List ℕ → Status → Trace → Trace → Type 0
+EndsBy p what bytes status old new =
+    (out : Output) × IsOutputBy p what bytes true out × Writes old new (record { text = out.text; cost = out.cost }) × (out.status ≡ Some status)
+
+-- a front of a text was written with which the output begins
+abbrev pub BreaksBy : RightAssessor → Option Asked → List ℕ → Trace → Trace → Type 0
+BreaksBy p what bytes old new = (said : Said) × IsFirstBy p what bytes said × WritesFront old new said
+
+abbrev pub AnswersBy : RightAssessor → Option Asked → List ℕ → Status → Trace → Trace → Type 0
+AnswersBy p what bytes ReadFault old new = BreaksBy p what bytes old new
+AnswersBy p what bytes WriteFault old new = BreaksBy p what bytes old new
+AnswersBy p what bytes Memory old new = BreaksBy p what bytes old new
+AnswersBy p what bytes status old new = EndsBy p what bytes status old new
+
+-- the status is that of the output for these words and the bytes of a source to its end, and its text was written; or the run broke
+-- off, and a front of it was written. No more steps were counted than it costs.
+abbrev pub Answers : RightAssessor → List (List ℕ) → List ℕ → Status → Trace → Trace → Type 0
+Answers p words bytes status old new = AnswersBy p (asked words) bytes status old new
+
+-- the usage line was written, or a front of it where a write failed
+abbrev pub RefusesWords : Status → Option (List ℕ) → Option (List ℕ) → Type 0
+RefusesWords Words old new = Appends old new usage
+RefusesWords WriteFault old new = AppendsFront old new usage
+RefusesWords status old new = ⊥
+
+abbrev pub BreaksOffBy : RightAssessor → Option Asked → Option (List ℕ) → Option (List ℕ) → Option (List ℕ) → Option (List ℕ) → Type 0
+BreaksOffBy p what rest_old rest_new old new =
+    (bytes : List ℕ) × Consumes rest_old rest_new bytes × (out : Output) × IsOutputBy p what bytes false out × Appends old new out.text × (out.status ≡ None)
+
+-- A read failed behind some bytes: what they tell was written, by the lines that end in them, and where they tell already that the begun
+-- line is refused; and it does not end the run.
+abbrev pub BreaksOff : RightAssessor → List (List ℕ) → Option (List ℕ) → Option (List ℕ) → Option (List ℕ) → Option (List ℕ) → Type 0
+BreaksOff p words rest_old rest_new old new = BreaksOffBy p (asked words) rest_old rest_new old new

@@ -1,15 +1,16 @@
 -- How a run ends, by how its stream does, and the numbers that the program ends with.
 use Rattle.std.specs.Prelude.{ℕ, Result, Ok, Err}
-use Rattle.edit_replies.specs.declared.break_off.BreakOff.{BreakOff}
-use Rattle.edit_replies.specs.declared.break_off.BreakOff.TheVariants as breaks
+use Rattle.stream_answers.specs.BreakOff.{BreakOff}
+use Rattle.stream_answers.specs.BreakOff.TheVariants as breaks
 use Rattle.stream_answers.specs.declared.ending.Ending.{Ending}
 use Rattle.stream_answers.specs.declared.ending.Ending.TheVariants as endings
 use Rattle.xsv_run.specs.declared.status.Status.{Status}
-use Rattle.xsv_run.specs.declared.status.Status.TheVariants.{Valid, NotValid, ListingRefused, Limit, Unsupported, Words, ReadFault, WriteFault, Memory}
+use Rattle.xsv_run.specs.declared.status.Status.TheVariants.{Valid, NotValid, SchemaRefused, ListingRefused, Limit, Unsupported, Words, ReadFault, WriteFault, Memory}
 
 abbrev pub number_of : Status → ℕ
 number_of Valid = 0
 number_of NotValid = 1
+number_of SchemaRefused = 2
 number_of ListingRefused = 3
 number_of Limit = 4
 number_of Unsupported = 5
@@ -21,6 +22,7 @@ number_of Memory = 9
 abbrev pub status_of : Ending → Status
 status_of endings.Valid = Valid
 status_of endings.NotValid = NotValid
+status_of endings.SchemaRefused = SchemaRefused
 status_of endings.ListingRefused = ListingRefused
 status_of endings.Limit = Limit
 status_of endings.Unsupported = Unsupported

@@ -1,15 +1,16 @@
-ghost use Rattle.std.specs.Prelude.{◌≡◌, ◌≤◌};
+ghost use Rattle.std.specs.Prelude.{◌≡◌, ◌≤◌, IfOk};
 ghost use Rattle.xsv_io.specs.Causes.{KeepsCount};
 ghost use Rattle.item_listing.specs.Listing.{bytes_taken};
-ghost use Rattle.edit_replies.specs.Tells.{IsWriteFault};
-ghost use Rattle.stream_answers.specs.inside.Turning.{IsOpen};
-ghost use Rattle.xsv_run.specs.inside.Progress.{Progresses, trace};
+ghost use Rattle.stream_answers.specs.Tells.{IsWriteFault};
+ghost use Rattle.stream_answers.specs.Assessor.{RightAssessor};
+ghost use Rattle.stream_answers.specs.inside.Turning.{IsOpen, spot_of};
+ghost use Rattle.xsv_run.specs.Traces.{trace};
+ghost use Rattle.xsv_run.specs.inside.Progress.{Progresses, PausesBy};
 
 use crate::next::{Next, take_next};
-use edit_replies::BreakOff;
 use item_listing::Listing;
 use std::alloc::Global;
-use stream_answers::{Ending, Place};
+use stream_answers::{BreakOff, Ending, Place, Workspace};
 use stream_sections::Asked;
 use xsv_io::Sink;
 use xsv_steps::{Ledger, Steps};
@@ -21,18 +22,20 @@ pub fn take_lines<W: Sink, L: Ledger>(
     asked: Asked,
     listing: &mut Listing,
     place: &mut Place,
+    work: &mut Workspace,
     sink: &mut W,
     steps: &mut Steps<L>,
 ) -> Result<Option<Ending>, BreakOff>
-    requires { IsOpen place.old }
-    ensures progress { Progresses asked place.old listing.old (trace (W.taken sink.old) steps.old) place.new listing.new (trace (W.taken sink.new) steps.new) result }
+    requires { IsOpen place.old work.old }
+    ensures progress { (p : RightAssessor) → Progresses p asked (spot_of place.old work.old) listing.old (trace (W.taken sink.old) steps.old) (spot_of place.new work.new) listing.new (trace (W.taken sink.new) steps.new) result }
+    ensures pauses { IfOk result (PausesBy place.new work.new listing.new) }
     ensures counted { bytes_taken listing.new ≡ bytes_taken listing.old }
     ensures finished { listing.new.finished ≡ listing.old.finished }
     ensures writes { KeepsCount W.faults W.fault_bound sink.old sink.new (IsWriteFault result) }
     ensures steps { steps.old ≤ steps.new }
 {
     'lines: loop {
-        match take_next(alloc, asked, listing, place, sink, steps) {
+        match take_next(alloc, asked, listing, place, work, sink, steps) {
             Ok(Next::Goes) => {}
             Ok(Next::Waits) => return Ok(None),
             Ok(Next::Ends(ending)) => return Ok(Some(ending)),

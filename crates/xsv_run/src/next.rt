@@ -1,17 +1,18 @@
 ghost use Rattle.std.specs.Prelude.{◌≡◌, ◌≤◌, IfOk};
 ghost use Rattle.xsv_io.specs.Causes.{KeepsCount};
 ghost use Rattle.item_listing.specs.Listing.{bytes_taken};
-ghost use Rattle.edit_replies.specs.Tells.{Tells, IsWriteFault};
+ghost use Rattle.stream_answers.specs.Tells.{Tells, IsWriteFault};
+ghost use Rattle.stream_answers.specs.Assessor.{RightAssessor};
 ghost use Rattle.stream_answers.specs.Refusals.{refusal_line, refusal_ending};
 ghost use Rattle.stream_answers.specs.inside.Turns.{turned};
-ghost use Rattle.stream_answers.specs.inside.Turning.{IsOpen};
-ghost use Rattle.xsv_run.specs.inside.Progress.{TakesItem, TakesNext, Holds, trace};
+ghost use Rattle.stream_answers.specs.inside.Turning.{IsOpen, spot_of};
+ghost use Rattle.xsv_run.specs.Traces.{trace};
+ghost use Rattle.xsv_run.specs.inside.Progress.{TakesItem, IsTaken, TakesNext, Holds};
 ghost use Rattle.xsv_run.specs.declared.next.Next.TheVariants as nexts;
 
-use edit_replies::BreakOff;
 use item_listing::{Item, Listing, ListingFault};
 use std::alloc::Global;
-use stream_answers::{Ending, Place, answer_item, write_refusal};
+use stream_answers::{BreakOff, Ending, Place, Workspace, answer_item, write_refusal};
 use stream_sections::{Asked, Refusal, RefusedLine};
 use xsv_io::Sink;
 use xsv_steps::{Ledger, Steps};
@@ -33,16 +34,18 @@ fn take_item<W: Sink, L: Ledger>(
     asked: Asked,
     line: u32,
     place: &mut Place,
+    work: &mut Workspace,
     item: Item,
     sink: &mut W,
     steps: &mut Steps<L>,
 ) -> Result<Next, BreakOff>
-    requires { IsOpen place.old }
-    ensures takes { TakesItem (turned asked line place.old item) place.new (trace (W.taken sink.old) steps.old) (trace (W.taken sink.new) steps.new) result }
+    requires { IsOpen place.old work.old }
+    ensures takes { (p : RightAssessor) → TakesItem (turned p asked line (spot_of place.old work.old) item) (spot_of place.new work.new) (trace (W.taken sink.old) steps.old) (trace (W.taken sink.new) steps.new) result }
+    ensures goes { IfOk result (IsTaken place.new work.new) }
     ensures writes { KeepsCount W.faults W.fault_bound sink.old sink.new (IsWriteFault result) }
     ensures steps { steps.old ≤ steps.new }
 {
-    match answer_item(alloc, asked, line, place, item, sink, steps) {
+    match answer_item(alloc, asked, line, place, work, item, sink, steps) {
         Ok(None) => Ok(Next::Goes),
         Ok(Some(ending)) => Ok(Next::Ends(ending)),
         Err(why) => Err(why),
@@ -70,12 +73,13 @@ pub fn take_next<W: Sink, L: Ledger>(
     asked: Asked,
     listing: &mut Listing,
     place: &mut Place,
+    work: &mut Workspace,
     sink: &mut W,
     steps: &mut Steps<L>,
 ) -> Result<Next, BreakOff>
-    requires { IsOpen place.old }
-    ensures takes { TakesNext asked place.old listing.old (trace (W.taken sink.old) steps.old) place.new listing.new (trace (W.taken sink.new) steps.new) result }
-    ensures holds { IfOk result (Holds listing.old listing.new) }
+    requires { IsOpen place.old work.old }
+    ensures takes { (p : RightAssessor) → TakesNext p asked (spot_of place.old work.old) listing.old (trace (W.taken sink.old) steps.old) (spot_of place.new work.new) listing.new (trace (W.taken sink.new) steps.new) result }
+    ensures holds { IfOk result (Holds place.new work.new listing.old listing.new) }
     ensures counted { bytes_taken listing.new ≡ bytes_taken listing.old }
     ensures finished { listing.new.finished ≡ listing.old.finished }
     ensures writes { KeepsCount W.faults W.fault_bound sink.old sink.new (IsWriteFault result) }
@@ -87,7 +91,7 @@ pub fn take_next<W: Sink, L: Ledger>(
         Ok(Ok(None)) => Ok(Next::Waits),
         Ok(Ok(Some(item))) => {
             let line = listing.line_count();
-            take_item(alloc, asked, line, place, item, sink, steps)
+            take_item(alloc, asked, line, place, work, item, sink, steps)
         }
     }
 }

@@ -1,15 +1,16 @@
-ghost use Rattle.std.specs.Prelude.{◌≡◌, ◌<◌, ◌≤◌, ◌+◌, length, false};
+ghost use Rattle.std.specs.Prelude.{◌≡◌, ◌<◌, ◌≤◌, ◌+◌, length, false, IfOk};
 ghost use Rattle.xsv_io.specs.Causes.{KeepsCount};
 ghost use Rattle.item_listing.specs.Listing.{bytes_taken};
-ghost use Rattle.edit_replies.specs.Tells.{IsWriteFault};
-ghost use Rattle.stream_answers.specs.inside.Turning.{IsOpen};
-ghost use Rattle.xsv_run.specs.inside.Progress.{trace, FeedsOn, Pieces, FailsRead, FailsWrite};
+ghost use Rattle.stream_answers.specs.Tells.{IsWriteFault};
+ghost use Rattle.stream_answers.specs.Assessor.{RightAssessor};
+ghost use Rattle.stream_answers.specs.inside.Turning.{IsOpen, spot_of};
+ghost use Rattle.xsv_run.specs.Traces.{trace};
+ghost use Rattle.xsv_run.specs.inside.Progress.{FeedsOn, PausesFedBy, Pieces, StaysOpen, FailsRead, FailsWrite};
 
 use crate::lines::take_lines;
-use edit_replies::BreakOff;
 use item_listing::{Listing, MOST_BYTES};
 use std::alloc::Global;
-use stream_answers::{Ending, Place};
+use stream_answers::{BreakOff, Ending, Place, Workspace};
 use stream_sections::Asked;
 use xsv_io::{Sink, Source};
 use xsv_steps::{Ledger, Steps};
@@ -36,18 +37,20 @@ fn take_bytes<W: Sink, L: Ledger>(
     asked: Asked,
     listing: &mut Listing,
     place: &mut Place,
+    work: &mut Workspace,
     bytes: &[u8],
     sink: &mut W,
     steps: &mut Steps<L>,
 ) -> Result<Option<Ending>, BreakOff>
-    requires open { IsOpen place.old }
+    requires open { IsOpen place.old work.old }
     requires going { listing.old.finished ≡ false }
-    ensures takes { FeedsOn asked place.old listing.old (trace (W.taken sink.old) steps.old) bytes.now place.new listing.new (trace (W.taken sink.new) steps.new) result }
+    ensures takes { (p : RightAssessor) → FeedsOn p asked (spot_of place.old work.old) listing.old (trace (W.taken sink.old) steps.old) bytes.now (spot_of place.new work.new) listing.new (trace (W.taken sink.new) steps.new) result }
+    ensures pauses { IfOk result (PausesFedBy place.new work.new listing.old bytes.now listing.new) }
     ensures writes { KeepsCount W.faults W.fault_bound sink.old sink.new (IsWriteFault result) }
     ensures steps { steps.old ≤ steps.new }
 {
     match listing.feed(bytes) {
-        Ok(()) => take_lines(alloc, asked, listing, place, sink, steps),
+        Ok(()) => take_lines(alloc, asked, listing, place, work, sink, steps),
         Err(_) => Err(BreakOff::Memory),
     }
 }
@@ -59,17 +62,19 @@ pub fn take_piece<S: Source, W: Sink, L: Ledger>(
     source: &mut S,
     listing: &mut Listing,
     place: &mut Place,
+    work: &mut Workspace,
     buf: &mut [u8],
     room: usize,
     sink: &mut W,
     steps: &mut Steps<L>,
 ) -> Piece
-    requires open { IsOpen place.old }
+    requires open { IsOpen place.old work.old }
     requires going { listing.old.finished ≡ false }
     requires room { bytes_taken listing.old + room ≡ MOST_BYTES + 1 }
     requires some { 0 < room }
     requires buf { 0 < length buf.old }
-    ensures takes { Pieces asked place.old listing.old (S.rest source.old) (trace (W.taken sink.old) steps.old) place.new listing.new (S.rest source.new) (trace (W.taken sink.new) steps.new) result }
+    ensures takes { Pieces asked (spot_of place.old work.old) listing.old (S.rest source.old) (trace (W.taken sink.old) steps.old) place.new work.new listing.new (S.rest source.new) (trace (W.taken sink.new) steps.new) result }
+    ensures stays { StaysOpen place.new work.new result }
     ensures reads { KeepsCount S.faults S.fault_bound source.old source.new (FailsRead result) }
     ensures writes { KeepsCount W.faults W.fault_bound sink.old sink.new (FailsWrite result) }
     ensures steps { steps.old ≤ steps.new }
@@ -78,7 +83,16 @@ pub fn take_piece<S: Source, W: Sink, L: Ledger>(
     match source.read(&mut buf[..most]) {
         Ok(0) => Piece::AtEnd,
         Ok(count) => {
-            match take_bytes(alloc, asked, listing, place, &buf[..count], sink, steps) {
+            match take_bytes(
+                alloc,
+                asked,
+                listing,
+                place,
+                work,
+                &buf[..count],
+                sink,
+                steps,
+            ) {
                 Ok(None) => Piece::Goes(count),
                 Ok(Some(ending)) => Piece::Ends(Ok(ending)),
                 Err(why) => Piece::Ends(Err(why)),

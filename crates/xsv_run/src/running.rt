@@ -1,8 +1,10 @@
 ghost use Rattle.std.specs.Prelude.{◌≡◌, ◌+◌, ◌≤◌, None, Err, IfOk, IfSome};
 ghost use Rattle.item_listing.specs.declared.limits.TheConstants.{MOST_BYTES};
 ghost use Rattle.xsv_io.specs.Causes.{KeepsCount};
+ghost use Rattle.stream_answers.specs.Assessor.{RightAssessor};
 ghost use Rattle.xsv_run.specs.Taking.{TakesAtMost};
-ghost use Rattle.xsv_run.specs.Output.{Answers, BreaksOff, asked, output, refused_words};
+ghost use Rattle.xsv_run.specs.Traces.{trace};
+ghost use Rattle.xsv_run.specs.Output.{Answers, BreaksOff, RefusesWords, asked};
 
 use crate::stream::answer_stream;
 use crate::words::read_words;
@@ -18,7 +20,7 @@ const USAGE: &str =
 
 /// Writes the usage line.
 fn refuse_words<W: Sink>(sink: &mut W) -> Status
-    ensures output { Answers result (W.taken sink.old) (W.taken sink.new) refused_words }
+    ensures output { RefusesWords result (W.taken sink.old) (W.taken sink.new) }
     ensures not_read { result ≡ Status.ReadFault → ⊥ }
     ensures writes { KeepsCount W.faults W.fault_bound sink.old sink.new (result ≡ Status.WriteFault) }
 {
@@ -39,14 +41,14 @@ pub fn run<S: Source, W: Sink, L: Ledger>(
     sink: &mut W,
     steps: &mut Steps<L>,
 ) -> Status
-    // What is written and the status are the definitions' output. Where a read, a write or memory failed,
-    // a front of its text was written.
-    ensures output { IfSome (S.rest source.old) (λ bytes.
-        Answers result (W.taken sink.old) (W.taken sink.new) (output words.now bytes)) }
+    // What is written and the status are an output of the definitions, by whatever assesses documents rightly, and no more steps
+    // are counted than it costs. Where a read, a write or memory failed, a front was written of a text with which such an output begins.
+    ensures output { (p : RightAssessor) → IfSome (S.rest source.old) (λ bytes.
+        Answers p words.now bytes result (trace (W.taken sink.old) steps.old) (trace (W.taken sink.new) steps.new)) }
 
     // Where a read failed, what was written is what the bytes that were taken tell, and they do not end the run.
-    ensures broken { result ≡ Status.ReadFault
-        → BreaksOff words.now (S.rest source.old) (S.rest source.new) (W.taken sink.old) (W.taken sink.new) }
+    ensures broken { (p : RightAssessor) → result ≡ Status.ReadFault
+        → BreaksOff p words.now (S.rest source.old) (S.rest source.new) (W.taken sink.old) (W.taken sink.new) }
 
     // Words are refused only where they ask for nothing. For them nothing is read. Else at most one byte more than the longest
     // stream is taken.
@@ -59,9 +61,8 @@ pub fn run<S: Source, W: Sink, L: Ledger>(
     ensures reads { KeepsCount S.faults S.fault_bound source.old source.new (result ≡ Status.ReadFault) }
     ensures writes { KeepsCount W.faults W.fault_bound sink.old sink.new (result ≡ Status.WriteFault) }
 
-    // Steps never fall, and no more are counted than the output costs, wherever the run broke off.
+    // Steps never fall.
     ensures steps { steps.old ≤ steps.new }
-    ensures cost { IfSome (S.rest source.old) (λ bytes. steps.new ≤ steps.old + (output words.now bytes).cost) }
 {
     match read_words(words) {
         Some(asked) => answer_stream(alloc, asked, source, sink, steps),
@@ -78,19 +79,17 @@ pub fn run_by<S: Source, W: Sink, L: Ledger>(
     sink: &mut W,
     steps: &mut Steps<L>,
 ) -> Status
-    ensures read { IfOk words.entry (λ read. IfSome (S.rest source.old) (λ bytes.
-        Answers result (W.taken sink.old) (W.taken sink.new) (output read.now bytes))) }
-    ensures broken { IfOk words.entry (λ read. result ≡ Status.ReadFault
-        → BreaksOff read.now (S.rest source.old) (S.rest source.new) (W.taken sink.old) (W.taken sink.new)) }
-    ensures cost { IfOk words.entry (λ read. IfSome (S.rest source.old) (λ bytes.
-        steps.new ≤ steps.old + (output read.now bytes).cost)) }
+    ensures read { IfOk words.entry (λ read. (p : RightAssessor) → IfSome (S.rest source.old) (λ bytes.
+        Answers p read.now bytes result (trace (W.taken sink.old) steps.old) (trace (W.taken sink.new) steps.new))) }
+    ensures broken { IfOk words.entry (λ read. (p : RightAssessor) → result ≡ Status.ReadFault
+        → BreaksOff p read.now (S.rest source.old) (S.rest source.new) (W.taken sink.old) (W.taken sink.new)) }
     ensures refused { IfOk words.entry (λ read. result ≡ Status.Words → asked read.now ≡ None) }
     ensures unread { IfOk words.entry (λ read. asked read.now ≡ None → S.rest source.new ≡ S.rest source.old) }
     ensures few { TakesAtMost (MOST_BYTES + 1) (S.rest source.old) (S.rest source.new) }
     ensures memory { words.entry ≡ Err WordsFault.Memory
         → (result ≡ Status.Memory) × (W.taken sink.new ≡ W.taken sink.old) × (S.rest source.new ≡ S.rest source.old) }
     ensures not_text { words.entry ≡ Err WordsFault.NotText
-        → Answers result (W.taken sink.old) (W.taken sink.new) refused_words × (S.rest source.new ≡ S.rest source.old) }
+        → RefusesWords result (W.taken sink.old) (W.taken sink.new) × (S.rest source.new ≡ S.rest source.old) }
     ensures reads { KeepsCount S.faults S.fault_bound source.old source.new (result ≡ Status.ReadFault) }
     ensures writes { KeepsCount W.faults W.fault_bound sink.old sink.new (result ≡ Status.WriteFault) }
     ensures steps { steps.old ≤ steps.new }

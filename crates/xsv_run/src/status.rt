@@ -1,20 +1,21 @@
 ghost use Rattle.std.specs.Prelude.{◌≡◌};
 
-use edit_replies::BreakOff;
-use stream_answers::Ending;
+use stream_answers::{BreakOff, Ending};
 
 /// How a run ended. The last three of its kinds are no answer to the stream.
 #[derive(Clone, Copy, Debug, PartialEq, Eq)]
 pub enum Status {
-    /// The schema is accepted, and the root is valid where a document was asked for.
+    /// The schema set is accepted, and the root is valid where a document was asked for.
     Valid,
     /// The root is invalid, or its validity is not known.
     NotValid,
+    /// The schema set breaks a constraint of the standard.
+    SchemaRefused,
     /// A line of the stream is refused.
     ListingRefused,
     /// A limit is passed.
     Limit,
-    /// The schema or the document is not of the form that is accepted so far.
+    /// A schema names what is not supported, or a schema or the document has what is not accepted so far.
     Unsupported,
     /// The words are none of the program's.
     Words,
@@ -36,6 +37,7 @@ impl Status {
         match self {
             Status::Valid => 0,
             Status::NotValid => 1,
+            Status::SchemaRefused => 2,
             Status::ListingRefused => 3,
             Status::Limit => 4,
             Status::Unsupported => 5,
@@ -53,6 +55,7 @@ impl Status {
         match ended {
             Ok(Ending::Valid) => Status::Valid,
             Ok(Ending::NotValid) => Status::NotValid,
+            Ok(Ending::SchemaRefused) => Status::SchemaRefused,
             Ok(Ending::ListingRefused) => Status::ListingRefused,
             Ok(Ending::Limit) => Status::Limit,
             Ok(Ending::Unsupported) => Status::Unsupported,

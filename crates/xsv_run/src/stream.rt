@@ -1,22 +1,22 @@
-ghost use Rattle.std.specs.Prelude.{◌≡◌, ◌+◌, ◌≤◌, [], IfSome, true};
+ghost use Rattle.std.specs.Prelude.{◌≡◌, ◌≤◌, ◌+◌, Some, [], IfSome, true};
 ghost use Rattle.item_listing.specs.State.{unread};
 ghost use Rattle.item_listing.specs.declared.limits.TheConstants.{MOST_BYTES};
 ghost use Rattle.xsv_io.specs.Causes.{KeepsCount};
-ghost use Rattle.session_model.specs.Counting.{Counts};
-ghost use Rattle.edit_replies.specs.Tells.{IsWriteFault};
-ghost use Rattle.stream_answers.specs.inside.Turning.{IsOpen};
+ghost use Rattle.stream_answers.specs.Tells.{IsWriteFault};
+ghost use Rattle.stream_answers.specs.Assessor.{RightAssessor};
+ghost use Rattle.stream_answers.specs.inside.Turning.{IsOpen, spot_of};
 ghost use Rattle.stream_answers.specs.inside.Turns.{unbegun};
-ghost use Rattle.xsv_run.specs.Output.{Answers, output_of, told_of};
-ghost use Rattle.xsv_run.specs.inside.Progress.{EndsAs, StopsAt, to_tell, trace};
+ghost use Rattle.xsv_run.specs.Traces.{trace};
+ghost use Rattle.xsv_run.specs.Output.{AnswersBy, BreaksOffBy};
+ghost use Rattle.xsv_run.specs.inside.Progress.{EndsAs, to_tell};
 ghost use Rattle.xsv_run.specs.Taking.{TakesAtMost};
 
 use crate::Status;
 use crate::lines::take_lines;
 use crate::piece::{ENOUGH, Piece, take_piece};
-use edit_replies::BreakOff;
 use item_listing::Listing;
 use std::alloc::Global;
-use stream_answers::{Ending, Place, places_answer_sections, write_end};
+use stream_answers::{BreakOff, Ending, Place, Workspace, places_answer_sections, write_end};
 use stream_sections::{Asked, SchemaReader};
 use xsv_io::{Sink, Source};
 use xsv_steps::{Ledger, Steps};
@@ -27,16 +27,17 @@ fn end_stream<W: Sink, L: Ledger>(
     asked: Asked,
     listing: &mut Listing,
     place: &mut Place,
+    work: &mut Workspace,
     sink: &mut W,
     steps: &mut Steps<L>,
 ) -> Result<Ending, BreakOff>
-    requires { IsOpen place.old }
-    ensures answers { EndsAs result (trace (W.taken sink.old) steps.old) (trace (W.taken sink.new) steps.new) (to_tell asked place.old listing.old [] true) }
+    requires { IsOpen place.old work.old }
+    ensures answers { (p : RightAssessor) → EndsAs result (trace (W.taken sink.old) steps.old) (trace (W.taken sink.new) steps.new) (to_tell p asked (spot_of place.old work.old) listing.old [] true) }
     ensures writes { KeepsCount W.faults W.fault_bound sink.old sink.new (IsWriteFault result) }
     ensures steps { steps.old ≤ steps.new }
 {
     listing.finish();
-    match take_lines(alloc, asked, listing, place, sink, steps) {
+    match take_lines(alloc, asked, listing, place, work, sink, steps) {
         Ok(None) => write_end(sink, listing.line_count(), place),
         Ok(Some(ending)) => Ok(ending),
         Err(why) => Err(why),
@@ -50,14 +51,15 @@ fn take_pieces<S: Source, W: Sink, L: Ledger>(
     source: &mut S,
     listing: &mut Listing,
     place: &mut Place,
+    work: &mut Workspace,
     sink: &mut W,
     steps: &mut Steps<L>,
 ) -> Status
     requires unread { listing.old ≡ unread }
-    requires unbegun { place.old ≡ unbegun }
-    ensures output { IfSome (S.rest source.old) (λ bytes. Answers result (W.taken sink.old) (W.taken sink.new) (output_of (told_of asked bytes true))) }
-    ensures cost { IfSome (S.rest source.old) (λ bytes. Counts steps.old steps.new (told_of asked bytes true).cost) }
-    ensures broken { result ≡ Status.ReadFault → StopsAt asked (S.rest source.old) (S.rest source.new) (W.taken sink.old) (W.taken sink.new) }
+    requires unbegun { spot_of place.old work.old ≡ unbegun }
+    requires open { IsOpen place.old work.old }
+    ensures output { (p : RightAssessor) → IfSome (S.rest source.old) (λ bytes. AnswersBy p (Some asked) bytes result (trace (W.taken sink.old) steps.old) (trace (W.taken sink.new) steps.new)) }
+    ensures broken { (p : RightAssessor) → result ≡ Status.ReadFault → BreaksOffBy p (Some asked) (S.rest source.old) (S.rest source.new) (W.taken sink.old) (W.taken sink.new) }
     ensures answered { result ≡ Status.Words → ⊥ }
     ensures few { TakesAtMost (MOST_BYTES + 1) (S.rest source.old) (S.rest source.new) }
     ensures reads { KeepsCount S.faults S.fault_bound source.old source.new (result ≡ Status.ReadFault) }
@@ -69,11 +71,13 @@ fn take_pieces<S: Source, W: Sink, L: Ledger>(
     let mut buf = [0u8; 4096];
     'pieces: loop {
         match take_piece(
-            alloc, asked, source, listing, place, &mut buf, room, sink, steps,
+            alloc, asked, source, listing, place, work, &mut buf, room, sink, steps,
         ) {
             Piece::Goes(count) => room -= count,
             Piece::AtEnd => {
-                return Status::of_stream(end_stream(alloc, asked, listing, place, sink, steps));
+                return Status::of_stream(end_stream(
+                    alloc, asked, listing, place, work, sink, steps,
+                ));
             }
             Piece::Failed => return Status::ReadFault,
             Piece::Ends(ended) => return Status::of_stream(ended),
@@ -89,9 +93,8 @@ pub fn answer_stream<S: Source, W: Sink, L: Ledger>(
     sink: &mut W,
     steps: &mut Steps<L>,
 ) -> Status
-    ensures output { IfSome (S.rest source.old) (λ bytes. Answers result (W.taken sink.old) (W.taken sink.new) (output_of (told_of asked bytes true))) }
-    ensures cost { IfSome (S.rest source.old) (λ bytes. Counts steps.old steps.new (told_of asked bytes true).cost) }
-    ensures broken { result ≡ Status.ReadFault → StopsAt asked (S.rest source.old) (S.rest source.new) (W.taken sink.old) (W.taken sink.new) }
+    ensures output { (p : RightAssessor) → IfSome (S.rest source.old) (λ bytes. AnswersBy p (Some asked) bytes result (trace (W.taken sink.old) steps.old) (trace (W.taken sink.new) steps.new)) }
+    ensures broken { (p : RightAssessor) → result ≡ Status.ReadFault → BreaksOffBy p (Some asked) (S.rest source.old) (S.rest source.new) (W.taken sink.old) (W.taken sink.new) }
     ensures answered { result ≡ Status.Words → ⊥ }
     ensures few { TakesAtMost (MOST_BYTES + 1) (S.rest source.old) (S.rest source.new) }
     ensures reads { KeepsCount S.faults S.fault_bound source.old source.new (result ≡ Status.ReadFault) }
@@ -101,5 +104,17 @@ pub fn answer_stream<S: Source, W: Sink, L: Ledger>(
     // They are held here, where there is one way out, and the loop only changes them.
     let mut listing = Listing::new(alloc);
     let mut place = Place::Schemas(SchemaReader::new(alloc));
-    take_pieces(alloc, asked, source, &mut listing, &mut place, sink, steps)
+    let mut work = Workspace::new();
+    let status = take_pieces(
+        alloc,
+        asked,
+        source,
+        &mut listing,
+        &mut place,
+        &mut work,
+        sink,
+        steps,
+    );
+    work.close();
+    status
 }

@@ -4,8 +4,8 @@ use Rattle.xs_codes.specs.declared.fault.Fault.{Fault}
 use Rattle.xs_components.specs.Tables.{Tables}
 use Rattle.xs_names.specs.Names.{NameTable}
 use Rattle.simple_types.specs.declared.types.SimpleTypes.{SimpleTypes}
-use Rattle.schema_shape.specs.declared.forms.ShapedSchema.{ShapedSchema}
-use Rattle.schema_set.specs.declared.documents.Available.{Available}
+use Rattle.set_types.specs.ShapedSchema.{ShapedSchema}
+use Rattle.schema_build.specs.Available.{Available}
 use Rattle.schema_check.specs.declared.documents.CompiledSet.{CompiledSet}
 use Rattle.schema_check.specs.declared.documents.Refusal.{Refusal}
 use Rattle.schema_check.specs.declared.documents.Refusal.TheVariants.{Broken, Composed}

@@ -1,13 +1,18 @@
--- What an item does where a stream stands at a place, and what is written for all that come.
-use Rattle.std.specs.Prelude.{ℕ, ◌+◌, [], Option, Some, None, if◌then◌else◌}
+-- What an item does where a stream stands, and what is told of all that come.
+use Rattle.std.specs.Prelude.{◌≡◌, ◌⊎◌, ℕ, ◌+◌, List, [], Option, Some, None, if◌then◌else◌}
 use Rattle.item_listing.specs.Listed as listed
 use Rattle.item_listing.specs.declared.item.Item.{Item}
 use Rattle.tree_rows.specs.Forest.{Document}
 use Rattle.tree_rows.specs.Rows.{rows_of}
-use Rattle.assess_model.specs.Tables.{Tables}
+use Rattle.open_document.specs.Assessor.{RightAssessor}
+use Rattle.open_document.specs.Compiled.{Compiled}
+use Rattle.open_document.specs.SchemaInput.{SchemaInput}
+use Rattle.open_document.specs.Outcomes.{IsOutcome}
+use Rattle.open_document.specs.Outcome.{Outcome}
+use Rattle.open_document.specs.Outcome.TheVariants as outcomes
 use Rattle.open_document.specs.State.{OpenState}
-use Rattle.open_document.specs.Answers.{Answer, answered, opened, verdict}
-use Rattle.open_document.specs.declared.document.Verdict.{Verdict}
+use Rattle.open_document.specs.Answers.{opened, next_of, verdict}
+use Rattle.open_document.specs.declared.verdict.Verdict.{Verdict}
 use Rattle.stream_sections.specs.Sections as sections
 use Rattle.stream_sections.specs.inside.CommandTurns as command_turns
 use Rattle.stream_sections.specs.inside.DocumentTurns as document_turns
@@ -16,113 +21,119 @@ use Rattle.stream_sections.specs.declared.asked.Asked.{Asked}
 use Rattle.stream_sections.specs.declared.asked.Asked.TheVariants.{Check, Assess, Session}
 use Rattle.stream_sections.specs.declared.commands.CommandReader.{CommandReader}
 use Rattle.stream_sections.specs.declared.document.DocumentReader.{DocumentReader}
-use Rattle.stream_answers.specs.Output.{Said, free, Told, before, over, stop_told, ending_of, end_line, said_by, opening, has_attributes, unsupported, schema_ok, first_tables}
-use Rattle.stream_answers.specs.declared.ending.Ending.TheVariants.{Valid, Unsupported}
-use Rattle.stream_answers.specs.declared.place.Place.{Place}
-use Rattle.stream_answers.specs.declared.place.Place.TheVariants as places
+use Rattle.stream_sections.specs.declared.schemas.SchemaReader.{SchemaReader}
+use Rattle.stream_answers.specs.Faults.{fault_line, fault_ending}
+use Rattle.stream_answers.specs.Output.{Said, free, Last, Told, over, asks, before, ends, stop_last, stop_told, verdict_last, answered, opening, has_attributes, not_yet, schema_ok, inputs}
+use Rattle.stream_answers.specs.declared.ending.Ending.TheVariants.{Valid}
 
--- something is written, and the stream stands elsewhere; or all is told
+-- Where a stream stands between two lines: among the schema sections; in the document section, by a schema set that was accepted; among the
+-- commands, with the document that they edit; or behind the word `end`, with the verdict on the document where one was asked for.
+pub data Spot : Type 0 where
+  schemas : (reader : SchemaReader) → Spot
+  document : (set : Compiled) (reader : DocumentReader) → Spot
+  commands : (opened : OpenState) (reader : CommandReader) → Spot
+  ended : (verdict : Option Verdict) → Spot
+
+-- Something is written, and the stream stands elsewhere; or it has ended; or what is done follows what the schema documents come to.
 pub data Turned : Type 0 where
-  goes : (said : Said) (next : Place) → Turned
-  ends : (last : Told) → Turned
+  goes : (said : Said) (next : Spot) → Turned
+  stops : (last : Last) → Turned
+  compiles : (documents : List SchemaInput) (next : Outcome → Turned) → Turned
+
+-- what is done comes to this, where what it asks is answered
+abbrev pub LeadsTo : Turned → Turned → Type 0
+LeadsTo (goes said next) t = t ≡ goes said next
+LeadsTo (stops last) t = t ≡ stops last
+LeadsTo (compiles documents next) t = (t ≡ compiles documents next) ⊎ ((o : Outcome) × IsOutcome documents o × LeadsTo (next o) t)
 
 abbrev pub silent : Said
 silent = free []
 
--- not of the form that is accepted so far
-abbrev pub not_yet : Turned
-not_yet = ends (over unsupported Unsupported)
-
-abbrev pub unbegun : Place
-unbegun = places.Schemas schema_turns.unbegun
+abbrev pub unbegun : Spot
+unbegun = schemas schema_turns.unbegun
 
 -- no command has opened a block
 abbrev pub no_block : CommandReader
 no_block = command_turns.unbegun
 
-abbrev pub document_place : Tables → DocumentReader → Place
-document_place t r = places.Document (record { schema = t; reader = r })
-
-abbrev pub commands_place : OpenState → CommandReader → Place
-commands_place s r = places.Commands (record { document = s; reader = r })
-
--- the stream has ended with this document
-abbrev pub document_ended : OpenState → Place
-document_ended s = places.Ended (Some (verdict s))
-
 -- where a stream stands whose schema was accepted at the line of this number
-abbrev pub place_behind : Asked → ℕ → Tables → Place
-place_behind Check line t = places.Ended None
-place_behind Assess line t = document_place t (document_turns.unbegun line)
-place_behind Session line t = document_place t (document_turns.unbegun line)
+abbrev pub spot_behind : Asked → ℕ → Compiled → Spot
+spot_behind Check line set = ended None
+spot_behind Assess line set = document set (document_turns.unbegun line)
+spot_behind Session line set = document set (document_turns.unbegun line)
 
-abbrev pub compiled : Option Tables → (Tables → Place) → Turned
-compiled None place = not_yet
-compiled (Some t) place = goes (free schema_ok) (place t)
+abbrev pub compiled : (Compiled → Spot) → Outcome → Turned
+compiled behind (outcomes.Accepted set) = goes (free schema_ok) (behind set)
+compiled behind (outcomes.Broken fault) = stops (ends (fault_line fault) (fault_ending fault))
+compiled behind outcomes.NotYet = stops not_yet
 
 -- an item among the schema sections
 abbrev pub schemas_turned : Asked → ℕ → schema_turns.Turned → Turned
-schemas_turned a line (schema_turns.goes next) = goes silent (places.Schemas next)
-schemas_turned a line (schema_turns.ends all) = compiled (first_tables all) (place_behind a line)
-schemas_turned a line (schema_turns.stops stop) = ends (stop_told stop)
+schemas_turned a line (schema_turns.goes next) = goes silent (schemas next)
+schemas_turned a line (schema_turns.ends all) = compiles (inputs all) (compiled (spot_behind a line))
+schemas_turned a line (schema_turns.stops stop) = stops (stop_last stop)
 
 abbrev pub accepted : Document → Turned → Turned
-accepted d next = if has_attributes (rows_of 1 d.forest) then not_yet else next
+accepted d next = if has_attributes (rows_of 1 d.forest) then stops not_yet else next
 
--- the document is whole, and commands follow
-abbrev pub edits_begun : Asked → Tables → Document → Turned
-edits_begun a t d = accepted d (goes (free (opening a (opened t d))) (commands_place (opened t d) no_block))
+-- the line `end` came
+abbrev pub end_last : Option Verdict → Last
+end_last None = ends [] Valid
+end_last (Some v) = verdict_last v
 
--- the document is whole, and the stream has ended
-abbrev pub document_over : Asked → Tables → Document → Turned
-document_over a t d = accepted d (goes (free (opening a (opened t d))) (document_ended (opened t d)))
+-- the source has ended behind so many lines: behind the word `end`, or before it came
+abbrev pub finished : ℕ → Spot → Last
+finished lines (schemas r) = stop_last (sections.no_end lines)
+finished lines (document set r) = stop_last (sections.no_end lines)
+finished lines (commands s r) = stop_last (sections.no_end lines)
+finished lines (ended verdict) = end_last verdict
 
--- an item in the document section
-abbrev pub document_turned : Asked → Tables → document_turns.Turned → Turned
-document_turned a t (document_turns.goes next) = goes silent (document_place t next)
-document_turned a t (document_turns.edits d) = edits_begun a t d
-document_turned a t (document_turns.ends d) = document_over a t d
-document_turned a t (document_turns.stops stop) = ends (stop_told stop)
-
-abbrev pub answered_by : Answer → Turned
-answered_by a = goes (said_by a) (commands_place a.next no_block)
-
--- an item among the commands
-abbrev pub commands_turned : OpenState → command_turns.Turned → Turned
-commands_turned s (command_turns.goes next) = goes silent (commands_place s next)
-commands_turned s (command_turns.gives line block) = answered_by (answered s line block)
-commands_turned s command_turns.ends = goes silent (document_ended s)
-commands_turned s (command_turns.stops stop) = ends (stop_told stop)
+abbrev pub turn_then : Turned → (Spot → Told) → Told
+turn_then (goes said next) more = before said (more next)
+turn_then (stops last) more = over last
+turn_then (compiles documents next) more = asks documents (λ o. turn_then (next o) more)
 
 abbrev pub command_at : ℕ → CommandReader → Item → command_turns.Turned
 command_at line r it = command_turns.turned line r it
 
--- the item of the line of this number
-abbrev pub turned : Asked → ℕ → Place → Item → Turned
-turned a line (places.Schemas r) it = schemas_turned a line (schema_turns.turned a line r it)
-turned a line (places.Document p) it = document_turned a p.schema (document_turns.turned a line p.reader it)
-turned a line (places.Commands p) it = commands_turned p.document (command_at line p.reader it)
-turned a line (places.Ended verdict) it = ends (stop_told (sections.misplaced line))
+-- by what assesses documents
+module _ (p : RightAssessor) where
+  -- the stream has ended with this document
+  abbrev pub document_ended : OpenState → Spot
+  document_ended s = ended (Some (verdict p s))
 
--- the line `end` came
-abbrev pub last_told : Option Verdict → Told
-last_told None = over [] Valid
-last_told (Some v) = over (end_line v) (ending_of v.validity)
+  -- the document is whole, and commands follow
+  abbrev pub edits_begun : Asked → Compiled → Document → Turned
+  edits_begun a set d = accepted d (goes (free (opening p a (opened set d))) (commands (opened set d) no_block))
 
--- the source has ended behind so many lines: behind the word `end`, or before it came
-abbrev pub finished : ℕ → Place → Told
-finished lines (places.Schemas r) = stop_told (sections.no_end lines)
-finished lines (places.Document p) = stop_told (sections.no_end lines)
-finished lines (places.Commands p) = stop_told (sections.no_end lines)
-finished lines (places.Ended verdict) = last_told verdict
+  -- the document is whole, and the stream has ended
+  abbrev pub document_over : Asked → Compiled → Document → Turned
+  document_over a set d = accepted d (goes (free (opening p a (opened set d))) (document_ended (opened set d)))
 
-abbrev pub turn_then : Turned → (Place → Told) → Told
-turn_then (goes said next) more = before said (more next)
-turn_then (ends last) more = last
+  -- an item in the document section
+  abbrev pub document_turned : Asked → Compiled → document_turns.Turned → Turned
+  document_turned a set (document_turns.goes next) = goes silent (document set next)
+  document_turned a set (document_turns.edits d) = edits_begun a set d
+  document_turned a set (document_turns.ends d) = document_over a set d
+  document_turned a set (document_turns.stops stop) = stops (stop_last stop)
 
--- the items that come, where so many lines were read and the stream stands here
-abbrev pub told : Asked → ℕ → Place → listed.Listed → Told
-told a lines place (listed.gives it more) = turn_then (turned a (lines + 1) place it) (λ next. told a (lines + 1) next more)
-told a lines place (listed.refused fault) = stop_told (sections.bad_line fault)
-told a lines place listed.goes_on = stop_told sections.goes_on
-told a lines place listed.done = finished lines place
+  -- an item among the commands
+  abbrev pub commands_turned : OpenState → command_turns.Turned → Turned
+  commands_turned s (command_turns.goes next) = goes silent (commands s next)
+  commands_turned s (command_turns.gives line block) = goes (answered p s line block) (commands (next_of s line block) no_block)
+  commands_turned s command_turns.ends = goes silent (document_ended s)
+  commands_turned s (command_turns.stops stop) = stops (stop_last stop)
+
+  -- the item of the line of this number
+  abbrev pub turned : Asked → ℕ → Spot → Item → Turned
+  turned a line (schemas r) it = schemas_turned a line (schema_turns.turned a line r it)
+  turned a line (document set r) it = document_turned a set (document_turns.turned a line r it)
+  turned a line (commands s r) it = commands_turned s (command_at line r it)
+  turned a line (ended verdict) it = stops (stop_last (sections.misplaced line))
+
+  -- the items that come, where so many lines were read and the stream stands here
+  abbrev pub told : Asked → ℕ → Spot → listed.Listed → Told
+  told a lines spot (listed.gives it more) = turn_then (turned a (lines + 1) spot it) (λ next. told a (lines + 1) next more)
+  told a lines spot (listed.refused fault) = stop_told (sections.bad_line fault)
+  told a lines spot listed.goes_on = stop_told sections.goes_on
+  told a lines spot listed.done = over (finished lines spot)

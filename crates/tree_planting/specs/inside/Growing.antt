@@ -18,23 +18,14 @@ use Rattle.node_links.specs.declared.content.Element.{Element}
 use Rattle.node_links.specs.Nodes.{Node, Nodes, node, IsNode, Inserts, IsSound}
 use Rattle.tree_changes.specs.Stands.{firsts, StandFor}
 use Rattle.tree_planting.specs.Named.{IsCalled}
-use Rattle.tree_planting.specs.declared.planting.Numbering.{Numbering}
-use Rattle.tree_planting.specs.declared.planting.Numbering.TheVariants as numbers
 
--- the nodes under the numbers that they get
-abbrev pub numbered_by : Numbering → Forest → Forest
-numbered_by numbers.Own f = f
-numbered_by (numbers.From free) f = renumbered free f
+-- the nodes under the numbers from this one on
+abbrev pub numbered_by : ℕ → Forest → Forest
+numbered_by first f = renumbered first f
 
--- the number of the node that comes next, whose own number this is
-abbrev pub number_by : Numbering → ℕ → ℕ
-number_by numbers.Own own = own
-number_by (numbers.From free) own = free
-
--- the numbers behind so many nodes
-abbrev pub behind : Numbering → ℕ → Numbering
-behind numbers.Own more = numbers.Own
-behind (numbers.From free) more = numbers.From (free + more)
+-- the number behind so many nodes
+abbrev pub behind : ℕ → ℕ → ℕ
+behind first more = first + more
 
 -- a node of a row with what is below it, and nothing beside it
 abbrev pub one_of : Row → Forest → Forest

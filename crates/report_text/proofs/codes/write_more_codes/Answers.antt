@@ -1,6 +1,5 @@
 use Rattle.std.specs.Prelude.{codes}
-use Rattle.std.proofs.Common.{[], ◌∷◌, ◌++◌, sym, ap, ◌∙◌, subst, arith, append_assoc}
-use Rattle.text_sink.specs.Written.{Written}
+use Rattle.std.proofs.Common.{[], ◌∷◌, ◌++◌, ap, ◌∙◌, subst, arith, append_assoc}
 use Rattle.text_sink.proofs.Failing.{failed, rose-later}
 use Rattle.text_sink.proofs.Sequence.{IsBegun, then_more, then_front, written_then}
 use Rattle.report_text.specs.Words as words
@@ -12,11 +11,11 @@ returns-in_err-write_next_code g c =
     let w = c.in_err-write_next_code.ensures.written in
     let before = c.codes.invariant in
     let begun = subst (λ l. IsBegun (g.W.Sink.taken c.args.sink.now) (g.W.Sink.taken c.codes.sink) l (words.more_codes c.args.more.now ++ 10 ∷ []))
-    (ap (λ l. words.more_codes l ++ 10 ∷ []) c.in-Some.ensures.cases.0 ∙ append_assoc (codes "," ++ words.code_text c.in-Some.code.now) (words.more_codes c.in-Some.later.now) (10 ∷ [])) before.begun in
+    (ap (λ l. words.more_codes l ++ 10 ∷ []) c.in-Some.ensures.cases.0 ∙ append_assoc (codes "," ++ words.code_text c.in-Some.found.now) (words.more_codes c.in-Some.later.now) (10 ∷ [])) before.begun in
     record {
       written = failed g.W.Sink.taken g.W.Sink.faults g.W.Sink.fault_bound c.args.sink.now c.write_next_code.new.sink c.from_residual.result _
           c.from_residual.ensures.0
-          (then_front _ _ _ (codes "," ++ words.code_text c.in-Some.code.now) (words.more_codes c.in-Some.later.now ++ 10 ∷ []) _ begun w.front)
+          (then_front _ _ _ (codes "," ++ words.code_text c.in-Some.found.now) (words.more_codes c.in-Some.later.now ++ 10 ∷ []) _ begun w.front)
           (omega (arith, before.later, w.cause.later))
           (rose-later before.later w.cause.failed)
           (w.kept ∙ before.kept);
@@ -27,9 +26,9 @@ codes-preserved g c =
     let w = c.in_ok-write_next_code.ensures.written in
     let before = c.codes.invariant in
     let begun = subst (λ l. IsBegun (g.W.Sink.taken c.args.sink.now) (g.W.Sink.taken c.codes.sink) l (words.more_codes c.args.more.now ++ 10 ∷ []))
-    (ap (λ l. words.more_codes l ++ 10 ∷ []) c.in-Some.ensures.cases.0 ∙ append_assoc (codes "," ++ words.code_text c.in-Some.code.now) (words.more_codes c.in-Some.later.now) (10 ∷ [])) before.begun in
+    (ap (λ l. words.more_codes l ++ 10 ∷ []) c.in-Some.ensures.cases.0 ∙ append_assoc (codes "," ++ words.code_text c.in-Some.found.now) (words.more_codes c.in-Some.later.now) (10 ∷ [])) before.begun in
     record {
-      begun = then_more _ _ _ (codes "," ++ words.code_text c.in-Some.code.now) (words.more_codes c.in-Some.later.now ++ 10 ∷ []) _ begun w.all;
+      begun = then_more _ _ _ (codes "," ++ words.code_text c.in-Some.found.now) (words.more_codes c.in-Some.later.now ++ 10 ∷ []) _ begun w.all;
       later = omega (arith, before.later, w.cause.later);
       kept = w.kept ∙ before.kept;
     }

@@ -5,7 +5,7 @@ use Rattle.report_text.proofs.codes.write_next_code.Goals as goal
 
 pub returns-in_err-write_text : goal.returns-in_err-write_text
 returns-in_err-write_text g c = record {
-  written = written_short g.W.Sink.taken g.W.Sink.faults g.W.Sink.fault_bound c.args.sink.now c.write_text.new.sink _ c.from_residual.result _ (words.code_text c.args.code) _ refl
+  written = written_short g.W.Sink.taken g.W.Sink.faults g.W.Sink.fault_bound c.args.sink.now c.write_text.new.sink _ c.from_residual.result _ (words.code_text c.args.found) _ refl
       c.from_residual.ensures.0 c.in_err-write_text.ensures.written;
 }
 

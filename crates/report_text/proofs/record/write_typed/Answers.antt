@@ -1,16 +1,17 @@
-use Rattle.std.proofs.Common.{refl}
-use Rattle.report_text.proofs.Lines.{known_line, typed_line, whole_line}
+use Rattle.std.specs.Prelude.{codes}
+use Rattle.std.proofs.Common.{◌++◌, sym, append_assoc}
+use Rattle.report_text.specs.Words.{name_text, type_text}
 use Rattle.text_sink.proofs.Sequence.{written_then, written_short}
 use Rattle.report_text.proofs.record.write_typed.Goals as goal
 
-pub returns-in_err-write_type : goal.returns-in_err-write_type
-returns-in_err-write_type g c = record {
-  written = written_short g.W.Sink.taken g.W.Sink.faults g.W.Sink.fault_bound c.args.sink.now c.write_type.new.sink _ c.from_residual.result _ _ _ (typed_line _ _ _ _)
-      c.from_residual.ensures.0 c.in_err-write_type.ensures.written;
+pub returns-in_err-write_name : goal.returns-in_err-write_name
+returns-in_err-write_name g c = record {
+  written = written_short g.W.Sink.taken g.W.Sink.faults g.W.Sink.fault_bound c.args.sink.now c.write_name.new.sink _ c.from_residual.result _ (codes " " ++ type_text c.args.names.now c.args.parts.now c.args.of) _ (sym (append_assoc (name_text c.args.names.now c.args.name) (codes " ") (type_text c.args.names.now c.args.parts.now c.args.of)))
+      c.from_residual.ensures.0 c.in_err-write_name.ensures.written;
 }
 
 pub returns : goal.returns
 returns g c = record {
-  written = written_then g.W.Sink.taken g.W.Sink.faults g.W.Sink.fault_bound c.args.sink.now c.write_type.new.sink c.write_known.new.sink c.write_known.result _ _ _ (typed_line _ _ _ _)
-      c.in_ok-write_type.ensures.written.all c.in_ok-write_type.ensures.written.cause.later c.in_ok-write_type.ensures.written.kept c.write_known.ensures.written;
+  written = written_then g.W.Sink.taken g.W.Sink.faults g.W.Sink.fault_bound c.args.sink.now c.write_name.new.sink c.write_spaced_type.new.sink c.write_spaced_type.result _ _ _ (sym (append_assoc (name_text c.args.names.now c.args.name) (codes " ") (type_text c.args.names.now c.args.parts.now c.args.of)))
+      c.in_ok-write_name.ensures.written.all c.in_ok-write_name.ensures.written.cause.later c.in_ok-write_name.ensures.written.kept c.write_spaced_type.ensures.written;
 }

@@ -1,5 +1,5 @@
 use Rattle.std.proofs.Common.{List, ap, ◌∙◌}
-use Rattle.schema_set.specs.declared.documents.SetDocument.{SetDocument}
+use Rattle.document_representations.specs.SetDocument.{SetDocument}
 use Rattle.document_representations.specs.Documents.{origins, representations, scopes}
 use Rattle.schema_build.proofs.MadeLaws.{made-same}
 use Rattle.schema_build.proofs.building.build.Goals as goal

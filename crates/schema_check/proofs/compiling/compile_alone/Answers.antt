@@ -1,6 +1,6 @@
 use Rattle.std.proofs.Common.{List, ◌∙◌, subst}
-use Rattle.schema_set.specs.declared.documents.Available.{Available}
-use Rattle.schema_set.specs.EffectiveSet.{IsEffectiveSet}
+use Rattle.schema_build.specs.Available.{Available}
+use Rattle.schema_build.specs.EffectiveSet.{IsEffectiveSet}
 use Rattle.schema_check.proofs.SetLaws.{alone-compiled}
 use Rattle.schema_check.proofs.CompilationLaws.{one-available, alone-available}
 use Rattle.schema_check.proofs.compiling.compile_alone.Goals as goal

@@ -1,5 +1,5 @@
 use Rattle.std.proofs.Common.{◌≡◌, false, List, Result, ap, sym, subst, ◌∙◌}
-use Rattle.schema_shape.specs.declared.forms.Shape.{Shape}
+use Rattle.set_types.specs.Shape.{Shape}
 use Rattle.schema_check.specs.declared.documents.CompiledSet.{CompiledSet}
 use Rattle.schema_check.specs.declared.documents.Refusal.{Refusal}
 use Rattle.schema_check.specs.Compilation.{composes}

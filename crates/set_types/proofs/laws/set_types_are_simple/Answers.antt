@@ -1,6 +1,6 @@
 use Rattle.type_derives.specs.Within.{AreSimple}
 use Rattle.document_representations.specs.Documents.{representations}
-use Rattle.resolved_components.specs.Simple.{AreTypesSimple}
+use Rattle.set_types.specs.Simple.{AreTypesSimple}
 use Rattle.set_types.proofs.TypeLaws.{documents-of, of-set, still-simple}
 use Rattle.set_types.proofs.laws.set_types_are_simple.Goals as goal
 

@@ -1,6 +1,5 @@
 use Rattle.std.proofs.Common.{◌≡◌, ℕ, ◌≤◌, length, sym, ap, ◌∙◌, subst, arith}
 use Rattle.node_links.specs.Nodes.{node, IsSound}
-use Rattle.tree_planting.specs.declared.planting.Numbering.TheVariants as numbers
 use Rattle.tree_planting.specs.inside.Growing.{numbered_by, before, one_of, CanPlant, Planted}
 use Rattle.tree_planting.proofs.Placing.{can_grown, within_grown, grown, on_err}
 use Rattle.tree_planting.proofs.parts.grow.Goals as goal
@@ -11,7 +10,7 @@ give_numbers-requires c = let n = c.requires.can.numbers in omega (arith, n)
 pub put_one-requires-clause-can : goal.put_one-requires-clause-can
 put_one-requires-clause-can c =
     let g = c.in_ok-give_numbers.ensures in let f = one_of c.args.row.now c.args.children in
-    subst (λ k. CanPlant c.give_numbers.new.links c.args.spot.parent (numbered_by (numbers.From k) f)) (sym c.next_free.ensures.next)
+    subst (λ k. CanPlant c.give_numbers.new.links c.args.spot.parent (numbered_by k f)) (sym c.next_free-first.ensures.next)
     (can_grown c.args.links.now c.give_numbers.new.links c.args.spot.parent c.args.spot.place c.args.until f c.requires.can g.nodes g.size g.sound)
 
 pub put_one-requires-clause-within : goal.put_one-requires-clause-within
@@ -33,7 +32,7 @@ pub returns-clause-plants : goal.returns-clause-plants
 returns-clause-plants c =
     let g = c.in_ok-give_numbers.ensures in let f = one_of c.args.row.now c.args.children in
     grown c.args.links.now c.give_numbers.new.links c.args.spot.parent c.args.spot.place c.args.until f c.requires.can g.nodes g.size g.sound c.put_one.new.names c.put_one.new.links
-    (subst (λ k. Planted c.put_one.new.names c.give_numbers.new.links c.put_one.new.links c.args.spot.parent (before c.args.spot.place) (numbered_by (numbers.From k) f)) c.next_free.ensures.next c.in_ok-put_one.ensures.planted)
+    (subst (λ k. Planted c.put_one.new.names c.give_numbers.new.links c.put_one.new.links c.args.spot.parent (before c.args.spot.place) (numbered_by k f)) c.next_free-first.ensures.next c.in_ok-put_one.ensures.planted)
 
 pub returns-clause-more : goal.returns-clause-more
 returns-clause-more c = let a = c.in_ok-put_one.ensures.planted.size in let b = c.in_ok-give_numbers.ensures.more in omega (arith, a, b)

@@ -1,39 +1,42 @@
-use Rattle.std.proofs.Common.{◌≤◌, true, arith, refl, ◌∙◌}
-use Rattle.xsv_run.specs.Output.{told_of}
-use Rattle.xsv_run.specs.inside.Progress.{trace}
-use Rattle.xsv_run.proofs.Telling.{answers_by, counted_by, not_words, not_read, write_failed, rose_later}
-use Rattle.xsv_run.proofs.Streams.{stands_first, unread_waits, stands_further, room_further, output_ends, few_ends, output_last, few_last, output_broken, answers_broken, counts_broken}
+use Rattle.std.proofs.Common.{◌≤◌, true, arith, refl, sym, subst, ◌∙◌}
+use Rattle.item_listing.specs.State.{Reading}
+use Rattle.item_listing.specs.Listed.{Waits}
+use Rattle.stream_answers.specs.inside.Turning.{spot_of}
+use Rattle.xsv_run.specs.Traces.{trace}
+use Rattle.xsv_run.proofs.Telling.{answers_by, answers_broken, not_words, not_read, write_failed, rose_later}
+use Rattle.xsv_run.proofs.Streams.{stands_first, unread_waits, stands_further, room_further, output_ends, few_ends, output_last, few_last, output_broken, stops_broken, few_failed}
 use Rattle.xsv_run.proofs.stream.take_pieces.Goals as goal
 
 pub pieces-init : goal.pieces-init
-pieces-init g c = rw (c.requires.unread, c.requires.unbegun) (record {
-  stands = stands_first c.places_answer_sections.ensures.sectioned c.args.asked _ _;
-  is_open = tt;
-  waits = unread_waits;
-  going = refl;
-  room = refl;
+pieces-init g c = record {
+  stands = stands_first c.places_answer_sections.ensures.sectioned c.args.asked _ _ _ _ c.requires.unbegun c.requires.unread;
+  is_open = c.requires.open;
+  waits = subst Waits (sym c.requires.unread) unread_waits;
+  going = rw c.requires.unread refl;
+  room = rw c.requires.unread refl;
   some = omega arith;
   reads = omega arith;
   writes = omega arith;
   read_bound = refl;
   write_bound = refl;
   steps = omega arith;
-})
+}
 
 pub pieces-preserved : goal.pieces-preserved
 pieces-preserved g c =
     let old = c.pieces.invariant in
     let two = c.in-Goes.ensures.takes in
+    let here = spot_of c.pieces.place c.pieces.work in
     let room = room_further c.args.asked (g.S.Source.rest c.args.source.now) (g.S.Source.rest c.pieces.source) (g.S.Source.rest c.take_piece.new.source)
     (trace (g.W.Sink.taken c.args.sink.now) c.args.steps.now) (trace (g.W.Sink.taken c.pieces.sink) c.pieces.steps) (trace (g.W.Sink.taken c.take_piece.new.sink) c.take_piece.new.steps)
-    c.pieces.place c.pieces.listing c.take_piece.new.place c.take_piece.new.listing c.in-Goes.count c.pieces.room two old.room in
+    here c.pieces.listing c.take_piece.new.place c.take_piece.new.work c.take_piece.new.listing c.in-Goes.count c.pieces.room two old.room in
     record {
       stands = stands_further c.args.asked (g.S.Source.rest c.args.source.now) (g.S.Source.rest c.pieces.source) (g.S.Source.rest c.take_piece.new.source)
           (trace (g.W.Sink.taken c.args.sink.now) c.args.steps.now) (trace (g.W.Sink.taken c.pieces.sink) c.pieces.steps) (trace (g.W.Sink.taken c.take_piece.new.sink) c.take_piece.new.steps)
-          c.pieces.place c.pieces.listing c.take_piece.new.place c.take_piece.new.listing c.in-Goes.count old.stands two;
-      is_open = two.feeds.is_open;
-      waits = two.feeds.waits;
-      going = two.feeds.going;
+          here c.pieces.listing c.take_piece.new.place c.take_piece.new.work c.take_piece.new.listing c.in-Goes.count old.stands two;
+      is_open = c.in-Goes.ensures.stays;
+      waits = two.pauses.pauses.waits;
+      going = two.pauses.going;
       room = room.0;
       some = room.1;
       reads = omega (arith, old.reads, c.take_piece.ensures.reads.later);
@@ -44,15 +47,15 @@ pieces-preserved g c =
     }
 
 pub returns-in-Ends-clause-output : goal.returns-in-Ends-clause-output
-returns-in-Ends-clause-output g c =
-    answers_by _ c.in-Ends.ended _ _ (λ whole. told_of c.args.asked whole true) c.of_stream-in-Ends.result c.of_stream-in-Ends.ensures
-    (output_ends _ _ _ _ _ _ _ _ _ c.in-Ends.ended c.pieces.invariant.stands c.in-Ends.ensures.takes)
+returns-in-Ends-clause-output g c = λ p.
+    answers_by p c.args.asked _ c.in-Ends.ended _ _ c.of_stream-in-Ends.result c.of_stream-in-Ends.ensures
+    (output_ends _ _ _ _ _ _ _ _ _ p c.in-Ends.ended c.pieces.invariant.stands c.in-Ends.ensures.takes)
 
 pub returns-in-Ends-clause-few : goal.returns-in-Ends-clause-few
 returns-in-Ends-clause-few g c = few_ends _ _ _ _ _ _ _ _ _ c.in-Ends.ended c.pieces.invariant.stands c.in-Ends.ensures.takes
 
 pub returns-in-Ends-clause-broken : goal.returns-in-Ends-clause-broken
-returns-in-Ends-clause-broken g c = λ is. absurd (not_read c.in-Ends.ended c.of_stream-in-Ends.result c.of_stream-in-Ends.ensures is)
+returns-in-Ends-clause-broken g c = λ p is. absurd (not_read c.in-Ends.ended c.of_stream-in-Ends.result c.of_stream-in-Ends.ensures is)
 
 pub returns-in-Ends-clause-answered : goal.returns-in-Ends-clause-answered
 returns-in-Ends-clause-answered g c = not_words c.in-Ends.ended c.of_stream-in-Ends.result c.of_stream-in-Ends.ensures
@@ -72,16 +75,16 @@ returns-in-Ends-clause-writes g c = record {
 }
 
 pub returns-in-AtEnd-clause-output : goal.returns-in-AtEnd-clause-output
-returns-in-AtEnd-clause-output g c =
-    answers_by _ c.end_stream.result _ _ (λ whole. told_of c.args.asked whole true) c.of_stream.result c.of_stream.ensures
-    (output_last _ _ _ _ _ _ _ _ _ _ _ _ c.pieces.invariant.stands c.in-AtEnd.ensures.takes c.end_stream.result c.end_stream.ensures.answers)
+returns-in-AtEnd-clause-output g c = λ p.
+    answers_by p c.args.asked _ c.end_stream.result _ _ c.of_stream.result c.of_stream.ensures
+    (output_last _ _ _ _ _ _ _ _ _ _ _ _ c.pieces.invariant.stands c.in-AtEnd.ensures.takes p c.end_stream.result (c.end_stream.ensures.answers p))
 
 pub returns-in-AtEnd-clause-few : goal.returns-in-AtEnd-clause-few
 returns-in-AtEnd-clause-few g c =
     few_last c.args.asked _ _ _ _ _ _ (trace (g.W.Sink.taken c.take_piece.new.sink) c.take_piece.new.steps) _ _ _ _ c.pieces.invariant.stands c.in-AtEnd.ensures.takes c.pieces.room c.pieces.invariant.room
 
 pub returns-in-AtEnd-clause-broken : goal.returns-in-AtEnd-clause-broken
-returns-in-AtEnd-clause-broken g c = λ is. absurd (not_read c.end_stream.result c.of_stream.result c.of_stream.ensures is)
+returns-in-AtEnd-clause-broken g c = λ p is. absurd (not_read c.end_stream.result c.of_stream.result c.of_stream.ensures is)
 
 pub returns-in-AtEnd-clause-answered : goal.returns-in-AtEnd-clause-answered
 returns-in-AtEnd-clause-answered g c = not_words c.end_stream.result c.of_stream.result c.of_stream.ensures
@@ -103,19 +106,13 @@ returns-in-AtEnd-clause-writes g c =
     }
 
 pub returns-in-Failed-clause-output : goal.returns-in-Failed-clause-output
-returns-in-Failed-clause-output g c =
-    answers_broken _ _ _ (λ whole. told_of c.args.asked whole true) (output_broken _ _ _ _ _ _ _ _ c.pieces.invariant.stands c.in-Failed.ensures.takes.1)
+returns-in-Failed-clause-output g c = λ p.
+    answers_broken p c.args.asked _ _ _ (output_broken _ _ _ _ _ _ _ _ p c.pieces.invariant.stands c.in-Failed.ensures.takes.1)
 
-pub returns-in-Failed-clause-cost : goal.returns-in-Failed-clause-cost
-returns-in-Failed-clause-cost g c =
-    counts_broken _ _ _ (λ whole. told_of c.args.asked whole true) (output_broken _ _ _ _ _ _ _ _ c.pieces.invariant.stands c.in-Failed.ensures.takes.1)
+pub returns-in-Failed-clause-broken : goal.returns-in-Failed-clause-broken
+returns-in-Failed-clause-broken g c = λ p is.
+    stops_broken c.args.asked _ _ _ _ _ _ _ _ p c.pieces.invariant.stands c.pieces.invariant.waits c.pieces.invariant.going c.in-Failed.ensures.takes.1 c.in-Failed.ensures.takes.2
 
-pub returns-in-Ends-clause-cost : goal.returns-in-Ends-clause-cost
-returns-in-Ends-clause-cost g c =
-    counted_by _ c.in-Ends.ended _ _ (λ whole. told_of c.args.asked whole true)
-    (output_ends _ _ _ _ _ _ _ _ _ c.in-Ends.ended c.pieces.invariant.stands c.in-Ends.ensures.takes)
-
-pub returns-in-AtEnd-clause-cost : goal.returns-in-AtEnd-clause-cost
-returns-in-AtEnd-clause-cost g c =
-    counted_by _ c.end_stream.result _ _ (λ whole. told_of c.args.asked whole true)
-    (output_last _ _ _ _ _ _ _ _ _ _ _ _ c.pieces.invariant.stands c.in-AtEnd.ensures.takes c.end_stream.result c.end_stream.ensures.answers)
+pub returns-in-Failed-clause-few : goal.returns-in-Failed-clause-few
+returns-in-Failed-clause-few g c =
+    few_failed c.args.asked _ _ _ _ _ (trace (g.W.Sink.taken c.take_piece.new.sink) c.take_piece.new.steps) _ _ c.pieces.invariant.stands (omega (arith, c.pieces.invariant.room)) c.in-Failed.ensures.takes.2

@@ -2,14 +2,15 @@ use Rattle.std.proofs.Common.{◌≡◌, ◌≤◌, ◌<◌, ◌+◌, false}
 use Rattle.item_listing.specs.declared.limits.TheConstants.{MOST_BYTES}
 use Rattle.item_listing.specs.Listing.{bytes_taken}
 use Rattle.item_listing.specs.Listed.{Waits}
-use Rattle.stream_answers.specs.inside.Turning.{IsOpen}
-use Rattle.xsv_run.specs.inside.Progress.{StandsAt, trace}
+use Rattle.stream_answers.specs.inside.Turning.{IsOpen, spot_of}
+use Rattle.xsv_run.specs.Traces.{trace}
+use Rattle.xsv_run.specs.inside.Progress.{StandsAt}
 use Rattle.xsv_run.proofs.stream.take_pieces.Given as goal
 
 abbrev pub invariant-pieces : goal.invariant-pieces
 invariant-pieces g l = record {
-  stands : StandsAt l.asked (g.S.Source.rest l.fn.source) (g.S.Source.rest l.source) (trace (g.W.Sink.taken l.fn.sink) l.fn.steps) (trace (g.W.Sink.taken l.sink) l.steps) l.place l.listing;
-  is_open : IsOpen l.place;
+  stands : StandsAt l.asked (g.S.Source.rest l.fn.source) (g.S.Source.rest l.source) (trace (g.W.Sink.taken l.fn.sink) l.fn.steps) (trace (g.W.Sink.taken l.sink) l.steps) (spot_of l.place l.work) l.listing;
+  is_open : IsOpen l.place l.work;
   waits : Waits l.listing;
   going : l.listing.finished ≡ false;
   room : bytes_taken l.listing + l.room ≡ MOST_BYTES + 1;

@@ -1,5 +1,5 @@
 use Rattle.std.proofs.Common.{sym, ap, ◌∙◌}
-use Rattle.node_links.specs.Nodes.{node, is_element_at}
+use Rattle.node_links.specs.Nodes.{node}
 use Rattle.node_links.specs.Linked.{entries, nodes_of}
 use Rattle.node_links.proofs.Found.{no_node, up_to, no_child_at, child_found, child_past}
 use Rattle.node_links.proofs.Placed.{live_list}

@@ -1,4 +1,4 @@
-use Rattle.std.proofs.Common.{◌≡◌, ℕ, ◌<◌, List, [], ◌∷◌, ◌++◌, length, Option, Some, None, sym, ap, ◌∙◌, subst, refl, arith}
+use Rattle.std.proofs.Common.{◌≡◌, ◌<◌, [], ◌∷◌, ◌++◌, length, None, sym, ap, ◌∙◌, subst, refl, arith}
 use Rattle.node_links.specs.declared.slots.Slot.{Slot}
 use Rattle.node_links.specs.Slots.{slot}
 use Rattle.node_links.specs.Linked.{nodes_of, IsLinked}
@@ -55,7 +55,7 @@ invariant_of-self-2 c =
     let one : c.add_number.new.self.slots ≡ None ∷ [] = c.in_ok-add_number.ensures.ok ∙ ap (λ x. x ++ None ∷ []) empty in
     let two : c.add_number-2.new.self.slots ≡ None ∷ None ∷ [] = c.in_ok-add_number-2.ensures.ok ∙ ap (λ x. x ++ None ∷ []) one in
     let s : Slot = record { number = 1; hook = None; depth = 1; list = c.in_ok-list.list; count = 0; content = c.args.content } in
-    let e = root_slots c.reserve.new.self.slots c.put.new.self.slots s (c.reserve.ensures.slots ∙ two) c.put.ensures in
+    let e = root_slots c.reserve.new.self.slots c.put.new.self.slots s (c.reserve.ensures.slots ∙ two) c.put.ensures.change in
     subst (λ x. IsLinked x c.new_seq.new.self) (sym e) (root_linked s c.new_seq.new.self refl refl refl c.in_ok-list.ensures.ok.changed)
 
 pub returns-clause-root : goal.returns-clause-root
@@ -65,7 +65,7 @@ returns-clause-root c =
     let one : c.add_number.new.self.slots ≡ None ∷ [] = c.in_ok-add_number.ensures.ok ∙ ap (λ x. x ++ None ∷ []) empty in
     let two : c.add_number-2.new.self.slots ≡ None ∷ None ∷ [] = c.in_ok-add_number-2.ensures.ok ∙ ap (λ x. x ++ None ∷ []) one in
     let s : Slot = record { number = 1; hook = None; depth = 1; list = c.in_ok-list.list; count = 0; content = c.args.content } in
-    let e = root_slots c.reserve.new.self.slots c.put.new.self.slots s (c.reserve.ensures.slots ∙ two) c.put.ensures in
+    let e = root_slots c.reserve.new.self.slots c.put.new.self.slots s (c.reserve.ensures.slots ∙ two) c.put.ensures.change in
     ap (λ x. nodes_of x c.new_seq.new.self) e ∙ root_seen s c.new_seq.new.self c.args.content refl refl refl c.in_ok-list.ensures.ok.changed
 
 pub returns-clause-sound : goal.returns-clause-sound
@@ -75,6 +75,6 @@ returns-clause-sound c =
     let one : c.add_number.new.self.slots ≡ None ∷ [] = c.in_ok-add_number.ensures.ok ∙ ap (λ x. x ++ None ∷ []) empty in
     let two : c.add_number-2.new.self.slots ≡ None ∷ None ∷ [] = c.in_ok-add_number-2.ensures.ok ∙ ap (λ x. x ++ None ∷ []) one in
     let s : Slot = record { number = 1; hook = None; depth = 1; list = c.in_ok-list.list; count = 0; content = c.args.content } in
-    let e = root_slots c.reserve.new.self.slots c.put.new.self.slots s (c.reserve.ensures.slots ∙ two) c.put.ensures in
+    let e = root_slots c.reserve.new.self.slots c.put.new.self.slots s (c.reserve.ensures.slots ∙ two) c.put.ensures.change in
     sound c.put.new.self.slots c.new_seq.new.self
     (subst (λ x. IsLinked x c.new_seq.new.self) (sym e) (root_linked s c.new_seq.new.self refl refl refl c.in_ok-list.ensures.ok.changed))

@@ -1,8 +1,8 @@
-use Rattle.std.proofs.Common.{◌≡◌, ◌+◌, ◌<◌, ◌≤◌, ◌^◌, List, length, Option, Some, None, sym, ap, ◌∙◌, subst, arith}
+use Rattle.std.proofs.Common.{◌+◌, ◌<◌, ◌≤◌, ◌^◌, List, length, Option, sym, ap, ◌∙◌, subst, arith}
 use Rattle.std.proofs.lemmas.List.{length-map}
 use Rattle.std.specs.Option.{option_map}
 use Rattle.std.proofs.lemmas.Result.{err_from_is_err_and}
-use Rattle.child_trees.specs.Lists.{get, IsLive}
+use Rattle.child_trees.specs.Lists.{IsLive}
 use Rattle.node_links.specs.declared.slots.Slot.{Slot}
 use Rattle.node_links.specs.declared.slots.Owner.{Owner}
 use Rattle.node_links.specs.Nodes.{Node}
@@ -102,7 +102,7 @@ set_count-requires c =
     let q = rw (← c.self.view_is) at c.requires.parent in
     let z = seen ss v p q.0 q.1 in let s = z.slot_is in
     let free = no_slot v (slot ss n) (sym (node_is ss v n) ∙ (rw (← c.self.view_is) at c.requires.free)) in
-    (s, parent_still ss c.reserve.new.self.slots c.put.new.self.slots p n s _ c.reserve.ensures.slots z.there free c.put.ensures, c.self.invariant.own p s z.there)
+    (s, parent_still ss c.reserve.new.self.slots c.put.new.self.slots p n s _ c.reserve.ensures.slots z.there free c.put.ensures.change, c.self.invariant.own p s z.there)
 
 pub invariant_of-self-2 : goal.invariant_of-self-2
 invariant_of-self-2 c =
@@ -110,8 +110,8 @@ invariant_of-self-2 c =
     let q = rw (← c.self.view_is) at c.requires.parent in
     let z = seen ss v p q.0 q.1 in let s = z.slot_is in
     let free = no_slot v (slot ss n) (sym (node_is ss v n) ∙ (rw (← c.self.view_is) at c.requires.free)) in
-    let all = puts_by ss c.reserve.new.self.slots c.put.new.self.slots c.set_count.new.self.slots v c.hang.new.lists p place n s c.owner-above.result c.is_element-is_element.result c.in_ok-hung.hung c.args.content
-    (c.owner-above.ensures s z.there) c.is_element-is_element.ensures c.reserve.ensures.slots z.there free (place_in v s q.0 place z.same q.2) c.in_ok-hung.ensures.ok c.put.ensures c.set_count.ensures in
+    let all = puts_by ss c.reserve.new.self.slots c.put.new.self.slots c.set_count.new.self.slots v c.hang.new.lists p place n s c.owner-above.result c.is_element-is_element.result c.in_ok-hung.hung c.args.content c.self.invariant
+    (c.owner-above.ensures s z.there) c.is_element-is_element.ensures c.reserve.ensures.slots z.there free (place_in v s q.0 place z.same q.2) c.in_ok-hung.ensures.ok c.put.ensures.change c.set_count.ensures in
     linked-put ss v c.set_count.new.self.slots c.hang.new.lists p s place n (new_slot n p s c.in_ok-hung.hung c.args.content) (entry_of (child_of n c.args.content) c.in_ok-hung.hung.item) c.self.invariant all
 
 pub returns-clause-ok : goal.returns-clause-ok
@@ -120,8 +120,8 @@ returns-clause-ok c =
     let q = rw (← c.self.view_is) at c.requires.parent in
     let z = seen ss v p q.0 q.1 in let s = z.slot_is in
     let free = no_slot v (slot ss n) (sym (node_is ss v n) ∙ (rw (← c.self.view_is) at c.requires.free)) in
-    let all = puts_by ss c.reserve.new.self.slots c.put.new.self.slots c.set_count.new.self.slots v c.hang.new.lists p place n s c.owner-above.result c.is_element-is_element.result c.in_ok-hung.hung c.args.content
-    (c.owner-above.ensures s z.there) c.is_element-is_element.ensures c.reserve.ensures.slots z.there free (place_in v s q.0 place z.same q.2) c.in_ok-hung.ensures.ok c.put.ensures c.set_count.ensures in
+    let all = puts_by ss c.reserve.new.self.slots c.put.new.self.slots c.set_count.new.self.slots v c.hang.new.lists p place n s c.owner-above.result c.is_element-is_element.result c.in_ok-hung.hung c.args.content c.self.invariant
+    (c.owner-above.ensures s z.there) c.is_element-is_element.ensures c.reserve.ensures.slots z.there free (place_in v s q.0 place z.same q.2) c.in_ok-hung.ensures.ok c.put.ensures.change c.set_count.ensures in
     rw (← c.self.view_is) (inserts-put ss v c.set_count.new.self.slots c.hang.new.lists p s place n (new_slot n p s c.in_ok-hung.hung c.args.content) (entry_of (child_of n c.args.content) c.in_ok-hung.hung.item) c.self.invariant all)
 
 pub returns-clause-sound : goal.returns-clause-sound
@@ -130,6 +130,6 @@ returns-clause-sound c =
     let q = rw (← c.self.view_is) at c.requires.parent in
     let z = seen ss v p q.0 q.1 in let s = z.slot_is in
     let free = no_slot v (slot ss n) (sym (node_is ss v n) ∙ (rw (← c.self.view_is) at c.requires.free)) in
-    let all = puts_by ss c.reserve.new.self.slots c.put.new.self.slots c.set_count.new.self.slots v c.hang.new.lists p place n s c.owner-above.result c.is_element-is_element.result c.in_ok-hung.hung c.args.content
-    (c.owner-above.ensures s z.there) c.is_element-is_element.ensures c.reserve.ensures.slots z.there free (place_in v s q.0 place z.same q.2) c.in_ok-hung.ensures.ok c.put.ensures c.set_count.ensures in
+    let all = puts_by ss c.reserve.new.self.slots c.put.new.self.slots c.set_count.new.self.slots v c.hang.new.lists p place n s c.owner-above.result c.is_element-is_element.result c.in_ok-hung.hung c.args.content c.self.invariant
+    (c.owner-above.ensures s z.there) c.is_element-is_element.ensures c.reserve.ensures.slots z.there free (place_in v s q.0 place z.same q.2) c.in_ok-hung.ensures.ok c.put.ensures.change c.set_count.ensures in
     sound c.set_count.new.self.slots c.hang.new.lists (linked-put ss v c.set_count.new.self.slots c.hang.new.lists p s place n (new_slot n p s c.in_ok-hung.hung c.args.content) (entry_of (child_of n c.args.content) c.in_ok-hung.hung.item) c.self.invariant all)

@@ -1,6 +1,5 @@
-use Rattle.std.proofs.Common.{◌≡◌, sym, ap, ◌∙◌}
-use Rattle.node_links.specs.declared.slots.Slot.{Slot}
-use Rattle.node_links.specs.Nodes.{Node, is_element}
+use Rattle.std.proofs.Common.{ap, ◌∙◌}
+use Rattle.node_links.specs.Nodes.{Node}
 use Rattle.node_links.proofs.Seen.{seen, sound}
 use Rattle.node_links.proofs.Writing.{linked-write, holds-write, same_kind}
 use Rattle.node_links.proofs.links.NodeLinks.replace.Goals as goal

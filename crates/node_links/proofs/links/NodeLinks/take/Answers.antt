@@ -1,11 +1,11 @@
-use Rattle.std.proofs.Common.{◌≡◌, ◌≢◌, ◌≤◌, [], Some, None, sym, ap, ◌∙◌, arith}
+use Rattle.std.proofs.Common.{◌≤◌, sym, ap, ◌∙◌, arith}
 use Rattle.std.proofs.lemmas.Option.{same_Some}
 use Rattle.node_links.specs.declared.slots.Slot.{Slot}
 use Rattle.node_links.specs.Nodes.{Node}
-use Rattle.node_links.specs.Linked.{entries, node_in}
+use Rattle.node_links.specs.Linked.{entries}
 use Rattle.node_links.proofs.Cutting.{leaf_of, has_hook, hung_place, item_stays, taken_apart, counted_place, takes}
 use Rattle.node_links.proofs.Placed.{placed, live_list}
-use Rattle.node_links.proofs.Seen.{seen, shown, sound}
+use Rattle.node_links.proofs.Seen.{seen, sound}
 use Rattle.node_links.proofs.Taking.{linked-take, removes-take}
 use Rattle.node_links.proofs.links.NodeLinks.take.Goals as goal
 

@@ -1,0 +1,4 @@
+pub mod FindLaws
+pub mod MarkLaws
+pub mod FaultLaws
+pub mod LimitLaws

@@ -1,0 +1,3 @@
+pub mod AllLimits
+pub mod inside
+pub use Rattle.schema_models.specs.SetModels

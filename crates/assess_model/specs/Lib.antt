@@ -1,4 +1,0 @@
-pub mod Tables
-pub mod TablesCode
-pub mod Schema
-pub mod Assessment

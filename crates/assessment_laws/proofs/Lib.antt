@@ -1,0 +1,3 @@
+pub mod Terms
+pub mod Judged
+pub mod Only

@@ -1,0 +1,17 @@
+//! What is determined of an assessment.
+
+ghost use Rattle.std.specs.Prelude.{◌≡◌, ℕ, List, Option};
+ghost use Rattle.tree_rows.specs.Forest.{Forest};
+ghost use Rattle.set_assessment.specs.Attribution.{SchemaSet, AreTerms};
+ghost use Rattle.set_assessment.specs.Assessment.{Beside, Assessed, IsAssessment};
+
+/// The names of child elements determine the terms of a content model that the children are attributed to, and the place where
+/// they get stuck (Structures 3.4.4).
+pub fn terms_are_determined()
+    ensures terms { (s : SchemaSet) (particle : Option ℕ) (children : List ℕ) (stuck other : Option ℕ) (xs ys : List (Option ℕ)) → AreTerms s particle children stuck xs → AreTerms s particle children other ys → (stuck ≡ other) × (xs ≡ ys) }
+{}
+
+/// The assessment of a document by a schema set is the only one (Structures 5.2).
+pub fn the_assessment_is_the_only_one()
+    ensures only { (s : SchemaSet) (b : Beside) (f : Forest) (x y : Assessed) → IsAssessment s b f x → IsAssessment s b f y → x ≡ y }
+{}

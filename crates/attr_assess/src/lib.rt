@@ -1,0 +1,6 @@
+//! The assessment of an element's attributes (Structures 3.2.4, 3.4.4, 3.4.5).
+#![tactic(auto)]
+
+mod assessed;
+
+pub use assessed::{AssessedAttrs, AttrValues, assess_attrs};

@@ -1,0 +1,8 @@
+//! Constraints on the attribute uses and wildcards of complex types and attribute groups (Structures 3.4.6, 3.6.6).
+#![tactic(auto)]
+
+mod faults;
+mod ids;
+
+pub use faults::first_attr_fault;
+pub use ids::id_marks;

@@ -1,0 +1,4 @@
+pub mod Usable
+pub use Rattle.schema_models.specs.Checks
+pub use Rattle.schema_models.specs.ModelFault
+pub use Rattle.set_assessment.specs.Judged

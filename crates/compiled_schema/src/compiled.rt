@@ -1,0 +1,31 @@
+use component_names::ComponentNames;
+use content_types::ContentTypes;
+use element_types::Declarations;
+use schema_models::Models;
+use set_assessment::SimpleTypes;
+use xs_components::Components;
+use xs_members::Members;
+use xs_names::Names;
+
+/// A compiled schema set.
+#[derive(Drop)]
+pub struct Compiled {
+    /// The names that stand in its documents, and those of documents that are assessed.
+    pub names: Names,
+    /// Its components, with ranks by which each reference goes lower, and with the particles of contents.
+    pub parts: Components,
+    /// Its simple types, and the simple contents of its complex types.
+    pub types: SimpleTypes,
+    /// The members of its substitution groups (Structures 3.3.6).
+    pub members: Members,
+    /// The classes of its element declarations, by their numbers: those with the same properties have one.
+    pub classes: Vec<u32>,
+    /// The types of its element declarations, and those at the top of documents.
+    pub declarations: Declarations,
+    /// The types and attribute declarations at the top of documents, by their names.
+    pub named: ComponentNames,
+    /// The content types of its complex types (Structures 3.4.1).
+    pub contents: ContentTypes,
+    /// The automata of the content models of its complex types.
+    pub models: Models,
+}

@@ -1,0 +1,10 @@
+//! A compiled schema set: components, and what was found of them, by which documents are assessed.
+#![tactic(auto)]
+
+mod compiled;
+mod laws;
+mod models;
+
+pub use compiled::Compiled;
+pub use laws::usable_with_more_names;
+pub use set_assessment::{JudgedElement, judge_element};

@@ -1,0 +1,5 @@
+pub mod ValueLaws
+pub mod UseLaws
+pub mod WildcardLaws
+pub mod ContentLaws
+pub mod RestrictionLaws

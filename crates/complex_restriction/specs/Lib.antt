@@ -1,0 +1,6 @@
+pub mod Values
+pub mod Uses
+pub mod Wildcards
+pub mod Contents
+pub mod Restrictions
+pub mod Given

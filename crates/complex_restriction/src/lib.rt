@@ -1,0 +1,13 @@
+//! Complex types that restrict others as these do not allow, but for content models (Structures 3.4.6).
+#![tactic(auto)]
+
+mod contents;
+mod restrictions;
+mod set;
+mod types;
+mod uses;
+mod values;
+mod wildcards;
+
+pub use restrictions::first_restriction;
+pub use set::ComparedSet;

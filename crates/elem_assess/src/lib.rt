@@ -1,0 +1,6 @@
+//! The assessment of one element and its attributes by themselves (Structures 3.3.4, 3.3.5, 3.4.4).
+#![tactic(auto)]
+
+mod records;
+
+pub use records::{AssessSet, Judged, local};

@@ -1,0 +1,4 @@
+mod Known
+mod Tags
+mod Siblings
+pub use Rattle.document_names.proofs.RowLaws

@@ -1,0 +1,2 @@
+pub mod Heads
+pub use Rattle.document_names.specs.Found

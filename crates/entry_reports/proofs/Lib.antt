@@ -1,0 +1,5 @@
+mod Empty
+mod Found
+mod FewCodes
+mod NamedEntries
+mod FewEntries

@@ -1,0 +1,5 @@
+use Rattle.entry_reports.proofs.FewEntries.{all-few}
+use Rattle.entry_reports.proofs.laws.entries_have_few_codes.Goals as goal
+
+pub returns : goal.returns
+returns c = record { few = all-few }

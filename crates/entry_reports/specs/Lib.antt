@@ -1,0 +1,17 @@
+pub mod Few
+pub use Rattle.tree_assess.specs.Entries
+pub use Rattle.session_model.specs.Assessor
+pub use Rattle.session_model.specs.Assessment
+pub use Rattle.session_model.specs.Attribution
+pub use Rattle.session_model.specs.Plain
+pub use Rattle.session_model.specs.State
+pub use Rattle.session_model.specs.StateCode
+pub use Rattle.session_model.specs.Asking
+pub use Rattle.session_model.specs.Reports
+pub use Rattle.session_model.specs.Applying
+pub use Rattle.session_model.specs.Counting
+pub use Rattle.session_model.specs.Compiled
+pub use Rattle.session_model.specs.Usable
+pub use Rattle.session_model.specs.Found
+pub use Rattle.session_model.specs.Table
+pub use Rattle.tree_assess.specs.declared.entry.ElementEntry

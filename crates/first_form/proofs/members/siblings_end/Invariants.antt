@@ -1,8 +1,0 @@
-use Rattle.std.proofs.Common.{◌≤◌, ◌-◌, length}
-use Rattle.first_form.proofs.members.siblings_end.Given as goal
-
-abbrev pub invariant-rows : goal.invariant-rows
-invariant-rows l = l.end ≤ length l.rows
-
-abbrev pub decreases-rows : goal.decreases-rows
-decreases-rows l = length l.rows - l.end

@@ -1,0 +1,8 @@
+use Rattle.std.proofs.Common.{subst}
+use Rattle.schema_compile.specs.Outcomes.{IsOutcome}
+use Rattle.open_document.proofs.Accepted.{accepted_usable}
+use Rattle.open_document.proofs.compiling.take.Goals as goal
+
+pub accept-requires-clause-usable : goal.accept-requires-clause-usable
+accept-requires-clause-usable c =
+    accepted_usable c.requires.usable.0 c.in-Accepted.set (subst (IsOutcome c.requires.usable.0) c.in-Accepted.is c.requires.usable.1)

@@ -1,0 +1,19 @@
+use Rattle.std.proofs.Common.{◌++◌, ap, refl}
+use Rattle.text_sink.proofs.Sequence.{written_then, written_short}
+use Rattle.edit_replies.specs.Asking.{code_total}
+use Rattle.edit_replies.specs.Replies.{total_line}
+use Rattle.edit_replies.specs.Reports.{report}
+use Rattle.edit_replies.specs.State.{known}
+use Rattle.open_document.proofs.working.write_records.Goals as goal
+
+pub returns-in_err-write_report-clause-written : goal.returns-in_err-write_report-clause-written
+returns-in_err-write_report-clause-written g c =
+    λ p. written_short g.W.Sink.taken g.W.Sink.faults g.W.Sink.fault_bound c.args.sink.now c.write_report.new.sink _ c.from_residual.result
+    (report p c.args.session.now) (total_line (code_total (known p c.args.session.now))) _ refl c.from_residual.ensures.0
+    (c.in_err-write_report.ensures.written p)
+
+pub returns-clause-written : goal.returns-clause-written
+returns-clause-written g c =
+    λ p. written_then g.W.Sink.taken g.W.Sink.faults g.W.Sink.fault_bound c.args.sink.now c.write_report.new.sink c.write_total.new.sink c.write_total.result
+    (report p c.args.session.now) _ _ (ap (λ total. report p c.args.session.now ++ total_line total) (c.code_total.ensures p c.requires))
+    (c.in_ok-write_report.ensures.written p).all c.in_ok-write_report.ensures.cause.later c.in_ok-write_report.ensures.kept c.write_total.ensures.written

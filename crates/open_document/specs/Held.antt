@@ -1,0 +1,16 @@
+-- What a workspace keeps.
+use Rattle.edit_replies.specs.Usable.{IsUsable}
+use Rattle.open_document.specs.State.{WorkState, empty, ready, working}
+use Rattle.open_document.specs.declared.held.Held.{Held}
+use Rattle.open_document.specs.declared.held.Held.TheVariants as held
+
+abbrev pub work_of : Held → WorkState
+work_of held.Empty = empty
+work_of (held.Ready set) = ready set.value
+work_of (held.Working session) = working (record { session = session.value })
+
+-- documents may be assessed by a set that is ready
+abbrev pub IsKept : Held → Type 0
+IsKept held.Empty = Unit {0}
+IsKept (held.Ready set) = IsUsable set.value
+IsKept (held.Working session) = Unit {0}

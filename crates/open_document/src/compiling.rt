@@ -1,0 +1,74 @@
+//! Schema documents compiled, for a workspace.
+
+ghost use Rattle.std.specs.Prelude.{◌≡◌, ◌<◌, List, All, length, IfOk, OnOk};
+ghost use Rattle.tree_rows.specs.Whole.{IsTree};
+ghost use Rattle.schema_compile.specs.Outcomes.{IsOutcome};
+ghost use Rattle.schema_compile.specs.SchemaInput.{SchemaInput as SchemaInputData};
+ghost use Rattle.edit_replies.specs.Usable.{IsUsable};
+ghost use Rattle.open_document.specs.Answers as answers;
+ghost use Rattle.open_document.specs.Held.{work_of, IsKept};
+ghost use Rattle.open_document.specs.State.{ready};
+
+use crate::SetVerdict;
+use crate::held::Held;
+use schema_compile::{Compiled, Outcome, SchemaInput, compile};
+use std::alloc::{AllocError, Global};
+
+// The trees of schema documents are whole: a law.
+fn are_whole(documents: &[SchemaInput])
+    ensures { All (λ input. IsTree input.tree) documents.now }
+{
+    for input in documents {
+        let _next = input.tree.next_free();
+    }
+}
+
+// Keeps a set that is accepted.
+fn accept(held: &mut Held, alloc: Global, set: Compiled) -> Result<SetVerdict, AllocError>
+    requires usable { IsUsable set }
+    requires kept { IsKept held.old }
+    ensures told { IfOk result (λ told. told ≡ SetVerdict.Accepted) }
+    ensures ready { OnOk result (work_of held.new ≡ ready set) }
+    ensures kept { IsKept held.new }
+{
+    match Box::new(alloc, set) {
+        Ok(set) => {
+            *held = Held::Ready(set);
+            Ok(SetVerdict::Accepted)
+        }
+        Err(_) => Err(AllocError),
+    }
+}
+
+// Keeps what schema documents come to.
+fn take(held: &mut Held, alloc: Global, outcome: Outcome) -> Result<SetVerdict, AllocError>
+    requires usable { (documents : List SchemaInputData) × IsOutcome documents outcome }
+    requires kept { IsKept held.old }
+    ensures told { IfOk result (λ told. told ≡ answers.verdict_of outcome) }
+    ensures work { OnOk result (work_of held.new ≡ answers.work_after (work_of held.old) outcome) }
+    ensures kept { IsKept held.new }
+{
+    match outcome {
+        Outcome::Accepted(set) => accept(held, alloc, set),
+        Outcome::Broken(fault) => Ok(SetVerdict::Broken(fault)),
+        Outcome::NotYet => Ok(SetVerdict::NotYet),
+    }
+}
+
+/// Compiles schema documents, and keeps the set where it is accepted.
+pub(crate) fn compile_into(
+    held: &mut Held,
+    alloc: Global,
+    documents: &[SchemaInput],
+) -> Result<SetVerdict, AllocError>
+    requires some { 0 < length documents.now }
+    requires kept { IsKept held.old }
+    ensures compiled { IfOk result (λ told. answers.IsCompiled documents.now (work_of held.old) told (work_of held.new)) }
+    ensures kept { IsKept held.new }
+{
+    are_whole(documents);
+    match compile(alloc, documents) {
+        Ok(outcome) => take(held, alloc, outcome),
+        Err(error) => Err(error),
+    }
+}

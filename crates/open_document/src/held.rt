@@ -1,0 +1,66 @@
+//! What a workspace keeps.
+
+ghost use Rattle.std.specs.Prelude.{◌≡◌, false, OnOk};
+ghost use Rattle.edit_replies.specs.Usable.{IsUsable};
+ghost use Rattle.open_document.specs.Answers as answers;
+ghost use Rattle.open_document.specs.Held.{work_of, IsKept};
+ghost use Rattle.open_document.specs.State.{working, ready, IsReady, IsOpen};
+ghost use Rattle.edit_replies.specs.Compiled.{Compiled as CompiledData};
+
+use edit_replies::Compiled;
+use plain_session::PlainSession;
+use plain_tree::Tree;
+use std::alloc::{AllocError, Global};
+use std::mem;
+
+/// What a workspace keeps, boxed, since it is large.
+#[derive(Drop)]
+pub(crate) enum Held {
+    Empty,
+    Ready(Box<Compiled>),
+    Working(Box<PlainSession>),
+}
+
+// Keeps a session.
+fn work_on(held: &mut Held, alloc: Global, session: PlainSession) -> Result<(), AllocError>
+    requires kept { IsKept held.old }
+    ensures working { OnOk result (work_of held.new ≡ working (record { session = session })) }
+    ensures open { session.closed ≡ false → OnOk result (IsOpen (work_of held.new)) }
+    ensures kept { IsKept held.new }
+{
+    match Box::new(alloc, session) {
+        Ok(session) => {
+            *held = Held::Working(session);
+            Ok(())
+        }
+        Err(_) => Err(AllocError),
+    }
+}
+
+// Opens a document by a set.
+fn open_by(held: &mut Held, alloc: Global, set: Box<Compiled>, tree: Tree) -> Result<(), AllocError>
+    requires usable { IsUsable set.value }
+    requires kept { IsKept held.old }
+    ensures opened { OnOk result (work_of held.new ≡ working (answers.opened set.value tree)) }
+    ensures open { OnOk result (IsOpen (work_of held.new)) }
+    ensures kept { IsKept held.new }
+{
+    match PlainSession::open(alloc, set, tree) {
+        Ok(session) => work_on(held, alloc, session),
+        Err(error) => Err(error),
+    }
+}
+
+/// Opens a document by the set that is ready. For want of memory the set is let go of.
+pub(crate) fn open(held: &mut Held, alloc: Global, tree: Tree) -> Result<(), AllocError>
+    requires ready { IsReady (work_of held.old) }
+    requires kept { IsKept held.old }
+    ensures opened { (set : CompiledData) → work_of held.old ≡ ready set → OnOk result (work_of held.new ≡ working (answers.opened set tree)) }
+    ensures open { OnOk result (IsOpen (work_of held.new)) }
+    ensures kept { IsKept held.new }
+{
+    match mem::replace(held, Held::Empty) {
+        Held::Ready(set) => open_by(held, alloc, set, tree),
+        Held::Empty | Held::Working(_) => unreachable!(),
+    }
+}

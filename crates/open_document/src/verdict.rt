@@ -1,0 +1,22 @@
+//! What is told of schema documents and of a document.
+
+use edit_replies::Validity;
+use xs_codes::Fault;
+
+/// What is told of schema documents.
+#[derive(Clone, Copy, Debug, PartialEq, Eq)]
+pub enum SetVerdict {
+    /// Documents are assessed by the set.
+    Accepted,
+    /// The first constraint that is broken.
+    Broken(Fault),
+    /// The set has something that is not assessed yet.
+    NotYet,
+}
+
+/// What the last line tells of a document.
+#[derive(Clone, Copy, Debug, PartialEq, Eq)]
+pub struct Verdict {
+    pub validity: Validity,
+    pub total: u64,
+}

@@ -1,0 +1,155 @@
+ghost use Rattle.std.specs.Prelude.{◌≡◌, ◌<◌, length, IfOk, OnOk};
+ghost use Rattle.xsv_io.specs.Causes.{KeepsCount};
+ghost use Rattle.edit_replies.specs.Assessor.{RightAssessor};
+ghost use Rattle.edit_replies.specs.Compiled.{Compiled as CompiledData};
+ghost use Rattle.edit_replies.specs.Counting.{Counts};
+ghost use Rattle.edit_replies.specs.Tells.{Wrote, IsWriteFault};
+ghost use Rattle.open_document.specs.Answers as answers;
+ghost use Rattle.open_document.specs.State.{OpenState, empty, ready, working, IsReady, IsOpen};
+
+use crate::compiling::compile_into;
+use crate::held::{Held, open};
+use crate::working::{answer, verdict, write_first, write_report};
+use crate::{SetVerdict, Verdict};
+use edit_replies::BreakOff;
+use item_listing::Items;
+use plain_tree::Tree;
+use schema_compile::SchemaInput;
+use std::alloc::{AllocError, Global};
+use std::marker::Model;
+use xs_names::Text;
+use xsv_io::Sink;
+use xsv_steps::{Ledger, Steps};
+
+/// What a stream works on: nothing yet, the schema set that documents are assessed by, or the document that is open. Contracts
+/// see which, with the set, or with the session over the document.
+#[derive(Drop)]
+pub struct Workspace {
+    held: Held,
+}
+
+impl Model for Workspace {
+    ghost use Rattle.open_document.specs.State.{WorkState};
+    ghost use Rattle.open_document.specs.WorkCode.{work_code};
+
+    ghost Value = { WorkState };
+
+    ghost coded = { work_code };
+
+    ghost use Rattle.open_document.specs.Held.{work_of, IsKept};
+
+    ghost view = { λ w. work_of w.held };
+
+    ghost invariant = { λ w. IsKept w.held };
+}
+
+impl Workspace {
+    /// Nothing yet.
+    pub fn new() -> Self
+        ensures { result ≡ empty }
+    {
+        Workspace { held: Held::Empty }
+    }
+
+    /// Compiles schema documents. A set that is accepted is what documents are assessed by from then on; else nothing changes.
+    ///
+    /// # Errors
+    ///
+    /// `AllocError` is want of memory.
+    pub fn compile(
+        &mut self,
+        alloc: Global,
+        documents: &[SchemaInput],
+    ) -> Result<SetVerdict, AllocError>
+        requires some { 0 < length documents.now }
+        ensures compiled { IfOk result (λ told. answers.IsCompiled documents.now self.old told self.new) }
+    {
+        compile_into(&mut self.held, alloc, documents)
+    }
+
+    /// Opens a document, which is assessed by the schema set that is ready.
+    ///
+    /// # Errors
+    ///
+    /// `AllocError` is want of memory.
+    pub fn open(&mut self, alloc: Global, tree: Tree) -> Result<(), AllocError>
+        requires { IsReady self.old }
+        ensures opened { (set : CompiledData) → self.old ≡ ready set → OnOk result (self.new ≡ working (answers.opened set tree)) }
+        ensures open { OnOk result (IsOpen self.new) }
+    {
+        open(&mut self.held, alloc, tree)
+    }
+
+    /// Writes the report: the record lines of each element, and the number of codes.
+    ///
+    /// # Errors
+    ///
+    /// `WriteFault` where the sink failed; a front was then written.
+    pub fn write_report<W: Sink>(&self, sink: &mut W) -> Result<(), BreakOff>
+        requires { IsOpen self.now }
+        ensures wrote { (p : RightAssessor) (s : OpenState) → self.now ≡ working s → Wrote result (W.taken sink.old) (W.taken sink.new) (answers.report p s) }
+        ensures writes { KeepsCount W.faults W.fault_bound sink.old sink.new (IsWriteFault result) }
+    {
+        match &self.held {
+            Held::Working(session) => write_report(session, sink),
+            Held::Empty | Held::Ready(_) => unreachable!(),
+        }
+    }
+
+    /// Writes the first line of a session: the revision and the number of codes.
+    ///
+    /// # Errors
+    ///
+    /// `WriteFault` where the sink failed; a front was then written.
+    pub fn write_first<W: Sink>(&self, sink: &mut W) -> Result<(), BreakOff>
+        requires { IsOpen self.now }
+        ensures wrote { (p : RightAssessor) (s : OpenState) → self.now ≡ working s → Wrote result (W.taken sink.old) (W.taken sink.new) (answers.first_line p s) }
+        ensures writes { KeepsCount W.faults W.fault_bound sink.old sink.new (IsWriteFault result) }
+    {
+        match &self.held {
+            Held::Working(session) => write_first(session, sink),
+            Held::Empty | Held::Ready(_) => unreachable!(),
+        }
+    }
+
+    /// Answers a command, with the items of its block where it has one.
+    ///
+    /// # Errors
+    ///
+    /// `Memory` is want of memory, and nothing was written. `WriteFault` where the sink failed; a front of the reply was then
+    /// written. The document is then of no use.
+    pub fn answer<W: Sink, L: Ledger>(
+        &mut self,
+        alloc: Global,
+        line: &Text,
+        block: Option<Items>,
+        sink: &mut W,
+        steps: &mut Steps<L>,
+    ) -> Result<(), BreakOff>
+        requires { IsOpen self.old }
+        ensures wrote { (p : RightAssessor) (s : OpenState) → self.old ≡ working s → Wrote result (W.taken sink.old) (W.taken sink.new) (answers.reply_of p s line.now block) }
+        ensures writes { KeepsCount W.faults W.fault_bound sink.old sink.new (IsWriteFault result) }
+        ensures stands { (s : OpenState) → self.old ≡ working s → OnOk result (self.new ≡ working (answers.next_of s line.now block)) }
+        ensures open { OnOk result (IsOpen self.new) }
+        ensures steps { (s : OpenState) → self.old ≡ working s → Counts steps.old steps.new (answers.cost_of s line.now block) }
+    {
+        match &mut self.held {
+            Held::Working(session) => answer(alloc, session, line, block, sink, steps),
+            Held::Empty | Held::Ready(_) => unreachable!(),
+        }
+    }
+
+    /// What the last line tells: the validity of the root, and the number of codes.
+    pub fn verdict(&self) -> Verdict
+        requires { IsOpen self.now }
+        ensures { (p : RightAssessor) (s : OpenState) → self.now ≡ working s → result ≡ answers.verdict p s }
+    {
+        match &self.held {
+            Held::Working(session) => verdict(session),
+            Held::Empty | Held::Ready(_) => unreachable!(),
+        }
+    }
+
+    /// Lets go of it.
+    pub fn close(self) {}
+}

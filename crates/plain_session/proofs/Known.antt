@@ -1,0 +1,46 @@
+-- What is known of a tree is its assessment from scratch.
+use Rattle.std.proofs.Common.{◌≡◌, ◌*◌, ◌≤◌, ◌<◌, ◌^◌, List, map, sym, ap, subst, ◌∙◌, arith}
+use Rattle.std.specs.Prelude.{All, false}
+use Rattle.tree_rows.specs.Forest.{Forest, count}
+use Rattle.tree_rows.specs.declared.limits.TheConstants.{MAX_NODES}
+use Rattle.entry_reports.specs.Asking.{code_total}
+use Rattle.entry_reports.specs.Assessment.{entries}
+use Rattle.entry_reports.specs.Assessor.{RightAssessor}
+use Rattle.entry_reports.specs.Compiled.{Compiled}
+use Rattle.entry_reports.specs.ElementEntry.{ElementEntry}
+use Rattle.entry_reports.specs.Entries.{AreEntries, entry_of}
+use Rattle.entry_reports.specs.Few.{most_codes}
+use Rattle.entry_reports.specs.Reports.{IsEntryNamed, record_lines, report}
+use Rattle.entry_reports.specs.State.{State, known}
+use Rattle.entry_reports.specs.Usable.{set_of}
+use Rattle.plain_session.specs.Held.{state_of, IsPresent, IsUpToDate}
+use Rattle.plain_session.specs.declared.session.PlainSession.TheInside.{Inside}
+
+module _ (set : Compiled) (f : Forest) (es : List ElementEntry) (are : AreEntries (set_of set) f es) where
+  pub are_known : (p : RightAssessor) → map entry_of es ≡ entries (p.assess (set_of set) f)
+  are_known p = are.entries_are ∙ sym (ap entries (p.right (set_of set) f are.found are.assessed))
+
+  pub are_named : All (IsEntryNamed set) (entries are.found) → All (IsEntryNamed set) (map entry_of es)
+  are_named named = subst (All (IsEntryNamed set)) (sym are.entries_are) named
+
+  -- the codes of a tree within its limits can be counted
+  pub can_count : code_total (entries are.found) ≤ most_codes * count f → count f ≤ MAX_NODES → code_total (map entry_of es) < 2 ^ 64
+  can_count few within = omega (arith, few, within, ap code_total are.entries_are)
+
+-- what an open session holds is what is known of its document
+module _ (s : Inside) (v : State) (is : state_of s ≡ v) (up : IsUpToDate s) (open_now : v.closed ≡ false) where
+  present : IsPresent s
+  present = up (ap (λ (x : State). x.closed) is ∙ open_now)
+
+  module _ (p : RightAssessor) where
+    known_now : map entry_of s.stock.entries.items ≡ known p v
+    known_now = are_known s.set.value s.tree.forest s.stock.entries.items present.stock.entries_are p ∙ ap (known p) is
+
+    pub entries_now : (es : List ElementEntry) → es ≡ s.stock.entries.items → map entry_of es ≡ known p v
+    entries_now es e = ap (map entry_of) e ∙ known_now
+
+    pub total_now : s.stock.total ≡ code_total (known p v)
+    total_now = present.stock.total_is ∙ ap code_total known_now
+
+    pub report_now : (set : Compiled) (es : List ElementEntry) → set ≡ s.set.value → es ≡ s.stock.entries.items → record_lines set (map entry_of es) ≡ report p v
+    report_now set es same e = ap (λ (x : Compiled). record_lines x (map entry_of es)) (same ∙ ap (λ (x : State). x.set) is) ∙ ap (record_lines v.set) (entries_now es e)

@@ -1,0 +1,8 @@
+use Rattle.std.proofs.Common.{ap, ◌∙◌}
+use Rattle.entry_reports.specs.Asking as asking
+use Rattle.plain_session.proofs.Known.{entries_now}
+use Rattle.plain_session.proofs.session.PlainSessionSession.root_validity.Goals as goal
+
+pub returns : goal.returns
+returns c = λ p open_now.
+    c.root_validity.ensures ∙ ap asking.root_validity (entries_now c.self.inside c.args.self.now c.self.view_is c.self.invariant open_now p c.deref.result.now c.deref.ensures.value)

@@ -1,0 +1,16 @@
+use Rattle.std.proofs.Common.{sym, subst}
+use Rattle.entry_reports.specs.Found.{HasNames}
+use Rattle.plain_session.proofs.stock.take_stock.Goals as goal
+
+pub assessed-requires : goal.assessed-requires
+assessed-requires c =
+    let set = c.args.set.now in
+    let f = c.args.tree.now.forest in
+    let names = c.add_names.new.names in
+    record {
+      ready = record {
+        usable = c.usable_with_more_names.ensures.usable set names c.requires.ready.usable c.add_names.ensures.grown;
+        sound = c.add_names.ensures.sound;
+      };
+      names = subst (λ t. HasNames t f) (sym c.in_ok-add_names.ensures.table) (c.document_names_are_found.ensures.found set.names f);
+    }

@@ -1,0 +1,11 @@
+pub mod TableLaws
+pub mod FillLaws
+pub mod FormLaws
+pub mod NamedLaws
+pub mod KeptLaws
+pub mod ContentLaws
+pub mod FitLaws
+pub mod MemberLaws
+pub mod PhaseLaws
+pub mod UsableLaws
+pub mod OutcomeLaws

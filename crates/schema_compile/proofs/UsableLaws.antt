@@ -1,0 +1,72 @@
+-- A set without a fault, with what was found of it, is usable.
+use Rattle.std.proofs.Common.{◌≡◌, ℕ, ◌<◌, List, Option, None, Some, Result, Ok, Err, length, refl, sym, ap, subst, ◌∙◌}
+use Rattle.std.specs.Prelude.{slice_get, slice_index_or}
+use Rattle.std.proofs.lemmas.Option.{slice_get_within, get_or_from_slice_get}
+use Rattle.xs_codes.specs.declared.code.Code.TheVariants.{CosNonambig}
+use Rattle.xs_codes.specs.declared.fault.Fault.{Fault}
+use Rattle.xs_faults.specs.Least.{IsLeast}
+use Rattle.xs_names.proofs.GrownLaws.{Grown-refl}
+use Rattle.content_models.specs.declared.automaton.ContentAutomaton.{ContentAutomaton}
+use Rattle.compiled_schema.specs.Checks.{IsAmbiguousModel}
+use Rattle.compiled_schema.specs.ModelFault.TheVariants.{Ambiguous}
+use Rattle.all_limits.specs.SetModels as models
+use Rattle.schema_check.specs.declared.documents.CompiledSet.{CompiledSet}
+use Rattle.compiled_schema.specs.Usable.{HasModelOver, AreModels, IsUsable}
+use Rattle.compiled_schema.specs.declared.compiled.Compiled.{Compiled}
+use Rattle.schema_compile.specs.Fit.{IsFit}
+use Rattle.schema_compile.specs.declared.finding.Found.{Found}
+use Rattle.schema_compile.specs.declared.outcome.Outcome.{Outcome}
+use Rattle.schema_compile.specs.declared.outcome.Outcome.TheVariants.{Accepted}
+use Rattle.schema_compile.specs.Outcomes.{IsSetOutcome}
+use Rattle.schema_compile.specs.inside.Finding.{IsFound, AreModelsOf, AreContentsThere, IsJudged, joined}
+use Rattle.schema_compile.proofs.MemberLaws.{members-named}
+
+module _ (made : CompiledSet) (found : Found) (automata : List (Option ContentAutomaton)) (fit : IsFit made) (is : IsFound made.parts found) (there : AreContentsThere made.parts)
+    (are : AreModelsOf made found (Ok automata))
+  where
+    abbrev c : Compiled
+    c = joined made found automata
+
+    unambiguous : (n p : ℕ) → n < length made.parts.complexes.parts → models.content_of made.parts n ≡ Some p → IsAmbiguousModel made.names made.parts found.members p → ⊥
+    unambiguous n p l content ambiguous = are.0 (models.type_fault made.parts n CosNonambig) (n, l, (p, Ambiguous, content, ambiguous, refl))
+
+    model-over : (n : ℕ) (content : Option ℕ) (model : Option ContentAutomaton) → n < length made.parts.complexes.parts → models.content_of made.parts n ≡ content
+        → models.IsModel made.names made.parts found.members found.classes.items content model → HasModelOver made.names c n model
+    model-over n None model l at h = subst (HasModelOver made.names c n) (sym h) at
+    model-over n (Some p) model l at h =
+        subst (HasModelOver made.names c n) (sym h.1)
+        (p, at, record { there = there.there n p at; built = h.2; unambiguous = unambiguous n p l at })
+
+    model-at : (n : ℕ) (model : Option ContentAutomaton) → slice_get automata n ≡ Some model → HasModelOver made.names c n model
+    model-at n model at =
+        let within = slice_get_within automata n model at in
+        let same : slice_index_or automata n None ≡ model = get_or_from_slice_get automata n model None at in
+        model-over n (models.content_of made.parts n) model (subst (λ k. n < k) are.1.0 within) refl
+        (subst (models.IsModel made.names made.parts found.members found.classes.items (models.content_of made.parts n)) same (are.1.1 n within))
+
+    automata-are : AreModels c made.names
+    automata-are = record {
+      grown = Grown-refl made.names;
+      once = fit.once;
+      named = members-named made.names made.parts fit.named found.members is.members;
+      each = are.1.0;
+      contents_each = there.each;
+      are = model-at;
+    }
+
+    pub usable : IsUsable c
+    usable = record {
+      named = fit.named;
+      view = record { ranked = fit.ranked; simple = fit.simple; types = fit.types; declarations = is.declarations; named = is.named };
+      judging = record { ranked = fit.ranked; contents_are = is.contents; types_are = fit.judged; whole = fit.whole };
+      groups = is.members;
+      classes_are = is.classes;
+      first = made.names;
+      models_are = automata-are;
+    }
+
+pub accepted : (made : CompiledSet) (found : Found) (automata : List (Option ContentAutomaton)) (c : Compiled) → IsFit made → c ≡ joined made found automata → IsJudged made (Ok (found, automata))
+    → IsSetOutcome made (Accepted c)
+accepted made found automata c fit same judged =
+    subst (λ (x : Compiled). IsSetOutcome made (Accepted x)) (sym same)
+    (judged.0, record { names = refl; parts = refl; types = refl }, usable made found automata fit judged.1 judged.3 judged.2)

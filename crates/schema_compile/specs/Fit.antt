@@ -1,0 +1,26 @@
+-- What later phases and the assessment ask of compiled components.
+use Rattle.std.specs.Prelude.{◌≡◌, ℕ, ◌<◌, true, Some, IfSome, length, slice_get}
+use Rattle.xs_names.specs.Numbering.{HasNoRepeats}
+use Rattle.xs_components.specs.declared.common.TypeId.{TypeId}
+use Rattle.xs_components.specs.declared.element.ElementDecl.{ElementDecl}
+use Rattle.xs_references.specs.Heights.{IsType}
+use Rattle.xs_references.specs.Ranked.{IsRanked}
+use Rattle.type_derives.specs.Within.{AreSimple}
+use Rattle.simple_contents.specs.SimpleTypes.{AreTypesOf, IsWhole}
+use Rattle.content_types.specs.ContentTypes.{content_of}
+use Rattle.simple_contents.specs.Texts.{is_simple_content}
+use Rattle.schema_check.specs.declared.documents.CompiledSet.{CompiledSet}
+use Rattle.compiled_schema.specs.Usable.{AreNamed}
+
+-- References go to parts of lower rank; what simple types are made of is simple; the types of elements are there; the table has each
+-- name once, and elements and types have names of it; the simple types are those of the components, and the literals of every type with simple content are known;
+-- the particles of contents are there.
+pub record IsFit (made : CompiledSet) : Type 0 where
+  pub ranked : IsRanked made.parts
+  pub simple : AreSimple made.parts
+  pub types : (n : ℕ) (part : ElementDecl) → slice_get made.parts.elements.parts n ≡ Some part → IfSome part.of (IsType made.parts)
+  pub once : HasNoRepeats made.names.names
+  pub named : AreNamed made.names made.parts
+  pub judged : AreTypesOf made.parts made.types
+  pub whole : (of : TypeId) → IsType made.parts of → is_simple_content (content_of made.parts of) ≡ true → IsWhole made.types of
+  pub contents : (n p : ℕ) → slice_get made.parts.contents n ≡ Some (Some p) → n < length made.parts.complexes.parts → p < length made.parts.particles.parts

@@ -1,0 +1,67 @@
+-- What becomes of schema documents: a set that documents are assessed by, the first broken constraint, or neither yet.
+use Rattle.std.specs.Prelude.{◌≡◌, ◌⊎◌, ℕ, true, false, List, [], ◌∷◌, Option, None, Some, Ok, Err}
+use Rattle.xs_codes.specs.declared.fault.Fault.{Fault}
+use Rattle.xs_components.specs.Tables.{Tables}
+use Rattle.xs_faults.specs.Least.{IsLeast}
+use Rattle.subst_groups.specs.Groups.{AreGroups}
+use Rattle.head_exclusions.specs.Exclusions.{IsExcluded}
+use Rattle.all_limits.specs.AllLimits.{IsUnlimited}
+use Rattle.element_classes.specs.Classes.{AreClassesOf}
+use Rattle.all_limits.specs.SetModels.{IsBroken}
+use Rattle.schema_shape.specs.declared.forms.ShapedSchema.{ShapedSchema}
+use Rattle.not_yet.specs.Unassessed.{is_unassessed}
+use Rattle.schema_check.specs.Compilation.{IsShaped}
+use Rattle.schema_check.specs.Phases.{IsFirstOfPhases}
+use Rattle.schema_check.specs.SetPhases.{IsAloneCompiled}
+use Rattle.schema_check.specs.declared.documents.CompiledSet.{CompiledSet}
+use Rattle.schema_check.specs.declared.documents.SchemaInput.{SchemaInput}
+use Rattle.compiled_schema.specs.Usable.{IsUsable}
+use Rattle.compiled_schema.specs.declared.compiled.Compiled.{Compiled}
+use Rattle.schema_compile.specs.declared.outcome.Outcome.{Outcome}
+use Rattle.schema_compile.specs.declared.outcome.Outcome.TheVariants.{Accepted, Broken, NotYet}
+
+-- phase 7, of derivation: e-props-correct.4 (Structures 3.3.6), and x-limit.all, cos-all-limited.1 and .2 (Structures 3.8.6)
+abbrev pub IsDerivationFault : Tables → Fault → Type 0
+IsDerivationFault t fault = IsExcluded t fault ⊎ IsUnlimited t fault
+
+-- of a set of components with their names and simple types
+module _ (made : CompiledSet) where
+  abbrev pub derivation_phase : Option Fault → Type 0
+  derivation_phase found = IsLeast (IsDerivationFault made.parts) found
+
+  -- phase 8, of content models, by the members of substitution groups and the classes of declarations (Structures 3.3.6, 3.8.6)
+  abbrev pub model_phase : Option Fault → Type 0
+  model_phase found =
+      (members : List (List ℕ)) × (classes : List ℕ) × AreGroups made.parts members × AreClassesOf made.parts classes × IsLeast (IsBroken made.names made.parts members classes) found
+
+  -- the phases behind simple types
+  abbrev pub model_phases : List (Option Fault → Type 0)
+  model_phases = derivation_phase ∷ model_phase ∷ []
+
+-- a set with these names, components and simple types
+pub record IsOf (made : CompiledSet) (c : Compiled) : Type 0 where
+  pub names : c.names ≡ made.names
+  pub parts : c.parts ≡ made.parts
+  pub types : c.types ≡ made.types
+
+-- what the components of a set come to in the phases behind simple types
+abbrev pub IsSetOutcome : CompiledSet → Outcome → Type 0
+IsSetOutcome made (Accepted c) = IsFirstOfPhases (model_phases made) None × IsOf made c × IsUsable c
+IsSetOutcome made (Broken fault) = IsFirstOfPhases (model_phases made) (Some fault)
+IsSetOutcome made NotYet = ⊥
+
+-- What a document of the right shape comes to in the phases behind that of shapes, where it has nothing that is not assessed yet. Then
+-- the others have no fault: composition, attributes and value constraints, restriction, and identity constraints.
+abbrev pub IsShapedOutcome : ShapedSchema → Outcome → Type 0
+IsShapedOutcome first outcome =
+    ((fault : Fault) × IsAloneCompiled first (Err fault) × (outcome ≡ Broken fault)) ⊎
+    ((made : CompiledSet) × IsAloneCompiled first (Ok made) × IsSetOutcome made outcome)
+
+-- What documents come to: the first fault of the first phase that has one, by document, element and the order of codes; else the
+-- compiled set, by which documents may be assessed. A first document of the right shape that has something that is not assessed yet
+-- comes to neither.
+abbrev pub IsOutcome : List SchemaInput → Outcome → Type 0
+IsOutcome documents outcome =
+    ((fault : Fault) × IsShaped documents (Err fault) × (outcome ≡ Broken fault)) ⊎
+    ((first : ShapedSchema) × IsShaped documents (Ok first) ×
+    (((is_unassessed first.shapes ≡ true) × (outcome ≡ NotYet)) ⊎ ((is_unassessed first.shapes ≡ false) × IsShapedOutcome first outcome)))

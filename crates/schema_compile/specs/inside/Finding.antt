@@ -1,0 +1,68 @@
+-- What is found of the components of a set, for content models and for assessing.
+use Rattle.std.specs.Prelude.{◌≡◌, ◌⊎◌, ℕ, ◌<◌, true, false, List, Option, None, Some, Result, Ok, Err, length}
+use Rattle.xs_codes.specs.declared.fault.Fault.{Fault}
+use Rattle.xs_components.specs.Tables.{Tables}
+use Rattle.xs_faults.specs.Least.{IsLeast}
+use Rattle.element_types.specs.Types.{AreDeclarationsOf}
+use Rattle.subst_groups.specs.Groups.{AreGroups}
+use Rattle.element_classes.specs.Classes.{AreClassesOf}
+use Rattle.component_names.specs.Named.{spaces_of}
+use Rattle.content_types.specs.ContentTypes.{AreContentsOf}
+use Rattle.content_models.specs.declared.automaton.ContentAutomaton.{ContentAutomaton}
+use Rattle.all_limits.specs.SetModels.{content_of, AreModels, IsBroken}
+use Rattle.schema_shape.specs.declared.forms.ShapedSchema.{ShapedSchema}
+use Rattle.not_yet.specs.Unassessed.{is_unassessed}
+use Rattle.schema_check.specs.Phases.{IsFirstOfPhases}
+use Rattle.schema_check.specs.declared.documents.CompiledSet.{CompiledSet}
+use Rattle.compiled_schema.specs.declared.compiled.Compiled.{Compiled}
+use Rattle.schema_compile.specs.declared.finding.Found.{Found}
+use Rattle.schema_compile.specs.declared.outcome.Outcome.{Outcome}
+use Rattle.schema_compile.specs.declared.outcome.Outcome.TheVariants.{NotYet}
+use Rattle.schema_compile.specs.Outcomes.{model_phases, IsShapedOutcome}
+
+pub record IsFound (t : Tables) (found : Found) : Type 0 where
+  pub declarations : AreDeclarationsOf t found.declarations
+  pub members : AreGroups t found.members
+  pub classes : AreClassesOf t found.classes.items
+  pub named : found.named ≡ spaces_of t
+  pub contents : AreContentsOf t found.contents
+
+-- the automata of the content models, or the first fault of one
+abbrev pub AreModelsOf : CompiledSet → Found → Result (List (Option ContentAutomaton)) Fault → Type 0
+AreModelsOf made found (Ok models) =
+    IsLeast (IsBroken made.names made.parts found.members found.classes.items) None × AreModels made.names made.parts found.members found.classes.items models
+AreModelsOf made found (Err fault) = IsLeast (IsBroken made.names made.parts found.members found.classes.items) (Some fault)
+
+-- the same, or the first fault of the phases behind simple types
+abbrev pub AreModelsIn : CompiledSet → Found → Result (List (Option ContentAutomaton)) Fault → Type 0
+AreModelsIn made found (Ok models) = IsFirstOfPhases (model_phases made) None × AreModelsOf made found (Ok models)
+AreModelsIn made found (Err fault) = IsFirstOfPhases (model_phases made) (Some fault)
+
+-- the particle of each content is there, and no other type has one
+pub record AreContentsThere (t : Tables) : Type 0 where
+  pub each : length t.contents ≡ length t.complexes.parts
+  pub there : (n p : ℕ) → content_of t n ≡ Some p → p < length t.particles.parts
+
+-- the set with what was found of it
+abbrev pub joined : CompiledSet → Found → List (Option ContentAutomaton) → Compiled
+joined made found models = record {
+  names = made.names;
+  parts = made.parts;
+  types = made.types;
+  members = found.members;
+  classes = found.classes;
+  declarations = found.declarations;
+  named = found.named;
+  contents = found.contents;
+  models = models;
+}
+
+-- what is found of a set without a fault, and its automata; or the first fault
+abbrev pub IsJudged : CompiledSet → Result (Found × List (Option ContentAutomaton)) Fault → Type 0
+IsJudged made (Ok pair) = IsFirstOfPhases (model_phases made) None × IsFound made.parts pair.0 × AreModelsOf made pair.0 (Ok pair.1) × AreContentsThere made.parts
+IsJudged made (Err fault) = IsFirstOfPhases (model_phases made) (Some fault)
+
+-- what a document of the right shape comes to
+abbrev pub IsKnownOutcome : ShapedSchema → Outcome → Type 0
+IsKnownOutcome first outcome =
+    ((is_unassessed first.shapes ≡ true) × (outcome ≡ NotYet)) ⊎ ((is_unassessed first.shapes ≡ false) × IsShapedOutcome first outcome)

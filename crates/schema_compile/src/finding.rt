@@ -1,0 +1,134 @@
+//! What is found of the components of a set, for content models and for assessing.
+
+ghost use Rattle.std.specs.Prelude.{◌≡◌, IfOk, IfNone};
+ghost use Rattle.all_limits.specs.SetModels.{AreContentsLimited};
+ghost use Rattle.schema_compile.specs.Fit.{IsFit};
+ghost use Rattle.schema_compile.specs.Outcomes as phases;
+ghost use Rattle.schema_compile.specs.inside.Finding as spec;
+
+use all_limits::{Models, build_models, first_unlimited};
+use component_names::ComponentNames;
+use content_models::ModelSource;
+use content_types::ContentTypes;
+use element_classes::classes_of;
+use element_types::Declarations;
+use head_exclusions::first_excluded;
+use particle_forms::Inhabited;
+use schema_check::CompiledSet;
+use std::alloc::{AllocError, Global};
+use subst_groups::groups;
+use xs_codes::Fault;
+use xs_faults::sooner;
+use xs_members::Members;
+
+/// What is found of the components of a set.
+#[derive(Drop)]
+pub(crate) struct Found {
+    pub(crate) declarations: Declarations,
+    pub(crate) members: Members,
+    pub(crate) classes: Vec<u32>,
+    pub(crate) named: ComponentNames,
+    pub(crate) contents: ContentTypes,
+}
+
+// Finds it.
+fn find(alloc: Global, set: &CompiledSet) -> Result<Found, AllocError>
+    requires fit { IsFit set.now }
+    ensures found { IfOk result (spec.IsFound set.now.parts) }
+{
+    let declarations = Declarations::of(alloc, &set.parts)?;
+    let members = groups(alloc, &set.parts, &declarations)?;
+    let classes = classes_of(alloc, &set.parts, &declarations)?;
+    let named = ComponentNames::of(alloc, &set.parts)?;
+    let contents = ContentTypes::of(alloc, &set.parts)?;
+    Ok(Found {
+        declarations,
+        members,
+        classes,
+        named,
+        contents,
+    })
+}
+
+// The particle of each content of a set is there: a law.
+fn contents_are_there(set: &CompiledSet)
+    requires fit { IsFit set.now }
+    ensures there { spec.AreContentsThere set.now.parts }
+{
+    let _contents = set.parts.contents();
+}
+
+// The first fault of phase 7.
+fn derivation_fault(
+    alloc: Global,
+    set: &CompiledSet,
+    found: &Found,
+) -> Result<Option<Fault>, AllocError>
+    requires fit { IsFit set.now }
+    requires found { spec.IsFound set.now.parts found.now }
+    requires there { spec.AreContentsThere set.now.parts }
+    ensures least { IfOk result (phases.derivation_phase set.now) }
+    ensures limited { IfOk result (λ fault. IfNone fault (AreContentsLimited set.now.parts)) }
+{
+    let excluded = first_excluded(alloc, &set.parts, &found.declarations)?;
+    let unlimited = first_unlimited(alloc, &set.parts)?;
+    Ok(sooner(excluded, unlimited))
+}
+
+// The automata of content models, or the first fault of phase 8.
+fn find_models(
+    alloc: Global,
+    set: &CompiledSet,
+    found: &Found,
+) -> Result<Result<Models, Fault>, AllocError>
+    requires fit { IsFit set.now }
+    requires found { spec.IsFound set.now.parts found.now }
+    requires limited { AreContentsLimited set.now.parts }
+    ensures models { IfOk result (spec.AreModelsOf set.now found.now) }
+{
+    let inhabited = Inhabited::of(alloc, &set.parts, &found.members)?;
+    build_models(
+        alloc,
+        ModelSource {
+            names: &set.names,
+            parts: &set.parts,
+            members: &found.members,
+            declarations: &found.declarations,
+            inhabited: &inhabited,
+            classes: &found.classes,
+        },
+    )
+}
+
+// The automata of content models, or the first fault of phases 7 and 8.
+fn models_of(
+    alloc: Global,
+    set: &CompiledSet,
+    found: &Found,
+) -> Result<Result<Models, Fault>, AllocError>
+    requires fit { IsFit set.now }
+    requires found { spec.IsFound set.now.parts found.now }
+    requires there { spec.AreContentsThere set.now.parts }
+    ensures models { IfOk result (spec.AreModelsIn set.now found.now) }
+{
+    match derivation_fault(alloc, set, found)? {
+        Some(fault) => Ok(Err(fault)),
+        None => find_models(alloc, set, found),
+    }
+}
+
+/// What is found of a set, and the automata of its content models; or the first fault of phases 7 and 8.
+pub(crate) fn judge(
+    alloc: Global,
+    set: &CompiledSet,
+) -> Result<Result<(Found, Models), Fault>, AllocError>
+    requires fit { IsFit set.now }
+    ensures judged { IfOk result (spec.IsJudged set.now) }
+{
+    contents_are_there(set);
+    let found = find(alloc, set)?;
+    match models_of(alloc, set, &found)? {
+        Ok(models) => Ok(Ok((found, models))),
+        Err(fault) => Ok(Err(fault)),
+    }
+}

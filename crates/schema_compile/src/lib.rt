@@ -1,0 +1,13 @@
+//! Schema documents compiled, as far as documents are assessed by them.
+#![tactic(auto)]
+
+mod compiling;
+mod finding;
+mod laws;
+mod outcome;
+
+pub use compiled_schema::Compiled;
+pub use compiling::compile;
+pub use laws::compiled_parts_are_fit;
+pub use outcome::Outcome;
+pub use schema_check::SchemaInput;

@@ -1,0 +1,6 @@
+pub mod OrderLaws
+pub mod UniqueLaws
+pub mod PlaceLaws
+pub mod CellLaws
+pub mod FillLaws
+pub mod JudgeLaws

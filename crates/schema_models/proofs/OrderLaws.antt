@@ -1,0 +1,127 @@
+-- Complex types by their places.
+use Rattle.std.proofs.Common.{◌≡◌, ◌≢◌, ℕ, zero, suc, ◌+◌, ◌<◌, false, List, [], ◌∷◌, inl, inr, length, take, drop, get_or, refl, sym, ◌∙◌, subst, ap, arith}
+use Rattle.std.specs.Prelude.{All, Contains}
+use Rattle.std.specs.List.{AllPairs, IsDistinct}
+use Rattle.std.specs.List.Sorted.{IsPermutation, IsSorted, IsStrictlySortedBy, IsStrictlyIncreasing}
+use Rattle.std.specs.Ordering.{nat_cmp, ordering_then, ordering_reverse, is_lt, is_eq, eq_by_cmp}
+use Rattle.std.specs.declared.cmp.Ordering.{Ordering}
+use Rattle.std.specs.declared.cmp.Ordering.TheVariants.{Less, Equal, Greater}
+use Rattle.std.specs.Cmp.{IsTotalOrder}
+use Rattle.std.proofs.lemmas.Bool.{true≢false}
+use Rattle.std.proofs.lemmas.Cmp.{nat_cmp_total, then_total}
+use Rattle.std.proofs.lemmas.List.{take-append-drop}
+use Rattle.std.proofs.lemmas.List.Elements.{All-contains, Contains-append_cases, All-nil, All-cons, All-get_or, All-from_recursion, recursion_from_All, All-from_get_or, Contains-get_or}
+use Rattle.std.proofs.lemmas.List.Sorted.{All-permutation, Contains-permutation, sorted_far, ranks_by}
+use Rattle.std.proofs.lemmas.Map.Keys.{IsDistinct-IsPermutation, IsDistinct-from_sorted, sorted_from_strictly_increasing}
+use Rattle.xs_components.specs.Tables.{Tables}
+use Rattle.schema_models.specs.SetModels.{by_place, place_of}
+use Rattle.schema_models.specs.inside.Steps.{IsInOrder, AreCounted}
+
+less-equal : Less ≡ Equal → ⊥
+less-equal e = cc
+
+pub less-greater : Less ≡ Greater → ⊥
+less-greater e = cc
+
+pub equal-greater : Equal ≡ Greater → ⊥
+equal-greater e = cc
+
+greater-equal : Greater ≡ Equal → ⊥
+greater-equal e = cc
+
+then-equal : (p q : Ordering) → ordering_then p q ≡ Equal → q ≡ Equal
+then-equal Less q e = absurd (less-equal e)
+then-equal Equal q e = e
+then-equal Greater q e = absurd (greater-equal e)
+
+-- what is not above another and differs from it is below
+less-of : (back there : Ordering) → there ≡ ordering_reverse back → is_lt back ≡ false → (there ≡ Equal → ⊥) → there ≡ Less
+less-of Less there e lt differ = absurd (true≢false lt)
+less-of Equal there e lt differ = absurd (differ e)
+less-of Greater there e lt differ = e
+
+reverse-eq : (o : Ordering) → is_eq (ordering_reverse o) ≡ is_eq o
+reverse-eq Less = refl
+reverse-eq Equal = refl
+reverse-eq Greater = refl
+
+flips : (x y : ℕ) → eq_by_cmp nat_cmp x y ≡ eq_by_cmp nat_cmp y x
+flips x y = ap is_eq (nat_cmp_total.antisymm x y) ∙ reverse-eq (nat_cmp y x)
+
+module _ (t : Tables) where
+  on-total : (f : ℕ → ℕ) → IsTotalOrder (λ x y. nat_cmp (f x) (f y))
+  on-total f = record {
+    antisymm = λ x y. nat_cmp_total.antisymm (f x) (f y);
+    trans = λ x y z. nat_cmp_total.trans (f x) (f y) (f z);
+    congr = λ x y z. nat_cmp_total.congr (f x) (f y) (f z);
+  }
+
+  place-total : IsTotalOrder (by_place t)
+  place-total = then_total (then_total (on-total (λ x. (place_of t x).document)) (on-total (λ x. (place_of t x).item))) nat_cmp_total
+
+  below-next : (x y : ℕ) → is_lt (by_place t y x) ≡ false → eq_by_cmp nat_cmp x y ≡ false → by_place t x y ≡ Less
+  below-next x y lt differ =
+      less-of (by_place t y x) (by_place t x y) (place-total.antisymm x y) lt
+      (λ e. true≢false (sym (ap is_eq (then-equal _ (nat_cmp x y) e)) ∙ differ))
+
+  strict : (xs : List ℕ) → AllPairs (λ a b. is_lt (by_place t b a) ≡ false) xs → IsDistinct (eq_by_cmp nat_cmp) xs → IsStrictlySortedBy (by_place t) xs
+  unfolding IsDistinct IsStrictlySortedBy
+  strict [] pairs differ = tt
+  strict (x ∷ xs) pairs differ = (
+    recursion_from_All (λ y. by_place t x y ≡ Less) xs
+        (λ j d inside. below-next x (get_or xs j d) (pairs zero (suc j) d (omega arith) (omega arith)) (All-from_recursion (λ y. eq_by_cmp nat_cmp x y ≡ false) xs differ.0 j d inside)),
+    strict xs (λ i j d below inside. pairs (suc i) (suc j) d (omega arith) (omega arith)) differ.1,
+  )
+
+  rises : (numbers : List ℕ) → AreCounted numbers → IsStrictlyIncreasing numbers
+  rises numbers counted k l = let a = counted k (omega arith) in let b = counted (k + 1) l in omega (arith, a, b)
+
+  -- all numbers, sorted by the places of their types
+  pub in-order : (numbers sorted : List ℕ) → length numbers ≡ length t.complexes.parts → AreCounted numbers → IsPermutation numbers sorted → IsSorted (by_place t) sorted → IsInOrder t sorted
+  in-order numbers sorted long counted moved up = record {
+    there = All-permutation (λ e. e < length t.complexes.parts) numbers sorted moved
+        (All-from_get_or (λ e. e < length t.complexes.parts) numbers 0 (λ i l. let a = counted i l in omega (arith, a, l, long)));
+    each = λ e l. Contains-permutation numbers sorted e moved (let l2 : e < length numbers = omega (arith, l, long) in subst (Contains numbers) (counted e l2) (Contains-get_or numbers e 0 l2));
+    ordered = strict sorted
+        (λ i j d below inside. sorted_far (λ x y. is_lt (by_place t x y)) (ranks_by place-total (λ x. x)) sorted up i j d (omega arith) inside)
+        (IsDistinct-IsPermutation (eq_by_cmp nat_cmp) flips numbers sorted moved (IsDistinct-from_sorted nat_cmp numbers (sorted_from_strictly_increasing numbers (rises numbers counted))));
+  }
+
+  -- those before a place
+  pub before-place : (xs : List ℕ) (i d : ℕ) → IsStrictlySortedBy (by_place t) xs → i < length xs → All (λ x. by_place t x (get_or xs i d) ≡ Less) (take i xs)
+  unfolding IsStrictlySortedBy
+  before-place [] i d s l = absurd (omega arith)
+  before-place (x ∷ xs) zero d s l = All-nil (λ y. by_place t y x ≡ Less)
+  before-place (x ∷ xs) (suc i) d s l =
+      All-cons (λ y. by_place t y (get_or xs i d) ≡ Less) x (take i xs)
+      (All-get_or (λ y. by_place t x y ≡ Less) xs i d (omega arith) (All-from_recursion (λ y. by_place t x y ≡ Less) xs s.0))
+      (before-place xs i d s.1 (omega arith))
+
+  -- those after a place
+  after-place : (xs : List ℕ) (i d : ℕ) → IsStrictlySortedBy (by_place t) xs → i < length xs → All (λ x. by_place t (get_or xs i d) x ≡ Less) (drop (suc i) xs)
+  unfolding IsStrictlySortedBy
+  after-place [] i d s l = absurd (omega arith)
+  after-place (x ∷ xs) zero d s l = All-from_recursion (λ y. by_place t x y ≡ Less) xs s.0
+  after-place (x ∷ xs) (suc i) d s l = after-place xs i d s.1 (omega arith)
+
+  pub not-less-itself : (x : ℕ) → by_place t x x ≡ Less → ⊥
+  not-less-itself x e = absurd (less-greater (sym e ∙ (place-total.antisymm x x ∙ ap ordering_reverse e)))
+
+  pub not-greater-itself : (x : ℕ) → by_place t x x ≡ Greater → ⊥
+  not-greater-itself x e = absurd (less-greater (ap ordering_reverse (sym e) ∙ (sym (place-total.antisymm x x) ∙ e)))
+
+  pub not-both-ways : (x y : ℕ) → by_place t x y ≡ Less → by_place t y x ≡ Greater
+  not-both-ways x y e = place-total.antisymm y x ∙ ap ordering_reverse e
+
+  -- what does not come after a type stands up to it
+  pub upto : (order : List ℕ) (i e k : ℕ) → IsInOrder t order → i < length order → e ≡ get_or order i e → k < length t.complexes.parts → by_place t k e ≢ Greater → Contains (take (suc i) order) k
+  upto order i e k all l is there up =
+      elim (Contains-append_cases (take (suc i) order) (drop (suc i) order) k (subst (λ xs. Contains xs k) (sym (take-append-drop (suc i) order)) (all.each k there))) [
+        | inl c ↦ c
+        | inr c ↦ absurd (up (not-both-ways e k (subst (λ y. by_place t y k ≡ Less) (sym is) (All-contains (λ x. by_place t (get_or order i e) x ≡ Less) (drop (suc i) order) k (after-place order i e all.ordered l) c))))
+      ]
+
+  -- those before a type come before it
+  pub before : (order : List ℕ) (i e k : ℕ) → IsInOrder t order → i < length order → e ≡ get_or order i e → Contains (take i order) k → by_place t k e ≡ Less
+  before order i e k all l is c =
+      subst (λ y. by_place t k y ≡ Less) (sym is) (All-contains (λ x. by_place t x (get_or order i e) ≡ Less) (take i order) k (before-place order i e all.ordered l) c)

@@ -1,0 +1,4 @@
+pub mod SetModels
+pub mod inside
+pub use Rattle.model_checks.specs.Checks
+pub use Rattle.model_checks.specs.declared.fault.ModelFault

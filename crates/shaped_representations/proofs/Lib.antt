@@ -1,9 +1,0 @@
-pub mod TagLaws
-pub mod KidLaws
-pub mod SoundLaws
-pub mod WalkLaws
-pub mod FormLaws
-pub mod NameLaws
-pub mod LaidLaws
-pub mod ShapeLaws
-pub mod SetLaws

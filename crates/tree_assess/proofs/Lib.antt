@@ -1,0 +1,8 @@
+mod Same
+mod Governed
+mod Pairs
+mod Counting
+mod Forests
+mod Root
+mod Steps
+mod Below

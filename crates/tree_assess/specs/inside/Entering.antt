@@ -1,0 +1,50 @@
+-- An element before its child elements are assessed.
+use Rattle.std.specs.Prelude.{◌≡◌, ℕ, List, [], slice_set}
+use Rattle.tree_rows.specs.Forest.{Forest}
+use Rattle.tree_rows.specs.declared.name.Expanded.{Expanded}
+use Rattle.tree_rows.specs.declared.row.Row.{Row}
+use Rattle.assess_records.specs.declared.counts.ChildCounts.{ChildCounts}
+use Rattle.assess_records.specs.declared.shape.ElementShape.{ElementShape}
+use Rattle.elem_governing.specs.declared.pairs.Governing.{Governing}
+use Rattle.compiled_schema.specs.Usable.{set_of}
+use Rattle.compiled_schema.specs.declared.compiled.Compiled.{Compiled}
+use Rattle.child_terms.specs.Numbered.{Scope, characters}
+use Rattle.child_terms.specs.Attribution.{SchemaSet}
+use Rattle.child_terms.specs.Assessment.{AreJudged}
+use Rattle.element_heads.specs.Heads.{IsHead}
+use Rattle.tree_assess.specs.Entries.{entry_of}
+use Rattle.child_terms.specs.Plain.{plain_beside}
+use Rattle.tree_assess.specs.declared.entry.ChildOutcome.{ChildOutcome}
+use Rattle.tree_assess.specs.declared.entry.ElementEntry.{ElementEntry}
+use Rattle.tree_assess.specs.inside.Steps.{CanAssess, AreInner, pairs_in}
+use Rattle.tree_assess.specs.declared.elements.Entered.{Entered}
+
+-- what is known of an element: its head, its characters, and where its child elements get stuck and what governs them
+pub record IsEntered (c : Compiled) (outer : Scope) (g : Governing) (name : Expanded) (row : Row) (children : Forest) (e : Entered) : Type 0 where
+  pub head_is : IsHead c.names outer name row.bindings row.attributes e.head
+  pub text_is : e.text ≡ characters children
+  pub inner_are : AreInner (set_of c) g e.head.scope children e.inner.stuck (pairs_in e.inner.begun.items)
+  pub can : CanAssess c e.head.scope children
+
+-- what the element has to show with its child elements
+abbrev pub shape_from : Entered → ChildCounts → ElementShape
+shape_from e counts = record {
+  name = e.head.name;
+  attrs = e.head.attrs;
+  text = e.text;
+  scope = e.head.scope;
+  stuck = e.inner.stuck;
+  identity = [];
+  ids = [];
+  counts = counts;
+}
+
+-- the element of a number is judged by its shape, and its entry stands at the place that was kept for it
+pub record IsFinished (s : SchemaSet) (g : Governing) (number : ℕ) (shape : ElementShape) (place : ℕ) (old new : List ElementEntry) (outcome : ChildOutcome) : Type 0 where
+  pub own : ElementEntry
+  pub judged : AreJudged s plain_beside shape (entry_of own)
+  pub number_is : own.number ≡ number
+  pub governing_is : own.governing ≡ g
+  pub placed : new ≡ slice_set old place own
+  pub validity_is : outcome.validity ≡ own.element.validity
+  pub attempted_is : outcome.attempted ≡ own.element.attempted
