@@ -286,7 +286,7 @@ def add_word(document, records, word, number):
 def model_stream(line):
     """The stream of a model, and the answer."""
     text, gives, code = line.partition(' => ')
-    model, *words = text.split(' / ')
+    model, *words = [it.strip() for it in text.split(' /')]
     has_target = bool(re.search(r't:|##', line)) and '##qualified' not in model
     schema = Document(SCHEMA + ['AtargetNamespace urn:t'] * has_target + ['Axmlns urn:t'] * has_target, 1)
     number = Model(model, schema).write()
