@@ -1,3 +1,2 @@
 pub mod Folded
 pub mod Holding
-pub mod Tested

@@ -1,61 +1,11 @@
--- The laws of the folds that the tests keep.
-use Rattle.std.proofs.Common.{◌≡◌, ℕ, ◌+◌, ◌*◌, ◌%◌, ◌^◌, ◌<◌, ◌==◌, Bool, true, false, if◌then◌else◌, List, Option, Some, None, unwrap_or, refl, sym, ap, ◌∙◌, subst, lit<}
+-- The laws of the fold that the tests keep.
+use Rattle.std.proofs.Common.{◌≡◌, ℕ, ◌%◌, ◌^◌, ◌<◌, ◌==◌, true, false, if◌then◌else◌, List, Option, Some, None, unwrap_or, refl, sym, ap, ◌∙◌, subst, lit<}
 use Rattle.std.specs.Prelude.{nat_le, slice_index_or}
 use Rattle.std.proofs.lemmas.Bool.{eqb-true}
-use Rattle.std.proofs.lemmas.Nat.{mul-mod_first, mul-mod_second}
-use Rattle.std.proofs.Math.Nat.{add_assoc, zero-add, add-zero, mul_comm, mul_assoc, mul-add, one-mul, mul-one, mul-zero, lt_trans, mod-add-mod, add-mod, mod-lt, mod-eq_of_lt}
+use Rattle.std.proofs.Math.Nat.{mod-lt}
 use borrow.Author.Count.{below_none, below_more}
-use Rattle.lists_tests.specs.Folds.{on_line, lines_joined, IsLine, Four, on_four, fours_joined, IsFour, four_of}
+use Rattle.lists_tests.specs.Folds.{Four, on_four, fours_joined, IsFour, four_of}
 use Rattle.child_trees.specs.Laws.{SummaryLaws}
-
-regrouped : (a b x y z : ℕ) → a * b * x + (b * y + z) ≡ b * (a * x + y) + z
-regrouped a b x y z =
-    sym (add_assoc (a * b * x) (b * y) z)
-    ∙ ap (λ k. k * x + b * y + z) (mul_comm a b)
-    ∙ ap (λ k. k + b * y + z) (mul_assoc b a x)
-    ∙ ap (λ k. k + z) (sym (mul-add b (a * x) y))
-
-pub on_joined : (w : ℕ) (m n : ℕ × ℕ) (x : ℕ) → on_line w (lines_joined w m n) x ≡ on_line w n (on_line w m x)
-on_joined w m n x =
-    ap (λ k. (k + on_line w n m.1) % w) (mul-mod_first (m.0 * n.0) x w)
-    ∙ ap (λ k. (m.0 * n.0 * x % w + k) % w) (mod-add-mod (n.0 * m.1) w n.1)
-    ∙ sym (add-mod (m.0 * n.0 * x) (n.0 * m.1 + n.1) w)
-    ∙ ap (λ k. k % w) (regrouped m.0 n.0 x m.1 n.1)
-    ∙ sym (mod-add-mod (n.0 * (m.0 * x + m.1)) w n.1)
-    ∙ ap (λ k. (k + n.1) % w) (sym (mul-mod_second n.0 (m.0 * x + m.1) w))
-    ∙ ap (λ k. (n.0 * k % w + n.1) % w) (sym (mod-add-mod (m.0 * x) w m.1))
-
-pub lines_assoc : (w : ℕ) (m n o : ℕ × ℕ) → lines_joined w (lines_joined w m n) o ≡ lines_joined w m (lines_joined w n o)
-lines_assoc w m n o =
-    let t : m.0 * n.0 % w * o.0 % w ≡ m.0 * (n.0 * o.0 % w) % w =
-    mul-mod_first (m.0 * n.0) o.0 w ∙ ap (λ k. k % w) (mul_assoc m.0 n.0 o.0) ∙ sym (mul-mod_second m.0 (n.0 * o.0) w) in
-    ap (λ k. (k, on_line w o (on_line w n m.1))) t ∙ ap (λ k. (m.0 * (n.0 * o.0 % w) % w, k)) (sym (on_joined w n o m.1))
-
-pub line_laws : (w : ℕ) → 1 < w → SummaryLaws {Shape = Unit {0}} {Map = ℕ × ℕ} {State = ℕ} (λ _ x. x < w) (λ _. IsLine w) (λ _. (1, 0)) (lines_joined w) (on_line w) (λ _ _. false)
-line_laws w l = record {
-  unit_is = λ h. (l, some);
-  join_is = λ h m n _ _. (mod-lt (m.0 * n.0) some, mod-lt _ some);
-  acts_is = λ h m s _ _. mod-lt _ some;
-  left_unit = λ h m k. ap (λ z. (z, on_line w m 0)) (ap (λ z. z % w) (one-mul m.0) ∙ mod-eq_of_lt k.0)
-      ∙ ap (λ z. (m.0, z)) (ap (λ z. (z % w + m.1) % w) (mul-zero m.0) ∙ mod-add-mod 0 w m.1 ∙ ap (λ z. z % w) (zero-add m.1) ∙ mod-eq_of_lt k.1);
-  right_unit = λ h m k. ap (λ z. (z, on_line w (1, 0) m.1)) (ap (λ z. z % w) (mul-one m.0) ∙ mod-eq_of_lt k.0) ∙ ap (λ z. (m.0, z)) (same m.1 k.1);
-  assoc = λ h m n o _ _ _. lines_assoc w m n o;
-  acts_unit = λ h s k. same s k;
-  acts_join = λ h m n s _ _ _. on_joined w m n s;
-  stays_dead = λ h m s _ _ e. e;
-} where
-  some : 0 < w
-  some = lt_trans (lit< tt) l
-
-  same : (x : ℕ) → x < w → on_line w (1, 0) x ≡ x
-  same x k = mod-add-mod (1 * x) w 0 ∙ ap (λ z. z % w) (add-zero (1 * x) ∙ one-mul x) ∙ mod-eq_of_lt k
-
--- the map of x to 31 * x + letter, modulo 2^64
-pub digest_is : (letter : ℕ) → letter < 256 → IsLine (2 ^ 64) (31, letter)
-digest_is letter few = (lit< tt, lt_trans few (lit< tt))
-
-pub digest_laws : SummaryLaws {Shape = Unit {0}} {Map = ℕ × ℕ} {State = ℕ} (λ _ x. x < 2 ^ 64) (λ _. IsLine (2 ^ 64)) (λ _. (1, 0)) (lines_joined (2 ^ 64)) (on_line (2 ^ 64)) (λ _ _. false)
-digest_laws = line_laws (2 ^ 64) (lit< tt)
 
 -- a live cell has a map
 pub live_map : {Map : Type 0} (is_map : Map → Type 0) (unit : Map) (cells : List (Option Map)) (c : ℕ) → (m : Map) × (slice_index_or cells c None ≡ Some m) × is_map m → is_map (unwrap_or (slice_index_or cells c None) unit)

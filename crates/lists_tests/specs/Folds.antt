@@ -1,17 +1,6 @@
--- The folds that the tests keep.
-use Rattle.std.specs.Prelude.{◌≡◌, ℕ, ◌+◌, ◌*◌, ◌%◌, ◌^◌, ◌==◌, ◌<◌, nat_le, Bool, true, false, if◌then◌else◌, List, Option, Some, None, slice_index_or}
+-- The fold that the tests keep.
+use Rattle.std.specs.Prelude.{◌≡◌, ℕ, ◌==◌, ◌<◌, nat_le, if◌then◌else◌, List, Option, Some, None, slice_index_or}
 use Rattle.child_trees.specs.Lists.{Lists, IsLive}
-
--- the map of x to m.0 * x + m.1, modulo w
-abbrev pub on_line : ℕ → ℕ × ℕ → ℕ → ℕ
-on_line w m x = (m.0 * x % w + m.1) % w
-
--- one line and then another
-abbrev pub lines_joined : ℕ → ℕ × ℕ → ℕ × ℕ → ℕ × ℕ
-lines_joined w m n = (m.0 * n.0 % w, on_line w n m.1)
-
-abbrev pub IsLine : ℕ → ℕ × ℕ → Type 0
-IsLine w m = (m.0 < w) × (m.1 < w)
 
 -- what becomes of the states 0 to 3; 4 stays 4
 abbrev pub Four : Type 0

@@ -1,9 +1,9 @@
-//! Two folds, and the summary that keeps the maps of a fold in cells.
+//! A fold, and the summary that keeps the maps of a fold in cells.
 
 ghost use Rattle.std.specs.Prelude.{◌≡◌, ℕ, ◌+◌, ◌%◌, ◌^◌, ◌==◌, ◌<◌, Bool, true, false, Some, None, slice_index_or, unwrap_or};
 ghost use Rattle.child_trees.specs.Laws.{SummaryLaws};
-ghost use Rattle.lists_tests.specs.Folds.{IsLine, lines_joined, on_line, IsFour, fours_joined, on_four, four_of};
-ghost use Rattle.lists_tests.specs.FoldLaws.{digest_is, digest_laws, four_is, four_laws, live_map, byte};
+ghost use Rattle.lists_tests.specs.Folds.{IsFour, fours_joined, on_four, four_of};
+ghost use Rattle.lists_tests.specs.FoldLaws.{four_is, four_laws, live_map, byte};
 
 use child_trees::Summary;
 use std::alloc::{AllocError, Global};
@@ -53,53 +53,6 @@ pub trait Fold: Copy {
     ghost leaves: { (letter : ℕ) → letter < 256 → is_map (leaf_map letter) };
 
     ghost laws: { SummaryLaws {Shape = Unit {0}} (λ _. is_state) (λ _. is_map) (λ _. unit_map) joined acts (λ _. dead) };
-}
-
-/// The map of `x` to `m.0 * x + m.1`, modulo 2^64. A letter's is `31 * x + letter`, so the end shows the order of the letters.
-pub type Digest = (u64, u64);
-
-impl Fold for Digest {
-    ghost is_map = { IsLine (2 ^ 64) };
-
-    ghost is_state = { λ x. x < 2 ^ 64 };
-
-    ghost unit_map = { (1, 0) };
-
-    ghost leaf_map = { λ letter. (31, letter) };
-
-    ghost joined = { lines_joined (2 ^ 64) };
-
-    ghost acts = { on_line (2 ^ 64) };
-
-    ghost dead = { λ _. false };
-
-    ghost leaves = { digest_is };
-
-    ghost laws = { digest_laws };
-
-    fn unit() -> Digest {
-        (1, 0)
-    }
-
-    fn of_letter(letter: u8) -> Digest {
-        (31, u64::from(letter))
-    }
-
-    fn then(self, next: Digest) -> Digest {
-        (self.0.wrapping_mul(next.0), next.acts_on(self.1))
-    }
-
-    fn acts_on(self, state: u64) -> u64 {
-        self.0.wrapping_mul(state).wrapping_add(self.1)
-    }
-
-    fn is_dead(_state: u64) -> bool {
-        false
-    }
-
-    fn is_one_of_states(_state: u64) -> bool {
-        true
-    }
 }
 
 /// A map of the states 0 to 4, by what becomes of the first four. 4 is dead and stays so.
