@@ -5,7 +5,7 @@ In types.txt a line makes a simple type in steps, with ` / ` between them. A ste
 the last two or three types; `^`, the type before once more. Before it may stand `@N`, its place among the types of the document, which
 goes by steps otherwise, and `#METHOD`, its final. Behind ` => ` stands `ok`, or the step and the facet that are refused (facet 0 is the
 type itself), as `3.1 CODE`; or else there are literals below, `?LITERAL` each, and behind a tab `kept` or the code of the value. The
-prefix `p` is bound. Texts have the escapes of the stream.
+prefix `p` is bound. Texts have the escapes of the stream, and `%HEX;` for a character.
 
 In models.txt a line is a content model, ` => ` and the code by which it is refused or `ok`, or behind ` / ` words of child names:
 `seq(`, `or(` and `all(` open a group that `)` closes, with bounds behind it as behind each particle: `?`, `*`, `+`, `{2}`, `{2,5}` or
@@ -154,6 +154,7 @@ def types(lines):
     """The streams of the table of simple types."""
     line, literals = None, []
     for each in lines + ['']:
+        each = re.sub('%([0-9A-F]+);', lambda it: chr(int(it[1], 16)), each)
         if each.startswith('?'):
             literals.append(each)
             continue

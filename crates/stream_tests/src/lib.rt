@@ -1,11 +1,5 @@
-//! Tests of what is written for whole streams, at the level of `run`.
+//! Tests of `run` over sources and sinks in memory.
 #![tactic(auto)]
 
 #[cfg(test)]
 mod answers;
-#[cfg(test)]
-mod limits;
-#[cfg(test)]
-mod places;
-#[cfg(test)]
-mod schemas;
