@@ -1,5 +1,0 @@
-//! Tests of `run` over sources and sinks in memory.
-#![tactic(auto)]
-
-#[cfg(test)]
-mod answers;
