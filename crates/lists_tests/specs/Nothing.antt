@@ -1,5 +1,5 @@
 -- A summary that keeps nothing.
-use Rattle.std.proofs.Common.{◌≡◌, false, refl}
+use Rattle.std.proofs.Common.{false, refl}
 use Rattle.child_trees.specs.Laws.{SummaryLaws}
 
 abbrev pub Nothing : Type 0

@@ -1,4 +1,4 @@
-use Rattle.std.proofs.Common.{◌≡◌, ℕ, ◌<◌, List, Some, None, length, ap, sym, ◌∙◌, arith}
+use Rattle.std.proofs.Common.{sym, ◌∙◌}
 use Rattle.lists_tests.proofs.Holding.{item_found, held_live}
 use Rattle.lists_tests.proofs.held.Held.at.Goals as goal
 

@@ -1,4 +1,4 @@
-use Rattle.std.proofs.Common.{◌≡◌, ℕ, ◌<◌, List, Some, None, length, ap, sym, ◌∙◌, arith}
+use Rattle.std.proofs.Common.{sym, ◌∙◌}
 use Rattle.lists_tests.proofs.Holding.{reached}
 use Rattle.lists_tests.proofs.held.Held.reaches.Goals as goal
 
