@@ -1,18 +1,17 @@
-use Rattle.std.proofs.Common.{Ok, Err, get_or, sym, ◌∙◌}
-use Rattle.std.proofs.lemmas.Option.{slice_get-get_or}
-use Rattle.schema_check.proofs.CompilationLaws.{first-shaped, shaped-compiled, shape-refused}
+use Rattle.std.proofs.Common.{◌≡◌, ℕ, ◌+◌, ◌<◌, List, Option, Some, None, length, map, get_or, ap, sym, subst, ◌∙◌, arith}
+use Rattle.std.specs.Prelude.{All}
+use Rattle.xs_codes.specs.declared.fault.Fault.{Fault}
+use Rattle.xs_faults.specs.Least.{IsLeast}
+use Rattle.schema_documents.specs.Available.{Available}
+use Rattle.schema_documents.specs.SetDocument.{SetDocument}
+use Rattle.schema_documents.specs.SchemaInput.{SchemaInput}
+use Rattle.schema_documents.specs.EffectiveSet.{IsEffectiveSet, IsDocument}
+use Rattle.schema_documents.specs.Order.{IsInOrder}
+use Rattle.schema_documents.specs.Composition.{Broken}
+use Rattle.schema_documents.specs.Documents.{available, IsSet, IsShapeFault}
+use Rattle.schema_check.proofs.ReadLaws.{some-available, numbers, read-set}
+use Rattle.schema_check.proofs.CompilationLaws.{shape-phase, composition-phase, shape-refused, closed-compiled}
 use Rattle.schema_check.proofs.compiling.compile.Goals as goal
 
-pub returns-in-Ok : goal.returns-in-Ok
-returns-in-Ok c =
-    let documents = c.args.documents.now in
-    let at = slice_get-get_or documents 0 c.index-documents-0.result c.requires.some in
-    shaped-compiled documents c.compile_shaped.result c.in-Ok.shaped
-    (first-shaped documents (get_or documents 0 c.index-documents-0.result) (Ok c.in-Ok.shaped) at (sym c.in-Ok.is ∙ c.in_ok-answer.ensures)) c.compile_shaped.ensures
-
-pub returns-in-Err : goal.returns-in-Err
-returns-in-Err c =
-    let documents = c.args.documents.now in
-    let at = slice_get-get_or documents 0 c.index-documents-0.result c.requires.some in
-    shape-refused documents c.in-Err.fault
-    (first-shaped documents (get_or documents 0 c.index-documents-0.result) (Err c.in-Err.fault) at (sym c.in-Err.is ∙ c.in_ok-answer.ensures))
+pub close_set-requires : goal.close_set-requires
+close_set-requires c = record { some = some-available c.args.documents.now c.as_slice.result.now (c.as_slice.ensures ∙ c.in_ok-read.ensures.available) c.requires.some }
