@@ -28,15 +28,13 @@ names_id_type (Some name) = is_id_type name
 abbrev pub is_unassessed_element : ElementForm → Bool
 is_unassessed_element form = is_some form.value || names_id_type form.of
 
--- What is not assessed yet: value constraints of elements, references to types of ids, and the elements include, import, redefine,
--- attribute, attributeGroup, anyAttribute, simpleContent, complexContent, unique, key and keyref. So a set without them is one document,
--- in which no complex type is derived and nothing has attributes. What else elements and types may say is looked at: mixed, abstract
+-- What is not assessed yet: value constraints of elements, references to types of ids, and the elements redefine, attribute,
+-- attributeGroup, anyAttribute, simpleContent, complexContent, unique, key and keyref. So in a set without them no component is redefined,
+-- no complex type is derived and nothing has attributes. What else elements and types may say is looked at: mixed, abstract
 -- and nillable by the assessment alone; the methods in block and final, where no complex type is derived, by simple types, substitution
 -- groups and xsi:type; an `all` by its limits and its automaton; a wildcard by the automata and by how strictly what it admits is
 -- assessed.
 abbrev pub is_unassessed_form : Form → Bool
-is_unassessed_form (forms.Include location) = true
-is_unassessed_form (forms.Import namespace location) = true
 is_unassessed_form (forms.Redefine location) = true
 is_unassessed_form (forms.Element form) = is_unassessed_element form
 is_unassessed_form (forms.Attribute form) = true

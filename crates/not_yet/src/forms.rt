@@ -16,7 +16,7 @@ fn is_unassessed_form(form: &Form) -> bool
     ensures { result ≡ spec.is_unassessed_form form.now }
 {
     match form {
-        Form::Include { .. } | Form::Import { .. } | Form::Redefine { .. } => true,
+        Form::Redefine { .. } => true,
         Form::Element(form) => is_unassessed_element(form),
         Form::Attribute(_) => true,
         Form::AttributeGroup { .. } | Form::AttributeGroupReference { .. } => true,

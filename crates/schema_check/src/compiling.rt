@@ -67,7 +67,8 @@ fn compile_closed(
 ) -> Result<Result<CompiledSet, Refusal>, AllocError>
     ensures { IfOk result (inside.IsClosedCompiled closed.now.set.documents closed.now.fault) }
 {
-    if are_unassessed(closed.set.documents.as_slice()) {
+    let set = closed.set.documents.as_slice();
+    if are_unassessed(set) {
         return Ok(Err(Refusal::NotYet));
     }
     match closed.fault {
@@ -92,8 +93,11 @@ pub fn compile(
     ensures { IfOk result (spec.IsCompilation documents.now) }
 {
     let read = read_documents(alloc, documents)?;
-    let closed = close_set(alloc, read.available.as_slice())?;
-    match first_shape_fault(read.faults.as_slice(), closed.set.documents.as_slice()) {
+    let available = read.available.as_slice();
+    let closed = close_set(alloc, available)?;
+    let faults = read.faults.as_slice();
+    let set = closed.set.documents.as_slice();
+    match first_shape_fault(faults, set) {
         Some(fault) => Ok(Err(Refusal::Broken(fault))),
         None => compile_closed(alloc, &closed),
     }

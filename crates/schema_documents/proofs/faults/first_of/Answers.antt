@@ -18,4 +18,4 @@ loop-document-preserved c =
     (subst (λ (o : Option Fault). IsLeast (Contains (option_to_list o)) c.fault_of-found.result) c.fault_of-found.ensures (option-least c.fault_of-found.result))
 
 pub returns : goal.returns
-returns c = least-all (document_faults c.args.faults.now) c.args.set.now c.loop-document.document-index c.loop-document.first (let l = c.loop-document-test.false in omega arith) c.loop-document.invariant
+returns c = record { least = least-all (document_faults c.args.faults.now) c.args.set.now c.loop-document.document-index c.loop-document.first (let l = c.loop-document-test.false in omega arith) c.loop-document.invariant }
