@@ -6,9 +6,9 @@ use Rattle.std.proofs.lemmas.Option.{same_Some}
 use Rattle.xs_codes.specs.declared.fault.Fault.{Fault}
 use Rattle.schema_shape.specs.declared.forms.ShapedSchema.{ShapedSchema}
 use Rattle.schema_shape.specs.Shaped.{declared, shape_fault, answer, shaped}
-use Rattle.schema_set.specs.declared.documents.Available.{Available}
-use Rattle.schema_set.specs.declared.documents.SetDocument.{SetDocument}
-use Rattle.schema_set.specs.EffectiveSet.{InSet, IsDocument}
+use Rattle.set_closure.specs.Available.{Available}
+use Rattle.set_closure.specs.SetDocument.{SetDocument}
+use Rattle.set_closure.specs.EffectiveSet.{InSet, IsDocument}
 use Rattle.schema_documents.specs.declared.inputs.SchemaInput.{SchemaInput}
 use Rattle.schema_documents.specs.Documents.{available_of, available, IsSet, shape_fault_at, IsShapeFault}
 use Rattle.schema_documents.proofs.FaultLaws.{fault-number}
