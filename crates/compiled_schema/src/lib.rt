@@ -7,4 +7,6 @@ mod models;
 
 pub use compiled::Compiled;
 pub use laws::usable_with_more_names;
-pub use assessed_ids::{AssessSet, DocumentIds, Judged, local, mark};
+pub use assessed_ids::{
+    AssessSet, DocumentIds, Judged, codes_of_ids_join_the_assessment, local, mark,
+};
