@@ -100,7 +100,15 @@ fn assess_children(
             let child = &entries[place];
             let governing = child.governing();
             let outcome = assess_element(
-                alloc, compiled, parent.number, scope, governing, name, row, children, found,
+                alloc,
+                compiled,
+                parent.number,
+                scope,
+                governing,
+                name,
+                row,
+                children,
+                found,
             )?;
             counts.add(outcome.validity, outcome.attempted);
             place += 1;
@@ -128,12 +136,12 @@ fn assess_element(
     ensures done { IfOk result (IsDone (set_of compiled.old) bearer outer.now governing.now name.now row.now children.entry found.old.items found.new.items) }
     ensures same { compiled.new ≡ compiled.old }
 {
-    let entered = enter(alloc, compiled, bearer, outer, governing, name, row, &children)?;
+    let entered = enter(
+        alloc, compiled, bearer, outer, governing, name, row, &children,
+    )?;
     let place = keep_place(alloc, row.number, governing, &entered, found)?;
     let counts = assess_children(alloc, compiled, &entered, children, found)?;
-    finish(
-        alloc, compiled, governing, entered, counts, found, place,
-    )
+    finish(alloc, compiled, governing, entered, counts, found, place)
 }
 
 // Assesses a document by its root's name and row.

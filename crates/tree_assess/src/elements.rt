@@ -147,7 +147,10 @@ fn shape_of(alloc: Global, entered: Entered, counts: ChildCounts) -> ElementShap
     ensures { result ≡ shape_from entered counts }
 {
     let Entered {
-        head, text, inner, ..
+        head,
+        text,
+        inner,
+        ..
     } = entered;
     let ElementHead { name, attrs, scope } = head;
     ElementShape {
