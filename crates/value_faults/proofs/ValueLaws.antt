@@ -8,7 +8,7 @@ use Rattle.xs_components.specs.declared.common.TypeId.{TypeId}
 use Rattle.xs_components.specs.declared.common.ValueConstraint.{ValueConstraint}
 use Rattle.simple_values.specs.declared.value.Value.{Value}
 use Rattle.simple_values.proofs.Keys.{key_back}
-use Rattle.simple_validity.specs.Trees.{type_tree}
+use Rattle.simple_types.specs.Trees.{type_tree}
 use Rattle.simple_types.specs.SimpleTypes.{IsValueOf}
 use Rattle.validity_laws.proofs.Valid.{one-outcome}
 use Rattle.value_faults.specs.Values.{other_values, HasOtherValue, IsLost, LosesFixed}

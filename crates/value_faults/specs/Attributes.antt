@@ -1,5 +1,5 @@
 -- Value constraints of attribute declarations and of attribute uses (Structures 3.2.6, 3.5.6).
-use Rattle.std.specs.Prelude.{◌≡◌, ◌⊎◌, ℕ, List, Option, None, Some, slice_get}
+use Rattle.std.specs.Prelude.{◌≡◌, ◌⊎◌, ℕ, List, Some, slice_get}
 use Rattle.xs_codes.specs.declared.code.Code.{Code}
 use Rattle.xs_codes.specs.declared.code.Code.TheVariants as codes
 use Rattle.xs_codes.specs.declared.fault.Fault.{Fault}
@@ -10,9 +10,8 @@ use Rattle.xs_components.specs.declared.attr_group.AttrGroupDef.{AttrGroupDef}
 use Rattle.xs_components.specs.declared.common.TypeId.{TypeId}
 use Rattle.xs_components.specs.declared.common.ValueConstraint.{ValueConstraint}
 use Rattle.xs_components.specs.declared.complex.ComplexType.{ComplexType}
-use Rattle.type_faults.specs.TypeFaults.{type_fault}
 use Rattle.value_faults.specs.Ids.{IsIdType}
-use Rattle.value_faults.specs.Texts.{IsRefused}
+use Rattle.value_faults.specs.Texts.{IsRefused, IsCoded}
 use Rattle.value_faults.specs.Values.{LosesFixed}
 
 module _ (t : Tables) where
@@ -48,11 +47,11 @@ module _ (t : Tables) where
 
   -- a fault of the attribute declaration of this number
   abbrev pub IsDeclAt : ℕ → Fault → Type 0
-  IsDeclAt n fault = (decl : AttributeDecl) × (code : Code) × (slice_get t.attributes.parts n ≡ Some decl) × BreaksDecl decl code × (fault ≡ type_fault 6 decl.at code)
+  IsDeclAt n fault = (decl : AttributeDecl) × (slice_get t.attributes.parts n ≡ Some decl) × IsCoded decl.at (BreaksDecl decl) fault
 
   -- a fault of the use at this place among some
   abbrev pub IsUseAt : List AttrUse → ℕ → Fault → Type 0
-  IsUseAt uses n fault = (part : AttrUse) × (code : Code) × (slice_get uses n ≡ Some part) × BreaksUse part code × (fault ≡ type_fault 6 part.at code)
+  IsUseAt uses n fault = (part : AttrUse) × (slice_get uses n ≡ Some part) × IsCoded part.at (BreaksUse part) fault
 
   abbrev pub IsUseFault : List AttrUse → Fault → Type 0
   IsUseFault uses fault = (n : ℕ) × IsUseAt uses n fault

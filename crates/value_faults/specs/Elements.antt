@@ -11,10 +11,9 @@ use Rattle.content_types.specs.ContentTypes.{content_of}
 use Rattle.content_types.specs.declared.ContentType.{ContentType}
 use Rattle.content_types.specs.declared.ContentType.TheVariants.{SimpleType, Empty, SimpleContent, ElementOnly, Mixed}
 use Rattle.element_types.specs.Types.{type_of}
-use Rattle.type_faults.specs.TypeFaults.{type_fault}
 use Rattle.value_faults.specs.Emptiable.{has_emptiable_model}
 use Rattle.value_faults.specs.Ids.{HasIdContent}
-use Rattle.value_faults.specs.Texts.{IsRefused}
+use Rattle.value_faults.specs.Texts.{IsRefused, IsCoded}
 
 module _ (t : Tables) where
   -- e-props-correct.2 (Structures 3.3.6): the text of the constraint is not valid by the simple type, or by that of the simple content.
@@ -51,4 +50,4 @@ module _ (t : Tables) where
 
   -- a fault of the element declaration of this number
   abbrev pub IsElementAt : ℕ → Fault → Type 0
-  IsElementAt n fault = (part : ElementDecl) × (code : Code) × (slice_get t.elements.parts n ≡ Some part) × BreaksDecl (type_of t n) part code × (fault ≡ type_fault 6 part.at code)
+  IsElementAt n fault = (part : ElementDecl) × (slice_get t.elements.parts n ≡ Some part) × IsCoded part.at (BreaksDecl (type_of t n) part) fault

@@ -2,12 +2,15 @@
 use Rattle.std.specs.Prelude.{◌≡◌, Option, None, Some, Result, Ok, Err}
 use Rattle.xs_codes.specs.declared.code.Code.{Code}
 use Rattle.xs_codes.specs.declared.code.Code.TheVariants.{XLimitValue}
+use Rattle.xs_codes.specs.declared.fault.Fault.{Fault}
 use Rattle.xs_components.specs.Tables.{Tables}
+use Rattle.xs_components.specs.declared.common.Place.{Place}
 use Rattle.xs_components.specs.declared.common.TypeId.{TypeId}
 use Rattle.xs_components.specs.declared.common.ValueConstraint.{ValueConstraint}
 use Rattle.simple_values.specs.declared.value.Value.{Value}
-use Rattle.simple_validity.specs.Trees.{type_tree}
+use Rattle.simple_types.specs.Trees.{type_tree}
 use Rattle.simple_types.specs.SimpleTypes.{IsValueOf}
+use Rattle.type_faults.specs.TypeFaults.{type_fault}
 
 -- x-limit.value (own): a value of the text would pass a limit; every other text that is not valid breaks the constraint.
 abbrev pub refused_code : Code → Code → Code
@@ -18,6 +21,10 @@ refused_code broken _ = broken
 abbrev pub IsRefused : Tables → Code → TypeId → ValueConstraint → Code → Type 0
 IsRefused t broken of constraint code =
     (refusal : Code) × IsValueOf (type_tree t of) constraint.scope constraint.text (Err refusal) × (code ≡ refused_code broken refusal)
+
+-- a fault of phase 6, of attributes and value constraints, by one of some codes, at a place
+abbrev pub IsCoded : Place → (Code → Type 0) → Fault → Type 0
+IsCoded at Breaks fault = (code : Code) × Breaks code × (fault ≡ type_fault 6 at code)
 
 -- ---- for proofs
 

@@ -9,7 +9,7 @@ use Rattle.xs_components.specs.declared.common.TypeId.{TypeId}
 use Rattle.xs_components.specs.declared.common.ValueConstraint.{ValueConstraint}
 use Rattle.simple_values.specs.Same.{same}
 use Rattle.simple_values.specs.declared.value.Value.{Value}
-use Rattle.simple_validity.specs.Trees.{type_tree}
+use Rattle.simple_types.specs.Trees.{type_tree}
 use Rattle.simple_types.specs.SimpleTypes.{IsValueOf}
 
 -- both texts have values, which are not the same; a text that is not valid has none

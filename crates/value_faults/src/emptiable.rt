@@ -7,11 +7,7 @@ use particle_forms::Ranges;
 use xs_components::{Components, ParticleId, TypeId};
 
 // Whether a particle, if there is one, may come without any element.
-fn is_emptiable_particle(
-    parts: &Components,
-    ranges: &Ranges,
-    particle: Option<ParticleId>,
-) -> bool
+fn is_emptiable_particle(parts: &Components, ranges: &Ranges, particle: Option<ParticleId>) -> bool
     requires ranges { AreRangesOf parts.now ranges.now }
     requires there { IfSome particle (λ p. p < length parts.now.particles.parts) }
     ensures { result ≡ spec.is_emptiable_particle parts.now particle }

@@ -14,10 +14,7 @@ use xs_codes::Code;
 use xs_components::{AttrUse, AttributeDecl, TypeId, ValueConstraint};
 
 /// The effective value constraint of an attribute use.
-pub fn effective<'a>(
-    part: &'a AttrUse,
-    decl: &'a AttributeDecl,
-) -> Option<&'a ValueConstraint>
+pub fn effective<'a>(part: &'a AttrUse, decl: &'a AttributeDecl) -> Option<&'a ValueConstraint>
     ensures { option_copied result ≡ spec.effective part.now decl.now }
 {
     match &part.value {

@@ -1,5 +1,5 @@
 use Rattle.std.proofs.Common.{◌∙◌, ℕ, List, sym, subst}
-use Rattle.simple_validity.specs.Trees.{type_tree}
+use Rattle.simple_types.specs.Trees.{type_tree}
 use Rattle.simple_types.specs.SimpleTypes.{AreTypesOf, IsWhole, IsValueOf}
 use Rattle.simple_types.specs.declared.types.SimpleTypes.{SimpleTypes}
 use Rattle.value_faults.proofs.ValueLaws.{other-value}
