@@ -3,10 +3,10 @@ use Rattle.std.specs.Prelude.{ℕ, Bool, true, false, ◌||◌, ◌&&◌, List, 
 use Rattle.std.specs.List.{list_any}
 use Rattle.tree_rows.specs.declared.name.Expanded.{Expanded}
 use Rattle.schema_grammar.specs.Names.{schema_namespace}
-use Rattle.schema_shape.specs.declared.forms.ElementForm.{ElementForm}
 use Rattle.schema_shape.specs.declared.forms.Form.{Form}
 use Rattle.schema_shape.specs.declared.forms.Form.TheVariants as forms
 use Rattle.schema_shape.specs.declared.forms.Shape.{Shape}
+use Rattle.schema_shape.specs.declared.forms.ValueForm.{ValueForm}
 
 -- the built-in types of ids and references to ids (Datatypes 3.3.8 to 3.3.10)
 abbrev pub id_types : List (List ℕ)
@@ -24,25 +24,22 @@ abbrev pub names_id_type : Option Expanded → Bool
 names_id_type None = false
 names_id_type (Some name) = is_id_type name
 
--- the attributes default and fixed, and a reference to a type of ids
-abbrev pub is_unassessed_element : ElementForm → Bool
-is_unassessed_element form = is_some form.value || names_id_type form.of
+-- of an element or an attribute: the attributes default and fixed, and a reference to a type of ids
+abbrev pub is_unassessed_declaration : Option ValueForm → Option Expanded → Bool
+is_unassessed_declaration value of = is_some value || names_id_type of
 
--- What is not assessed yet: value constraints of elements, references to types of ids, and the elements include, import, redefine,
--- attribute, attributeGroup, anyAttribute, simpleContent, complexContent, unique, key and keyref. So a set without them is one document,
--- in which no complex type is derived and nothing has attributes. What else elements and types may say is looked at: mixed, abstract
--- and nillable by the assessment alone; the methods in block and final, where no complex type is derived, by simple types, substitution
--- groups and xsi:type; an `all` by its limits and its automaton; a wildcard by the automata and by how strictly what it admits is
--- assessed.
+-- What is not assessed yet: value constraints of elements and attributes, references to types of ids, and the elements include, import,
+-- redefine, simpleContent, complexContent, unique, key and keyref. So a set without them is one document, in which no complex type is
+-- derived. What else elements, attributes and types may say is looked at: attributes, attribute groups and their wildcards by phase 6
+-- (wildcards without a form, two uses of one name or of types of ids) and by the assessment; mixed, abstract and nillable by the
+-- assessment alone; the methods in block and final, where no complex type is derived, by simple types, substitution groups and xsi:type;
+-- an `all` by its limits and its automaton; a wildcard by the automata and by how strictly what it admits is assessed.
 abbrev pub is_unassessed_form : Form → Bool
 is_unassessed_form (forms.Include location) = true
 is_unassessed_form (forms.Import namespace location) = true
 is_unassessed_form (forms.Redefine location) = true
-is_unassessed_form (forms.Element form) = is_unassessed_element form
-is_unassessed_form (forms.Attribute form) = true
-is_unassessed_form (forms.AttributeGroup name) = true
-is_unassessed_form (forms.AttributeGroupReference to) = true
-is_unassessed_form (forms.AnyAttribute wildcard) = true
+is_unassessed_form (forms.Element form) = is_unassessed_declaration form.value form.of
+is_unassessed_form (forms.Attribute form) = is_unassessed_declaration form.value form.of
 is_unassessed_form forms.SimpleContent = true
 is_unassessed_form (forms.ComplexContent mixed) = true
 is_unassessed_form (forms.Identity kind name refer) = true

@@ -2,13 +2,14 @@ ghost use Rattle.std.specs.Prelude.{◌≡◌};
 ghost use Rattle.not_yet.specs.Unassessed as spec;
 
 use crate::references::{name_id_types, names_id_type};
-use schema_shape::{ElementForm, Form, Shape};
+use schema_shape::{Form, Shape, ValueForm};
+use tree_rows::Expanded;
 
-// Whether an element declaration has a value constraint, or a type of ids.
-fn is_unassessed_element(form: &ElementForm) -> bool
-    ensures { result ≡ spec.is_unassessed_element form.now }
+// Whether a declaration of an element or of an attribute has a value constraint, or a type of ids.
+fn is_unassessed_declaration(value: &Option<ValueForm>, of: &Option<Expanded>) -> bool
+    ensures { result ≡ spec.is_unassessed_declaration value.now of.now }
 {
-    form.value.is_some() || names_id_type(&form.of)
+    value.is_some() || names_id_type(of)
 }
 
 // Whether an element of a document, or one of its attributes, is not assessed yet.
@@ -17,10 +18,8 @@ fn is_unassessed_form(form: &Form) -> bool
 {
     match form {
         Form::Include { .. } | Form::Import { .. } | Form::Redefine { .. } => true,
-        Form::Element(form) => is_unassessed_element(form),
-        Form::Attribute(_) => true,
-        Form::AttributeGroup { .. } | Form::AttributeGroupReference { .. } => true,
-        Form::AnyAttribute(_) => true,
+        Form::Element(form) => is_unassessed_declaration(&form.value, &form.of),
+        Form::Attribute(form) => is_unassessed_declaration(&form.value, &form.of),
         Form::SimpleContent | Form::ComplexContent { .. } => true,
         Form::Identity { .. } => true,
         Form::Restriction { base } => names_id_type(base),
