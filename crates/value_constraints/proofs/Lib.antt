@@ -1,3 +1,0 @@
-pub mod ValueLaws
-pub mod ConstraintLaws
-pub mod FaultLaws
