@@ -19,7 +19,7 @@ use Rattle.xsv_run.specs.State.{OpenState}
 use Rattle.xsv_run.specs.Told.{Last, Told, over, asks, Leads, free, before, answered, schema_ok, ending_of, not_yet, inputs, sections_told, stream_told, compiled_told, check_told, opened_told, opening, commands_told}
 use Rattle.xsv_run.specs.Output.{Output, asked, refused_words, output_of, ComesTo, IsOutput, IsOutputBy, told_of}
 use Rattle.xsv_run.specs.declared.status.Status.TheVariants.{Valid}
-use Rattle.output_laws.specs.Complete.{HasNoAttributes, IsByOutcome, replies, state_after, first_state, costs, last_line, answer, check_output, stream_output}
+use Rattle.output_laws.specs.Complete.{HasNoTypeAttribute, IsByOutcome, replies, state_after, first_state, costs, last_line, answer, check_output, stream_output}
 
 -- the output of what is told, where nothing is asked
 abbrev output_told : Told → Output
@@ -128,7 +128,7 @@ module _ (p : RightAssessor) where
     stream_last (Broken fault) = last_of (stream_next (Broken fault))
     stream_last NotYet = not_yet
 
-    opened_is : (set : Compiled) → HasNoAttributes d → opened_told p a set (sections.document d (given orders))
+    opened_is : (set : Compiled) → HasNoTypeAttribute d → opened_told p a set (sections.document d (given orders))
         ≡ over (ended_at (opening p a (first_state set d) ++ (replies p (first_state set d) orders ++ last_line p (state_after (first_state set d) orders)))
         (costs (first_state set d) orders) (state_after (first_state set d) orders))
     opened_is set plain =
@@ -137,7 +137,7 @@ module _ (p : RightAssessor) where
         ∙ free_first (opening p a (first_state set d)) (replies p (first_state set d) orders ++ last_line p (state_after (first_state set d) orders))
         (costs (first_state set d) orders) (state_after (first_state set d) orders)
 
-    stream_tells : HasNoAttributes d → (o : Outcome) → stream_next o ≡ over (stream_last o)
+    stream_tells : HasNoTypeAttribute d → (o : Outcome) → stream_next o ≡ over (stream_last o)
     stream_tells plain (Accepted set) =
         ap (before (free schema_ok)) (opened_is set plain)
         ∙ free_first schema_ok (opening p a (first_state set d) ++ (replies p (first_state set d) orders ++ last_line p (state_after (first_state set d) orders)))
@@ -162,7 +162,7 @@ module _ (law : (a : Asked) (all : List SchemaSection) (d : Document) (orders : 
       told_is p Session bytes its (asks (inputs all) (stream_next p Session d orders)) reads (ap (stream_told (opened_told p Session)) (law Session all d orders its spells))
 
   module _ (a : Asked) (words : List (List ℕ)) (bytes : List ℕ) (its : List Item) (all : List SchemaSection) (d : Document) (orders : List Order) (out : Output)
-      (asks_for : asked words ≡ Some a) (reads : listed unread bytes true ≡ whole its) (spells : SpellsStream a all d orders its) (plain : HasNoAttributes d) where
+      (asks_for : asked words ≡ Some a) (reads : listed unread bytes true ≡ whole its) (spells : SpellsStream a all d orders its) (plain : HasNoTypeAttribute d) where
     pub stream_answered : IsOutput p words bytes out → IsByOutcome all (stream_output p a d orders) out
     stream_answered h =
         by_outcome all (stream_next p a d orders) (stream_output p a d orders) (stream_last p a d orders) (stream_tells p a d orders plain) (stream_writes p a d orders) out

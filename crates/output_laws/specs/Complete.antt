@@ -15,13 +15,13 @@ use Rattle.xsv_run.specs.Outcomes.{IsOutcome}
 use Rattle.xsv_run.specs.State.{OpenState}
 use Rattle.xsv_run.specs.Statuses.{status_of}
 use Rattle.xsv_run.specs.Output.{Output, output_of}
-use Rattle.xsv_run.specs.Told.{has_attributes, schema_ok, opening, end_line, ending_of, inputs, not_yet}
+use Rattle.xsv_run.specs.Told.{has_type_attribute, schema_ok, opening, end_line, ending_of, inputs, not_yet}
 use Rattle.xsv_run.specs.declared.status.Status.{Status}
 use Rattle.xsv_run.specs.declared.status.Status.TheVariants.{Valid}
 
--- no element has an attribute that is no binding
-abbrev pub HasNoAttributes : Document → Type 0
-HasNoAttributes d = has_attributes (rows_of 1 d.forest) ≡ false
+-- no element has an attribute xsi:type
+abbrev pub HasNoTypeAttribute : Document → Type 0
+HasNoTypeAttribute d = has_type_attribute (rows_of 1 d.forest) ≡ false
 
 -- a document that was just opened by a schema set
 abbrev pub first_state : Compiled → Document → OpenState

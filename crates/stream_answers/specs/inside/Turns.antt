@@ -23,7 +23,7 @@ use Rattle.stream_sections.specs.declared.commands.CommandReader.{CommandReader}
 use Rattle.stream_sections.specs.declared.document.DocumentReader.{DocumentReader}
 use Rattle.stream_sections.specs.declared.schemas.SchemaReader.{SchemaReader}
 use Rattle.stream_answers.specs.Faults.{fault_line, fault_ending}
-use Rattle.stream_answers.specs.Output.{Said, free, Last, Told, over, asks, before, ends, stop_last, stop_told, verdict_last, answered, opening, has_attributes, not_yet, schema_ok, inputs}
+use Rattle.stream_answers.specs.Output.{Said, free, Last, Told, over, asks, before, ends, stop_last, stop_told, verdict_last, answered, opening, has_type_attribute, not_yet, schema_ok, inputs}
 use Rattle.stream_answers.specs.declared.ending.Ending.TheVariants.{Valid}
 
 -- Where a stream stands between two lines: among the schema sections; in the document section, by a schema set that was accepted; among the
@@ -74,7 +74,7 @@ schemas_turned a line (schema_turns.ends all) = compiles (inputs all) (compiled 
 schemas_turned a line (schema_turns.stops stop) = stops (stop_last stop)
 
 abbrev pub accepted : Document → Turned → Turned
-accepted d next = if has_attributes (rows_of 1 d.forest) then stops not_yet else next
+accepted d next = if has_type_attribute (rows_of 1 d.forest) then stops not_yet else next
 
 -- the line `end` came
 abbrev pub end_last : Option Verdict → Last
