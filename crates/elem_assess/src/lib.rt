@@ -3,4 +3,6 @@
 
 mod records;
 
+pub use attr_assess::AttrTables;
+pub use element_judging::SimpleTypes;
 pub use records::{AssessSet, Judged, local};

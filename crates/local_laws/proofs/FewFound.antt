@@ -19,7 +19,7 @@ use Rattle.xs_components.specs.declared.common.TypeId.{TypeId}
 use Rattle.xs_components.specs.declared.common.TypeId.TheVariants.{Builtin}
 use Rattle.xs_components.specs.declared.common.ValueConstraint.{ValueConstraint}
 use Rattle.use_maps.specs.declared.entry.UseAt.{UseAt}
-use Rattle.facets.specs.Trying.{Scope}
+use Rattle.simple_types.specs.Trying.{Scope}
 use Rattle.attr_uses.specs.Written.{use_at}
 use Rattle.attr_uses.specs.Uses.{use_named}
 use Rattle.assess_records.specs.declared.outcome.ValueSource.{ValueSource}

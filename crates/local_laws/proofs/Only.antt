@@ -8,7 +8,7 @@ use Rattle.xs_components.specs.Tables.{Tables}
 use Rattle.xs_components.specs.declared.common.TypeId.{TypeId}
 use Rattle.xs_components.specs.declared.common.ValueConstraint.{ValueConstraint}
 use Rattle.simple_values.specs.declared.value.Value.{Value}
-use Rattle.facets.specs.Trying.{Scope}
+use Rattle.simple_types.specs.Trying.{Scope}
 use Rattle.assess_records.specs.declared.record.AttrRecord.{AttrRecord}
 use Rattle.assess_records.specs.declared.record.ElementRecord.{ElementRecord}
 use Rattle.assess_records.specs.declared.shape.ElementShape.{ElementShape}

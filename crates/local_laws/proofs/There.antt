@@ -24,7 +24,7 @@ use Rattle.simple_validity.specs.Trees.{simple_tree, type_tree, part_tree, conte
 use Rattle.simple_validity.specs.TypeTree.{TypeTree}
 use Rattle.simple_validity.proofs.TreeLaws.{simple_tree_is, type_tree_is}
 use Rattle.simple_types.specs.SimpleTypes.{IsSimpleTree}
-use Rattle.facets.specs.Trying.{Scope}
+use Rattle.simple_types.specs.Trying.{Scope}
 use Rattle.attr_uses.specs.Written.{use_at, use_name}
 use Rattle.attr_uses.specs.Uses.{use_named}
 use Rattle.assess_records.specs.declared.outcome.ValueSource.{ValueSource}

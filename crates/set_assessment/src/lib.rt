@@ -3,5 +3,5 @@
 
 mod laws;
 
-pub use element_judging::{JudgedElement, SimpleTypes, judge_element};
+pub use elem_assess::{AssessSet, AttrTables, Judged, SimpleTypes, local};
 pub use laws::fitting_records_are_the_assessment;

@@ -16,10 +16,10 @@ use Rattle.elem_governing.specs.declared.pairs.Governing.{Governing}
 use Rattle.compiled_schema.specs.Usable.{set_of}
 use Rattle.compiled_schema.specs.declared.compiled.Compiled.{Compiled}
 use Rattle.element_heads.specs.Heads.{head_by}
-use Rattle.child_terms.specs.Numbered.{Scope, Head, head_of, heads, names_of, named_texts, characters, scope_in, shape_of}
-use Rattle.child_terms.specs.Attribution.{SchemaSet, content_particle, AreTerms}
-use Rattle.child_terms.specs.Assessment.{Entry, nothing, entry, entries, governed, sibling_records, AreAssessed, AreJudged, IsEntry}
-use Rattle.child_terms.specs.Plain.{plain_beside}
+use Rattle.compiled_schema.specs.Numbered.{Scope, Head, head_of, heads, names_of, named_texts, characters, scope_in, shape_of}
+use Rattle.compiled_schema.specs.Attribution.{SchemaSet, content_particle, AreTerms}
+use Rattle.compiled_schema.specs.Assessment.{Entry, nothing, entry, entries, governed, sibling_records, AreAssessed, AreJudged, IsEntry}
+use Rattle.compiled_schema.specs.Plain.{plain_beside}
 use Rattle.tree_assess.specs.Entries.{entry_of, AreEntries}
 use Rattle.tree_assess.specs.declared.entry.ElementEntry.{ElementEntry}
 use Rattle.tree_assess.specs.declared.entry.ChildOutcome.{ChildOutcome}
@@ -57,8 +57,8 @@ module _ (c : Compiled) (outer : Scope) (g : Governing) (name : Expanded) (row :
 
   module _ (counts : ChildCounts) (old pushed mid new : List ElementEntry) (blank : ElementEntry) (place : ℕ) (outcome : ChildOutcome)
       (below : AreDone (set_of c) e.head.scope (pairs_in e.inner.begun.items) children pushed mid counts) (end : IsFinished (set_of c) g row.number (shape_from e counts) place mid new outcome) where
-    known : AreJudged (set_of c) plain_beside (own_shape (counts_of (sibling_records below.found))) (entry_of end.own)
-    known = subst (λ shape. AreJudged (set_of c) plain_beside shape (entry_of end.own)) (shape_is counts ∙ ap own_shape below.counts_are) end.judged
+    known : AreJudged (set_of c) (own_shape (counts_of (sibling_records below.found))) (entry_of end.own)
+    known = subst (λ shape. AreJudged (set_of c) shape (entry_of end.own)) (shape_is counts ∙ ap own_shape below.counts_are) end.judged
 
     pub element_done : pushed ≡ old ++ blank ∷ [] → place ≡ length old → IsDone (set_of c) outer g name row children old new outcome
     element_done push at = record {
@@ -71,7 +71,7 @@ module _ (c : Compiled) (outer : Scope) (g : Governing) (name : Expanded) (row :
         stuck = e.inner.stuck;
         terms = is.inner_are.terms;
         attributed = subst (λ scope. AreTerms (set_of c) (content_particle c.parts g.of) (names_of (heads c.names scope children)) e.inner.stuck is.inner_are.terms) scope_is is.inner_are.attributed;
-        inner_is = is.inner_are.pairs_are ∙ ap (λ scope. governed (set_of c) plain_beside g is.inner_are.terms (heads c.names scope children)) scope_is;
+        inner_is = is.inner_are.pairs_are ∙ ap (λ scope. governed (set_of c) g is.inner_are.terms (heads c.names scope children)) scope_is;
         known = known;
       };
       below_are = subst (λ scope. AreAssessed (set_of c) plain_beside scope (pairs_in e.inner.begun.items) children below.found) scope_is below.assessed;

@@ -11,10 +11,10 @@ use Rattle.assess_records.specs.Counts.{no_children, with_child, counts_of}
 use Rattle.assess_records.specs.declared.counts.ChildCounts.{ChildCounts}
 use Rattle.elem_governing.specs.declared.pairs.Governing.{Governing}
 use Rattle.element_heads.proofs.RowLaws.{drop_next}
-use Rattle.child_terms.specs.Numbered.{Scope}
-use Rattle.child_terms.specs.Attribution.{SchemaSet}
-use Rattle.child_terms.specs.Assessment.{Assessed, nothing, entry, entries, sibling_records, AreAssessed}
-use Rattle.child_terms.specs.Plain.{plain_beside}
+use Rattle.compiled_schema.specs.Numbered.{Scope}
+use Rattle.compiled_schema.specs.Attribution.{SchemaSet}
+use Rattle.compiled_schema.specs.Assessment.{Assessed, nothing, entry, entries, sibling_records, AreAssessed}
+use Rattle.compiled_schema.specs.Plain.{plain_beside}
 use Rattle.tree_assess.specs.Entries.{entry_of}
 use Rattle.tree_assess.specs.declared.entry.ElementEntry.{ElementEntry}
 use Rattle.tree_assess.specs.declared.entry.ChildOutcome.{ChildOutcome}

@@ -1,9 +1,9 @@
 -- The entries of a document's elements.
 use Rattle.std.specs.Prelude.{◌≡◌, List, map}
 use Rattle.tree_rows.specs.Forest.{Forest}
-use Rattle.child_terms.specs.Attribution.{SchemaSet}
-use Rattle.child_terms.specs.Assessment.{Entry, Assessed, entries, IsAssessment}
-use Rattle.child_terms.specs.Plain.{plain_beside}
+use Rattle.compiled_schema.specs.Attribution.{SchemaSet}
+use Rattle.compiled_schema.specs.Assessment.{Entry, Assessed, entries, IsAssessment}
+use Rattle.compiled_schema.specs.Plain.{plain_beside}
 use Rattle.tree_assess.specs.declared.entry.ElementEntry.{ElementEntry}
 
 -- the entry that is kept of an element

@@ -6,7 +6,7 @@ ghost use Rattle.xs_names.specs.Scope.{first_scope};
 ghost use Rattle.elem_governing.specs.View.{AreKnown};
 ghost use Rattle.compiled_schema.specs.Usable.{IsUsable, set_of};
 ghost use Rattle.element_heads.specs.Found.{HasNames};
-ghost use Rattle.child_terms.specs.Numbered.{heads};
+ghost use Rattle.compiled_schema.specs.Numbered.{heads};
 ghost use Rattle.tree_assess.specs.Entries.{AreEntries};
 ghost use Rattle.tree_assess.specs.declared.entry.ElementEntry.{ElementEntry as ElementEntryData};
 ghost use Rattle.tree_assess.specs.inside.Steps.{CanAssess, IsThere, AreDone, IsDone, alone, pairs_in};

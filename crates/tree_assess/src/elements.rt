@@ -5,9 +5,8 @@ ghost use Rattle.xs_names.specs.Scope.{first_scope};
 ghost use Rattle.elem_governing.specs.View.{AreKnown};
 ghost use Rattle.compiled_schema.specs.Usable.{IsUsable, set_of};
 ghost use Rattle.element_heads.specs.Found.{HasTag};
-ghost use Rattle.child_terms.specs.Numbered.{head_of as head_in};
-ghost use Rattle.child_terms.specs.Assessment.{AreJudged};
-ghost use Rattle.child_terms.specs.Plain.{plain_beside};
+ghost use Rattle.compiled_schema.specs.Numbered.{head_of as head_in};
+ghost use Rattle.compiled_schema.specs.Assessment.{AreJudged};
 ghost use Rattle.tree_assess.specs.Entries.{entry_of};
 ghost use Rattle.tree_assess.specs.inside.Steps.{CanAssess, IsThere, alone, root_pair_of};
 ghost use Rattle.tree_assess.specs.inside.Entering.{IsEntered, shape_from};
@@ -165,7 +164,7 @@ pub(crate) fn leave(
     requires there { IsThere compiled.old.parts governing.now }
     requires known { AreKnown compiled.old.names entered.head.scope }
     requires named { All (λ a. a.name < length compiled.old.names.names) entered.head.attrs }
-    ensures judged { IfOk result (λ entry. AreJudged (set_of compiled.old) plain_beside (shape_from entered counts) (entry_of entry)) }
+    ensures judged { IfOk result (λ entry. AreJudged (set_of compiled.old) (shape_from entered counts) (entry_of entry)) }
     ensures number { IfOk result (λ entry. entry.number ≡ number) }
     ensures governing { IfOk result (λ entry. entry.governing ≡ governing.now) }
     ensures same { compiled.new ≡ compiled.old }

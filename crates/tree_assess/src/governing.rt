@@ -5,11 +5,10 @@ ghost use Rattle.std.specs.Option.{option_map};
 ghost use Rattle.elem_governing.specs.View.{AreKnown};
 ghost use Rattle.compiled_schema.specs.Usable.{IsUsable, set_of};
 ghost use Rattle.element_heads.specs.Found.{HasTag};
-ghost use Rattle.child_terms.specs.Numbered.{head_of as head_in, heads, names_of};
-ghost use Rattle.child_terms.specs.Attribution.{content_particle, AreTerms};
-ghost use Rattle.child_terms.specs.Assessment.{governed};
+ghost use Rattle.compiled_schema.specs.Numbered.{head_of as head_in, heads, names_of};
+ghost use Rattle.compiled_schema.specs.Attribution.{content_particle, AreTerms};
+ghost use Rattle.compiled_schema.specs.Assessment.{governed};
 ghost use Rattle.element_heads.specs.Heads.{head_by};
-ghost use Rattle.child_terms.specs.Plain.{plain_beside};
 ghost use Rattle.tree_assess.specs.inside.Steps.{CanAssess, IsThere, AreInner, pair_of, root_pair_of, pairs_in};
 
 use crate::entry::{ElementEntry, begun};
@@ -143,7 +142,7 @@ fn begin_children(
 ) -> Result<Vec<ElementEntry>, AllocError>
     requires can { CanAssess compiled.old scope.now children.now }
     requires each { length terms.now ≡ length (heads compiled.old.names scope.now children.now) }
-    ensures pairs { IfOk result (λ entries. pairs_in entries.items ≡ governed (set_of compiled.old) plain_beside parent.now terms.now (heads compiled.old.names scope.now children.now)) }
+    ensures pairs { IfOk result (λ entries. pairs_in entries.items ≡ governed (set_of compiled.old) parent.now terms.now (heads compiled.old.names scope.now children.now)) }
     ensures same { compiled.new ≡ compiled.old }
 {
     let mut entries = Vec::new(alloc);

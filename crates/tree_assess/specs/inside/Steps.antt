@@ -14,10 +14,10 @@ use Rattle.elem_governing.specs.declared.pairs.Governing.{Governing}
 use Rattle.compiled_schema.specs.Usable.{IsUsable}
 use Rattle.compiled_schema.specs.declared.compiled.Compiled.{Compiled}
 use Rattle.element_heads.specs.Found.{HasNames}
-use Rattle.child_terms.specs.Numbered.{Scope, Head, head_of, heads, names_of, scope_in}
-use Rattle.child_terms.specs.Attribution.{SchemaSet, content_particle, AreTerms}
-use Rattle.child_terms.specs.Assessment.{Entry, Assessed, governed, entries, sibling_records, IsEntry, AreAssessed}
-use Rattle.child_terms.specs.Plain.{plain_beside}
+use Rattle.compiled_schema.specs.Numbered.{Scope, Head, head_of, heads, names_of, scope_in}
+use Rattle.compiled_schema.specs.Attribution.{SchemaSet, content_particle, AreTerms}
+use Rattle.compiled_schema.specs.Assessment.{Entry, Assessed, governed, entries, sibling_records, IsEntry, AreAssessed}
+use Rattle.compiled_schema.specs.Plain.{plain_beside}
 use Rattle.tree_assess.specs.Entries.{entry_of}
 use Rattle.tree_assess.specs.declared.entry.ElementEntry.{ElementEntry}
 use Rattle.tree_assess.specs.declared.entry.ChildOutcome.{ChildOutcome}
@@ -53,7 +53,7 @@ pairs_in pairs = map (λ (p : ElementEntry). p.governing) pairs
 pub record AreInner (s : SchemaSet) (parent : Governing) (scope : Scope) (children : Forest) (stuck : Option ℕ) (pairs : List Governing) : Type 0 where
   pub terms : List (Option ℕ)
   pub attributed : AreTerms s (content_particle s.parts parent.of) (names_of (heads s.names scope children)) stuck terms
-  pub pairs_are : pairs ≡ governed s plain_beside parent terms (heads s.names scope children)
+  pub pairs_are : pairs ≡ governed s parent terms (heads s.names scope children)
   pub each : length pairs ≡ length (heads s.names scope children)
   pub there : All (IsThere s.parts) pairs
 
