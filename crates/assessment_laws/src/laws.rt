@@ -1,7 +1,9 @@
 //! What is determined of an assessment.
 
 ghost use Rattle.std.specs.Prelude.{◌≡◌, ℕ, List, Option};
+ghost use Rattle.xs_names.specs.Names.{IsSound};
 ghost use Rattle.tree_rows.specs.Forest.{Forest};
+ghost use Rattle.set_assessment.specs.Added.{AreNamed};
 ghost use Rattle.set_assessment.specs.Attribution.{SchemaSet, AreTerms};
 ghost use Rattle.set_assessment.specs.Assessment.{Beside, Assessed, IsAssessment};
 
@@ -11,7 +13,8 @@ pub fn terms_are_determined()
     ensures terms { (s : SchemaSet) (particle : Option ℕ) (children : List ℕ) (stuck other : Option ℕ) (xs ys : List (Option ℕ)) → AreTerms s particle children stuck xs → AreTerms s particle children other ys → (stuck ≡ other) × (xs ≡ ys) }
 {}
 
-/// The assessment of a document by a schema set is the only one (Structures 5.2).
+/// The assessment of a document by a schema set is the only one (Structures 5.2), where the set's table has each name once, and those of
+/// its attribute declarations.
 pub fn the_assessment_is_the_only_one()
-    ensures only { (s : SchemaSet) (b : Beside) (f : Forest) (x y : Assessed) → IsAssessment s b f x → IsAssessment s b f y → x ≡ y }
+    ensures only { (s : SchemaSet) (b : Beside) (f : Forest) (x y : Assessed) → IsSound s.names → AreNamed s.names s.parts → IsAssessment s b f x → IsAssessment s b f y → x ≡ y }
 {}

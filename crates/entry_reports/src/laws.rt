@@ -1,7 +1,8 @@
 //! What holds of all entries of an assessment.
 
-ghost use Rattle.std.specs.Prelude.{◌≤◌, ◌*◌, All};
+ghost use Rattle.std.specs.Prelude.{◌≤◌, ◌*◌, ℕ, All};
 ghost use Rattle.tree_rows.specs.Forest.{Forest, count};
+ghost use Rattle.tree_rows.specs.Whole.{AreNodes};
 ghost use Rattle.session_model.specs.Attribution.{SchemaSet};
 ghost use Rattle.session_model.specs.Asking.{code_total};
 ghost use Rattle.session_model.specs.Assessment.{Assessed, IsAssessment, entries};
@@ -20,5 +21,5 @@ pub fn entries_are_named()
 
 /// The records of a document have few codes.
 pub fn entries_have_few_codes()
-    ensures few { (s : SchemaSet) (f : Forest) (found : Assessed) → IsAssessment s plain_beside f found → code_total (entries found) ≤ most_codes * count f }
+    ensures few { (s : SchemaSet) (free : ℕ) (f : Forest) (found : Assessed) → AreNodes free f → IsAssessment s plain_beside f found → code_total (entries found) ≤ most_codes * count f }
 {}

@@ -14,11 +14,12 @@ use Rattle.entry_reports.specs.Reports.{IsEntryNamed, record_lines, report}
 use Rattle.entry_reports.specs.State.{State, known}
 use Rattle.entry_reports.specs.Usable.{set_of}
 use Rattle.plain_session.specs.Held.{state_of, IsPresent, IsUpToDate}
+use Rattle.plain_session.specs.Stocks.{IsReady}
 use Rattle.plain_session.specs.declared.session.PlainSession.TheInside.{Inside}
 
 module _ (set : Compiled) (f : Forest) (es : List ElementEntry) (are : AreEntries (set_of set) f es) where
-  pub are_known : (p : RightAssessor) → map entry_of es ≡ entries (p.assess (set_of set) f)
-  are_known p = are.entries_are ∙ sym (ap entries (p.right (set_of set) f are.found are.assessed))
+  pub are_known : IsReady set → (p : RightAssessor) → map entry_of es ≡ entries (p.assess (set_of set) f)
+  are_known ready p = are.entries_are ∙ sym (ap entries (p.right (set_of set) f are.found ready.sound ready.usable.named are.assessed))
 
   pub are_named : All (IsEntryNamed set) (entries are.found) → All (IsEntryNamed set) (map entry_of es)
   are_named named = subst (All (IsEntryNamed set)) (sym are.entries_are) named
@@ -34,7 +35,7 @@ module _ (s : Inside) (v : State) (is : state_of s ≡ v) (up : IsUpToDate s) (o
 
   module _ (p : RightAssessor) where
     known_now : map entry_of s.stock.entries.items ≡ known p v
-    known_now = are_known s.set.value s.tree.forest s.stock.entries.items present.stock.entries_are p ∙ ap (known p) is
+    known_now = are_known s.set.value s.tree.forest s.stock.entries.items present.stock.entries_are present.ready p ∙ ap (known p) is
 
     pub entries_now : (es : List ElementEntry) → es ≡ s.stock.entries.items → map entry_of es ≡ known p v
     entries_now es e = ap (map entry_of) e ∙ known_now

@@ -10,7 +10,7 @@ count_codes-total-requires c =
     let f = c.args.tree.now.forest in
     record {
       few = subst (λ es. code_total (map entry_of es) < 2 ^ 64) (sym c.deref.ensures.value)
-          (can_count c.args.set.now f c.in_ok-entries.entries.items are (c.entries_have_few_codes.ensures.few _ f are.found are.assessed) c.next_free-whole.ensures.tree.few);
+          (can_count c.args.set.now f c.in_ok-entries.entries.items are (c.entries_have_few_codes.ensures.few _ c.args.tree.now.next_free f are.found c.next_free-whole.ensures.tree.nodes are.assessed) c.next_free-whole.ensures.tree.few);
     }
 
 pub returns-clause-stock : goal.returns-clause-stock

@@ -42,8 +42,8 @@ use Rattle.attr_codes.specs.Types.{IsTypeSet}
 use Rattle.attr_codes.specs.declared.judged.JudgedAttr.{JudgedAttr}
 use Rattle.attr_assess.specs.Assessed.{record_of, element_uses, IsGivenJudged, IsAddedJudged, AreAttrsAssessed}
 use Rattle.attr_assess.specs.declared.assessed.AssessedAttrs.{AssessedAttrs}
-use Rattle.local_laws.specs.There.{IsThere}
-use Rattle.local_laws.proofs.Zips.{zip-each}
+use Rattle.attr_laws.specs.There.{IsThere}
+use Rattle.attr_laws.proofs.Zips.{zip-each}
 
 -- ---- a simple type is there
 

@@ -32,9 +32,9 @@ use Rattle.attr_codes.specs.declared.values.AttrText.TheVariants.{Valid}
 use Rattle.attr_assess.specs.Assessed.{record_of, value_of, element_uses, IsGivenJudged, IsAddedJudged, AreAttrsAssessed}
 use Rattle.attr_assess.specs.declared.assessed.AssessedAttrs.{AssessedAttrs}
 use Rattle.validity_laws.specs.Determined.{HasOneOutcomeEach}
-use Rattle.local_laws.proofs.Named.{sorted-same}
-use Rattle.local_laws.proofs.There.{added-in}
-use Rattle.local_laws.proofs.Zips.{zip-same}
+use Rattle.assessment_laws.proofs.Named.{sorted-same}
+use Rattle.attr_laws.proofs.There.{added-in}
+use Rattle.assessment_laws.proofs.Zips.{zip-same}
 
 module _ (t : Tables) (one : HasOneOutcomeEach t) where
   -- ---- one attribute, by what governs it

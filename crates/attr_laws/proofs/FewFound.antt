@@ -1,4 +1,4 @@
--- How many codes an element and its attributes have.
+-- How many records an element has for its attributes, and how many codes these have.
 use Rattle.std.proofs.Common.{◌≡◌, ℕ, ◌+◌, ◌<◌, ◌≤◌, ◌^◌, Bool, true, false, List, [], ◌∷◌, ◌++◌, Option, None, Some, map, length, refl, sym, ap, ◌∙◌, subst, arith}
 use Rattle.std.specs.Prelude.{All, nat_eq, slice_get}
 use Rattle.std.specs.List.{AllZip}
@@ -25,8 +25,6 @@ use Rattle.attr_uses.specs.Uses.{use_named}
 use Rattle.assess_records.specs.declared.outcome.ValueSource.{ValueSource}
 use Rattle.assess_records.specs.declared.outcome.ValueSource.TheVariants.{Given, Schema}
 use Rattle.assess_records.specs.declared.record.AttrRecord.{AttrRecord}
-use Rattle.assess_records.specs.declared.record.ElementRecord.{ElementRecord}
-use Rattle.assess_records.specs.declared.shape.ElementShape.{ElementShape}
 use Rattle.assess_records.specs.declared.shape.NamedText.{NamedText}
 use Rattle.attr_governing.specs.Governing.{attr_governing}
 use Rattle.attr_governing.specs.declared.governing.AttrGoverning.{AttrGoverning}
@@ -38,20 +36,12 @@ use Rattle.attr_codes.specs.declared.values.AttrText.{AttrText}
 use Rattle.attr_codes.specs.declared.values.AttrText.TheVariants.{Invalid, Valid}
 use Rattle.attr_assess.specs.Assessed.{record_of, element_uses, IsGivenJudged, IsAddedJudged, AreAttrsAssessed}
 use Rattle.attr_assess.specs.declared.assessed.AssessedAttrs.{AssessedAttrs}
-use Rattle.elem_governing.specs.declared.pairs.Governing.{Governing}
-use Rattle.elem_governing.specs.declared.local_types.XsiType.{XsiType}
-use Rattle.element_codes.specs.declared.outcome.TextOutcome.{TextOutcome}
-use Rattle.element_codes.specs.Codes.{local_codes}
-use Rattle.element_codes.specs.Records.{decl, constraint, nil_text, nil, taken, element_record}
-use Rattle.elem_assess.specs.Local.{IsLocal, said_on}
-use Rattle.elem_assess.specs.declared.records.Judged.{Judged}
-use Rattle.local_laws.specs.Few.{HasFewCodes}
-use Rattle.local_laws.proofs.FewCodes.{local-few}
-use Rattle.local_laws.proofs.Zips.{zip-each, all-any}
+use Rattle.attr_laws.specs.Few.{AreFew}
+use Rattle.attr_laws.proofs.Zips.{zip-each, all-any}
 
 -- ---- numbers below a bound, each once
 
-pub those-few : (test : ℕ → Bool) (bound : ℕ) (xs : List ℕ) → AreThose test bound xs → length xs ≤ bound
+those-few : (test : ℕ → Bool) (bound : ℕ) (xs : List ℕ) → AreThose test bound xs → length xs ≤ bound
 those-few test bound xs a =
     length-le_from_distinct_below xs bound a.once
     (λ q is. All-contains (λ name. name < bound) xs q a.below (Contains-from_any (λ x y. (Decides-eqb x y).0) q xs is))
@@ -129,22 +119,5 @@ module _ (names : NameTable) (t : Tables) (of : Option TypeId) (scope : Scope) (
         those-few _ (2 ^ 32) are.added_names are.names_are.those,
       )
 
--- ---- an element with its attributes
-
-few-record : (names : NameTable) (t : Tables) (g : Governing) (shape : ElementShape) (said : XsiType) (missing : List ℕ) (outcome : TextOutcome) (attrs : List AttrRecord)
-    → length (element_record names t g shape said missing outcome attrs).codes ≤ 14 + length missing + (length shape.identity + length shape.ids)
-few-record names t g shape said missing outcome attrs =
-    let own = local_codes names t g said shape missing outcome (decl names t g shape) (constraint names t g shape) (nil_text names t g shape) (nil names t g shape) (taken names t g shape) in
-    let few = local-few names t g said shape missing outcome (decl names t g shape) (constraint names t g shape) (nil_text names t g shape) (nil names t g shape) (taken names t g shape) in
-    let size : length (element_record names t g shape said missing outcome attrs).codes ≡ length own + length (shape.identity ++ shape.ids) = length-append own (shape.identity ++ shape.ids) in
-    omega (arith, few, size, length-append shape.identity shape.ids)
-
-pub local-few-codes : (names : NameTable) (t : Tables) (g : Governing) (shape : ElementShape) (judged : Judged) → IsLocal names t g shape judged → HasFewCodes shape judged
-local-few-codes names t g shape judged is =
-    let few = few-record names t g shape (said_on names t g shape) is.attributes.missing is.known.outcome is.attributes.records in
-    let lacking = those-few _ (2 ^ 32) is.attributes.missing is.assessed.missing in
-    record {
-      element = omega (arith, ap (λ (r : ElementRecord). length r.codes) is.known.record_is, few, lacking);
-      attributes = omega (arith, ap length is.attrs_are, few-records names t g.of shape.scope shape.attrs is.attributes is.assessed);
-      each = subst (All IsFew) (sym is.attrs_are) (few-each names t g.of shape.scope shape.attrs is.attributes is.assessed);
-    }
+  pub attrs-few : AreFew attrs assessed
+  attrs-few = record { records = few-records; each = few-each; missing = those-few _ (2 ^ 32) assessed.missing are.missing }

@@ -21,7 +21,7 @@ use Rattle.std.proofs.lemmas.Slice.Eq.{bytes_eq-Decides}
 use Rattle.xs_names.specs.Names.{NameTable, IsSound, space_of, local_of}
 use Rattle.attr_added.specs.Lacking.{AreThose}
 use Rattle.attr_added.specs.Order.{space_text, name_order, is_before}
-use Rattle.local_laws.proofs.Sorted.{HasSame, same-list}
+use Rattle.assessment_laws.proofs.Sorted.{HasSame, same-list}
 
 -- ---- all numbers of which a test is true
 
