@@ -20,19 +20,18 @@ use Rattle.assess_records.specs.declared.shape.ElementShape.{ElementShape}
 use Rattle.attr_laws.proofs.FewFound.{attrs-few}
 use Rattle.session_model.specs.Numbered.{Scope, heads, scope_in, named_text}
 use Rattle.session_model.specs.Attribution.{SchemaSet}
-use Rattle.session_model.specs.Assessment.{Entry, Assessed, entries, other_pairs, root_pairs, AreJudged, AreAssessed, IsAssessment}
-use Rattle.session_model.specs.Plain.{plain_beside}
+use Rattle.session_model.specs.Assessment.{Entry, Assessed, Beside, entries, other_pairs, root_pairs, AreJudged, AreAssessed, IsAssessment}
 use Rattle.session_model.specs.Asking.{attr_total, entry_total, code_total}
 use Rattle.entry_reports.specs.Few.{most_codes}
 use Rattle.entry_reports.proofs.FewCodes.{local-few}
 
-few-record : (names : NameTable) (t : Tables) (g : Governing) (shape : ElementShape) (said : XsiType) (missing : List ℕ) (outcome : TextOutcome) (attrs : List AttrRecord) → shape.identity ≡ [] → shape.ids ≡ []
-    → length (element_record names t g shape said missing outcome attrs).codes ≤ 14 + length missing
-few-record names t g shape said missing outcome attrs no_identity no_ids =
+few-record : (names : NameTable) (t : Tables) (g : Governing) (shape : ElementShape) (said : XsiType) (missing : List ℕ) (outcome : TextOutcome) (attrs : List AttrRecord)
+    → length (element_record names t g shape said missing outcome attrs).codes ≤ 14 + length missing + (length shape.identity + length shape.ids)
+few-record names t g shape said missing outcome attrs =
     let own = local_codes names t g said shape missing outcome (decl names t g shape) (constraint names t g shape) (nil_text names t g shape) (nil names t g shape) (taken names t g shape) in
     let few = local-few names t g said shape missing outcome (decl names t g shape) (constraint names t g shape) (nil_text names t g shape) (nil names t g shape) (taken names t g shape) in
     let size : length (element_record names t g shape said missing outcome attrs).codes ≡ length own + length (shape.identity ++ shape.ids) = length-append own (shape.identity ++ shape.ids) in
-    omega (arith, few, size, length-append shape.identity shape.ids, ap length no_identity, ap length no_ids)
+    omega (arith, few, size, length-append shape.identity shape.ids)
 
 few-attrs : (attrs : List AttrRecord) → All (λ (a : AttrRecord). length a.codes ≤ 2) attrs → attr_total attrs ≤ 2 * length attrs
 few-attrs [] few = omega arith
@@ -43,24 +42,24 @@ append-total : (xs ys : List Entry) → code_total (xs ++ ys) ≡ code_total xs 
 append-total [] ys = omega arith
 append-total (x ∷ xs) ys = omega (arith, append-total xs ys)
 
-module _ (s : SchemaSet) where
-  few-own : (shape : ElementShape) (own : Entry) → shape.identity ≡ [] → shape.ids ≡ [] → length shape.attrs ≤ MAX_ATTRIBUTES → AreJudged s shape own → entry_total own ≤ most_codes
-  few-own shape own no_identity no_ids given known =
+module _ (s : SchemaSet) (b : Beside) (beside : (n : ℕ) → length (b.identity n) + length (b.ids n) ≤ 2) where
+  few-own : (shape : ElementShape) (own : Entry) → length shape.identity + length shape.ids ≤ 2 → length shape.attrs ≤ MAX_ATTRIBUTES → AreJudged s shape own → entry_total own ≤ most_codes
+  few-own shape own others given known =
       let is = ap (λ (r : ElementRecord). length r.codes) known.known.record_is in
-      let few = few-record s.names s.parts own.governing shape _ known.attributes.missing known.known.outcome known.attributes.records no_identity no_ids in
+      let few = few-record s.names s.parts own.governing shape _ known.attributes.missing known.known.outcome known.attributes.records in
       let attrs = attrs-few s.names s.parts own.governing.of shape.scope shape.attrs known.attributes known.assessed in
-      omega (arith, is, few, given, attrs.missing, attrs.records, few-attrs known.attributes.records attrs.each, ap attr_total known.attrs_are)
+      omega (arith, is, few, others, given, attrs.missing, attrs.records, few-attrs known.attributes.records attrs.each, ap attr_total known.attrs_are)
 
-  few-in : (free : ℕ) (scope : Scope) (pairs : List Governing) (f : Forest) (found : Assessed) → AreNodes free f → AreAssessed s plain_beside scope pairs f found → code_total (entries found) ≤ most_codes * count f
+  few-in : (free : ℕ) (scope : Scope) (pairs : List Governing) (f : Forest) (found : Assessed) → AreNodes free f → AreAssessed s b scope pairs f found → code_total (entries found) ≤ most_codes * count f
   few-in free scope pairs none found nodes are = omega (arith, ap (λ x. code_total (entries x)) are)
   few-in free scope pairs (text number chars next) found nodes are = omega (arith, few-in free scope pairs next found nodes.1 are)
   few-in free scope pairs (element number name bindings attributes children next) found nodes are =
       let given : length attributes ≤ MAX_ATTRIBUTES = omega (arith, nodes.1.few) in
-      let own = few-own _ are.0 refl refl (omega (arith, given, length-map attributes (named_text s.names))) are.5.known in
+      let own = few-own _ are.0 (beside number) (omega (arith, given, length-map attributes (named_text s.names))) are.5.known in
       let below = few-in free (scope_in s.names bindings scope) are.1 children are.2 nodes.2 are.6 in
       let after = few-in free scope (other_pairs pairs) next are.3 nodes.3 are.7 in
       let sum = append-total (entries are.2) (entries are.3) in
       omega (arith, own, below, after, sum, ap (λ x. code_total (entries x)) are.4)
 
-pub all-few : (s : SchemaSet) (free : ℕ) (f : Forest) (found : Assessed) → AreNodes free f → IsAssessment s plain_beside f found → code_total (entries found) ≤ most_codes * count f
-all-few s free f found nodes is = few-in s free first_scope (root_pairs s (heads s.names first_scope f)) f found nodes is
+  pub all-few : (free : ℕ) (f : Forest) (found : Assessed) → AreNodes free f → IsAssessment s b f found → code_total (entries found) ≤ most_codes * count f
+  all-few free f found nodes is = few-in free first_scope (root_pairs s (heads s.names first_scope f)) f found nodes is

@@ -26,8 +26,7 @@ use Rattle.session_model.specs.Usable.{IsUsable, set_of}
 use Rattle.session_model.specs.Compiled.{Compiled}
 use Rattle.session_model.specs.Found.{HasName, HasAttributes, HasNames}
 use Rattle.session_model.specs.Numbered.{Scope, Head, head_of, heads, scope_in, space_in, name_in, named_text, named_texts}
-use Rattle.session_model.specs.Assessment.{Entry, Assessed, entries, first_pair, other_pairs, governed, root_pairs, IsEntry, AreAssessed, IsAssessment}
-use Rattle.session_model.specs.Plain.{plain_beside}
+use Rattle.session_model.specs.Assessment.{Entry, Assessed, Beside, entries, first_pair, other_pairs, governed, root_pairs, IsEntry, AreAssessed, IsAssessment}
 use Rattle.session_model.specs.Reports.{IsEntryNamed}
 
 -- a name of the document is one of the table
@@ -41,7 +40,7 @@ name-within t name h = name-by t (space_in t name.namespace) name.local (name_nu
 there : {X : Type 0} (xs : List X) (i : ℕ) → i < length xs → (x : X) × (slice_get xs i ≡ Some x)
 there xs i lt = elim (slice_get_cases xs i).1 [ inl found ↦ (found.0, found.2) | inr past ↦ absurd (omega (arith, lt, past.0)) ]
 
-module _ (c : Compiled) (usable : IsUsable c) where
+module _ (c : Compiled) (usable : IsUsable c) (b : Beside) where
   abbrev IsGoverned : Governing → Type 0
   IsGoverned g = IfSome g.of (IsType c.parts)
 
@@ -68,7 +67,7 @@ module _ (c : Compiled) (usable : IsUsable c) where
 
   -- the record of an element with this head, and those of its attributes
   own-named : (g : Governing) (h : Head) (number : ℕ) (attributes : List Attribute) (children : Forest) (inner : List Governing) (below : Assessed) (own : Entry) → IsName c.names h.name →
-      HasAttributes c.names attributes → IsGoverned g → IsEntry (set_of c) plain_beside g h number attributes children inner below own → IsEntryNamed c own
+      HasAttributes c.names attributes → IsGoverned g → IsEntry (set_of c) b g h number attributes children inner below own → IsEntryNamed c own
   own-named g h number attributes children inner below own named has governed_there e =
       let is = e.known.known.record_is in
       let attrs = attrs-there c.names c.parts usable.named.attributes usable.attribute_types.ranked usable.attribute_types.simple own.governing.of h.scope (named_texts c.names attributes)
@@ -103,7 +102,7 @@ module _ (c : Compiled) (usable : IsUsable c) where
   others-there [] h = h
   others-there (g ∷ gs) h = All-tail IsGoverned g gs h
 
-  named : (scope : Scope) (pairs : List Governing) (f : Forest) (found : Assessed) → All IsGoverned pairs → HasNames c.names f → AreAssessed (set_of c) plain_beside scope pairs f found
+  named : (scope : Scope) (pairs : List Governing) (f : Forest) (found : Assessed) → All IsGoverned pairs → HasNames c.names f → AreAssessed (set_of c) b scope pairs f found
       → All (IsEntryNamed c) (entries found)
   named scope pairs none found ps has are = subst (λ x. All (IsEntryNamed c) (entries x)) (sym are) (All-nil (IsEntryNamed c))
   named scope pairs (text number chars next) found ps has are = named scope pairs next found ps has are
@@ -119,7 +118,7 @@ module _ (c : Compiled) (usable : IsUsable c) where
       (named inside are.1 children are.2 inner has.1 are.6)
       (named scope (other_pairs pairs) next are.3 (others-there pairs ps) has.2 are.7)))
 
-pub all-named : (c : Compiled) (f : Forest) (found : Assessed) → IsUsable c → HasNames c.names f → IsAssessment (set_of c) plain_beside f found → All (IsEntryNamed c) (entries found)
-all-named c f found usable has is =
+pub all-named : (c : Compiled) (b : Beside) (f : Forest) (found : Assessed) → IsUsable c → HasNames c.names f → IsAssessment (set_of c) b f found → All (IsEntryNamed c) (entries found)
+all-named c b f found usable has is =
     let hs = heads c.names first_scope f in
-    named c usable first_scope (root_pairs (set_of c) hs) f found (root-pairs-there c usable hs) has is
+    named c usable b first_scope (root_pairs (set_of c) hs) f found (root-pairs-there c usable b hs) has is

@@ -1,6 +1,7 @@
-use Rattle.std.proofs.Common.{sym, subst, ap, ◌∙◌, ◌<◌, ◌^◌, map}
+use Rattle.std.proofs.Common.{sym, subst, ap, ◌∙◌, ◌<◌, ◌^◌, map, arith}
 use Rattle.entry_reports.specs.Asking.{code_total}
 use Rattle.entry_reports.specs.Entries.{entry_of}
+use Rattle.entry_reports.specs.Plain.{plain_beside}
 use Rattle.plain_session.proofs.Known.{are_named, can_count}
 use Rattle.plain_session.proofs.stock.assessed.Goals as goal
 
@@ -10,7 +11,7 @@ count_codes-total-requires c =
     let f = c.args.tree.now.forest in
     record {
       few = subst (λ es. code_total (map entry_of es) < 2 ^ 64) (sym c.deref.ensures.value)
-          (can_count c.args.set.now f c.in_ok-entries.entries.items are (c.entries_have_few_codes.ensures.few _ c.args.tree.now.next_free f are.found c.next_free-whole.ensures.tree.nodes are.assessed) c.next_free-whole.ensures.tree.few);
+          (can_count c.args.set.now f c.in_ok-entries.entries.items are (c.entries_have_few_codes.ensures.few _ plain_beside c.args.tree.now.next_free f are.found (λ n. omega arith) c.next_free-whole.ensures.tree.nodes are.assessed) c.next_free-whole.ensures.tree.few);
     }
 
 pub returns-clause-stock : goal.returns-clause-stock
@@ -21,6 +22,6 @@ returns-clause-stock c =
     let are = c.in_ok-entries.ensures.assessed in
     record {
       entries_are = are;
-      named = are_named set f es are (c.entries_are_named.ensures.named set f are.found c.requires.ready.usable c.requires.names are.assessed);
+      named = are_named set f es are (c.entries_are_named.ensures.named set plain_beside f are.found c.requires.ready.usable c.requires.names are.assessed);
       total_is = c.count_codes-total.ensures ∙ ap (λ xs. code_total (map entry_of xs)) c.deref.ensures.value;
     }
