@@ -9,16 +9,16 @@ use Rattle.xs_components.specs.declared.simple.SimpleType.{SimpleType}
 use Rattle.xs_members.specs.Heads.{names_of}
 use Rattle.subst_groups.specs.Groups.{AreGroups}
 use Rattle.elem_governing.specs.View.{IsView}
-use Rattle.set_assessment.specs.Source.{IsSource}
-use Rattle.set_assessment.specs.Schema.{IsAttrSet}
-use Rattle.set_assessment.specs.Types.{IsTypeSet}
-use Rattle.set_assessment.specs.Added.{AreNamed as AreAttrsNamed}
+use Rattle.assessed_ids.specs.Source.{IsSource}
+use Rattle.assessed_ids.specs.Schema.{IsAttrSet}
+use Rattle.assessed_ids.specs.Types.{IsTypeSet}
+use Rattle.assessed_ids.specs.Added.{AreNamed as AreAttrsNamed}
 use Rattle.element_classes.specs.Classes.{AreClassesOf}
 use Rattle.content_models.specs.Built.{IsBuilt}
 use Rattle.content_models.specs.declared.automaton.ContentAutomaton.{ContentAutomaton}
 use Rattle.schema_models.specs.Checks.{IsAmbiguousModel}
 use Rattle.schema_models.specs.SetModels.{content_of}
-use Rattle.set_assessment.specs.Attribution.{SchemaSet}
+use Rattle.assessed_ids.specs.Attribution.{SchemaSet}
 use Rattle.compiled_schema.specs.declared.compiled.Compiled.{Compiled}
 
 -- the schema set that is compiled

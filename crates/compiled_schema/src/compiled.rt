@@ -2,7 +2,7 @@ use component_names::ComponentNames;
 use content_types::ContentTypes;
 use element_types::Declarations;
 use schema_models::Models;
-use set_assessment::{AttrTables, SimpleTypes};
+use assessed_ids::{AttrTables, SimpleTypes};
 use xs_components::Components;
 use xs_members::Members;
 use xs_names::Names;

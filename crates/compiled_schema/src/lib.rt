@@ -7,4 +7,4 @@ mod models;
 
 pub use compiled::Compiled;
 pub use laws::usable_with_more_names;
-pub use set_assessment::{AssessSet, Judged, local};
+pub use assessed_ids::{AssessSet, DocumentIds, Judged, local, mark};
