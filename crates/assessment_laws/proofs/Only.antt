@@ -8,10 +8,10 @@ use Rattle.assess_records.specs.Counts.{counts_of}
 use Rattle.assess_records.specs.declared.shape.ElementShape.{ElementShape}
 use Rattle.elem_governing.specs.declared.pairs.Governing.{Governing}
 use Rattle.elem_assess.specs.Local.{IsLocal}
-use Rattle.set_assessment.specs.Added.{AreNamed}
-use Rattle.set_assessment.specs.Numbered.{Scope, Head, head_of, heads, names_of, named_texts, scope_in, characters, shape_of}
-use Rattle.set_assessment.specs.Attribution.{SchemaSet, content_particle}
-use Rattle.set_assessment.specs.Assessment.{Entry, Assessed, entry, Beside, first_pair, other_pairs, sibling_records, judged_of, governed, AreJudged, IsEntry, AreAssessed, root_pairs, IsAssessment}
+use Rattle.assessed_ids.specs.Added.{AreNamed}
+use Rattle.assessed_ids.specs.Numbered.{Scope, Head, head_of, heads, names_of, named_texts, scope_in, characters, shape_of}
+use Rattle.assessed_ids.specs.Attribution.{SchemaSet, content_particle}
+use Rattle.assessed_ids.specs.Assessment.{Entry, Assessed, entry, Beside, first_pair, other_pairs, sibling_records, judged_of, governed, AreJudged, IsEntry, AreAssessed, root_pairs, IsAssessment}
 use Rattle.validity_laws.specs.Determined.{HasOneOutcomeEach}
 use Rattle.assessment_laws.proofs.Terms.{terms-are}
 use Rattle.assessment_laws.proofs.Judged.{local-is}

@@ -1,10 +1,12 @@
 -- How many codes the records of a document have.
-use Rattle.std.proofs.Common.{◌≡◌, ℕ, ◌+◌, ◌*◌, ◌≤◌, ◌^◌, List, [], ◌∷◌, ◌++◌, length, ap, refl, arith}
-use Rattle.std.specs.Prelude.{All}
+use Rattle.std.proofs.Common.{◌≡◌, ℕ, ◌+◌, ◌*◌, ◌≤◌, ◌^◌, Bool, true, false, List, [], ◌∷◌, ◌++◌, length, ap, refl, arith}
+use Rattle.std.specs.Prelude.{All, if◌then◌else◌}
 use Rattle.std.proofs.lemmas.List.{length-append, length-map}
 use Rattle.std.proofs.lemmas.List.Elements.{All-head, All-tail}
 use Rattle.xs_names.specs.Names.{NameTable}
 use Rattle.xs_names.specs.Scope.{first_scope}
+use Rattle.xs_codes.specs.declared.code.Code.{Code}
+use Rattle.xs_codes.specs.declared.code.Code.TheVariants.{CvcId1, CvcId2}
 use Rattle.xs_components.specs.Tables.{Tables}
 use Rattle.tree_rows.specs.Forest.{Forest, none, text, element, count}
 use Rattle.tree_rows.specs.Whole.{AreNodes}
@@ -22,6 +24,9 @@ use Rattle.session_model.specs.Numbered.{Scope, heads, scope_in, named_text}
 use Rattle.session_model.specs.Attribution.{SchemaSet}
 use Rattle.session_model.specs.Assessment.{Entry, Assessed, Beside, entries, other_pairs, root_pairs, AreJudged, AreAssessed, IsAssessment}
 use Rattle.session_model.specs.Asking.{attr_total, entry_total, code_total}
+use Rattle.session_model.specs.Ids.{BorneAtom, ids, references, has_unbound, has_shared, code_if, id_codes}
+use Rattle.session_model.specs.Joined.{is_root, beside_of}
+use Rattle.session_model.specs.Bearings.{borne_values}
 use Rattle.entry_reports.specs.Few.{most_codes}
 use Rattle.entry_reports.proofs.FewCodes.{local-few}
 
@@ -61,5 +66,24 @@ module _ (s : SchemaSet) (b : Beside) (beside : (n : ℕ) → length (b.identity
       let sum = append-total (entries are.2) (entries are.3) in
       omega (arith, own, below, after, sum, ap (λ x. code_total (entries x)) are.4)
 
-  pub all-few : (free : ℕ) (f : Forest) (found : Assessed) → AreNodes free f → IsAssessment s b f found → code_total (entries found) ≤ most_codes * count f
+  all-few : (free : ℕ) (f : Forest) (found : Assessed) → AreNodes free f → IsAssessment s b f found → code_total (entries found) ≤ most_codes * count f
   all-few free f found nodes is = few-in free first_scope (root_pairs s (heads s.names first_scope f)) f found nodes is
+
+-- the codes of IDs
+few-if : (broken : Bool) (code : Code) → length (code_if broken code) ≤ 1
+few-if true code = omega arith
+few-if false code = omega arith
+
+few-ids : (all : List BorneAtom) → length (id_codes all) ≤ 2
+unfolding id_codes
+few-ids all =
+    let unbound = has_unbound (ids all) (references all) in
+    let shared = has_shared (ids all) in
+    omega (arith, length-append (code_if unbound CvcId1) (code_if shared CvcId2), few-if unbound CvcId1, few-if shared CvcId2)
+
+few-beside : (root : Bool) (all : List BorneAtom) → 0 + length (if root then id_codes all else []) ≤ 2
+few-beside true all = omega (arith, few-ids all)
+few-beside false all = omega arith
+
+pub few-codes : (s : SchemaSet) (free : ℕ) (f : Forest) (found : Assessed) → AreNodes free f → IsAssessment s (beside_of f found) f found → code_total (entries found) ≤ most_codes * count f
+few-codes s free f found nodes is = all-few s (beside_of f found) (λ n. few-beside (is_root f n) (borne_values found)) free f found nodes is

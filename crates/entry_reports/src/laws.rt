@@ -8,9 +8,10 @@ ghost use Rattle.session_model.specs.Asking.{code_total};
 ghost use Rattle.session_model.specs.Assessment.{Assessed, Beside, IsAssessment, entries};
 ghost use Rattle.session_model.specs.Compiled.{Compiled as CompiledData};
 ghost use Rattle.session_model.specs.Found.{HasNames};
+ghost use Rattle.session_model.specs.Joined.{beside_of};
 ghost use Rattle.session_model.specs.Reports.{IsEntryNamed};
 ghost use Rattle.session_model.specs.Usable.{IsUsable, set_of};
-ghost use Rattle.entry_reports.specs.Few.{HasFewBeside, most_codes};
+ghost use Rattle.entry_reports.specs.Few.{most_codes};
 
 /// The names and types of the records of a document's elements and attributes are those of the set that it is assessed by,
 /// where the set has the document's names.
@@ -20,5 +21,5 @@ pub fn entries_are_named()
 
 /// The records of a document have few codes.
 pub fn entries_have_few_codes()
-    ensures few { (s : SchemaSet) (b : Beside) (free : ℕ) (f : Forest) (found : Assessed) → HasFewBeside b → AreNodes free f → IsAssessment s b f found → code_total (entries found) ≤ most_codes * count f }
+    ensures few { (s : SchemaSet) (free : ℕ) (f : Forest) (found : Assessed) → AreNodes free f → IsAssessment s (beside_of f found) f found → code_total (entries found) ≤ most_codes * count f }
 {}
