@@ -3,7 +3,7 @@
 ghost use Rattle.std.specs.Prelude.{◌≡◌, map};
 ghost use Rattle.tree_rows.specs.Forest.{Document};
 ghost use Rattle.tree_rows.specs.Whole.{IsTree};
-ghost use Rattle.child_terms.specs.Attribution.{SchemaSet};
+ghost use Rattle.set_assessment.specs.Attribution.{SchemaSet};
 ghost use Rattle.set_assessment.specs.Assessment.{Assessed, IsAssessment, entries};
 ghost use Rattle.set_assessment.specs.Plain.{plain_beside};
 ghost use Rattle.assessed_ids.specs.Bearings.{Bearing, bearings};
