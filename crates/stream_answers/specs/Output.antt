@@ -1,14 +1,9 @@
 -- What is told of a stream, by what its items give: schema sections, a document, commands, the end; or a line that is refused. What schema documents
 -- come to is asked, since a relation says it.
-use Rattle.std.specs.Prelude.{◌≡◌, ◌⊎◌, ℕ, ◌+◌, List, [], ◌∷◌, ◌++◌, Bool, false, ◌&&◌, map, Option, Some, None, bytes_eq, codes, if◌then◌else◌}
-use Rattle.std.specs.List.{list_any}
+use Rattle.std.specs.Prelude.{◌≡◌, ◌⊎◌, ℕ, ◌+◌, List, [], ◌∷◌, ◌++◌, map, Option, Some, None, codes}
 use Rattle.std.specs.Fmt.{decimal}
 use Rattle.item_listing.specs.Listed.{Listed}
 use Rattle.item_listing.specs.declared.item.Item.{Item}
-use Rattle.tree_rows.specs.Rows.{rows_of}
-use Rattle.tree_rows.specs.declared.row.Attribute.{Attribute}
-use Rattle.tree_rows.specs.declared.row.Row.{Row}
-use Rattle.instance_names.specs.Instance.{instance_namespace}
 use Rattle.assess_records.specs.declared.outcome.Validity.{Validity}
 use Rattle.assess_records.specs.declared.outcome.Validity.TheVariants as validities
 use Rattle.open_document.specs.Assessor.{RightAssessor}
@@ -95,18 +90,6 @@ end_line v = codes "end " ++ validity_word v.validity ++ codes " " ++ decimal v.
 abbrev pub verdict_last : Verdict → Last
 verdict_last v = ends (end_line v) (ending_of v.validity)
 
--- xsi:type (Structures 2.6.1)
-abbrev pub is_instance : Option (List ℕ) → Bool
-is_instance None = false
-is_instance (Some space) = bytes_eq space instance_namespace
-
-abbrev pub is_type_attribute : Attribute → Bool
-is_type_attribute a = is_instance a.name.namespace && bytes_eq a.name.local (codes "type")
-
--- an element has an attribute xsi:type, which may name a type of ids in any document
-abbrev pub has_type_attribute : List Row → Bool
-has_type_attribute rows = list_any (λ row. list_any is_type_attribute row.attributes) rows
-
 -- not of the form that is accepted so far
 abbrev pub not_yet : Last
 not_yet = ends (codes "unsupported NotYet" ++ 10 ∷ []) Unsupported
@@ -153,11 +136,9 @@ module _ (p : RightAssessor) where
   opening Assess s = report p s
   opening Session s = first_line p s
 
-  -- the document, where no element has an attribute xsi:type
+  -- the document
   abbrev pub opened_told : Asked → Compiled → Opened → Told
-  opened_told a set (sections.document d more) =
-      if has_type_attribute (rows_of 1 d.forest) then over not_yet
-      else before (free (opening a (opened set d))) (commands_told (opened set d) more)
+  opened_told a set (sections.document d more) = before (free (opening a (opened set d))) (commands_told (opened set d) more)
   opened_told a set (sections.undocumented stop) = stop_told stop
 
   -- what is told of items, by what they give

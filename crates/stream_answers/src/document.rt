@@ -12,35 +12,13 @@ ghost use Rattle.stream_answers.specs.declared.place.Place.TheVariants as places
 
 use crate::Place;
 use crate::place::boxed;
-use crate::turn::{Turn, not_yet, refuse};
-use instance_names::INSTANCE_NAMESPACE;
+use crate::turn::{Turn, refuse};
 use item_listing::Item;
 use open_document::{BreakOff, Workspace};
 use plain_tree::Tree;
 use std::alloc::Global;
 use stream_sections::{Asked, CommandReader, DocumentReader, DocumentTurn};
-use tree_rows::{Attribute, Row};
 use xsv_io::Sink;
-
-/// Whether an attribute is xsi:type (Structures 2.6.1).
-fn is_type_attribute(attribute: &Attribute) -> bool
-    ensures { result ≡ output.is_type_attribute attribute.now }
-{
-    match &attribute.name.namespace {
-        None => false,
-        Some(space) => {
-            space.as_str() == INSTANCE_NAMESPACE && attribute.name.local.as_str() == "type"
-        }
-    }
-}
-
-/// Whether some element has an attribute xsi:type.
-fn has_type_attribute(rows: &[Row]) -> bool
-    ensures { result ≡ output.has_type_attribute rows.now }
-{
-    rows.iter()
-        .any(|row| row.attributes.as_slice().iter().any(is_type_attribute))
-}
 
 /// Writes the report on a document that was opened, or the first line of a session.
 fn write_opening<W: Sink>(asked: Asked, work: &Workspace, sink: &mut W) -> Result<(), BreakOff>
@@ -91,7 +69,7 @@ fn end_document<W: Sink>(
     Ok(Turn::Goes(place))
 }
 
-/// Opens the document, where no element has an attribute xsi:type, and takes commands from here on.
+/// Opens the document, and takes commands from here on.
 fn take_edits<W: Sink>(
     alloc: Global,
     asked: Asked,
@@ -106,14 +84,11 @@ fn take_edits<W: Sink>(
     ensures open { (stood : Place) → IfOk result (MovesOpen stood work.new) }
     ensures writes { KeepsCount W.faults W.fault_bound sink.old sink.new (IsWriteFault result) }
 {
-    if has_type_attribute(tree.rows()) {
-        return not_yet(sink);
-    }
     work.open(alloc, tree)?;
     begin_edits(alloc, asked, work, sink)
 }
 
-/// Opens the document, where no element has an attribute xsi:type, and ends the stream.
+/// Opens the document, and ends the stream.
 fn take_end<W: Sink>(
     alloc: Global,
     asked: Asked,
@@ -128,9 +103,6 @@ fn take_end<W: Sink>(
     ensures open { (stood : Place) → IfOk result (MovesOpen stood work.new) }
     ensures writes { KeepsCount W.faults W.fault_bound sink.old sink.new (IsWriteFault result) }
 {
-    if has_type_attribute(tree.rows()) {
-        return not_yet(sink);
-    }
     work.open(alloc, tree)?;
     end_document(alloc, asked, work, sink)
 }
