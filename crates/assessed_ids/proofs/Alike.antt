@@ -8,7 +8,7 @@ use Rattle.tree_rows.specs.declared.row.Attribute.{Attribute}
 use Rattle.assess_records.specs.Counts.{counts_of}
 use Rattle.elem_assess.specs.Governing.{Governing}
 use Rattle.document_names.specs.Numbered.{Scope, Head, head_of, named_texts, scope_in, characters, shape_of}
-use Rattle.child_terms.specs.Attribution.{SchemaSet}
+use Rattle.set_assessment.specs.Attribution.{SchemaSet}
 use Rattle.set_assessment.specs.Assessment.{Entry, Assessed, Beside, first_pair, other_pairs, sibling_records, AreJudged, IsEntry, AreAssessed}
 use Rattle.set_assessment.specs.Local.{HasElement}
 

@@ -13,7 +13,7 @@ use Rattle.elem_assess.specs.Governing.{Governing}
 use Rattle.elem_assess.specs.Local.{IsLocal, said_on}
 use Rattle.element_codes.specs.Records.{nil, constraint, element_record}
 use Rattle.document_names.specs.Numbered.{Scope, Head, head_of, heads, named_texts, scope_in, characters, shape_of}
-use Rattle.child_terms.specs.Attribution.{SchemaSet}
+use Rattle.set_assessment.specs.Attribution.{SchemaSet}
 use Rattle.set_assessment.specs.Assessment.{Entry, Assessed, nothing, entry, entries, Beside, first_pair, other_pairs, sibling_records, AreJudged, IsEntry, AreAssessed, root_pairs, IsAssessment}
 use Rattle.set_assessment.specs.Local.{HasElement}
 use Rattle.set_assessment.specs.Plain.{plain_beside}

@@ -71,7 +71,7 @@ module _ (shape : ElementShape) (codes : List Found) where
           ≡ local_codes names t g said shape missing outcome (decl names t g shape) (constraint names t g shape) (nil_text names t g shape) (nil names t g shape) (taken names t g shape)
       local-same =
           ap (λ rest. declaration_codes g said (decl names t g shape) ++ (type_codes t g said ++ (nil_codes (decl names t g shape) (constraint names t g shape) (nil_text names t g shape) (nil names t g shape) shape ++
-            (rest ++ fixed_codes (nil names t g shape) (governing_content t g.of) (fixed_value (taken names t g shape) (constraint names t g shape)) shape outcome))))
+          (rest ++ fixed_codes (nil names t g shape) (governing_content t g.of) (fixed_value (taken names t g shape) (constraint names t g shape)) shape outcome))))
           (governed-same names (nil names t g shape) (governing_content t g.of) (text_used (taken names t g shape) (constraint names t g shape) (with_ids shape codes)) outcome missing
           ∙ ap (λ text. governed_codes names (nil names t g shape) (governing_content t g.of) shape text outcome missing) (text-same (taken names t g shape) (constraint names t g shape)))
 

@@ -7,4 +7,6 @@ mod marking;
 pub use document_ids::DocumentIds;
 pub use laws::{bearings_are_of_the_entries, codes_of_ids_join_the_assessment};
 pub use marking::mark;
-pub use set_assessment::{AssessSet, AttrTables, Judged, SimpleTypes, local};
+pub use set_assessment::{
+    AssessSet, AttrTables, ChildTerms, Judged, SimpleTypes, child_terms, local,
+};

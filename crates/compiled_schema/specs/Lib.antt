@@ -3,6 +3,7 @@ pub use Rattle.schema_models.specs.Checks
 pub use Rattle.schema_models.specs.ModelFault
 pub use Rattle.assessed_ids.specs.Numbered
 pub use Rattle.assessed_ids.specs.Attribution
+pub use Rattle.assessed_ids.specs.Fitting
 pub use Rattle.assessed_ids.specs.Assessment
 pub use Rattle.assessed_ids.specs.Plain
 pub use Rattle.assessed_ids.specs.Ids

@@ -1,8 +1,8 @@
+use assessed_ids::{AttrTables, SimpleTypes};
 use component_names::ComponentNames;
 use content_types::ContentTypes;
 use element_types::Declarations;
 use schema_models::Models;
-use assessed_ids::{AttrTables, SimpleTypes};
 use xs_components::Components;
 use xs_members::Members;
 use xs_names::Names;

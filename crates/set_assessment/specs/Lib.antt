@@ -3,6 +3,7 @@ pub mod Local
 pub mod Plain
 pub use Rattle.document_names.specs.Numbered
 pub use Rattle.child_terms.specs.Attribution
+pub use Rattle.child_terms.specs.Fitting
 pub use Rattle.elem_assess.specs.Schema
 pub use Rattle.elem_assess.specs.Types
 pub use Rattle.elem_assess.specs.Added

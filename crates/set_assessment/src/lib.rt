@@ -3,5 +3,6 @@
 
 mod laws;
 
+pub use child_terms::{ChildTerms, child_terms};
 pub use elem_assess::{AssessSet, AttrTables, Judged, SimpleTypes, local};
 pub use laws::fitting_records_are_the_assessment;

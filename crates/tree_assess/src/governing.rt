@@ -12,8 +12,7 @@ ghost use Rattle.element_heads.specs.Heads.{head_by};
 ghost use Rattle.tree_assess.specs.inside.Steps.{CanAssess, IsThere, AreInner, pair_of, root_pair_of, pairs_in};
 
 use crate::entry::{ElementEntry, begun};
-use child_terms::{ChildTerms, child_terms};
-use compiled_schema::Compiled;
+use compiled_schema::{ChildTerms, Compiled, child_terms};
 use elem_governing::{Governing, SchemaView, govern_child, govern_root};
 use element_heads::{ElementHead, child_names, read_head};
 use instance_names::{InstanceAttribute, instance_text};

@@ -13,9 +13,9 @@ use compiled_schema::{AssessSet, Compiled, Judged, local};
 use elem_governing::{Governing, SchemaView};
 use std::alloc::{AllocError, Global};
 
-// The entry of an element of this number.
-fn entry_by(number: u32, governing: &Governing, judged: Judged) -> ElementEntry
-    ensures { result ≡ record { number = number; governing = governing.now; element = judged.element; value = judged.value; attrs = judged.attrs; attr_values = judged.attr_values } }
+// The entry of an element of this number, the IDs of whose text that element bears.
+fn entry_by(number: u32, bearer: u32, governing: &Governing, judged: Judged) -> ElementEntry
+    ensures { result ≡ record { number = number; bearer = bearer; governing = governing.now; element = judged.element; value = judged.value; attrs = judged.attrs; attr_values = judged.attr_values } }
 {
     let Judged {
         element,
@@ -25,6 +25,7 @@ fn entry_by(number: u32, governing: &Governing, judged: Judged) -> ElementEntry
     } = judged;
     ElementEntry {
         number,
+        bearer,
         governing: *governing,
         element,
         value,
@@ -33,11 +34,13 @@ fn entry_by(number: u32, governing: &Governing, judged: Judged) -> ElementEntry
     }
 }
 
-/// The entry of an element of this number, by what governs it and what it has to show (Structures 3.3.4, 3.3.5, 3.4.4).
+/// The entry of an element of this number, the IDs of whose text that element bears, by what governs it and what it has to
+/// show (Structures 3.3.4, 3.3.5, 3.4.4).
 pub(crate) fn judge(
     alloc: Global,
     compiled: &mut Compiled,
     number: u32,
+    bearer: u32,
     governing: &Governing,
     shape: &ElementShape,
 ) -> Result<ElementEntry, AllocError>
@@ -47,6 +50,7 @@ pub(crate) fn judge(
     requires named { All (λ a. a.name < length compiled.old.names.names) shape.now.attrs }
     ensures judged { IfOk result (λ entry. AreJudged (set_of compiled.old) shape.now (entry_of entry)) }
     ensures number { IfOk result (λ entry. entry.number ≡ number) }
+    ensures bearer { IfOk result (λ entry. entry.bearer ≡ bearer) }
     ensures governing { IfOk result (λ entry. entry.governing ≡ governing.now) }
     ensures same { compiled.new ≡ compiled.old }
 {
@@ -62,5 +66,5 @@ pub(crate) fn judge(
         contents: &compiled.contents,
     };
     let judged = local(alloc, &set, &mut compiled.types, governing, shape)?;
-    Ok(entry_by(number, governing, judged))
+    Ok(entry_by(number, bearer, governing, judged))
 }

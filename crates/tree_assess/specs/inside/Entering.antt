@@ -19,7 +19,9 @@ use Rattle.tree_assess.specs.inside.Steps.{CanAssess, AreInner, pairs_in}
 use Rattle.tree_assess.specs.declared.elements.Entered.{Entered}
 
 -- what is known of an element: its head, its characters, and where its child elements get stuck and what governs them
-pub record IsEntered (c : Compiled) (outer : Scope) (g : Governing) (name : Expanded) (row : Row) (children : Forest) (e : Entered) : Type 0 where
+pub record IsEntered (c : Compiled) (bearer : ℕ) (outer : Scope) (g : Governing) (name : Expanded) (row : Row) (children : Forest) (e : Entered) : Type 0 where
+  pub number_is : e.number ≡ row.number
+  pub bearer_is : e.bearer ≡ bearer
   pub head_is : IsHead c.names outer name row.bindings row.attributes e.head
   pub text_is : e.text ≡ characters children
   pub inner_are : AreInner (set_of c) g e.head.scope children e.inner.stuck (pairs_in e.inner.begun.items)
@@ -39,10 +41,11 @@ shape_from e counts = record {
 }
 
 -- the element of a number is judged by its shape, and its entry stands at the place that was kept for it
-pub record IsFinished (s : SchemaSet) (g : Governing) (number : ℕ) (shape : ElementShape) (place : ℕ) (old new : List ElementEntry) (outcome : ChildOutcome) : Type 0 where
+pub record IsFinished (s : SchemaSet) (g : Governing) (number bearer : ℕ) (shape : ElementShape) (place : ℕ) (old new : List ElementEntry) (outcome : ChildOutcome) : Type 0 where
   pub own : ElementEntry
   pub judged : AreJudged s shape (entry_of own)
   pub number_is : own.number ≡ number
+  pub bearer_is : own.bearer ≡ bearer
   pub governing_is : own.governing ≡ g
   pub placed : new ≡ slice_set old place own
   pub validity_is : outcome.validity ≡ own.element.validity

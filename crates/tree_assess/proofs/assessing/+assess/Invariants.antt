@@ -14,7 +14,7 @@ decreases-assess_element l = 2 * count l.children + 1
 
 abbrev pub invariant-assess_children-left : goal.invariant-assess_children-left
 invariant-assess_children-left l = record {
-  so_far : IsSoFar (set_of l.initial.compiled) l.scope (pairs_in l.entries) l.fn.children l.left l.place l.initial.found.items l.found.items l.counts;
+  so_far : IsSoFar (set_of l.initial.compiled) l.parent.number l.scope (pairs_in l.entries) l.fn.children l.left l.place l.initial.found.items l.found.items l.counts;
   can : CanAssess l.initial.compiled l.scope l.left;
   each : l.place + length (heads l.initial.compiled.names l.scope l.left) ≡ length (pairs_in l.entries);
   counted : child_count l.counts + count l.left < 2 ^ 32;
