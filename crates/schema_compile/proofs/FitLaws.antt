@@ -8,12 +8,14 @@ use Rattle.xs_components.specs.declared.common.TypeId.{TypeId}
 use Rattle.xs_components.specs.declared.complex.ComplexType.{ComplexType}
 use Rattle.xs_references.specs.Heights.{IsType}
 use Rattle.xs_references.specs.Ranked.{IsRanked}
+use Rattle.type_derives.specs.Derives.{is_simple}
 use Rattle.type_derives.specs.Within.{AreSimple}
 use Rattle.base_kinds.specs.Bases.{IsWrongBase}
 use Rattle.component_circles.specs.Circles.{Ranks, with_all_ranks}
 use Rattle.component_circles.specs.References.{IsClosed, effective_of}
 use Rattle.type_derivation.specs.Cycles.{IsGrown}
-use Rattle.simple_contents.specs.SimpleTypes.{AreWhole, IsWhole}
+use Rattle.simple_contents.specs.SimpleTypes.{AreWhole, IsWhole, IsSimpleTree}
+use Rattle.simple_contents.specs.Trees.{type_tree}
 use Rattle.simple_contents.specs.SimpleTypesSimpleTypes.{SimpleTypes}
 use Rattle.content_types.specs.ContentTypes.{content_of}
 use Rattle.simple_contents.specs.Texts.{is_simple_content}
@@ -29,7 +31,7 @@ use Rattle.schema_check.specs.SetPhases.{AreParts, IsSetCompiled, IsAloneCompile
 use Rattle.schema_check.specs.declared.documents.CompiledSet.{CompiledSet}
 use Rattle.schema_compile.specs.Fit.{IsFit}
 use Rattle.schema_compile.proofs.NamedLaws.{set-named, set-once}
-use Rattle.schema_compile.proofs.KeptLaws.{grown-alike, element-types, wrong-was, own-simple}
+use Rattle.schema_compile.proofs.KeptLaws.{grown-alike, element-types, attribute-types, wrong-was, own-simple}
 use Rattle.schema_compile.proofs.ContentLaws.{contents-there}
 
 -- components of the same representations are the same
@@ -72,6 +74,7 @@ module _ (closed : (source : Source) (t : Tables) → t ≡ built source → IsC
     (simple : (schema : ShapedSchema) (made : CompiledSet) → IsDeclared schema → IsAloneCompiled schema (Ok made) → HasSimpleTypes made.parts)
     (read : (t : Tables) (types : SimpleTypes) → IsRanked t → AreSimple t → AreOwnSimple t → ((fault : Fault) → IsWrongBase t fault → ⊥) → AreWhole t types
     → (of : TypeId) → IsType t of → is_simple_content (content_of t of) ≡ true → IsWhole types of)
+    (trees : (t : Tables) → IsRanked t → AreSimple t → (of : TypeId) → IsType t of → is_simple of ≡ true → IsSimpleTree (type_tree t of))
   where
     parts-closed : (set : List SetDocument) (old : Tables) → AreParts set old → IsClosed old
     unfolding AreParts
@@ -92,14 +95,18 @@ module _ (closed : (source : Source) (t : Tables) → t ≡ built source → IsC
         let alike = grown-alike old made.parts ranks grown in
         let was-there = parts-there set old is.1.2 in
         let types = simple schema made declared alone in
+        let attributes = attribute-types old made.parts alike was-there in
         let effectives = effectives-there old made.parts ranks grown (parts-closed set old is.1.2) in
         record {
           ranked = ready.ranked;
           simple = types.made;
           types = element-types old made.parts alike was-there;
+          attributes = attributes;
+          readable = λ n decl at. trees made.parts ready.ranked types.made decl.of (attributes n decl at) (types.used.attributes n decl at);
           once = set-once set made is;
           named = set-named set made is;
           judged = ready.judged;
+          literals = ready.whole;
           whole = read made.parts made.types ready.ranked types.made (own-simple old made.parts alike was-there types.used)
               (λ fault wrong. no-wrong set made is fault (wrong-was old made.parts alike fault wrong)) ready.whole;
           contents = contents-there made.parts ready.ranked ready.contents effectives;

@@ -1,9 +1,10 @@
 -- What becomes of schema documents: a set that documents are assessed by, the first broken constraint, or neither yet.
-use Rattle.std.specs.Prelude.{◌≡◌, ◌⊎◌, ℕ, true, false, List, [], ◌∷◌, Option, None, Some, Ok, Err}
+use Rattle.std.specs.Prelude.{◌≡◌, ◌⊎◌, ℕ, ◌<◌, Bool, true, false, List, [], ◌∷◌, Option, None, Some, Ok, Err, length}
 use Rattle.xs_codes.specs.declared.fault.Fault.{Fault}
 use Rattle.xs_components.specs.Tables.{Tables}
 use Rattle.xs_faults.specs.Least.{IsLeast}
 use Rattle.subst_groups.specs.Groups.{AreGroups}
+use Rattle.attr_faults.specs.AttrFaults.{AreIdMarks, IsAttrFault, HasUses}
 use Rattle.head_exclusions.specs.Exclusions.{IsExcluded}
 use Rattle.all_limits.specs.AllLimits.{IsUnlimited}
 use Rattle.element_classes.specs.Classes.{AreClassesOf}
@@ -26,6 +27,11 @@ IsDerivationFault t fault = IsExcluded t fault ⊎ IsUnlimited t fault
 
 -- of a set of components with their names and simple types
 module _ (made : CompiledSet) where
+  -- phase 6, of attributes, by the attribute declarations of types of IDs: src-attribute_group.2, src-ct.4 and src-ct.5 (Structures 3.4.3,
+  -- 3.6.3), ag-props-correct.2 and .3, ct-props-correct.4 and .5 (Structures 3.4.6, 3.6.6)
+  abbrev pub attr_phase : Option Fault → Type 0
+  attr_phase found = (ids : List Bool) × AreIdMarks made.parts ids × IsLeast (IsAttrFault made.parts ids) found
+
   abbrev pub derivation_phase : Option Fault → Type 0
   derivation_phase found = IsLeast (IsDerivationFault made.parts) found
 
@@ -35,8 +41,12 @@ module _ (made : CompiledSet) where
       (members : List (List ℕ)) × (classes : List ℕ) × AreGroups made.parts members × AreClassesOf made.parts classes × IsLeast (IsBroken made.names made.parts members classes) found
 
   -- the phases behind simple types
-  abbrev pub model_phases : List (Option Fault → Type 0)
-  model_phases = derivation_phase ∷ model_phase ∷ []
+  abbrev pub late_phases : List (Option Fault → Type 0)
+  late_phases = attr_phase ∷ derivation_phase ∷ model_phase ∷ []
+
+-- each complex type has attribute uses, no two of which have one name
+abbrev pub HaveUses : Tables → Type 0
+HaveUses t = (n : ℕ) → n < length t.complexes.parts → HasUses t n
 
 -- a set with these names, components and simple types
 pub record IsOf (made : CompiledSet) (c : Compiled) : Type 0 where
@@ -46,8 +56,8 @@ pub record IsOf (made : CompiledSet) (c : Compiled) : Type 0 where
 
 -- what the components of a set come to in the phases behind simple types
 abbrev pub IsSetOutcome : CompiledSet → Outcome → Type 0
-IsSetOutcome made (Accepted c) = IsFirstOfPhases (model_phases made) None × IsOf made c × IsUsable c
-IsSetOutcome made (Broken fault) = IsFirstOfPhases (model_phases made) (Some fault)
+IsSetOutcome made (Accepted c) = IsFirstOfPhases (late_phases made) None × IsOf made c × IsUsable c × HaveUses made.parts
+IsSetOutcome made (Broken fault) = IsFirstOfPhases (late_phases made) (Some fault)
 IsSetOutcome made NotYet = ⊥
 
 -- What a document of the right shape comes to in the phases behind that of shapes, where it has nothing that is not assessed yet. Then

@@ -11,6 +11,7 @@ use crate::Outcome;
 use crate::finding::{Found, judge};
 use crate::laws::compiled_parts_are_fit;
 use all_limits::Models;
+use attr_faults::faultless_types_have_uses;
 use compiled_schema::Compiled;
 use not_yet::is_unassessed;
 use schema_check::{CompiledSet, SchemaInput, compile_alone};
@@ -33,6 +34,7 @@ fn joined(set: CompiledSet, found: Found, models: Models) -> Compiled
         classes: found.classes,
         declarations: found.declarations,
         named: found.named,
+        attr_uses: found.attr_uses,
         contents: found.contents,
         models,
     }
@@ -44,6 +46,7 @@ fn outcome_of(set: CompiledSet, judged: Result<(Found, Models), Fault>) -> Outco
     requires judged { inside.IsJudged set judged }
     ensures { spec.IsSetOutcome set result }
 {
+    faultless_types_have_uses();
     match judged {
         Ok((found, models)) => Outcome::Accepted(joined(set, found, models)),
         Err(fault) => Outcome::Broken(fault),

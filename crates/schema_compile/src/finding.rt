@@ -7,6 +7,7 @@ ghost use Rattle.schema_compile.specs.Outcomes as phases;
 ghost use Rattle.schema_compile.specs.inside.Finding as spec;
 
 use all_limits::{Models, build_models, first_unlimited};
+use attr_faults::{AttrTables, first_attr_fault, id_marks};
 use component_names::ComponentNames;
 use content_models::ModelSource;
 use content_types::ContentTypes;
@@ -28,7 +29,17 @@ pub(crate) struct Found {
     pub(crate) members: Members,
     pub(crate) classes: Vec<u32>,
     pub(crate) named: ComponentNames,
+    pub(crate) attr_uses: AttrTables,
     pub(crate) contents: ContentTypes,
+}
+
+// The attribute uses of complex types and attribute groups.
+fn find_uses(alloc: Global, set: &CompiledSet) -> Result<AttrTables, AllocError>
+    requires fit { IsFit set.now }
+    ensures uses { IfOk result (spec.AreAttrUses set.now.parts) }
+{
+    let ids = id_marks(alloc, &set.parts)?;
+    AttrTables::of(alloc, &set.parts, ids.as_slice())
 }
 
 // Finds it.
@@ -40,12 +51,14 @@ fn find(alloc: Global, set: &CompiledSet) -> Result<Found, AllocError>
     let members = groups(alloc, &set.parts, &declarations)?;
     let classes = classes_of(alloc, &set.parts, &declarations)?;
     let named = ComponentNames::of(alloc, &set.parts)?;
+    let attr_uses = find_uses(alloc, set)?;
     let contents = ContentTypes::of(alloc, &set.parts)?;
     Ok(Found {
         declarations,
         members,
         classes,
         named,
+        attr_uses,
         contents,
     })
 }
@@ -56,6 +69,14 @@ fn contents_are_there(set: &CompiledSet)
     ensures there { spec.AreContentsThere set.now.parts }
 {
     let _contents = set.parts.contents();
+}
+
+// The first fault of phase 6.
+fn attr_fault(set: &CompiledSet, found: &Found) -> Option<Fault>
+    requires found { spec.IsFound set.now.parts found.now }
+    ensures least { phases.attr_phase set.now result }
+{
+    first_attr_fault(&set.parts, &found.attr_uses)
 }
 
 // The first fault of phase 7.
@@ -73,6 +94,24 @@ fn derivation_fault(
     let excluded = first_excluded(alloc, &set.parts, &found.declarations)?;
     let unlimited = first_unlimited(alloc, &set.parts)?;
     Ok(sooner(excluded, unlimited))
+}
+
+// The first fault of phases 6 and 7.
+fn early_fault(
+    alloc: Global,
+    set: &CompiledSet,
+    found: &Found,
+) -> Result<Option<Fault>, AllocError>
+    requires fit { IsFit set.now }
+    requires found { spec.IsFound set.now.parts found.now }
+    requires there { spec.AreContentsThere set.now.parts }
+    ensures first { IfOk result (spec.IsEarlyFault set.now) }
+    ensures limited { IfOk result (λ fault. IfNone fault (AreContentsLimited set.now.parts)) }
+{
+    match attr_fault(set, found) {
+        Some(fault) => Ok(Some(fault)),
+        None => derivation_fault(alloc, set, found),
+    }
 }
 
 // The automata of content models, or the first fault of phase 8.
@@ -100,7 +139,7 @@ fn find_models(
     )
 }
 
-// The automata of content models, or the first fault of phases 7 and 8.
+// The automata of content models, or the first fault of phases 6 to 8.
 fn models_of(
     alloc: Global,
     set: &CompiledSet,
@@ -111,13 +150,13 @@ fn models_of(
     requires there { spec.AreContentsThere set.now.parts }
     ensures models { IfOk result (spec.AreModelsIn set.now found.now) }
 {
-    match derivation_fault(alloc, set, found)? {
+    match early_fault(alloc, set, found)? {
         Some(fault) => Ok(Err(fault)),
         None => find_models(alloc, set, found),
     }
 }
 
-/// What is found of a set, and the automata of its content models; or the first fault of phases 7 and 8.
+/// What is found of a set, and the automata of its content models; or the first fault of phases 6 to 8.
 pub(crate) fn judge(
     alloc: Global,
     set: &CompiledSet,

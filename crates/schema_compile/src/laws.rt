@@ -6,7 +6,7 @@ ghost use Rattle.schema_check.specs.OfTree.{IsDeclared};
 ghost use Rattle.schema_compile.specs.Fit.{IsFit};
 
 use schema_check::{compiled_types_are_simple, tables_are_closed};
-use simple_contents::simple_contents_are_read;
+use simple_contents::{simple_contents_are_read, simple_types_are_simple_trees};
 
 /// What the later phases and the assessment ask of components is so of what a document's tree is compiled to, where it leads to
 /// no others.
@@ -16,4 +16,5 @@ pub fn compiled_parts_are_fit()
     tables_are_closed();
     compiled_types_are_simple();
     simple_contents_are_read();
+    simple_types_are_simple_trees();
 }

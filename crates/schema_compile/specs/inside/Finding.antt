@@ -1,8 +1,11 @@
 -- What is found of the components of a set, for content models and for assessing.
-use Rattle.std.specs.Prelude.{◌≡◌, ◌⊎◌, ℕ, ◌<◌, true, false, List, Option, None, Some, Result, Ok, Err, length}
+use Rattle.std.specs.Prelude.{◌≡◌, ◌⊎◌, ℕ, ◌<◌, Bool, true, false, List, [], ◌∷◌, Option, None, Some, Result, Ok, Err, length}
 use Rattle.xs_codes.specs.declared.fault.Fault.{Fault}
 use Rattle.xs_components.specs.Tables.{Tables}
 use Rattle.xs_faults.specs.Least.{IsLeast}
+use Rattle.attr_faults.specs.AttrFaults.{AreIdMarks}
+use Rattle.attr_faults.specs.Tables.{AreTablesOf}
+use Rattle.attr_faults.specs.AttrTables.{AttrTables}
 use Rattle.element_types.specs.Types.{AreDeclarationsOf}
 use Rattle.subst_groups.specs.Groups.{AreGroups}
 use Rattle.element_classes.specs.Classes.{AreClassesOf}
@@ -18,14 +21,25 @@ use Rattle.compiled_schema.specs.declared.compiled.Compiled.{Compiled}
 use Rattle.schema_compile.specs.declared.finding.Found.{Found}
 use Rattle.schema_compile.specs.declared.outcome.Outcome.{Outcome}
 use Rattle.schema_compile.specs.declared.outcome.Outcome.TheVariants.{NotYet}
-use Rattle.schema_compile.specs.Outcomes.{model_phases, IsShapedOutcome}
+use Rattle.schema_compile.specs.Outcomes.{attr_phase, derivation_phase, late_phases, IsShapedOutcome}
+
+-- the attribute uses of all complex types and attribute groups, with the marks of types of IDs
+pub record AreAttrUses (t : Tables) (tables : AttrTables) : Type 0 where
+  pub ids : List Bool
+  pub marks : AreIdMarks t ids
+  pub are : AreTablesOf t ids tables
 
 pub record IsFound (t : Tables) (found : Found) : Type 0 where
   pub declarations : AreDeclarationsOf t found.declarations
   pub members : AreGroups t found.members
   pub classes : AreClassesOf t found.classes.items
   pub named : found.named ≡ spaces_of t
+  pub attr_uses : AreAttrUses t found.attr_uses
   pub contents : AreContentsOf t found.contents
+
+-- the first fault of the phases between simple types and content models
+abbrev pub IsEarlyFault : CompiledSet → Option Fault → Type 0
+IsEarlyFault made found = IsFirstOfPhases (attr_phase made ∷ derivation_phase made ∷ []) found
 
 -- the automata of the content models, or the first fault of one
 abbrev pub AreModelsOf : CompiledSet → Found → Result (List (Option ContentAutomaton)) Fault → Type 0
@@ -35,8 +49,8 @@ AreModelsOf made found (Err fault) = IsLeast (IsBroken made.names made.parts fou
 
 -- the same, or the first fault of the phases behind simple types
 abbrev pub AreModelsIn : CompiledSet → Found → Result (List (Option ContentAutomaton)) Fault → Type 0
-AreModelsIn made found (Ok models) = IsFirstOfPhases (model_phases made) None × AreModelsOf made found (Ok models)
-AreModelsIn made found (Err fault) = IsFirstOfPhases (model_phases made) (Some fault)
+AreModelsIn made found (Ok models) = IsFirstOfPhases (late_phases made) None × AreModelsOf made found (Ok models)
+AreModelsIn made found (Err fault) = IsFirstOfPhases (late_phases made) (Some fault)
 
 -- the particle of each content is there, and no other type has one
 pub record AreContentsThere (t : Tables) : Type 0 where
@@ -53,14 +67,15 @@ joined made found models = record {
   classes = found.classes;
   declarations = found.declarations;
   named = found.named;
+  attr_uses = found.attr_uses;
   contents = found.contents;
   models = models;
 }
 
 -- what is found of a set without a fault, and its automata; or the first fault
 abbrev pub IsJudged : CompiledSet → Result (Found × List (Option ContentAutomaton)) Fault → Type 0
-IsJudged made (Ok pair) = IsFirstOfPhases (model_phases made) None × IsFound made.parts pair.0 × AreModelsOf made pair.0 (Ok pair.1) × AreContentsThere made.parts
-IsJudged made (Err fault) = IsFirstOfPhases (model_phases made) (Some fault)
+IsJudged made (Ok pair) = IsFirstOfPhases (late_phases made) None × IsFound made.parts pair.0 × AreModelsOf made pair.0 (Ok pair.1) × AreContentsThere made.parts
+IsJudged made (Err fault) = IsFirstOfPhases (late_phases made) (Some fault)
 
 -- what a document of the right shape comes to
 abbrev pub IsKnownOutcome : ShapedSchema → Outcome → Type 0
