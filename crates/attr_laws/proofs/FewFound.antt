@@ -10,6 +10,7 @@ use Rattle.std.proofs.lemmas.Map.Steps.{length-le_from_distinct_below}
 use Rattle.std.proofs.lemmas.Map.Views.{Contains-from_any}
 use Rattle.std.proofs.lemmas.Slice.Zip.{AllZip-long}
 use Rattle.xs_codes.specs.declared.code.Code.{Code}
+use Rattle.xs_codes.specs.declared.code.Code.TheVariants.{CvcAttribute4, CvcAu}
 use Rattle.xs_codes.specs.declared.fault.Found.{Found}
 use Rattle.xs_names.specs.Names.{NameTable}
 use Rattle.xs_components.specs.Tables.{Tables}
@@ -57,7 +58,8 @@ few-unless false code = omega arith
 
 few-text : (read : AttrText) → length (text_codes read) ≤ 2
 few-text (Invalid code) = omega arith
-few-text (Valid value by_declaration by_use) = omega (arith, length-append (codes_if (unless by_declaration _)) (codes_if (unless by_use _)), few-unless by_declaration _, few-unless by_use _)
+few-text (Valid value by_declaration by_use) =
+    omega (arith, length-append (codes_if (unless by_declaration CvcAttribute4)) (codes_if (unless by_use CvcAu)), few-unless by_declaration CvcAttribute4, few-unless by_use CvcAu)
 
 module _ (t : Tables) (name : ℕ) (source : ValueSource) (scope : Scope) (text : List ℕ) where
   few-undeclared : (code : Option Code) (judged : JudgedAttr) → judged ≡ undeclared name source (codes_if code) → IsFew judged.known
