@@ -71,7 +71,7 @@ module _ (c : Compiled) (usable : IsUsable c) (b : Beside) where
   own-named g h number attributes children inner below own named has governed_there e =
       let is = e.known.known.record_is in
       let attrs = attrs-there c.names c.parts usable.named.attributes usable.attribute_types.ranked usable.attribute_types.simple own.governing.of h.scope (named_texts c.names attributes)
-          (texts-named attributes has) e.known.attributes e.known.assessed in
+      (texts-named attributes has) e.known.attributes e.known.assessed in
       record {
         element_named = record {
           name_there = subst (IsName c.names) (sym (ap (λ (r : ElementRecord). r.name) is)) named;
