@@ -1,5 +1,5 @@
 -- The records and the values of an element's attributes are determined where a text has one outcome by each type.
-use Rattle.std.proofs.Common.{◌≡◌, ℕ, ◌^◌, Bool, true, false, List, ◌++◌, Option, None, Some, map, refl, sym, ap, ◌∙◌, subst}
+use Rattle.std.proofs.Common.{◌≡◌, ℕ, Bool, true, false, List, ◌++◌, Option, None, Some, map, sym, ap, ◌∙◌, subst}
 use Rattle.std.specs.Prelude.{Result, Ok, Err, slice_get}
 use Rattle.std.specs.List.{AllZip}
 use Rattle.std.specs.Option.{IsSomeAnd}
@@ -22,7 +22,7 @@ use Rattle.assess_records.specs.declared.shape.NamedText.{NamedText}
 use Rattle.attr_governing.specs.Governing.{attr_governing}
 use Rattle.attr_governing.specs.declared.governing.AttrGoverning.{AttrGoverning}
 use Rattle.attr_governing.specs.declared.governing.AttrGoverning.TheVariants.{Instance, Declared, Unassessed, Refused}
-use Rattle.attr_added.specs.Lacking.{effective_constraint, is_added, is_missing}
+use Rattle.attr_added.specs.Lacking.{effective_constraint, is_added}
 use Rattle.attr_added.specs.Added.{AreNamed}
 use Rattle.attr_codes.specs.Values.{is_value, IsFixedMet, IsMet, IsJudged, IsRead}
 use Rattle.attr_codes.specs.Records.{declared, use_constraint, IsDeclaredJudged, IsByDeclaration, IsAttrJudged}

@@ -1,5 +1,5 @@
 -- The records and the values of an element and of its attributes are determined where a text has one outcome by each type.
-use Rattle.std.proofs.Common.{◌≡◌, ℕ, Bool, true, false, Option, None, Some, List, [], ◌∷◌, ◌++◌, map, length, refl, sym, ap, ◌∙◌, subst, arith}
+use Rattle.std.proofs.Common.{◌≡◌, ℕ, Bool, true, false, Option, None, Some, List, [], ◌∷◌, ◌++◌, length, refl, sym, ap, ◌∙◌, subst, arith}
 use Rattle.std.specs.Prelude.{Result, Ok, Err, ◌^◌}
 use Rattle.xs_names.specs.Names.{NameTable, IsSound}
 use Rattle.xs_codes.specs.declared.code.Code.{Code}
@@ -21,7 +21,7 @@ use Rattle.attr_assess.specs.Assessed.{element_uses}
 use Rattle.elem_governing.specs.declared.pairs.Governing.{Governing}
 use Rattle.elem_governing.specs.declared.local_types.XsiType.{XsiType}
 use Rattle.element_codes.specs.declared.outcome.TextOutcome.{TextOutcome}
-use Rattle.element_codes.specs.declared.outcome.TextOutcome.TheVariants.{NotRead, Invalid, Valid}
+use Rattle.element_codes.specs.declared.outcome.TextOutcome.TheVariants.{Valid}
 use Rattle.element_codes.specs.Facts.{is_taken, governing_content}
 use Rattle.element_codes.specs.Used.{value_in, text_used, scope_used, fixed_value}
 use Rattle.element_codes.specs.Codes.{declaration_codes, type_codes, nil_codes, missing_code, missing_codes, filled_codes, by_content, governed_codes, fixed_codes}
@@ -49,9 +49,9 @@ module _ (t : Tables) (one : HasOneOutcomeEach t) where
   read-is of fixed scope text a b x y =
       outcome-is of fixed y.0 a b (subst (λ (r : Result Value Code). IsOutcome t of fixed r a) (one of scope text x.0 y.0 x.1 y.1) x.2) y.2
 
-  read-if-is : (by : Bool) (of : TypeId) (taken : Bool) (value : Option ValueConstraint) (shape : ElementShape) (a b : TextOutcome) → IsReadIf by t of taken value shape a → IsReadIf by t of taken value shape b → a ≡ b
-  read-if-is false of taken value shape a b x y = x ∙ sym y
-  read-if-is true of taken value shape a b x y = read-is of (fixed_value taken value) (scope_used taken value shape) (text_used taken value shape) a b x y
+  read-if-is : (by : Bool) (of : TypeId) (takes : Bool) (value : Option ValueConstraint) (shape : ElementShape) (a b : TextOutcome) → IsReadIf by t of takes value shape a → IsReadIf by t of takes value shape b → a ≡ b
+  read-if-is false of takes value shape a b x y = x ∙ sym y
+  read-if-is true of takes value shape a b x y = read-is of (fixed_value takes value) (scope_used takes value shape) (text_used takes value shape) a b x y
 
   text-outcome-is : (of : Option TypeId) (is : Bool) (value : Option ValueConstraint) (shape : ElementShape) (a b : TextOutcome) → IsTextOutcome t of is value shape a → IsTextOutcome t of is value shape b → a ≡ b
   text-outcome-is None is value shape a b x y = x ∙ sym y
@@ -61,18 +61,18 @@ module _ (t : Tables) (one : HasOneOutcomeEach t) where
 
 module _ (xs ys : List ℕ) where
   module _ (same : missing_codes xs ≡ missing_codes ys) where
-    content-same : (names : NameTable) (nil : Bool) (content : ContentType) (shape : ElementShape) (text : List ℕ) (outcome : TextOutcome) →
-        by_content names nil content shape text outcome xs ≡ by_content names nil content shape text outcome ys
-    content-same names nil SimpleType shape text outcome = refl
-    content-same names nil Empty shape text outcome = ap (λ cs. filled_codes nil Empty shape text outcome ++ cs) same
-    content-same names nil SimpleContent shape text outcome = ap (λ cs. filled_codes nil SimpleContent shape text outcome ++ cs) same
-    content-same names nil ElementOnly shape text outcome = ap (λ cs. filled_codes nil ElementOnly shape text outcome ++ cs) same
-    content-same names nil Mixed shape text outcome = ap (λ cs. filled_codes nil Mixed shape text outcome ++ cs) same
+    content-same : (names : NameTable) (empty : Bool) (content : ContentType) (shape : ElementShape) (text : List ℕ) (outcome : TextOutcome) →
+        by_content names empty content shape text outcome xs ≡ by_content names empty content shape text outcome ys
+    content-same names empty SimpleType shape text outcome = refl
+    content-same names empty Empty shape text outcome = ap (λ cs. filled_codes empty Empty shape text outcome ++ cs) same
+    content-same names empty SimpleContent shape text outcome = ap (λ cs. filled_codes empty SimpleContent shape text outcome ++ cs) same
+    content-same names empty ElementOnly shape text outcome = ap (λ cs. filled_codes empty ElementOnly shape text outcome ++ cs) same
+    content-same names empty Mixed shape text outcome = ap (λ cs. filled_codes empty Mixed shape text outcome ++ cs) same
 
-    governed-same : (names : NameTable) (nil : Bool) (content : Option ContentType) (shape : ElementShape) (text : List ℕ) (outcome : TextOutcome) →
-        governed_codes names nil content shape text outcome xs ≡ governed_codes names nil content shape text outcome ys
-    governed-same names nil None shape text outcome = refl
-    governed-same names nil (Some content) shape text outcome = content-same names nil content shape text outcome
+    governed-same : (names : NameTable) (empty : Bool) (content : Option ContentType) (shape : ElementShape) (text : List ℕ) (outcome : TextOutcome) →
+        governed_codes names empty content shape text outcome xs ≡ governed_codes names empty content shape text outcome ys
+    governed-same names empty None shape text outcome = refl
+    governed-same names empty (Some content) shape text outcome = content-same names empty content shape text outcome
 
     record-same : (names : NameTable) (t : Tables) (g : Governing) (shape : ElementShape) (said : XsiType) (outcome : TextOutcome) (attrs : List AttrRecord) →
         element_record names t g shape said xs outcome attrs ≡ element_record names t g shape said ys outcome attrs

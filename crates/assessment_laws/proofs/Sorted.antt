@@ -58,7 +58,7 @@ module _ (lt : ℕ → ℕ → Bool) (ranks : IsStrictWeakOrder lt) (P : ℕ →
   same-list (x ∷ xs) [] p q up vp once twice has = absurd (none-in x (has.into x (first-in x xs)))
   same-list (x ∷ xs) (y ∷ ys) p q up vp once twice has =
       let first : x ≡ y = ties x y (All-head P x xs p) (All-head P y ys q) (least y ys x vp (has.into x (first-in x xs))) (least x xs y up (has.back y (first-in y ys))) in
-      let rest = record {
+      let rest : HasSame xs ys = record {
         into = rest-in x y xs ys first once has.into;
         back = rest-in y x ys xs (sym first) twice has.back;
       } in

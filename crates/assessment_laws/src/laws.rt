@@ -17,11 +17,15 @@ pub fn terms_are_determined()
     ensures terms { (s : SchemaSet) (particle : Option ℕ) (children : List ℕ) (stuck other : Option ℕ) (xs ys : List (Option ℕ)) → AreTerms s particle children stuck xs → AreTerms s particle children other ys → (stuck ≡ other) × (xs ≡ ys) }
 {}
 
-/// The assessment of a document by a schema set is the only one, whatever codes are said beside, and so is the one with the codes of
-/// its IDs (Structures 5.2, 3.15.4); the set's table has each name once, and those of its attribute declarations.
+/// The assessment of a document by a schema set is the only one, whatever codes are said beside (Structures 5.2), where the set's
+/// table has each name once, and those of its attribute declarations.
 pub fn the_assessment_is_the_only_one()
     ensures only { (s : SchemaSet) (b : Beside) (f : Forest) (x y : Assessed) → IsSound s.names → AreNamed s.names s.parts → IsAssessment s b f x → IsAssessment s b f y → x ≡ y }
-    ensures with_ids { (s : SchemaSet) (d : Document) (x y : Assessed) → IsSound s.names → AreNamed s.names s.parts → IsTree d → IsAssessment s (beside_of d.forest x) d.forest x → IsAssessment s (beside_of d.forest y) d.forest y → x ≡ y }
+{}
+
+/// So is the one with the codes of the document's IDs at its root (Structures 3.15.4).
+pub fn the_assessment_with_ids_is_the_only_one()
+    ensures only { (s : SchemaSet) (d : Document) (x y : Assessed) → IsSound s.names → AreNamed s.names s.parts → IsTree d → IsAssessment s (beside_of d.forest x) d.forest x → IsAssessment s (beside_of d.forest y) d.forest y → x ≡ y }
 {
     codes_of_ids_join_the_assessment();
 }

@@ -1,7 +1,6 @@
 -- How many records an element has for its attributes, and how many codes these have.
-use Rattle.std.proofs.Common.{◌≡◌, ℕ, ◌+◌, ◌<◌, ◌≤◌, ◌^◌, Bool, true, false, List, [], ◌∷◌, ◌++◌, Option, None, Some, map, length, refl, sym, ap, ◌∙◌, subst, arith}
-use Rattle.std.specs.Prelude.{All, nat_eq, slice_get}
-use Rattle.std.specs.List.{AllZip}
+use Rattle.std.proofs.Common.{◌≡◌, ℕ, ◌+◌, ◌<◌, ◌≤◌, ◌^◌, Bool, true, false, List, ◌++◌, Option, None, Some, map, length, sym, ap, ◌∙◌, subst, arith}
+use Rattle.std.specs.Prelude.{All, slice_get}
 use Rattle.std.specs.Option.{IsSomeAnd}
 use Rattle.std.proofs.lemmas.List.{length-append, length-map, map-append}
 use Rattle.std.proofs.lemmas.List.Elements.{All-append, All-contains}
@@ -11,7 +10,6 @@ use Rattle.std.proofs.lemmas.Map.Views.{Contains-from_any}
 use Rattle.std.proofs.lemmas.Slice.Zip.{AllZip-long}
 use Rattle.xs_codes.specs.declared.code.Code.{Code}
 use Rattle.xs_codes.specs.declared.code.Code.TheVariants.{CvcAttribute4, CvcAu}
-use Rattle.xs_codes.specs.declared.fault.Found.{Found}
 use Rattle.xs_names.specs.Names.{NameTable}
 use Rattle.xs_components.specs.Tables.{Tables}
 use Rattle.xs_components.specs.declared.attribute.AttributeDecl.{AttributeDecl}
@@ -31,7 +29,7 @@ use Rattle.attr_governing.specs.Governing.{attr_governing}
 use Rattle.attr_governing.specs.declared.governing.AttrGoverning.{AttrGoverning}
 use Rattle.attr_governing.specs.declared.governing.AttrGoverning.TheVariants.{Instance, Declared, Unassessed, Refused}
 use Rattle.attr_added.specs.Lacking.{effective_constraint, AreThose}
-use Rattle.attr_codes.specs.Records.{codes_if, unless, text_codes, undeclared, declared, IsDeclaredJudged, IsByDeclaration, IsAttrJudged}
+use Rattle.attr_codes.specs.Records.{codes_if, unless, text_codes, undeclared, IsDeclaredJudged, IsByDeclaration, IsAttrJudged}
 use Rattle.attr_codes.specs.declared.judged.JudgedAttr.{JudgedAttr}
 use Rattle.attr_codes.specs.declared.values.AttrText.{AttrText}
 use Rattle.attr_codes.specs.declared.values.AttrText.TheVariants.{Invalid, Valid}

@@ -1,6 +1,6 @@
 -- The names and the types of the records of attributes are there.
-use Rattle.std.proofs.Common.{◌≡◌, ℕ, ◌<◌, Bool, true, false, List, [], ◌∷◌, ◌++◌, Option, None, Some, map, length, refl, sym, subst, ◌∙◌, true≢false}
-use Rattle.std.specs.Prelude.{All, IfSome, slice_get}
+use Rattle.std.proofs.Common.{◌≡◌, ℕ, ◌<◌, true, List, Option, None, Some, map, length, refl, sym, subst, ◌∙◌, true≢false}
+use Rattle.std.specs.Prelude.{All, slice_get}
 use Rattle.std.specs.List.{AllZip}
 use Rattle.std.specs.Option.{IsSomeAnd, option_map, option_and_then}
 use Rattle.std.proofs.lemmas.Bool.{and_parts}
@@ -25,11 +25,10 @@ use Rattle.simple_validity.specs.TypeTree.{TypeTree}
 use Rattle.simple_validity.proofs.TreeLaws.{simple_tree_is, type_tree_is}
 use Rattle.simple_types.specs.SimpleTypes.{IsSimpleTree}
 use Rattle.simple_types.specs.Trying.{Scope}
-use Rattle.attr_uses.specs.Written.{use_at, use_name}
+use Rattle.attr_uses.specs.Written.{use_at}
 use Rattle.attr_uses.specs.Uses.{use_named}
 use Rattle.assess_records.specs.declared.outcome.ValueSource.{ValueSource}
 use Rattle.assess_records.specs.declared.outcome.ValueSource.TheVariants.{Given, Schema}
-use Rattle.assess_records.specs.declared.record.AttrRecord.{AttrRecord}
 use Rattle.assess_records.specs.declared.shape.NamedText.{NamedText}
 use Rattle.attr_governing.specs.Governing.{attr_governing}
 use Rattle.attr_governing.specs.declared.governing.AttrGoverning.{AttrGoverning}
@@ -37,8 +36,7 @@ use Rattle.attr_governing.specs.declared.governing.AttrGoverning.TheVariants.{In
 use Rattle.attr_added.specs.Lacking.{effective_constraint, gives_one, is_lacking, part_named, is_added}
 use Rattle.attr_added.specs.Added.{AreNamed}
 use Rattle.attr_added.proofs.Needs.{use-name-is, name-there}
-use Rattle.attr_codes.specs.Records.{codes_if, undeclared, declared, IsDeclaredJudged, IsByDeclaration, IsAttrJudged}
-use Rattle.attr_codes.specs.Types.{IsTypeSet}
+use Rattle.attr_codes.specs.Records.{codes_if, undeclared, IsDeclaredJudged, IsByDeclaration, IsAttrJudged}
 use Rattle.attr_codes.specs.declared.judged.JudgedAttr.{JudgedAttr}
 use Rattle.attr_assess.specs.Assessed.{record_of, element_uses, IsGivenJudged, IsAddedJudged, AreAttrsAssessed}
 use Rattle.attr_assess.specs.declared.assessed.AssessedAttrs.{AssessedAttrs}

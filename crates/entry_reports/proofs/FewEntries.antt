@@ -1,5 +1,5 @@
 -- How many codes the records of a document have.
-use Rattle.std.proofs.Common.{◌≡◌, ℕ, ◌+◌, ◌*◌, ◌≤◌, ◌^◌, Bool, true, false, List, [], ◌∷◌, ◌++◌, length, ap, refl, arith}
+use Rattle.std.proofs.Common.{◌≡◌, ℕ, ◌+◌, ◌*◌, ◌≤◌, Bool, true, false, List, [], ◌∷◌, ◌++◌, length, ap, arith}
 use Rattle.std.specs.Prelude.{All, if◌then◌else◌}
 use Rattle.std.proofs.lemmas.List.{length-append, length-map}
 use Rattle.std.proofs.lemmas.List.Elements.{All-head, All-tail}
@@ -11,6 +11,9 @@ use Rattle.xs_components.specs.Tables.{Tables}
 use Rattle.tree_rows.specs.Forest.{Forest, none, text, element, count}
 use Rattle.tree_rows.specs.Whole.{AreNodes}
 use Rattle.tree_rows.specs.declared.limits.TheConstants.{MAX_ATTRIBUTES}
+use Rattle.instance_names.specs.Instance.{instance_text}
+use Rattle.instance_names.specs.declared.InstanceAttribute.TheVariants.{TypeName}
+use Rattle.elem_governing.specs.LocalType.{xsi_type}
 use Rattle.elem_governing.specs.declared.pairs.Governing.{Governing}
 use Rattle.elem_governing.specs.declared.local_types.XsiType.{XsiType}
 use Rattle.element_codes.specs.declared.outcome.TextOutcome.{TextOutcome}
@@ -51,7 +54,7 @@ module _ (s : SchemaSet) (b : Beside) (beside : (n : ℕ) → length (b.identity
   few-own : (shape : ElementShape) (own : Entry) → length shape.identity + length shape.ids ≤ 2 → length shape.attrs ≤ MAX_ATTRIBUTES → AreJudged s shape own → entry_total own ≤ most_codes
   few-own shape own others given known =
       let is = ap (λ (r : ElementRecord). length r.codes) known.known.record_is in
-      let few = few-record s.names s.parts own.governing shape _ known.attributes.missing known.known.outcome known.attributes.records in
+      let few = few-record s.names s.parts own.governing shape (xsi_type s.names s.parts own.governing.declaration (instance_text s.names shape.attrs TypeName) shape.scope) known.attributes.missing known.known.outcome known.attributes.records in
       let attrs = attrs-few s.names s.parts own.governing.of shape.scope shape.attrs known.attributes known.assessed in
       omega (arith, is, few, others, given, attrs.missing, attrs.records, few-attrs known.attributes.records attrs.each, ap attr_total known.attrs_are)
 
