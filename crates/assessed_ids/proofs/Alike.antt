@@ -6,15 +6,15 @@ use Rattle.tree_rows.specs.Forest.{Forest, none, text, element}
 use Rattle.tree_rows.specs.Whole.{times}
 use Rattle.tree_rows.specs.declared.row.Attribute.{Attribute}
 use Rattle.assess_records.specs.Counts.{counts_of}
-use Rattle.elem_assess.specs.Governing.{Governing}
-use Rattle.document_names.specs.Numbered.{Scope, Head, head_of, named_texts, scope_in, characters, shape_of}
+use Rattle.set_assessment.specs.Governing.{Governing}
+use Rattle.set_assessment.specs.Numbered.{Scope, Head, head_of, named_texts, scope_in, characters, shape_of}
 use Rattle.set_assessment.specs.Attribution.{SchemaSet}
 use Rattle.set_assessment.specs.Assessment.{Entry, Assessed, Beside, first_pair, other_pairs, sibling_records, AreJudged, IsEntry, AreAssessed}
 use Rattle.set_assessment.specs.Local.{HasElement}
 
 -- a number that an element has is a number that a node has
 pub element-counts : (n : ℕ) (f : Forest) → HasElement n f → 1 ≤ times n f
-element-counts n none ()
+element-counts n none there = absurd there
 element-counts n (text number chars next) there = let rest = element-counts n next there in omega arith
 element-counts n (element number name bindings attributes children next) (inl same) =
     let one : (if number == n then 1 else 0) ≡ 1 = rw (eq-eqb number n same) refl in

@@ -1,4 +1,4 @@
-pub mod Shapes
 pub mod Alike
 pub mod Roots
 pub mod Bearers
+pub mod Marks

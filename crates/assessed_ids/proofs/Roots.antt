@@ -9,61 +9,27 @@ use Rattle.tree_rows.specs.declared.row.Attribute.{Attribute}
 use Rattle.assess_records.specs.Counts.{counts_of}
 use Rattle.assess_records.specs.declared.record.ElementRecord.{ElementRecord}
 use Rattle.assess_records.specs.declared.shape.ElementShape.{ElementShape}
-use Rattle.elem_assess.specs.Governing.{Governing}
-use Rattle.elem_assess.specs.Local.{IsLocal, said_on}
-use Rattle.element_codes.specs.Records.{nil, constraint, element_record}
-use Rattle.document_names.specs.Numbered.{Scope, Head, head_of, heads, named_texts, scope_in, characters, shape_of}
+use Rattle.set_assessment.specs.Governing.{Governing}
+use Rattle.set_assessment.specs.Marked.{with_ids, marked_record}
+use Rattle.set_assessment.specs.Numbered.{Scope, Head, head_of, heads, named_texts, scope_in, characters, shape_of}
 use Rattle.set_assessment.specs.Attribution.{SchemaSet}
 use Rattle.set_assessment.specs.Assessment.{Entry, Assessed, nothing, entry, entries, Beside, first_pair, other_pairs, sibling_records, AreJudged, IsEntry, AreAssessed, root_pairs, IsAssessment}
 use Rattle.set_assessment.specs.Local.{HasElement}
 use Rattle.set_assessment.specs.Plain.{plain_beside}
 use Rattle.document_ids.specs.Ids.{id_codes}
 use Rattle.assessed_ids.specs.Bearings.{borne_values}
-use Rattle.assessed_ids.specs.Joined.{beside_of, marked_record, marked_entry, with_codes}
-use Rattle.assessed_ids.proofs.Shapes.{with_ids, outcome-from, outcome-to, record-marked}
+use Rattle.assessed_ids.specs.Joined.{beside_of, marked_entry, with_codes}
 use Rattle.assessed_ids.proofs.Alike.{SaidAlike, element-counts, assessed-alike}
 
-module _ (s : SchemaSet) (shape : ElementShape) (none : shape.ids ≡ []) (codes : List Found) where
-  pub judged-marked : (own : Entry) → AreJudged s shape own → AreJudged s (with_ids shape codes) (marked_entry codes own)
-  judged-marked own k =
-      let g = own.governing in
-      let said = said_on s.names s.parts g shape in
-      let w = k.known in record {
-        attributes = k.attributes;
-        assessed = k.assessed;
-        known = record {
-          outcome = w.outcome;
-          text = outcome-from shape codes s.parts g.of (nil s.names s.parts g shape) (constraint s.names s.parts g shape) w.outcome w.text;
-          record_is = ap (marked_record codes) w.record_is ∙ sym (record-marked shape codes s.parts s.names g said k.attributes.missing w.outcome k.attributes.records none);
-          value_is = w.value_is;
-        };
-        attrs_are = k.attrs_are;
-        attr_values_are = k.attr_values_are;
-      }
+-- what is found out about an element with codes of IDs and without
+abbrev pub IsBehind : SchemaSet → Type 0
+IsBehind s = (shape : ElementShape) (codes : List Found) → shape.ids ≡ [] → (own : Entry) → AreJudged s shape own → AreJudged s (with_ids codes shape) (marked_entry codes own)
 
-  pub judged-plain : (own : Entry) → AreJudged s (with_ids shape codes) own → (e : ElementRecord) × AreJudged s shape (record own { element = e }) × (own.element ≡ marked_record codes e)
-  judged-plain own k =
-      let g = own.governing in
-      let said = said_on s.names s.parts g shape in
-      let w = k.known in
-      let e = element_record s.names s.parts g shape said k.attributes.missing w.outcome k.attributes.records in (
-        e,
-        record {
-          attributes = k.attributes;
-          assessed = k.assessed;
-          known = record {
-            outcome = w.outcome;
-            text = outcome-to shape codes s.parts g.of (nil s.names s.parts g shape) (constraint s.names s.parts g shape) w.outcome w.text;
-            record_is = refl;
-            value_is = w.value_is;
-          };
-          attrs_are = k.attrs_are;
-          attr_values_are = k.attr_values_are;
-        },
-        w.record_is ∙ record-marked shape codes s.parts s.names g said k.attributes.missing w.outcome k.attributes.records none,
-      )
+abbrev pub IsTakenOff : SchemaSet → Type 0
+IsTakenOff s = (shape : ElementShape) (codes : List Found) → shape.ids ≡ [] → (own : Entry) → AreJudged s (with_ids codes shape) own →
+    (e : ElementRecord) × AreJudged s shape (record own { element = e }) × (own.element ≡ marked_record codes e)
 
-module _ (s : SchemaSet) (g : Governing) (h : Head) (number : ℕ) (attributes : List Attribute) (children : Forest) (inner : List Governing) (below : Assessed) (codes : List Found) (b : Beside)
+module _ (s : SchemaSet) (behind : IsBehind s) (taken_off : IsTakenOff s) (g : Governing) (h : Head) (number : ℕ) (attributes : List Attribute) (children : Forest) (inner : List Governing) (below : Assessed) (codes : List Found) (b : Beside)
     (identity : b.identity number ≡ []) (ids : b.ids number ≡ codes) where
   shape_by : Option ℕ → List Found → List Found → ElementShape
   shape_by stuck own said = shape_of h (named_texts s.names attributes) (characters children) stuck (counts_of (sibling_records below)) own said
@@ -79,7 +45,7 @@ module _ (s : SchemaSet) (g : Governing) (h : Head) (number : ℕ) (attributes :
     known =
         subst (λ (said : List Found). AreJudged s (shape_by e.stuck (b.identity number) said) (marked_entry codes own)) (sym ids)
         (subst (λ (said : List Found). AreJudged s (shape_by e.stuck said codes) (marked_entry codes own)) (sym identity)
-        (judged-marked s (shape_by e.stuck [] []) refl codes own e.known));
+        (behind (shape_by e.stuck [] []) codes refl own e.known));
   }
 
   entry-plain : (own : Entry) → IsEntry s b g h number attributes children inner below own →
@@ -88,7 +54,7 @@ module _ (s : SchemaSet) (g : Governing) (h : Head) (number : ℕ) (attributes :
       let known =
       subst (λ (said : List Found). AreJudged s (shape_by e.stuck [] said) own) ids
       (subst (λ (said : List Found). AreJudged s (shape_by e.stuck said (b.ids number)) own) identity e.known) in
-      let found = judged-plain s (shape_by e.stuck [] []) refl codes own known in (
+      let found = (taken_off (shape_by e.stuck [] []) codes refl own known) in (
         record own { element = found.0 },
         record {
           number_is = e.number_is;
@@ -117,59 +83,60 @@ root-said number codes = rw (eq-eqb number number refl) refl
 once-at : (number : ℕ) (children next : Forest) → (if number == number then 1 else 0) + (times number children + times number next) ≤ 1 → 1 + (times number children + times number next) ≤ 1
 once-at number children next once = let one : (if number == number then 1 else 0) ≡ 1 = rw (eq-eqb number number refl) refl in omega arith
 
-pub joined : (s : SchemaSet) (f : Forest) (found : Assessed) → HasRoot f → ((key : ℕ) → times key f ≤ 1) → IsAssessment s plain_beside f found → IsAssessment s (beside_of f (with_codes found)) f (with_codes found)
-joined s none found () differ a
-joined s (text number chars next) found () differ a
-joined s (element number name bindings attributes children next) found root differ a =
-    let f = element number name bindings attributes children next in
-    let pairs = root_pairs s (heads s.names first_scope f) in
-    let own = a.0 in
-    let plain = entry a.0 a.2 a.3 in
-    let codes = id_codes (borne_values plain) in
-    let b = beside_of f (with_codes plain) in
-    let once = once-at number children next (differ number) in
-    let alike : (n : ℕ) → HasElement n children ⊎ HasElement n next → SaidAlike plain_beside b n = λ n there. record {
-      identity_is = refl;
-      ids_are = sym (none-said number n (apart number children next once n there) (id_codes (borne_values (with_codes plain))));
-    } in
-    subst (λ (x : Assessed). IsAssessment s (beside_of f (with_codes x)) f (with_codes x)) (sym a.4) (
-      marked_entry codes own,
-      a.1,
-      a.2,
-      a.3,
-      refl,
-      entry-marked s (first_pair pairs) (head_of s.names first_scope name bindings attributes) number attributes children a.1 a.2 codes b refl (root-said number codes) own a.5,
-      assessed-alike s plain_beside b children (scope_in s.names bindings first_scope) a.1 a.2 (λ n has. alike n (inl has)) a.6,
-      assessed-alike s plain_beside b next first_scope (other_pairs pairs) a.3 (λ n has. alike n (inr has)) a.7,
-    )
-
-pub parted : (s : SchemaSet) (f : Forest) (found : Assessed) → HasRoot f → ((key : ℕ) → times key f ≤ 1) → IsAssessment s (beside_of f found) f found → (plain : Assessed) × IsAssessment s plain_beside f plain × (found ≡ with_codes plain)
-parted s none found () differ a
-parted s (text number chars next) found () differ a
-parted s (element number name bindings attributes children next) found root differ a =
-    let f = element number name bindings attributes children next in
-    let pairs = root_pairs s (heads s.names first_scope f) in
-    let b = beside_of f found in
-    let codes = id_codes (borne_values found) in
-    let once = once-at number children next (differ number) in
-    let alike : (n : ℕ) → HasElement n children ⊎ HasElement n next → SaidAlike b plain_beside n = λ n there. record {
-      identity_is = refl;
-      ids_are = none-said number n (apart number children next once n there) codes;
-    } in
-    let own = entry-plain s (first_pair pairs) (head_of s.names first_scope name bindings attributes) number attributes children a.1 a.2 codes b refl (root-said number codes) a.0 a.5 in
-    let plain = entry own.0 a.2 a.3 in
-    let whole : found ≡ entry (marked_entry codes own.0) a.2 a.3 = a.4 ∙ ap (λ (e : Entry). entry e a.2 a.3) own.2 in
-    let same : codes ≡ id_codes (borne_values plain) = ap (λ (x : Assessed). id_codes (borne_values x)) whole in (
-      plain,
-      (
-        own.0,
+module _ (s : SchemaSet) (behind : IsBehind s) (taken_off : IsTakenOff s) where
+  pub joined : (f : Forest) (found : Assessed) → HasRoot f → ((key : ℕ) → times key f ≤ 1) → IsAssessment s plain_beside f found → IsAssessment s (beside_of f (with_codes found)) f (with_codes found)
+  joined none found root differ a = absurd root
+  joined (text number chars next) found root differ a = absurd root
+  joined (element number name bindings attributes children next) found root differ a =
+      let f = element number name bindings attributes children next in
+      let pairs = root_pairs s (heads s.names first_scope f) in
+      let own = a.0 in
+      let plain = entry a.0 a.2 a.3 in
+      let codes = id_codes (borne_values plain) in
+      let b = beside_of f (with_codes plain) in
+      let once = once-at number children next (differ number) in
+      let alike : (n : ℕ) → HasElement n children ⊎ HasElement n next → SaidAlike plain_beside b n = λ n there. record {
+        identity_is = refl;
+        ids_are = sym (none-said number n (apart number children next once n there) (id_codes (borne_values (with_codes plain))));
+      } in
+      subst (λ (x : Assessed). IsAssessment s (beside_of f (with_codes x)) f (with_codes x)) (sym a.4) (
+        marked_entry codes own,
         a.1,
         a.2,
         a.3,
         refl,
-        own.1,
-        assessed-alike s b plain_beside children (scope_in s.names bindings first_scope) a.1 a.2 (λ n has. alike n (inl has)) a.6,
-        assessed-alike s b plain_beside next first_scope (other_pairs pairs) a.3 (λ n has. alike n (inr has)) a.7,
-      ),
-      whole ∙ ap (λ (cs : List Found). entry (marked_entry cs own.0) a.2 a.3) same,
-    )
+        entry-marked s behind taken_off (first_pair pairs) (head_of s.names first_scope name bindings attributes) number attributes children a.1 a.2 codes b refl (root-said number codes) own a.5,
+        assessed-alike s plain_beside b children (scope_in s.names bindings first_scope) a.1 a.2 (λ n has. alike n (inl has)) a.6,
+        assessed-alike s plain_beside b next first_scope (other_pairs pairs) a.3 (λ n has. alike n (inr has)) a.7,
+      )
+
+  pub parted : (f : Forest) (found : Assessed) → HasRoot f → ((key : ℕ) → times key f ≤ 1) → IsAssessment s (beside_of f found) f found → (plain : Assessed) × IsAssessment s plain_beside f plain × (found ≡ with_codes plain)
+  parted none found root differ a = absurd root
+  parted (text number chars next) found root differ a = absurd root
+  parted (element number name bindings attributes children next) found root differ a =
+      let f = element number name bindings attributes children next in
+      let pairs = root_pairs s (heads s.names first_scope f) in
+      let b = beside_of f found in
+      let codes = id_codes (borne_values found) in
+      let once = once-at number children next (differ number) in
+      let alike : (n : ℕ) → HasElement n children ⊎ HasElement n next → SaidAlike b plain_beside n = λ n there. record {
+        identity_is = refl;
+        ids_are = none-said number n (apart number children next once n there) codes;
+      } in
+      let own = entry-plain s behind taken_off (first_pair pairs) (head_of s.names first_scope name bindings attributes) number attributes children a.1 a.2 codes b refl (root-said number codes) a.0 a.5 in
+      let plain = entry own.0 a.2 a.3 in
+      let whole : found ≡ entry (marked_entry codes own.0) a.2 a.3 = a.4 ∙ ap (λ (e : Entry). entry e a.2 a.3) own.2 in
+      let same : codes ≡ id_codes (borne_values plain) = ap (λ (x : Assessed). id_codes (borne_values x)) whole in (
+        plain,
+        (
+          own.0,
+          a.1,
+          a.2,
+          a.3,
+          refl,
+          own.1,
+          assessed-alike s b plain_beside children (scope_in s.names bindings first_scope) a.1 a.2 (λ n has. alike n (inl has)) a.6,
+          assessed-alike s b plain_beside next first_scope (other_pairs pairs) a.3 (λ n has. alike n (inr has)) a.7,
+        ),
+        whole ∙ ap (λ (cs : List Found). entry (marked_entry cs own.0) a.2 a.3) same,
+      )

@@ -1,11 +1,9 @@
 -- The assessment of a document with the codes of its IDs at the root: Structures 3.15.4, 5.2.
-use Rattle.std.specs.Prelude.{ℕ, ◌==◌, Bool, false, List, [], ◌∷◌, ◌++◌, if◌then◌else◌}
+use Rattle.std.specs.Prelude.{ℕ, ◌==◌, Bool, false, List, [], if◌then◌else◌}
 use Rattle.xs_codes.specs.declared.fault.Found.{Found}
 use Rattle.tree_rows.specs.Forest.{Forest, none, text, element}
-use Rattle.assess_records.specs.declared.outcome.Validity.{Validity}
-use Rattle.assess_records.specs.declared.outcome.Validity.TheVariants.{Invalid}
-use Rattle.assess_records.specs.declared.record.ElementRecord.{ElementRecord}
 use Rattle.document_ids.specs.Ids.{id_codes}
+pub use Rattle.set_assessment.specs.Marked.{marked_record}
 use Rattle.set_assessment.specs.Assessment.{Entry, Assessed, nothing, entry, Beside}
 use Rattle.assessed_ids.specs.Bearings.{borne_values}
 
@@ -20,14 +18,6 @@ abbrev pub beside_of : Forest → Assessed → Beside
 beside_of f found = record { identity = λ number. []; ids = λ number. if is_root f number then id_codes (borne_values found) else [] }
 
 -- ---- codes behind others
-
--- Structures 3.3.5: an element with a code is invalid
-abbrev pub validity_with : List Found → Validity → Validity
-validity_with [] validity = validity
-validity_with (code ∷ codes) validity = Invalid
-
-abbrev pub marked_record : List Found → ElementRecord → ElementRecord
-marked_record codes r = record r { validity = validity_with codes r.validity; codes = r.codes ++ codes }
 
 abbrev pub marked_entry : List Found → Entry → Entry
 marked_entry codes own = record own { element = marked_record codes own.element }

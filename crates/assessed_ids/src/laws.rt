@@ -9,6 +9,8 @@ ghost use Rattle.set_assessment.specs.Plain.{plain_beside};
 ghost use Rattle.assessed_ids.specs.Bearings.{Bearing, bearings};
 ghost use Rattle.assessed_ids.specs.Joined.{with_codes, beside_of};
 
+use set_assessment::codes_of_ids_stand_last;
+
 /// The entries with those that bear the IDs of their texts are all entries.
 pub fn bearings_are_of_the_entries()
     ensures entries { (found : Assessed) → map (λ (b : Bearing). b.own) (bearings found) ≡ entries found }
@@ -19,4 +21,6 @@ pub fn bearings_are_of_the_entries()
 pub fn codes_of_ids_join_the_assessment()
     ensures joined { (s : SchemaSet) (d : Document) (found : Assessed) → IsTree d → IsAssessment s plain_beside d.forest found → IsAssessment s (beside_of d.forest (with_codes found)) d.forest (with_codes found) }
     ensures parted { (s : SchemaSet) (d : Document) (found : Assessed) → IsTree d → IsAssessment s (beside_of d.forest found) d.forest found → (plain : Assessed) × IsAssessment s plain_beside d.forest plain × (found ≡ with_codes plain) }
-{}
+{
+    codes_of_ids_stand_last();
+}

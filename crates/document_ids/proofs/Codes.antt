@@ -1,12 +1,13 @@
 -- What a table tells of the codes of the root.
-use Rattle.std.proofs.Common.{◌≡◌, ◌≢◌, ◌↔◌, ℕ, ◌≤◌, ◌<◌, ◌==◌, ◌&&◌, Bool, true, false, not, List, map, length, filter, refl, sym, ◌∙◌, ap, subst, arith, ⊎_elim, bytes_eq, nat_eq}
+use Rattle.std.proofs.Common.{◌≡◌, ◌≢◌, ◌↔◌, ℕ, ◌≤◌, ◌<◌, ◌==◌, ◌&&◌, Bool, true, false, not, List, ◌++◌, map, length, filter, refl, sym, ◌∙◌, ap, subst, arith, ⊎_elim, bytes_eq, nat_eq}
 use Rattle.std.specs.Prelude.{IsTrue}
 use Rattle.std.specs.List.{list_any, count_by}
 use Rattle.std.proofs.lemmas.Bool.{cases_Bool, true≢false, and_parts, eqb-true, eqb-false, eq-eqb, ne_eqb, cases_lt}
 use Rattle.std.proofs.lemmas.Slice.Eq.{bytes_eq-Decides}
+use Rattle.xs_codes.specs.declared.code.Code.TheVariants.{CvcId1, CvcId2}
 use Rattle.identity_tables.specs.IdTable.{id_count, reference_count, HasMissingId, HasSharedId}
 use Rattle.document_ids.specs.Entries.{IdEntries}
-use Rattle.document_ids.specs.Ids.{BorneAtom, BorneId, ids, references, binding, has_unbound, has_shared}
+use Rattle.document_ids.specs.Ids.{BorneAtom, BorneId, ids, references, binding, has_unbound, has_shared, code_if, id_codes}
 use Rattle.document_ids.specs.Table.{is_borne, is_reference, IsTableOf}
 use Rattle.document_ids.proofs.Among.{Among, counted, counted-one, any-of, any-one, filtered, filtered-from, mapped, mapped-from, some-length, first-among}
 
@@ -51,7 +52,7 @@ module _ (table : IdEntries) (atoms : List BorneAtom) (t : IsTableOf table atoms
       let first = first-among (binding (ids atoms) id) some in
       let b = from-binding (ids atoms) first.0 id first.1 in
       let count = counted-id b.0 b.3 in
-      let zero : id_count table b.0.id b.0.bearer ≡ 0 = rw b.2 (none b.0.bearer) in
+      let zero : id_count table b.0.id b.0.bearer ≡ 0 = subst (λ (i : List ℕ). id_count table i b.0.bearer ≡ 0) (sym b.2) (none b.0.bearer) in
       absurd (omega arith))
       (λ (few : length (binding (ids atoms) id) ≤ 0). eq-eqb _ _ (omega arith))
       (cases_lt 0 (length (binding (ids atoms) id)))
@@ -60,7 +61,7 @@ module _ (table : IdEntries) (atoms : List BorneAtom) (t : IsTableOf table atoms
   missing-unbound missing =
       let one = counted-one (is_reference missing.0) (references atoms) (rw (t.references_are missing.0) at missing.1) in
       let same = same-bytes one.0 missing.0 one.1 in
-      any-of (λ id. length (binding (ids atoms) id) == 0) one.0 (references atoms) one.2 (empty-binding one.0 (λ bearer. rw same (missing.2 bearer)))
+      any-of (λ id. length (binding (ids atoms) id) == 0) one.0 (references atoms) one.2 (empty-binding one.0 (λ bearer. subst (λ (i : List ℕ). id_count table i bearer ≡ 0) (sym same) (missing.2 bearer)))
 
   no-count : (id : List ℕ) → (length (binding (ids atoms) id) == 0) ≡ true → (bearer : ℕ) → id_count table id bearer ≡ 0
   no-count id none bearer =
@@ -94,7 +95,7 @@ module _ (table : IdEntries) (atoms : List BorneAtom) (t : IsTableOf table atoms
       let o = any-one (λ o. not (o == a.0.bearer)) (binding (ids atoms) a.0.id) a.1 in
       let b = from-binding (ids atoms) o.0 a.0.id o.2 in
       let apart : b.0.bearer ≢ a.0.bearer = λ same. true≢false (sym o.1 ∙ ap not (eq-eqb o.0 a.0.bearer (sym b.1 ∙ same))) in
-      let of_b : 1 ≤ id_count table a.0.id b.0.bearer = rw (← b.2) (counted-id b.0 b.3) in
+      let of_b : 1 ≤ id_count table a.0.id b.0.bearer = subst (λ (id : List ℕ). 1 ≤ id_count table id b.0.bearer) b.2 (counted-id b.0 b.3) in
       (a.0.id, b.0.bearer, a.0.bearer, apart, of_b, counted-id a.0 a.2)
 
   pub unbound-is : (missing : Bool) → IsTrue missing ↔ HasMissingId table → missing ≡ has_unbound (ids atoms) (references atoms)
@@ -102,3 +103,7 @@ module _ (table : IdEntries) (atoms : List BorneAtom) (t : IsTableOf table atoms
 
   pub shared-is : (shared : Bool) → IsTrue shared ↔ HasSharedId table → shared ≡ has_shared (ids atoms)
   shared-is shared is = one-test shared (has_shared (ids atoms)) (λ yes. shared-any (is.0 yes)) (λ yes. is.1 (any-shared yes))
+
+  pub codes-are : (missing shared : Bool) → IsTrue missing ↔ HasMissingId table → IsTrue shared ↔ HasSharedId table → code_if missing CvcId1 ++ code_if shared CvcId2 ≡ id_codes atoms
+  unfolding id_codes
+  codes-are missing shared m s = ap (λ b. code_if b CvcId1 ++ code_if shared CvcId2) (unbound-is missing m) ∙ ap (λ b. code_if (has_unbound (ids atoms) (references atoms)) CvcId1 ++ code_if b CvcId2) (shared-is shared s)

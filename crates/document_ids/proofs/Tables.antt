@@ -1,5 +1,5 @@
 -- What a table has when atoms come in.
-use Rattle.std.proofs.Common.{◌≡◌, ℕ, ◌+◌, ◌==◌, ◌&&◌, Bool, cond, if◌then◌else◌, List, [], ◌∷◌, ◌++◌, map, refl, sym, ◌∙◌, ap, subst, arith, append-nil, append_assoc, bytes_eq, take}
+use Rattle.std.proofs.Common.{◌≡◌, ℕ, ◌+◌, ◌==◌, ◌&&◌, Bool, cond, if◌then◌else◌, List, [], ◌∷◌, ◌++◌, map, refl, sym, ◌∙◌, ap, subst, arith, append-nil, append_assoc, bytes_eq, take, length, ◌<◌}
 use Rattle.std.specs.List.{count_by, flat_map}
 use Rattle.std.proofs.lemmas.Grind.{flat_map-append}
 use Rattle.std.proofs.lemmas.List.Sums.{sum_by-append, sum_by-cons}
@@ -28,7 +28,7 @@ table-grown old new all a grown was = record {
 -- an ID comes in
 pub grown-id : (old new : IdEntries) (id : List ℕ) (bearer : ℕ) → IsOneMoreId old new id bearer → IsGrown old new (record { id = id; bearer = bearer } ∷ []) []
 grown-id old new id bearer more = record {
-  ids_grown = λ other element. more.ids other element;
+  ids_grown = λ other element. let one = more.ids other element in omega arith;
   references_grown = λ other. let same = more.references other in omega arith;
 }
 
@@ -36,7 +36,7 @@ grown-id old new id bearer more = record {
 pub grown-reference : (old new : IdEntries) (id : List ℕ) → IsOneMoreReference old new id → IsGrown old new [] (id ∷ [])
 grown-reference old new id more = record {
   ids_grown = λ other element. let same = more.ids other element in omega arith;
-  references_grown = λ other. more.references other;
+  references_grown = λ other. let one = more.references other in omega arith;
 }
 
 -- nothing comes in

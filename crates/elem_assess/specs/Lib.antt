@@ -1,5 +1,6 @@
 pub mod Set
 pub mod Local
+pub mod Marked
 pub use Rattle.attr_assess.specs.Schema
 pub use Rattle.attr_assess.specs.Types
 pub use Rattle.attr_assess.specs.Added

@@ -8,3 +8,5 @@ pub use Rattle.elem_assess.specs.Schema
 pub use Rattle.elem_assess.specs.Types
 pub use Rattle.elem_assess.specs.Added
 pub use Rattle.elem_assess.specs.Source
+pub use Rattle.elem_assess.specs.Marked
+pub use Rattle.elem_assess.specs.Governing

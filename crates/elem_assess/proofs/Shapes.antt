@@ -20,23 +20,19 @@ use Rattle.element_codes.specs.Used.{text_used, scope_used, fixed_value}
 use Rattle.element_codes.specs.Codes.{governed_codes, local_codes, declaration_codes, type_codes, nil_codes, fixed_codes}
 use Rattle.element_codes.specs.Records.{validity_of, any_invalid, nil_text, decl, constraint, nil, taken, all_codes, element_record}
 use Rattle.element_judging.specs.Texts.{is_read, IsRead, IsReadIf, IsTextOutcome}
-use Rattle.assessed_ids.specs.Joined.{validity_with, marked_record}
-
--- a shape with other codes of IDs
-abbrev pub with_ids : ElementShape → List Found → ElementShape
-with_ids shape codes = record shape { ids = codes }
+use Rattle.elem_assess.specs.Marked.{with_ids, validity_with, marked_record}
 
 module _ (shape : ElementShape) (codes : List Found) where
-  text-same : (by : Bool) (c : Option ValueConstraint) → text_used by c (with_ids shape codes) ≡ text_used by c shape
+  text-same : (by : Bool) (c : Option ValueConstraint) → text_used by c (with_ids codes shape) ≡ text_used by c shape
   text-same by None = refl
   text-same by (Some c) = refl
 
-  scope-same : (by : Bool) (c : Option ValueConstraint) → scope_used by c (with_ids shape codes) ≡ scope_used by c shape
+  scope-same : (by : Bool) (c : Option ValueConstraint) → scope_used by c (with_ids codes shape) ≡ scope_used by c shape
   scope-same by None = refl
   scope-same by (Some c) = refl
 
   governed-same : (names : NameTable) (is : Bool) (content : Option ContentType) (text : List ℕ) (outcome : TextOutcome) (missing : List ℕ) →
-      governed_codes names is content (with_ids shape codes) text outcome missing ≡ governed_codes names is content shape text outcome missing
+      governed_codes names is content (with_ids codes shape) text outcome missing ≡ governed_codes names is content shape text outcome missing
   governed-same names is None text outcome missing = refl
   governed-same names is (Some SimpleType) text outcome missing = refl
   governed-same names is (Some Empty) text outcome missing = refl
@@ -45,38 +41,38 @@ module _ (shape : ElementShape) (codes : List Found) where
   governed-same names is (Some Mixed) text outcome missing = refl
 
   module _ (t : Tables) where
-    read-from : (by : Bool) (of : TypeId) (is : Bool) (c : Option ValueConstraint) (outcome : TextOutcome) → IsReadIf by t of is c shape outcome → IsReadIf by t of is c (with_ids shape codes) outcome
+    read-from : (by : Bool) (of : TypeId) (is : Bool) (c : Option ValueConstraint) (outcome : TextOutcome) → IsReadIf by t of is c shape outcome → IsReadIf by t of is c (with_ids codes shape) outcome
     read-from false of is c outcome r = r
     read-from true of is c outcome r =
-        subst (λ scope. IsRead t of (fixed_value is c) scope (text_used is c (with_ids shape codes)) outcome) (sym (scope-same is c))
+        subst (λ scope. IsRead t of (fixed_value is c) scope (text_used is c (with_ids codes shape)) outcome) (sym (scope-same is c))
         (subst (λ text. IsRead t of (fixed_value is c) (scope_used is c shape) text outcome) (sym (text-same is c)) r)
 
-    read-to : (by : Bool) (of : TypeId) (is : Bool) (c : Option ValueConstraint) (outcome : TextOutcome) → IsReadIf by t of is c (with_ids shape codes) outcome → IsReadIf by t of is c shape outcome
+    read-to : (by : Bool) (of : TypeId) (is : Bool) (c : Option ValueConstraint) (outcome : TextOutcome) → IsReadIf by t of is c (with_ids codes shape) outcome → IsReadIf by t of is c shape outcome
     read-to false of is c outcome r = r
     read-to true of is c outcome r =
         subst (λ scope. IsRead t of (fixed_value is c) scope (text_used is c shape) outcome) (scope-same is c)
-        (subst (λ text. IsRead t of (fixed_value is c) (scope_used is c (with_ids shape codes)) text outcome) (text-same is c) r)
+        (subst (λ text. IsRead t of (fixed_value is c) (scope_used is c (with_ids codes shape)) text outcome) (text-same is c) r)
 
-    pub outcome-from : (of : Option TypeId) (is : Bool) (c : Option ValueConstraint) (outcome : TextOutcome) → IsTextOutcome t of is c shape outcome → IsTextOutcome t of is c (with_ids shape codes) outcome
+    pub outcome-from : (of : Option TypeId) (is : Bool) (c : Option ValueConstraint) (outcome : TextOutcome) → IsTextOutcome t of is c shape outcome → IsTextOutcome t of is c (with_ids codes shape) outcome
     outcome-from None is c outcome r = r
     outcome-from (Some of) is c outcome r = read-from (is_read (content_of t of) is shape) of (is_taken is c shape) c outcome r
 
-    pub outcome-to : (of : Option TypeId) (is : Bool) (c : Option ValueConstraint) (outcome : TextOutcome) → IsTextOutcome t of is c (with_ids shape codes) outcome → IsTextOutcome t of is c shape outcome
+    pub outcome-to : (of : Option TypeId) (is : Bool) (c : Option ValueConstraint) (outcome : TextOutcome) → IsTextOutcome t of is c (with_ids codes shape) outcome → IsTextOutcome t of is c shape outcome
     outcome-to None is c outcome r = r
     outcome-to (Some of) is c outcome r = read-to (is_read (content_of t of) is shape) of (is_taken is c shape) c outcome r
 
     module _ (names : NameTable) (g : Governing) (said : XsiType) (missing : List ℕ) (outcome : TextOutcome) where
       local-same :
-          local_codes names t g said (with_ids shape codes) missing outcome (decl names t g shape) (constraint names t g shape) (nil_text names t g shape) (nil names t g shape) (taken names t g shape)
+          local_codes names t g said (with_ids codes shape) missing outcome (decl names t g shape) (constraint names t g shape) (nil_text names t g shape) (nil names t g shape) (taken names t g shape)
           ≡ local_codes names t g said shape missing outcome (decl names t g shape) (constraint names t g shape) (nil_text names t g shape) (nil names t g shape) (taken names t g shape)
       local-same =
           ap (λ rest. declaration_codes g said (decl names t g shape) ++ (type_codes t g said ++ (nil_codes (decl names t g shape) (constraint names t g shape) (nil_text names t g shape) (nil names t g shape) shape ++
           (rest ++ fixed_codes (nil names t g shape) (governing_content t g.of) (fixed_value (taken names t g shape) (constraint names t g shape)) shape outcome))))
-          (governed-same names (nil names t g shape) (governing_content t g.of) (text_used (taken names t g shape) (constraint names t g shape) (with_ids shape codes)) outcome missing
+          (governed-same names (nil names t g shape) (governing_content t g.of) (text_used (taken names t g shape) (constraint names t g shape) (with_ids codes shape)) outcome missing
           ∙ ap (λ text. governed_codes names (nil names t g shape) (governing_content t g.of) shape text outcome missing) (text-same (taken names t g shape) (constraint names t g shape)))
 
       -- the codes of a shape without codes of IDs, and then these
-      codes-behind : shape.ids ≡ [] → all_codes names t g (with_ids shape codes) said missing outcome ≡ all_codes names t g shape said missing outcome ++ codes
+      codes-behind : shape.ids ≡ [] → all_codes names t g (with_ids codes shape) said missing outcome ≡ all_codes names t g shape said missing outcome ++ codes
       codes-behind none =
           let own = local_codes names t g said shape missing outcome (decl names t g shape) (constraint names t g shape) (nil_text names t g shape) (nil names t g shape) (taken names t g shape) in
           let bare : shape.identity ++ shape.ids ≡ shape.identity = ap (λ ids. shape.identity ++ ids) none ∙ append-nil shape.identity in
@@ -89,7 +85,7 @@ module _ (shape : ElementShape) (codes : List Found) where
       validity-behind (x ∷ xs) [] strictly below = refl
       validity-behind (x ∷ xs) (y ∷ ys) strictly below = refl
 
-      pub record-marked : (attrs : List AttrRecord) → shape.ids ≡ [] → element_record names t g (with_ids shape codes) said missing outcome attrs ≡ marked_record codes (element_record names t g shape said missing outcome attrs)
+      pub record-marked : (attrs : List AttrRecord) → shape.ids ≡ [] → element_record names t g (with_ids codes shape) said missing outcome attrs ≡ marked_record codes (element_record names t g shape said missing outcome attrs)
       record-marked attrs none =
           let strictly = is_strictly_assessed g said in
           let below = any_invalid attrs shape.counts in
