@@ -1,5 +1,5 @@
 -- Types of a compiled set, from what is known of its phases.
-use Rattle.std.proofs.Common.{◌≡◌, ℕ, ◌+◌, ◌-◌, ◌<◌, List, Option, None, Some, Ok, All, length, get_or, slice_get, sym, ap, subst, ◌∙◌, arith}
+use Rattle.std.proofs.Common.{◌≡◌, ◌-◌, List, None, Ok, All, get_or, subst}
 use Rattle.std.proofs.lemmas.Option.{get_or_from_slice_get, slice_get_within}
 use Rattle.tree_rows.specs.Whole.{IsTree}
 use Rattle.xs_codes.specs.declared.fault.Fault.{Fault}
@@ -8,7 +8,6 @@ use Rattle.xs_names.specs.Names.{NameTable}
 use Rattle.xs_components.specs.Tables.{Tables}
 use Rattle.component_circles.specs.Circles.{Ranks, with_all_ranks}
 use Rattle.type_derivation.specs.Cycles.{IsGrown}
-use Rattle.set_types.specs.ShapedSchema.{ShapedSchema}
 use Rattle.schema_build.specs.SetDocument.{SetDocument}
 use Rattle.representations.specs.declared.origins.Origin.{Origin}
 use Rattle.representations.specs.declared.source.Source.{Source}
@@ -17,7 +16,7 @@ use Rattle.schema_build.specs.Documents.{representations, origins}
 use Rattle.reference_faults.specs.Faults.{IsBroken}
 use Rattle.schema_build.specs.Built.{built}
 use Rattle.schema_documents.specs.SchemaInput.{SchemaInput}
-use Rattle.schema_documents.specs.Documents.{IsSet, IsShapeFault}
+use Rattle.schema_documents.specs.Documents.{IsShapeFault}
 use Rattle.schema_documents.proofs.ShapedLaws.{IsShapedBy, all-shaped}
 use Rattle.schema_check.specs.Compilation.{shape_phase, IsCompilation}
 use Rattle.schema_check.specs.SetPhases.{names, name_phase, AreParts, IsSetCompiled}

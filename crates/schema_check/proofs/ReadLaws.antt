@@ -1,11 +1,11 @@
 -- What is known of documents that were read and of the set that is closed of them.
-use Rattle.std.proofs.Common.{◌≡◌, ℕ, ◌+◌, ◌<◌, List, Option, length, map, get_or, ap, sym, subst, ◌∙◌, arith}
+use Rattle.std.proofs.Common.{◌≡◌, ◌<◌, List, length, ap, subst, ◌∙◌, arith}
 use Rattle.std.specs.Prelude.{All}
 use Rattle.std.proofs.lemmas.List.{length-map}
 use Rattle.schema_documents.specs.Available.{Available}
 use Rattle.schema_documents.specs.SetDocument.{SetDocument}
 use Rattle.schema_documents.specs.SchemaInput.{SchemaInput}
-use Rattle.schema_documents.specs.EffectiveSet.{IsEffectiveSet, IsDocument}
+use Rattle.schema_documents.specs.EffectiveSet.{IsEffectiveSet}
 use Rattle.schema_documents.specs.Order.{IsInOrder}
 use Rattle.schema_documents.specs.Documents.{available_of, available, IsSet}
 

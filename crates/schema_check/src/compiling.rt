@@ -19,8 +19,7 @@ use xs_names::Names;
 fn are_unassessed(set: &[SetDocument<'_>]) -> bool
     ensures { result ≡ spec.are_unassessed set.now }
 {
-    set.iter()
-        .any(|document| is_unassessed(document.shaped.shapes.as_slice()))
+    set.iter().any(|document| is_unassessed(document.shaped.shapes.as_slice()))
 }
 
 // The documents of a set compiled, or their first fault.

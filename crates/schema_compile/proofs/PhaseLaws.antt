@@ -12,6 +12,7 @@ use Rattle.attr_faults.specs.AttrFaults.{AreIdMarks}
 use Rattle.attr_faults.specs.Tables.{AreTablesOf}
 use Rattle.attr_faults.specs.AttrTables.{AttrTables}
 use Rattle.particle_forms.specs.Accepted.{is_inhabited}
+use Rattle.complex_extension.specs.Extensions.{IsExtensionFault}
 use Rattle.head_exclusions.specs.Exclusions.{IsExcluded}
 use Rattle.all_limits.specs.AllLimits.{IsUnlimited}
 use Rattle.content_models.specs.Built.{IsSource}
@@ -21,7 +22,7 @@ use Rattle.schema_check.specs.declared.documents.CompiledSet.{CompiledSet}
 use Rattle.schema_compile.specs.Fit.{IsFit}
 use Rattle.schema_compile.specs.declared.finding.Found.{Found}
 use Rattle.schema_compile.specs.Outcomes.{IsDerivationFault, attr_phase, derivation_phase, late_phases}
-use Rattle.schema_compile.specs.inside.Finding.{AreAttrUses, IsFound, IsEarlyFault, AreModelsOf, AreModelsIn, AreContentsThere, IsJudged}
+use Rattle.schema_compile.specs.inside.Finding.{AreAttrUses, IsPlacingFault, IsFound, AreModelsOf, AreModelsIn, AreContentsThere, IsJudged}
 use Rattle.schema_compile.proofs.MemberLaws.{members-named}
 
 -- where the sooner of two is none, the second is
@@ -37,8 +38,11 @@ none-of-two P a b result is h = subst (λ (o : Option Fault). IfNone o P) (sym i
     by (Some x) None k = tt
     by (Some x) (Some y) k = if-none-either P (is_before y x) y x
 
-pub least-of-two : (t : Tables) (a b result : Option Fault) → result ≡ sooner a b → IsLeast (IsExcluded t) a → IsLeast (IsUnlimited t) b → IsLeast (IsDerivationFault t) result
-least-of-two t a b result is x y = subst (λ (o : Option Fault). IsLeast (IsDerivationFault t) o) (sym is) (least-sum (IsExcluded t) (IsUnlimited t) a b x y)
+pub least-of-two : (t : Tables) (a b result : Option Fault) → result ≡ sooner a b → IsLeast (IsExcluded t) a → IsLeast (IsUnlimited t) b → IsLeast (IsPlacingFault t) result
+least-of-two t a b result is x y = subst (λ (o : Option Fault). IsLeast (IsPlacingFault t) o) (sym is) (least-sum (IsExcluded t) (IsUnlimited t) a b x y)
+
+pub least-with-extensions : (t : Tables) (a b result : Option Fault) → result ≡ sooner a b → IsLeast (IsExtensionFault t) a → IsLeast (IsPlacingFault t) b → IsLeast (IsDerivationFault t) result
+least-with-extensions t a b result is x y = subst (λ (o : Option Fault). IsLeast (IsDerivationFault t) o) (sym is) (least-sum (IsExtensionFault t) (IsPlacingFault t) a b x y)
 
 pub none-found : (P : Type 0) (found : Option Fault) → found ≡ None → IfNone found P → P
 none-found P found is h = subst (λ (o : Option Fault). IfNone o P) is h
@@ -48,18 +52,12 @@ pub attr-uses : {E : Type 0} (t : Tables) (marks ids : List Bool) → ids ≡ ma
 attr-uses t marks ids same are (Ok tables) h = record { ids = ids; marks = subst (AreIdMarks t) (sym same) are; are = h }
 attr-uses t marks ids same are (Err error) h = tt
 
-module _ (made : CompiledSet) where
-  -- what phase 7 finds, where phase 6 has no fault
-  pub early-behind : {E : Type 0} (result : Result (Option Fault) E) → attr_phase made None → IfOk result (derivation_phase made) → IfOk result (IsEarlyFault made)
-  early-behind (Ok None) none h = (none, (h, tt))
-  early-behind (Ok (Some fault)) none h = inr (none, inl h)
-  early-behind (Err error) none h = tt
+-- the first fault of phase 6, and that of phase 7 where phase 6 has none
+pub first-of-six : (made : CompiledSet) (fault : Fault) → attr_phase made (Some fault) → IsFirstOfPhases (late_phases made) (Some fault)
+first-of-six made fault h = inl h
 
-  pub early-first : (fault : Fault) → IsEarlyFault made (Some fault) → IsFirstOfPhases (late_phases made) (Some fault)
-  early-first fault h = elim h [
-    | inl first ↦ inl first
-    | inr behind ↦ inr (behind.0, elim behind.1 [ inl second ↦ inl second | inr nothing ↦ absurd nothing.1 ])
-  ]
+pub first-of-seven : (made : CompiledSet) (fault : Fault) → attr_phase made None → derivation_phase made (Some fault) → IsFirstOfPhases (late_phases made) (Some fault)
+first-of-seven made fault none h = inr (none, inl h)
 
 flat-some : (o : Option (Option ℕ)) (p : ℕ) → option_and_then (λ content. content) o ≡ Some p → o ≡ Some (Some p)
 flat-some None p is = absurd (none-some p is)
@@ -107,10 +105,10 @@ module _ (made : CompiledSet) (found : Found) (is : IsFound made.parts found) wh
       (subst (λ (cs : List ℕ). IfOk result (λ answer. IfOk answer (λ models. IsLeast (IsBroken made.names made.parts found.members cs) None))) same none)
       (subst (λ (cs : List ℕ). IfOk result (λ answer. IfErr answer (λ fault. IsLeast (IsBroken made.names made.parts found.members cs) (Some fault)))) same fault)
 
-  pub models-in : {E : Type 0} (result : Result (Result (List (Option ContentAutomaton)) Fault) E) → IsEarlyFault made None → IfOk result (AreModelsOf made found) → IfOk result (AreModelsIn made found)
-  models-in (Ok (Ok models)) none h = ((none.0, (none.1.0, ((found.members, found.classes.items, is.members, is.classes, h.0), tt))), h)
-  models-in (Ok (Err f)) none h = inr (none.0, inr (none.1.0, inl (found.members, found.classes.items, is.members, is.classes, h)))
-  models-in (Err e) none h = tt
+  pub models-in : {E : Type 0} (result : Result (Result (List (Option ContentAutomaton)) Fault) E) → attr_phase made None → derivation_phase made None → IfOk result (AreModelsOf made found) → IfOk result (AreModelsIn made found)
+  models-in (Ok (Ok models)) none behind h = ((none, (behind, ((found.members, found.classes.items, is.members, is.classes, h.0), tt))), h)
+  models-in (Ok (Err f)) none behind h = inr (none, inr (behind, inl (found.members, found.classes.items, is.members, is.classes, h)))
+  models-in (Err e) none behind h = tt
 
   pub judged-by : (models : List (Option ContentAutomaton)) (answer : Result (List (Option ContentAutomaton)) Fault) → answer ≡ Ok models → AreContentsThere made.parts → AreModelsIn made found answer
       → IsJudged made (Ok (found, models))

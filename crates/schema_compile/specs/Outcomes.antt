@@ -1,29 +1,31 @@
 -- What becomes of schema documents: a set that documents are assessed by, the first broken constraint, or neither yet.
-use Rattle.std.specs.Prelude.{◌≡◌, ◌⊎◌, ℕ, ◌<◌, Bool, true, false, List, [], ◌∷◌, Option, None, Some, Ok, Err, length}
+use Rattle.std.specs.Prelude.{◌≡◌, ◌⊎◌, ℕ, ◌<◌, Bool, List, [], ◌∷◌, Option, None, Some, Ok, Err, length}
 use Rattle.xs_codes.specs.declared.fault.Fault.{Fault}
 use Rattle.xs_components.specs.Tables.{Tables}
 use Rattle.xs_faults.specs.Least.{IsLeast}
 use Rattle.subst_groups.specs.Groups.{AreGroups}
 use Rattle.attr_faults.specs.AttrFaults.{AreIdMarks, IsAttrFault, HasUses}
+use Rattle.complex_extension.specs.Extensions.{IsExtensionFault}
 use Rattle.head_exclusions.specs.Exclusions.{IsExcluded}
 use Rattle.all_limits.specs.AllLimits.{IsUnlimited}
 use Rattle.element_classes.specs.Classes.{AreClassesOf}
 use Rattle.all_limits.specs.SetModels.{IsBroken}
-use Rattle.schema_shape.specs.declared.forms.ShapedSchema.{ShapedSchema}
-use Rattle.not_yet.specs.Unassessed.{is_unassessed}
-use Rattle.schema_check.specs.Compilation.{IsShaped}
+use Rattle.schema_check.specs.Compilation.{IsCompilation}
 use Rattle.schema_check.specs.Phases.{IsFirstOfPhases}
-use Rattle.schema_check.specs.SetPhases.{IsAloneCompiled}
 use Rattle.schema_check.specs.declared.documents.CompiledSet.{CompiledSet}
-use Rattle.schema_check.specs.declared.documents.SchemaInput.{SchemaInput}
+use Rattle.schema_check.specs.declared.documents.Refusal.{Refusal}
+use Rattle.schema_check.specs.declared.documents.Refusal.TheVariants as refusals
+use Rattle.schema_check.specs.SchemaInput.{SchemaInput}
 use Rattle.compiled_schema.specs.Usable.{IsUsable}
 use Rattle.compiled_schema.specs.declared.compiled.Compiled.{Compiled}
 use Rattle.schema_compile.specs.declared.outcome.Outcome.{Outcome}
 use Rattle.schema_compile.specs.declared.outcome.Outcome.TheVariants.{Accepted, Broken, NotYet}
 
--- phase 7, of derivation: e-props-correct.4 (Structures 3.3.6), and x-limit.all, cos-all-limited.1 and .2 (Structures 3.8.6)
+-- phase 7, of derivation: cos-ct-extends.1.1 and .1.4 (Structures 3.4.6), e-props-correct.4 (Structures 3.3.6), and x-limit.all,
+-- cos-all-limited.1 and .2 (Structures 3.8.6). The other clauses of cos-ct-extends.1 have no fault: an extension has the attribute uses,
+-- the wildcard and the content of its base by construction (Structures 3.4.2).
 abbrev pub IsDerivationFault : Tables → Fault → Type 0
-IsDerivationFault t fault = IsExcluded t fault ⊎ IsUnlimited t fault
+IsDerivationFault t fault = IsExtensionFault t fault ⊎ (IsExcluded t fault ⊎ IsUnlimited t fault)
 
 -- of a set of components with their names and simple types
 module _ (made : CompiledSet) where
@@ -60,18 +62,15 @@ IsSetOutcome made (Accepted c) = IsFirstOfPhases (late_phases made) None × IsOf
 IsSetOutcome made (Broken fault) = IsFirstOfPhases (late_phases made) (Some fault)
 IsSetOutcome made NotYet = ⊥
 
--- What a document of the right shape comes to in the phases behind that of shapes, where it has nothing that is not assessed yet. Then
--- the others have no fault: composition, attributes and value constraints, restriction, and identity constraints.
-abbrev pub IsShapedOutcome : ShapedSchema → Outcome → Type 0
-IsShapedOutcome first outcome =
-    ((fault : Fault) × IsAloneCompiled first (Err fault) × (outcome ≡ Broken fault)) ⊎
-    ((made : CompiledSet) × IsAloneCompiled first (Ok made) × IsSetOutcome made outcome)
+abbrev pub of_refusal : Refusal → Outcome
+of_refusal (refusals.Broken fault) = Broken fault
+of_refusal refusals.NotYet = NotYet
 
 -- What documents come to: the first fault of the first phase that has one, by document, element and the order of codes; else the
--- compiled set, by which documents may be assessed. A first document of the right shape that has something that is not assessed yet
--- comes to neither.
+-- compiled set, by which documents may be assessed. A set whose documents are of the right shape and have something that is not assessed
+-- yet comes to neither. The phases that there are not yet have no fault where there is nothing of that: value constraints of phase 6,
+-- restrictions, and identity constraints.
 abbrev pub IsOutcome : List SchemaInput → Outcome → Type 0
 IsOutcome documents outcome =
-    ((fault : Fault) × IsShaped documents (Err fault) × (outcome ≡ Broken fault)) ⊎
-    ((first : ShapedSchema) × IsShaped documents (Ok first) ×
-    (((is_unassessed first.shapes ≡ true) × (outcome ≡ NotYet)) ⊎ ((is_unassessed first.shapes ≡ false) × IsShapedOutcome first outcome)))
+    ((refusal : Refusal) × IsCompilation documents (Err refusal) × (outcome ≡ of_refusal refusal)) ⊎
+    ((made : CompiledSet) × IsCompilation documents (Ok made) × IsSetOutcome made outcome)

@@ -1,6 +1,7 @@
 //! What is found of the components of a set, for content models and for assessing.
 
-ghost use Rattle.std.specs.Prelude.{◌≡◌, IfOk, IfNone};
+ghost use Rattle.std.specs.Prelude.{◌≡◌, IfOk, IfNone, None};
+ghost use Rattle.xs_faults.specs.Least.{IsLeast};
 ghost use Rattle.all_limits.specs.SetModels.{AreContentsLimited};
 ghost use Rattle.schema_compile.specs.Fit.{IsFit};
 ghost use Rattle.schema_compile.specs.Outcomes as phases;
@@ -8,6 +9,7 @@ ghost use Rattle.schema_compile.specs.inside.Finding as spec;
 
 use all_limits::{Models, build_models, first_unlimited};
 use attr_faults::{AttrTables, first_attr_fault, id_marks};
+use complex_extension::first_extension;
 use component_names::ComponentNames;
 use content_models::ModelSource;
 use content_types::ContentTypes;
@@ -79,6 +81,23 @@ fn attr_fault(set: &CompiledSet, found: &Found) -> Option<Fault>
     first_attr_fault(&set.parts, &found.attr_uses)
 }
 
+// The first fault of phase 7 but for extensions.
+fn placing_fault(
+    alloc: Global,
+    set: &CompiledSet,
+    found: &Found,
+) -> Result<Option<Fault>, AllocError>
+    requires fit { IsFit set.now }
+    requires found { spec.IsFound set.now.parts found.now }
+    requires there { spec.AreContentsThere set.now.parts }
+    ensures least { IfOk result (IsLeast (spec.IsPlacingFault set.now.parts)) }
+    ensures limited { IfOk result (λ fault. IfNone fault (AreContentsLimited set.now.parts)) }
+{
+    let excluded = first_excluded(alloc, &set.parts, &found.declarations)?;
+    let unlimited = first_unlimited(alloc, &set.parts)?;
+    Ok(sooner(excluded, unlimited))
+}
+
 // The first fault of phase 7.
 fn derivation_fault(
     alloc: Global,
@@ -91,27 +110,9 @@ fn derivation_fault(
     ensures least { IfOk result (phases.derivation_phase set.now) }
     ensures limited { IfOk result (λ fault. IfNone fault (AreContentsLimited set.now.parts)) }
 {
-    let excluded = first_excluded(alloc, &set.parts, &found.declarations)?;
-    let unlimited = first_unlimited(alloc, &set.parts)?;
-    Ok(sooner(excluded, unlimited))
-}
-
-// The first fault of phases 6 and 7.
-fn early_fault(
-    alloc: Global,
-    set: &CompiledSet,
-    found: &Found,
-) -> Result<Option<Fault>, AllocError>
-    requires fit { IsFit set.now }
-    requires found { spec.IsFound set.now.parts found.now }
-    requires there { spec.AreContentsThere set.now.parts }
-    ensures first { IfOk result (spec.IsEarlyFault set.now) }
-    ensures limited { IfOk result (λ fault. IfNone fault (AreContentsLimited set.now.parts)) }
-{
-    match attr_fault(set, found) {
-        Some(fault) => Ok(Some(fault)),
-        None => derivation_fault(alloc, set, found),
-    }
+    let placing = placing_fault(alloc, set, found)?;
+    let extension = first_extension(&set.parts, &found.contents);
+    Ok(sooner(extension, placing))
 }
 
 // The automata of content models, or the first fault of phase 8.
@@ -139,8 +140,8 @@ fn find_models(
     )
 }
 
-// The automata of content models, or the first fault of phases 6 to 8.
-fn models_of(
+// The automata of content models, or the first fault of phases 7 and 8, where phase 6 has none.
+fn models_behind(
     alloc: Global,
     set: &CompiledSet,
     found: &Found,
@@ -148,11 +149,31 @@ fn models_of(
     requires fit { IsFit set.now }
     requires found { spec.IsFound set.now.parts found.now }
     requires there { spec.AreContentsThere set.now.parts }
+    requires none { phases.attr_phase set.now None }
     ensures models { IfOk result (spec.AreModelsIn set.now found.now) }
 {
-    match early_fault(alloc, set, found)? {
+    match derivation_fault(alloc, set, found)? {
         Some(fault) => Ok(Err(fault)),
         None => find_models(alloc, set, found),
+    }
+}
+
+// The automata of content models, or the first fault of phases 6 to 8, by that of phase 6.
+fn models_of(
+    alloc: Global,
+    set: &CompiledSet,
+    found: &Found,
+    attrs: Option<Fault>,
+) -> Result<Result<Models, Fault>, AllocError>
+    requires fit { IsFit set.now }
+    requires found { spec.IsFound set.now.parts found.now }
+    requires there { spec.AreContentsThere set.now.parts }
+    requires attrs { phases.attr_phase set.now attrs }
+    ensures models { IfOk result (spec.AreModelsIn set.now found.now) }
+{
+    match attrs {
+        Some(fault) => Ok(Err(fault)),
+        None => models_behind(alloc, set, found),
     }
 }
 
@@ -166,7 +187,8 @@ pub(crate) fn judge(
 {
     contents_are_there(set);
     let found = find(alloc, set)?;
-    match models_of(alloc, set, &found)? {
+    let attrs = attr_fault(set, &found);
+    match models_of(alloc, set, &found, attrs)? {
         Ok(models) => Ok(Ok((found, models))),
         Err(fault) => Ok(Err(fault)),
     }

@@ -1,6 +1,6 @@
 -- The faults of shape of a set, by what was read of all documents.
-use Rattle.std.proofs.Common.{◌≡◌, ℕ, zero, suc, ◌+◌, ◌-◌, ◌<◌, List, [], ◌∷◌, Bool, false, if◌then◌else◌, ◌==◌, Option, None, Some, inl, inr, refl, sym, ap, ◌∙◌, subst, arith}
-use Rattle.std.specs.Prelude.{All, Contains, slice_get, nat_lt}
+use Rattle.std.proofs.Common.{◌≡◌, ℕ, zero, suc, ◌+◌, ◌-◌, ◌<◌, List, [], ◌∷◌, false, if◌then◌else◌, ◌==◌, Option, None, Some, inl, inr, refl, sym, ap, ◌∙◌, subst, arith}
+use Rattle.std.specs.Prelude.{Contains, slice_get, nat_lt}
 use Rattle.std.specs.List.{flat_map}
 use Rattle.std.specs.Option.{option_and_then, option_to_list}
 use Rattle.std.proofs.lemmas.Bool.Decides.{nat_tests}
@@ -13,8 +13,8 @@ use Rattle.xs_faults.proofs.LeastLaws.{least-same}
 use Rattle.schema_faults.specs.declared.broken.Broken.{Broken}
 use Rattle.schema_faults.specs.Faults.{least_fault}
 use Rattle.schema_shape.specs.Shaped.{constructs_of, fault_at, shape_fault}
-use Rattle.schema_set.specs.declared.documents.SetDocument.{SetDocument}
-use Rattle.schema_set.specs.EffectiveSet.{InSet, IsDocument}
+use Rattle.set_closure.specs.SetDocument.{SetDocument}
+use Rattle.set_closure.specs.EffectiveSet.{InSet, IsDocument}
 use Rattle.set_closure.proofs.FaultLaws.{in-flat_map, flat_map-has}
 use Rattle.schema_documents.specs.declared.inputs.SchemaInput.{SchemaInput}
 use Rattle.schema_documents.specs.Documents.{available, IsSet, shape_faults, shape_fault_at, IsShapeFault}

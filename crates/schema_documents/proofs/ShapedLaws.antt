@@ -1,14 +1,14 @@
 -- The documents of a set without a fault of shape are what their trees declare.
-use Rattle.std.proofs.Common.{◌≡◌, ℕ, zero, suc, ◌+◌, ◌-◌, ◌<◌, List, [], ◌∷◌, length, map, get_or, Option, None, Some, Result, Ok, refl, sym, ap, ◌∙◌, subst, arith}
+use Rattle.std.proofs.Common.{◌≡◌, ℕ, zero, suc, ◌-◌, List, [], ◌∷◌, get_or, Option, None, Some, Ok, refl, sym, ap, ◌∙◌, subst, arith}
 use Rattle.std.specs.Prelude.{All, slice_get}
 use Rattle.std.specs.Option.{option_and_then}
 use Rattle.std.proofs.lemmas.Option.{same_Some}
 use Rattle.xs_codes.specs.declared.fault.Fault.{Fault}
 use Rattle.schema_shape.specs.declared.forms.ShapedSchema.{ShapedSchema}
 use Rattle.schema_shape.specs.Shaped.{declared, shape_fault, answer, shaped}
-use Rattle.schema_set.specs.declared.documents.Available.{Available}
-use Rattle.schema_set.specs.declared.documents.SetDocument.{SetDocument}
-use Rattle.schema_set.specs.EffectiveSet.{InSet, IsDocument}
+use Rattle.set_closure.specs.Available.{Available}
+use Rattle.set_closure.specs.SetDocument.{SetDocument}
+use Rattle.set_closure.specs.EffectiveSet.{InSet, IsDocument}
 use Rattle.schema_documents.specs.declared.inputs.SchemaInput.{SchemaInput}
 use Rattle.schema_documents.specs.Documents.{available_of, available, IsSet, shape_fault_at, IsShapeFault}
 use Rattle.schema_documents.proofs.FaultLaws.{fault-number}

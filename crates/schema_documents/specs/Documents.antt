@@ -3,9 +3,9 @@ use Rattle.std.specs.Prelude.{◌≡◌, ℕ, ◌-◌, List, Option, Some, map, 
 use Rattle.std.specs.Option.{option_and_then}
 use Rattle.xs_codes.specs.declared.fault.Fault.{Fault}
 use Rattle.schema_shape.specs.Shaped.{declared, shape_fault}
-use Rattle.schema_set.specs.declared.documents.Available.{Available}
-use Rattle.schema_set.specs.declared.documents.SetDocument.{SetDocument}
-use Rattle.schema_set.specs.EffectiveSet.{InSet, IsEffectiveSet}
+use Rattle.set_closure.specs.Available.{Available}
+use Rattle.set_closure.specs.SetDocument.{SetDocument}
+use Rattle.set_closure.specs.EffectiveSet.{InSet, IsEffectiveSet}
 use Rattle.set_closure.specs.Order.{IsInOrder}
 use Rattle.schema_documents.specs.declared.inputs.SchemaInput.{SchemaInput}
 use Rattle.schema_documents.specs.inside.Reads.{faults_from}

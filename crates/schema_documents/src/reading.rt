@@ -68,10 +68,7 @@ fn read_all(alloc: Global, inputs: &[SchemaInput]) -> Result<ReadDocuments, Allo
 /// # Errors
 ///
 /// `AllocError` is want of memory, or of numbers: there are 65,535 documents at most.
-pub fn read_documents(
-    alloc: Global,
-    inputs: &[SchemaInput],
-) -> Result<ReadDocuments, AllocError>
+pub fn read_documents(alloc: Global, inputs: &[SchemaInput]) -> Result<ReadDocuments, AllocError>
     ensures available { IfOk result (λ documents. documents.available ≡ spec.available inputs.now) }
     ensures faults { IfOk result (λ documents. documents.faults ≡ spec.shape_faults inputs.now) }
 {

@@ -1,11 +1,13 @@
 -- What is found of the components of a set, for content models and for assessing.
-use Rattle.std.specs.Prelude.{◌≡◌, ◌⊎◌, ℕ, ◌<◌, Bool, true, false, List, [], ◌∷◌, Option, None, Some, Result, Ok, Err, length}
+use Rattle.std.specs.Prelude.{◌≡◌, ◌⊎◌, ℕ, ◌<◌, Bool, List, Option, None, Some, Result, Ok, Err, length}
 use Rattle.xs_codes.specs.declared.fault.Fault.{Fault}
 use Rattle.xs_components.specs.Tables.{Tables}
 use Rattle.xs_faults.specs.Least.{IsLeast}
 use Rattle.attr_faults.specs.AttrFaults.{AreIdMarks}
 use Rattle.attr_faults.specs.Tables.{AreTablesOf}
 use Rattle.attr_faults.specs.AttrTables.{AttrTables}
+use Rattle.head_exclusions.specs.Exclusions.{IsExcluded}
+use Rattle.all_limits.specs.AllLimits.{IsUnlimited}
 use Rattle.element_types.specs.Types.{AreDeclarationsOf}
 use Rattle.subst_groups.specs.Groups.{AreGroups}
 use Rattle.element_classes.specs.Classes.{AreClassesOf}
@@ -13,15 +15,11 @@ use Rattle.component_names.specs.Named.{spaces_of}
 use Rattle.content_types.specs.ContentTypes.{AreContentsOf}
 use Rattle.content_models.specs.declared.automaton.ContentAutomaton.{ContentAutomaton}
 use Rattle.all_limits.specs.SetModels.{content_of, AreModels, IsBroken}
-use Rattle.schema_shape.specs.declared.forms.ShapedSchema.{ShapedSchema}
-use Rattle.not_yet.specs.Unassessed.{is_unassessed}
 use Rattle.schema_check.specs.Phases.{IsFirstOfPhases}
 use Rattle.schema_check.specs.declared.documents.CompiledSet.{CompiledSet}
 use Rattle.compiled_schema.specs.declared.compiled.Compiled.{Compiled}
 use Rattle.schema_compile.specs.declared.finding.Found.{Found}
-use Rattle.schema_compile.specs.declared.outcome.Outcome.{Outcome}
-use Rattle.schema_compile.specs.declared.outcome.Outcome.TheVariants.{NotYet}
-use Rattle.schema_compile.specs.Outcomes.{attr_phase, derivation_phase, late_phases, IsShapedOutcome}
+use Rattle.schema_compile.specs.Outcomes.{late_phases}
 
 -- the attribute uses of all complex types and attribute groups, with the marks of types of IDs
 pub record AreAttrUses (t : Tables) (tables : AttrTables) : Type 0 where
@@ -37,9 +35,9 @@ pub record IsFound (t : Tables) (found : Found) : Type 0 where
   pub attr_uses : AreAttrUses t found.attr_uses
   pub contents : AreContentsOf t found.contents
 
--- the first fault of the phases between simple types and content models
-abbrev pub IsEarlyFault : CompiledSet → Option Fault → Type 0
-IsEarlyFault made found = IsFirstOfPhases (attr_phase made ∷ derivation_phase made ∷ []) found
+-- elements whose types do not derive from those of their heads, and an `all` that is not limited
+abbrev pub IsPlacingFault : Tables → Fault → Type 0
+IsPlacingFault t fault = IsExcluded t fault ⊎ IsUnlimited t fault
 
 -- the automata of the content models, or the first fault of one
 abbrev pub AreModelsOf : CompiledSet → Found → Result (List (Option ContentAutomaton)) Fault → Type 0
@@ -76,8 +74,3 @@ joined made found models = record {
 abbrev pub IsJudged : CompiledSet → Result (Found × List (Option ContentAutomaton)) Fault → Type 0
 IsJudged made (Ok pair) = IsFirstOfPhases (late_phases made) None × IsFound made.parts pair.0 × AreModelsOf made pair.0 (Ok pair.1) × AreContentsThere made.parts
 IsJudged made (Err fault) = IsFirstOfPhases (late_phases made) (Some fault)
-
--- what a document of the right shape comes to
-abbrev pub IsKnownOutcome : ShapedSchema → Outcome → Type 0
-IsKnownOutcome first outcome =
-    ((is_unassessed first.shapes ≡ true) × (outcome ≡ NotYet)) ⊎ ((is_unassessed first.shapes ≡ false) × IsShapedOutcome first outcome)

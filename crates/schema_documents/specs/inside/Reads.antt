@@ -3,7 +3,7 @@ use Rattle.std.specs.Prelude.{ℕ, ◌+◌, ◌-◌, List, [], ◌∷◌, Option
 use Rattle.std.specs.Option.{option_and_then, option_to_list}
 use Rattle.xs_codes.specs.declared.fault.Fault.{Fault}
 use Rattle.schema_shape.specs.Shaped.{shape_fault}
-use Rattle.schema_set.specs.declared.documents.SetDocument.{SetDocument}
+use Rattle.set_closure.specs.SetDocument.{SetDocument}
 use Rattle.schema_documents.specs.declared.inputs.SchemaInput.{SchemaInput}
 
 -- the faults of documents that have numbers from this one on

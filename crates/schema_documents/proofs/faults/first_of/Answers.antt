@@ -1,4 +1,4 @@
-use Rattle.std.proofs.Common.{◌≡◌, Option, List, Some, ap, sym, subst, ◌∙◌, arith}
+use Rattle.std.proofs.Common.{Option, subst, arith}
 use Rattle.std.specs.Prelude.{Contains}
 use Rattle.std.specs.Option.{option_to_list}
 use Rattle.xs_codes.specs.declared.fault.Fault.{Fault}
