@@ -1,5 +1,5 @@
 -- The assessment goes by the codes that are said beside of the numbers of a document alone.
-use Rattle.std.proofs.Common.{◌≡◌, ◌⊎◌, inl, inr, ℕ, suc, ◌+◌, ◌≤◌, ◌==◌, if◌then◌else◌, List, refl, sym, ap, ◌∙◌, subst, arith}
+use Rattle.std.proofs.Common.{◌≡◌, inl, inr, ℕ, ◌≤◌, ◌==◌, cond, List, refl, subst, arith}
 use Rattle.std.proofs.lemmas.Bool.{eq-eqb}
 use Rattle.xs_codes.specs.declared.fault.Found.{Found}
 use Rattle.tree_rows.specs.Forest.{Forest, none, text, element}
@@ -17,7 +17,7 @@ pub element-counts : (n : ℕ) (f : Forest) → HasElement n f → 1 ≤ times n
 element-counts n none there = absurd there
 element-counts n (text number chars next) there = let rest = element-counts n next there in omega arith
 element-counts n (element number name bindings attributes children next) (inl same) =
-    let one : (if number == n then 1 else 0) ≡ 1 = rw (eq-eqb number n same) refl in
+    let one : cond {A = ℕ} (number == n) 1 0 ≡ 1 = rw (eq-eqb number n same) refl in
     omega arith
 element-counts n (element number name bindings attributes children next) (inr (inl below)) = let rest = element-counts n children below in omega arith
 element-counts n (element number name bindings attributes children next) (inr (inr beside)) = let rest = element-counts n next beside in omega arith

@@ -1,5 +1,5 @@
 -- The entries with those that bear the IDs of their texts.
-use Rattle.std.proofs.Common.{◌≡◌, ℕ, ◌∷◌, ◌++◌, List, map, refl, sym, ap, ◌∙◌}
+use Rattle.std.proofs.Common.{◌≡◌, ℕ, ◌∷◌, ◌++◌, map, refl, ap, ◌∙◌}
 use Rattle.std.proofs.lemmas.List.{map-append}
 use Rattle.set_assessment.specs.Assessment.{Entry, Assessed, nothing, entry, entries}
 use Rattle.assessed_ids.specs.Bearings.{Bearing, bearings_below, bearings}

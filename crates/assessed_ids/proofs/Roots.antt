@@ -1,5 +1,5 @@
 -- The codes of IDs at the root of an assessed document.
-use Rattle.std.proofs.Common.{◌≡◌, ◌⊎◌, inl, inr, ℕ, ◌+◌, ◌≤◌, ◌==◌, if◌then◌else◌, List, [], Option, refl, sym, ap, ◌∙◌, subst, arith, ⊎_elim}
+use Rattle.std.proofs.Common.{◌≡◌, ◌⊎◌, inl, inr, ℕ, ◌+◌, ◌≤◌, ◌==◌, if◌then◌else◌, cond, List, [], Option, refl, sym, ap, ◌∙◌, subst, arith}
 use Rattle.std.proofs.lemmas.Bool.{eq-eqb, ne_eqb}
 use Rattle.xs_names.specs.Scope.{first_scope}
 use Rattle.xs_codes.specs.declared.fault.Found.{Found}
@@ -11,9 +11,9 @@ use Rattle.assess_records.specs.declared.record.ElementRecord.{ElementRecord}
 use Rattle.assess_records.specs.declared.shape.ElementShape.{ElementShape}
 use Rattle.set_assessment.specs.Governing.{Governing}
 use Rattle.set_assessment.specs.Marked.{with_ids, marked_record}
-use Rattle.set_assessment.specs.Numbered.{Scope, Head, head_of, heads, named_texts, scope_in, characters, shape_of}
+use Rattle.set_assessment.specs.Numbered.{Head, head_of, heads, named_texts, scope_in, characters, shape_of}
 use Rattle.set_assessment.specs.Attribution.{SchemaSet}
-use Rattle.set_assessment.specs.Assessment.{Entry, Assessed, nothing, entry, entries, Beside, first_pair, other_pairs, sibling_records, AreJudged, IsEntry, AreAssessed, root_pairs, IsAssessment}
+use Rattle.set_assessment.specs.Assessment.{Entry, Assessed, entry, Beside, first_pair, other_pairs, sibling_records, AreJudged, IsEntry, root_pairs, IsAssessment}
 use Rattle.set_assessment.specs.Local.{HasElement}
 use Rattle.set_assessment.specs.Plain.{plain_beside}
 use Rattle.document_ids.specs.Ids.{id_codes}
@@ -31,7 +31,7 @@ IsTakenOff s = (shape : ElementShape) (codes : List Found) → shape.ids ≡ [] 
 
 module _ (s : SchemaSet) (behind : IsBehind s) (taken_off : IsTakenOff s) (g : Governing) (h : Head) (number : ℕ) (attributes : List Attribute) (children : Forest) (inner : List Governing) (below : Assessed) (codes : List Found) (b : Beside)
     (identity : b.identity number ≡ []) (ids : b.ids number ≡ codes) where
-  shape_by : Option ℕ → List Found → List Found → ElementShape
+  abbrev shape_by : Option ℕ → List Found → List Found → ElementShape
   shape_by stuck own said = shape_of h (named_texts s.names attributes) (characters children) stuck (counts_of (sibling_records below)) own said
 
   entry-marked : (own : Entry) → IsEntry s plain_beside g h number attributes children inner below own → IsEntry s b g h number attributes children inner below (marked_entry codes own)
@@ -81,7 +81,7 @@ root-said : (number : ℕ) (codes : List Found) → (if number == number then co
 root-said number codes = rw (eq-eqb number number refl) refl
 
 once-at : (number : ℕ) (children next : Forest) → (if number == number then 1 else 0) + (times number children + times number next) ≤ 1 → 1 + (times number children + times number next) ≤ 1
-once-at number children next once = let one : (if number == number then 1 else 0) ≡ 1 = rw (eq-eqb number number refl) refl in omega arith
+once-at number children next once = let one : cond {A = ℕ} (number == number) 1 0 ≡ 1 = rw (eq-eqb number number refl) refl in omega arith
 
 module _ (s : SchemaSet) (behind : IsBehind s) (taken_off : IsTakenOff s) where
   pub joined : (f : Forest) (found : Assessed) → HasRoot f → ((key : ℕ) → times key f ≤ 1) → IsAssessment s plain_beside f found → IsAssessment s (beside_of f (with_codes found)) f (with_codes found)

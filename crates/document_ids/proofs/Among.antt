@@ -1,5 +1,5 @@
 -- Elements of lists that pass a test.
-use Rattle.std.proofs.Common.{◌≡◌, ◌⊎◌, ◌||◌, inl, inr, ℕ, ◌+◌, ◌≤◌, ◌==◌, Bool, true, false, cond, not, List, [], ◌∷◌, map, length, filter, refl, sym, ◌∙◌, ap, subst, arith, ⊎_elim}
+use Rattle.std.proofs.Common.{◌≡◌, ◌⊎◌, ◌||◌, inl, inr, ℕ, ◌+◌, ◌≤◌, Bool, true, false, cond, not, List, [], ◌∷◌, map, length, filter, refl, sym, ◌∙◌, ap, arith, ⊎_elim}
 use Rattle.std.specs.List.{list_any, count_by}
 use Rattle.std.proofs.lemmas.Bool.{cases_Bool, true≢false}
 use Rattle.std.proofs.lemmas.List.Sums.{sum_by-cons}
@@ -59,9 +59,9 @@ module _ {X : Type 0} (p : X → Bool) where
   filtered-from x (y ∷ ys) there =
       ⊎_elim
       (λ (yes : p y ≡ true). ⊎_elim
-        (λ same. (ap p (sym same) ∙ yes, inl same))
-        (λ later. let rest = filtered-from x ys later in (rest.0, inr rest.1))
-        (rw yes at there))
+      (λ same. (ap p (sym same) ∙ yes, inl same))
+      (λ later. let rest = filtered-from x ys later in (rest.0, inr rest.1))
+      (rw yes at there))
       (λ (no : p y ≡ false). let rest = filtered-from x ys (rw no at there) in (rest.0, inr rest.1))
       (cases_Bool (p y))
 

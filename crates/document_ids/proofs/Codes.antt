@@ -1,8 +1,8 @@
 -- What a table tells of the codes of the root.
-use Rattle.std.proofs.Common.{◌≡◌, ◌≢◌, ◌↔◌, ℕ, ◌≤◌, ◌<◌, ◌==◌, ◌&&◌, Bool, true, false, not, List, ◌++◌, map, length, filter, refl, sym, ◌∙◌, ap, subst, arith, ⊎_elim, bytes_eq, nat_eq}
+use Rattle.std.proofs.Common.{◌≡◌, ◌≢◌, ◌↔◌, ℕ, ◌≤◌, ◌<◌, ◌==◌, Bool, true, false, not, List, ◌++◌, length, refl, sym, ◌∙◌, ap, subst, arith, ⊎_elim, bytes_eq}
 use Rattle.std.specs.Prelude.{IsTrue}
-use Rattle.std.specs.List.{list_any, count_by}
-use Rattle.std.proofs.lemmas.Bool.{cases_Bool, true≢false, and_parts, eqb-true, eqb-false, eq-eqb, ne_eqb, cases_lt}
+use Rattle.std.specs.List.{list_any}
+use Rattle.std.proofs.lemmas.Bool.{true≢false, and_parts, eqb-true, eq-eqb, ne_eqb, cases_lt}
 use Rattle.std.proofs.lemmas.Slice.Eq.{bytes_eq-Decides}
 use Rattle.xs_codes.specs.declared.code.Code.TheVariants.{CvcId1, CvcId2}
 use Rattle.identity_tables.specs.IdTable.{id_count, reference_count, HasMissingId, HasSharedId}

@@ -1,11 +1,11 @@
 -- What a table has when atoms come in.
-use Rattle.std.proofs.Common.{◌≡◌, ℕ, ◌+◌, ◌==◌, ◌&&◌, Bool, cond, if◌then◌else◌, List, [], ◌∷◌, ◌++◌, map, refl, sym, ◌∙◌, ap, subst, arith, append-nil, append_assoc, bytes_eq, take, length, ◌<◌}
-use Rattle.std.specs.List.{count_by, flat_map}
+use Rattle.std.proofs.Common.{◌≡◌, ℕ, ◌+◌, Bool, cond, List, [], ◌∷◌, ◌++◌, sym, ◌∙◌, ap, arith, append-nil}
+use Rattle.std.specs.List.{count_by}
 use Rattle.std.proofs.lemmas.Grind.{flat_map-append}
-use Rattle.std.proofs.lemmas.List.Sums.{sum_by-append, sum_by-cons}
-use Rattle.identity_tables.specs.IdTable.{id_count, reference_count, IsOneMoreId, IsOneMoreReference}
+use Rattle.std.proofs.lemmas.List.Sums.{sum_by-append}
+use Rattle.identity_tables.specs.IdTable.{IsOneMoreId, IsOneMoreReference}
 use Rattle.document_ids.specs.Entries.{IdEntries}
-use Rattle.document_ids.specs.Ids.{BorneAtom, BorneId, ids_in, references_in, ids, references}
+use Rattle.document_ids.specs.Ids.{BorneAtom, ids_in, references_in, ids, references}
 use Rattle.document_ids.specs.Table.{is_borne, is_reference, IsTableOf, IsGrown}
 
 module _ {X : Type 0} (p : X → Bool) where

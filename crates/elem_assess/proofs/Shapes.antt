@@ -7,7 +7,6 @@ use Rattle.xs_components.specs.declared.common.TypeId.{TypeId}
 use Rattle.xs_components.specs.declared.common.ValueConstraint.{ValueConstraint}
 use Rattle.assess_records.specs.declared.outcome.Validity.{Validity}
 use Rattle.assess_records.specs.declared.record.AttrRecord.{AttrRecord}
-use Rattle.assess_records.specs.declared.record.ElementRecord.{ElementRecord}
 use Rattle.assess_records.specs.declared.shape.ElementShape.{ElementShape}
 use Rattle.content_types.specs.ContentTypes.{content_of}
 use Rattle.content_types.specs.declared.ContentType.{ContentType}

@@ -4,7 +4,5 @@
 mod laws;
 
 pub use child_terms::{ChildTerms, child_terms};
-pub use elem_assess::{
-    AssessSet, AttrTables, Judged, SimpleTypes, codes_of_ids_stand_last, local,
-};
+pub use elem_assess::{AssessSet, AttrTables, Judged, SimpleTypes, codes_of_ids_stand_last, local};
 pub use laws::fitting_records_are_the_assessment;

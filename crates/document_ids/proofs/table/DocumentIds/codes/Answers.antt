@@ -1,4 +1,4 @@
-use Rattle.std.proofs.Common.{◌++◌, ◌∙◌, ap, sym}
+use Rattle.std.proofs.Common.{◌++◌, ◌∙◌, ap}
 use Rattle.xs_codes.specs.declared.code.Code.TheVariants.{CvcId1, CvcId2}
 use Rattle.document_ids.specs.Ids.{code_if}
 use Rattle.document_ids.proofs.Codes.{codes-are}
