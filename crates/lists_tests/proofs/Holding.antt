@@ -4,7 +4,7 @@ use Rattle.std.specs.Prelude.{slice_get, slice_index, is_some}
 use Rattle.std.proofs.lemmas.Bool.{cases_eq, cases_lt}
 use Rattle.std.proofs.lemmas.List.{get_or_past, length-map}
 use Rattle.child_trees.specs.Lists.{Entry, Lists, get, IsLive, Updates, IsUpTo, IsAt, HasItem, items}
-use Rattle.lists_tests.specs.Folds.{AreHeld}
+use Rattle.lists_tests.specs.Held.{AreHeld}
 use Rattle.child_trees.proofs.Reading.{get_some, get_none}
 
 none_is_not : (x : ℕ) → None ≡ Some x → ⊥
