@@ -1,5 +1,5 @@
 //! The facets in force for a type.
-ghost use Rattle.std.specs.Prelude.{◌≡◌, IfOk, OnOk};
+ghost use Rattle.std.specs.Prelude.{◌≡◌, IfOk};
 ghost use Rattle.std.specs.Option.{option_copied};
 ghost use Rattle.facet_checks.specs.List.{no_facets};
 
@@ -94,29 +94,39 @@ impl FacetList {
     pub fn try_clone(&self, alloc: Global) -> Result<FacetList, AllocError>
         ensures { IfOk result (λ copy. copy ≡ self.now) }
     {
-        let mut copy = FacetList::new(alloc);
-        self.copy_to(alloc, &mut copy)?;
-        Ok(copy)
+        let (max_inclusive, max_exclusive) = copied_side(
+            self.max_inclusive.as_ref(),
+            self.max_exclusive.as_ref(),
+        )?;
+        let (min_inclusive, min_exclusive) = copied_side(
+            self.min_inclusive.as_ref(),
+            self.min_exclusive.as_ref(),
+        )?;
+        Ok(FacetList {
+            white_space: self.white_space,
+            patterns: copied_steps(alloc, self.patterns.as_slice())?,
+            length: self.length,
+            min_length: self.min_length,
+            max_length: self.max_length,
+            enumeration: copied_values(self.enumeration.as_ref())?,
+            max_inclusive,
+            max_exclusive,
+            min_inclusive,
+            min_exclusive,
+            total_digits: self.total_digits,
+            fraction_digits: self.fraction_digits,
+        })
     }
+}
 
-    // Puts the same facets in the place of others: a list that is made field by field takes long to prove.
-    fn copy_to(&self, alloc: Global, copy: &mut FacetList) -> Result<(), AllocError>
-        ensures { OnOk result (copy.new ≡ self.now) }
-    {
-        copy.white_space = self.white_space;
-        copy.patterns = copied_steps(alloc, self.patterns.as_slice())?;
-        copy.length = self.length;
-        copy.min_length = self.min_length;
-        copy.max_length = self.max_length;
-        copy.enumeration = copied_values(self.enumeration.as_ref())?;
-        copy.max_inclusive = copied_bound(self.max_inclusive.as_ref())?;
-        copy.max_exclusive = copied_bound(self.max_exclusive.as_ref())?;
-        copy.min_inclusive = copied_bound(self.min_inclusive.as_ref())?;
-        copy.min_exclusive = copied_bound(self.min_exclusive.as_ref())?;
-        copy.total_digits = self.total_digits;
-        copy.fraction_digits = self.fraction_digits;
-        Ok(())
-    }
+// The bounds of a side, copied.
+fn copied_side(
+    inclusive: Option<&Bound>,
+    exclusive: Option<&Bound>,
+) -> Result<(Option<Bound>, Option<Bound>), AllocError>
+    ensures { IfOk result (λ copies. copies ≡ (option_copied inclusive.entry, option_copied exclusive.entry)) }
+{
+    Ok((copied_bound(inclusive)?, copied_bound(exclusive)?))
 }
 
 fn copied_bound(bound: Option<&Bound>) -> Result<Option<Bound>, AllocError>
