@@ -1,6 +1,6 @@
 -- What a line of a script says.
-use Rattle.std.specs.Prelude.{◌≡◌, ℕ, List, Bool, true, false, not, Option, Some, None, Result, Ok, Err, codes, if◌then◌else◌}
-use Rattle.std.specs.List.{list_any}
+use Rattle.std.specs.Prelude.{◌≡◌, ℕ, List, Bool, true, false, ◌&&◌, not, nat_eq, Option, Some, None, Result, Ok, Err, codes, if◌then◌else◌}
+use Rattle.std.specs.List.{list_any, ends_with}
 use Rattle.std.specs.Str.{bytes_eq}
 use Rattle.item_listing.specs.Escapes.{unescaped}
 use Rattle.item_listing.specs.declared.item.Item.{Item}
@@ -13,6 +13,7 @@ use Rattle.edit_script.specs.Fields.{◌>>=◌, split, needed, last, number}
 use Rattle.edit_script.specs.declared.command.Command.{Command}
 use Rattle.edit_script.specs.declared.command.Command.TheVariants as commands
 use Rattle.edit_script.specs.declared.command.ScriptFault.{ScriptFault}
+use Rattle.edit_script.specs.declared.script.NodeAndName.{NodeAndName}
 use Rattle.edit_script.specs.declared.command.ScriptFault.TheVariants.{UnknownCommand, WrongFields, BadEscape, BadBlock, NotYet}
 
 -- the first field, and what is behind its space, None where there is none
@@ -29,23 +30,25 @@ abbrev pub escaped : Option (List ℕ) → Result (List ℕ) ScriptFault
 escaped None = Err BadEscape
 escaped (Some text) = Ok text
 
--- an attribute line that binds no prefix
-abbrev pub is_plain_attribute : Item → Bool
-is_plain_attribute (items.Start name) = false
-is_plain_attribute (items.Attr name value) = not (is_binding (record { name = name; value = value }))
-is_plain_attribute (items.Chars text) = false
-is_plain_attribute (items.Close name) = false
-is_plain_attribute items.Instruction = false
-is_plain_attribute (items.Schema locations) = false
-is_plain_attribute items.Document = false
-is_plain_attribute items.Edits = false
-is_plain_attribute items.End = false
-is_plain_attribute items.Dot = false
-is_plain_attribute (items.Command line) = false
+-- xsi:type may name xs:ID for any text, and IDs are not assessed yet: it has some prefix, and the local part type
+abbrev pub may_be_type : List ℕ → Bool
+may_be_type name = ends_with nat_eq name (codes ":type")
 
--- attributes that are no bindings are not accepted yet
+abbrev pub is_type_attribute : Item → Bool
+is_type_attribute (items.Start name) = false
+is_type_attribute (items.Attr name value) = not (is_binding (record { name = name; value = value })) && may_be_type name
+is_type_attribute (items.Chars text) = false
+is_type_attribute (items.Close name) = false
+is_type_attribute items.Instruction = false
+is_type_attribute (items.Schema locations) = false
+is_type_attribute items.Document = false
+is_type_attribute items.Edits = false
+is_type_attribute items.End = false
+is_type_attribute items.Dot = false
+is_type_attribute (items.Command line) = false
+
 abbrev pub accepted : List Item → Result (List Item) ScriptFault
-accepted its = if list_any is_plain_attribute its then Err NotYet else Ok its
+accepted its = if list_any is_type_attribute its then Err NotYet else Ok its
 
 -- the items of a block, which are one element; no block is that of no items
 abbrev pub whole : Option (List Item) → Result (List Item) ScriptFault
@@ -78,6 +81,26 @@ set_text rest =
 abbrev pub remove : Option (List ℕ) → Result Command ScriptFault
 remove rest = only_number rest >>= λ node. Ok (commands.Change (edits.Remove node))
 
+-- a number and a name, which are the only fields
+abbrev pub number_and_name : Option (List ℕ) → Result NodeAndName ScriptFault
+number_and_name rest =
+    needed rest >>= λ more. needed (split more) >>= λ parts. last parts.1 >>= λ name. number parts.0 >>= λ node. Ok (record { node = node; name = name })
+
+-- `rename N NAME`
+abbrev pub rename : Option (List ℕ) → Result Command ScriptFault
+rename rest = number_and_name rest >>= λ it. Ok (commands.Change (edits.Rename it.node it.name))
+
+-- `set N NAME TEXT`
+abbrev pub set : Option (List ℕ) → Result Command ScriptFault
+set rest =
+    needed rest >>= λ more. needed (split more) >>= λ parts. needed (split parts.1) >>= λ others.
+    number parts.0 >>= λ node. escaped (unescaped others.1) >>= λ value.
+    if may_be_type others.0 then Err NotYet else Ok (commands.Change (edits.SetAttr node others.0 value))
+
+-- `unset N NAME`
+abbrev pub unset : Option (List ℕ) → Result Command ScriptFault
+unset rest = number_and_name rest >>= λ it. Ok (commands.Change (edits.UnsetAttr it.node it.name))
+
 -- `assess N`
 abbrev pub assess : Option (List ℕ) → Result Command ScriptFault
 assess rest = only_number rest >>= λ node. Ok (commands.Assess node)
@@ -93,9 +116,12 @@ by_word word rest block =
     else (if bytes_eq word (codes "addtext") then add_text rest
     else (if bytes_eq word (codes "text") then set_text rest
     else (if bytes_eq word (codes "remove") then remove rest
+    else (if bytes_eq word (codes "rename") then rename rest
+    else (if bytes_eq word (codes "set") then set rest
+    else (if bytes_eq word (codes "unset") then unset rest
     else (if bytes_eq word (codes "assess") then assess rest
     else (if bytes_eq word (codes "total") then total rest
-    else Err UnknownCommand)))))
+    else Err UnknownCommand))))))))
 
 -- the command of a line and its block, or the first fault by its number
 abbrev pub command : List ℕ → Option (List Item) → Result Command ScriptFault

@@ -6,7 +6,7 @@ use tree_edits::Edit;
 /// A command of a script.
 #[derive(Debug, Drop)]
 pub enum Command {
-    /// `insert`, `addtext`, `text` or `remove`: a change of the tree.
+    /// `insert`, `addtext`, `text`, `remove`, `rename`, `set` or `unset`: a change of the tree.
     Change(Edit),
     /// `assess N`: a question for the record of an element.
     Assess(u32),
@@ -27,7 +27,7 @@ pub enum ScriptFault {
     BadEscape,
     /// The block is not one whole element.
     BadBlock,
-    /// The block has an attribute that is no binding.
+    /// The block has an attribute that may be `xsi:type`, or one is set.
     NotYet,
 }
 

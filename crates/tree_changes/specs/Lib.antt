@@ -1,4 +1,0 @@
-pub mod Stands
-pub mod Held
-pub mod Changes
-pub mod Parts
