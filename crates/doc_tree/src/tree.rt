@@ -1,0 +1,342 @@
+//! The document, and what is read of it.
+
+ghost use Rattle.std.specs.Prelude.{◌≡◌, ◌≢◌, ◌<◌, ◌^◌, ℕ, All, length, map, slice_get, true, Some, None, IfSome, IfOk, OnOk, OnErr};
+ghost use Rattle.std.specs.Option.{option_map, option_and_then, option_copied};
+
+use crate::above::{bind_above, element_past};
+use crate::contents::{attribute_in, count_bindings, kind_in, name_in, text_in};
+use node_links::NodeLinks;
+use plain_tree::Tree;
+use std::alloc::{AllocError, Global};
+use std::marker::Model;
+use tree_changes::{remove_node, rename_node, set_attribute, set_text, unset_attribute};
+use tree_planting::{add_text, insert_part, nodes_of};
+use tree_reading::read_tree;
+use tree_rows::NodeKind;
+use xs_names::{NameId, Names, Scope, Text};
+
+/// A document that is edited in place. Contracts see the node of each number that was given out; these stand for one
+/// tree under a table of names.
+#[derive(Drop)]
+pub struct DocTree {
+    links: NodeLinks,
+    /// How many nodes there are.
+    count: u32,
+    alloc: Global,
+}
+
+impl Model for DocTree {
+    ghost use Rattle.std.specs.Prelude.{◌≡◌};
+    ghost use Rattle.node_links.specs.Nodes.{Nodes};
+    ghost use Rattle.doc_tree.specs.Counted.{live_count};
+
+    ghost Value = { Nodes };
+
+    ghost view = { λ d. d.links };
+
+    ghost invariant = { λ d. d.count ≡ live_count d.links };
+}
+
+impl DocTree {
+    ghost use Rattle.node_links.specs.Nodes.{Node, IsSound};
+    ghost use Rattle.node_links.specs.Nodes as nodes;
+    ghost use Rattle.plain_tree.specs.Nodes.{name_at, chars_at};
+    ghost use Rattle.plain_tree.specs.Nodes as plain;
+    ghost use Rattle.plain_tree.specs.Putting.{bindings_of as plain_bindings};
+    ghost use Rattle.tag_names.specs.Scopes.{binding_in, first_scope};
+    ghost use Rattle.tree_edits.specs.Edits.{scope_in};
+    ghost use Rattle.tree_rows.specs.Forest.{Forest, none, text as text_node, Document, count};
+    ghost use Rattle.tree_planting.specs.Fits.{Fits};
+    ghost use Rattle.tree_planting.specs.Planted.{Plants};
+    ghost use Rattle.xs_names.specs.Names.{Grown};
+    ghost use Rattle.xs_names.specs.Names.{IsSound as AreNames};
+    ghost use Rattle.tree_rows.specs.Kinds.{kind_of};
+    ghost use Rattle.xs_names.specs.Names.{NameTable};
+    ghost use Rattle.tree_changes.specs.Held as held;
+    ghost use Rattle.tree_changes.specs.Held.{parent_at, kind_at, attributes_at, bindings_at, has_number, set_number, unset_number, HasRoom};
+    ghost use Rattle.tree_edits.specs.Edits.{renamed, attribute_set, attribute_unset};
+    ghost use Rattle.tree_changes.specs.Parts.{IsOver, Prunes};
+    ghost use Rattle.tree_edits.specs.Tests.{made, with_nodes};
+    ghost use Rattle.tree_edits.specs.declared.edit.Edit.TheVariants as edits;
+    ghost use Rattle.tree_rows.specs.declared.row.NodeKind.TheVariants as kinds;
+    ghost use Rattle.node_links.specs.declared.content.Content.TheVariants as contents;
+    ghost use Rattle.node_links.specs.declared.content.Element.{Element};
+    ghost use Rattle.node_links.specs.Nodes.{IsNode, IsChildAt, Holds};
+    ghost use Rattle.doc_tree.specs.Readers.{parent_of, children_of};
+    ghost use Rattle.tree_changes.specs.Stands.{StandsFor, expanded_of};
+    ghost use Rattle.doc_tree.specs.Counted.{live_count};
+    ghost use Rattle.doc_tree.specs.Following.{next_of};
+
+    /// A document of the nodes of a plain tree, which keep their numbers. Names that `names` lacks are added to it.
+    ///
+    /// # Errors
+    ///
+    /// `AllocError` is want of memory.
+    pub fn from_plain(alloc: Global, names: &mut Names, tree: &Tree) -> Result<DocTree, AllocError>
+        ensures stands { IfOk result (λ doc. StandsFor names.new doc tree.now) }
+        ensures grown { Grown names.old names.new }
+    {
+        let links = nodes_of(alloc, names, tree)?;
+        let count = tree.rows().len() as u32;
+        Ok(DocTree {
+            links,
+            count,
+            alloc,
+        })
+    }
+
+    /// What a node is; `None` exactly where the number is of no node.
+    pub fn live(&self, node: u32) -> Option<NodeKind>
+        ensures kind { result ≡ kind_at self.now node }
+        ensures tree { (t : NameTable) (d : Document) → StandsFor t self.now d → result ≡ kind_of node d.forest }
+        ensures sound { IsSound self.now }
+    {
+        match self.links.content(node) {
+            None => None,
+            Some(content) => Some(kind_in(content)),
+        }
+    }
+
+    /// The parent of a node; `None` exactly for the root, and where the number is of no node.
+    pub fn parent(&self, node: u32) -> Option<u32>
+        ensures parent { result ≡ parent_at self.now node }
+        ensures tree { (t : NameTable) (d : Document) → StandsFor t self.now d → result ≡ parent_of node d.forest }
+        ensures sound { IsSound self.now }
+    {
+        self.links.parent(node)
+    }
+
+    /// How many children a node has, elements and texts; 0 where the number is of no node.
+    pub fn child_count(&self, node: u32) -> u32
+        ensures count { result ≡ length (nodes.children_by (nodes.node self.now node)) }
+        ensures tree { (t : NameTable) (d : Document) → StandsFor t self.now d → result ≡ length (children_of node d.forest) }
+        ensures sound { IsSound self.now }
+    {
+        self.links.child_count(node)
+    }
+
+    /// The child that has this place among the elements and texts of a node, counted from 0; `None` exactly where the number
+    /// is of no node, or the node has no such place. It takes steps logarithmic in the number of children.
+    pub fn child_at(&self, node: u32, place: u32) -> Option<u32>
+        ensures child { result ≡ slice_get (nodes.children_by (nodes.node self.now node)) place }
+        ensures parent { IfSome result (λ child. parent_at self.now child ≡ Some node) }
+        ensures tree { (t : NameTable) (d : Document) → StandsFor t self.now d → result ≡ plain.child_at node place d.forest }
+        ensures sound { IsSound self.now }
+    {
+        self.links.child_at(node, place)
+    }
+
+    /// The element that comes next in document order, the node being an element or a text; `None` exactly where no element
+    /// comes after it, or the number is of no node. At each level it takes steps logarithmic in the number of children.
+    pub fn next_element(&self, node: u32) -> Option<u32>
+        ensures tree { (t : NameTable) (d : Document) → StandsFor t self.now d → result ≡ next_of node d.forest }
+        ensures sound { IsSound self.now }
+    {
+        let below = self.links.element_from(node, 0);
+        if below.is_some() {
+            return below;
+        }
+        element_past(&self.links, node)
+    }
+
+    /// How many nodes there are, elements and texts.
+    pub fn node_count(&self) -> u32
+        ensures count { result ≡ live_count self.now }
+        ensures tree { (t : NameTable) (d : Document) → StandsFor t self.now d → result ≡ count d.forest }
+    {
+        self.count
+    }
+
+    /// The number that the next new node gets.
+    pub fn next_free(&self) -> u32
+        ensures next { result ≡ length self.now }
+        ensures tree { (t : NameTable) (d : Document) → StandsFor t self.now d → result ≡ d.next_free }
+        ensures sound { IsSound self.now }
+    {
+        self.links.next_free()
+    }
+
+    /// The name of an element; `None` exactly where the number is of no element.
+    pub fn name(&self, node: u32) -> Option<NameId>
+        ensures name { result ≡ option_and_then (λ (it : Node). held.name_in it.content) (nodes.node self.now node) }
+        ensures tree { (t : NameTable) (d : Document) → StandsFor t self.now d → option_map (expanded_of t) result ≡ name_at node d.forest }
+        ensures sound { IsSound self.now }
+    {
+        match self.links.content(node) {
+            None => None,
+            Some(content) => name_in(content),
+        }
+    }
+
+    /// The name and the value of the attribute that has this place among those of an element, counted from 0; `None` exactly
+    /// where the number is of no element, or the element has no such place.
+    pub fn attr_at(&self, node: u32, place: u32) -> Option<(NameId, &Text)>
+        ensures attribute { option_map (λ a. record { name = a.0; value = a.1.now }) result ≡ slice_get (attributes_at self.now node) place }
+        ensures tree { (t : NameTable) (d : Document) → StandsFor t self.now d → option_map (λ a. record { name = expanded_of t a.0; value = a.1.now }) result ≡ plain.attribute_at node place d.forest }
+        ensures sound { IsSound self.now }
+    {
+        match self.links.content(node) {
+            None => None,
+            Some(content) => match attribute_in(content, place) {
+                None => None,
+                Some(attribute) => Some((attribute.name, &attribute.value)),
+            },
+        }
+    }
+
+    /// How many prefixes the start tag of an element binds; 0 where the number is of no element.
+    pub fn binding_count(&self, node: u32) -> u32
+        ensures count { length (bindings_at self.now node) < 2 ^ 32 → result ≡ length (bindings_at self.now node) }
+        ensures tree { (t : NameTable) (d : Document) → StandsFor t self.now d → result ≡ length (plain_bindings node d.forest) }
+        ensures sound { IsSound self.now }
+    {
+        match self.links.content(node) {
+            None => 0,
+            Some(content) => count_bindings(content),
+        }
+    }
+
+    /// The characters of a text; `None` exactly where the number is of no text.
+    pub fn chars(&self, node: u32) -> Option<&Text>
+        ensures chars { option_copied result ≡ option_and_then (λ (it : Node). held.chars_in it.content) (nodes.node self.now node) }
+        ensures tree { (t : NameTable) (d : Document) → StandsFor t self.now d → option_copied result ≡ chars_at node d.forest }
+        ensures sound { IsSound self.now }
+    {
+        match self.links.content(node) {
+            None => None,
+            Some(content) => text_in(content),
+        }
+    }
+
+    /// The prefixes in scope inside an element (Namespaces in XML 1.0, 6.1), the innermost the latest.
+    ///
+    /// # Errors
+    ///
+    /// `AllocError` is want of memory.
+    pub fn scope_of(&self, names: &Names, node: u32) -> Result<Scope, AllocError>
+        requires { kind_at self.now node ≡ Some kinds.Element }
+        ensures tree { IfOk result (λ scope. (d : Document) → StandsFor names.now self.now d → map (binding_in names.now) scope ≡ scope_in node first_scope d.forest) }
+        ensures within { IfOk result (λ scope. (d : Document) → StandsFor names.now self.now d → All (λ b. b.1 < length names.now.spaces) scope) }
+    {
+        let mut scope = Scope::new(self.alloc)?;
+        bind_above(&self.links, node, &mut scope)?;
+        Ok(scope)
+    }
+
+    /// The plain tree of the document. Each node keeps its number.
+    ///
+    /// # Errors
+    ///
+    /// `AllocError` is want of memory.
+    pub fn to_plain(&self, names: &Names) -> Result<Tree, AllocError>
+        requires { (d : Document) × StandsFor names.now self.now d }
+        ensures tree { IfOk result (λ tree. (d : Document) → StandsFor names.now self.now d → tree ≡ d) }
+    {
+        read_tree(self.alloc, &self.links, names)
+    }
+
+    /// Puts the nodes of a plain tree below an element, before the child of this place, and answers the number of its root.
+    /// They get the numbers from the next free one on, in document order. Names that `names` lacks are added to it.
+    ///
+    /// # Errors
+    ///
+    /// `AllocError` is want of memory. The document is then as it was.
+    pub fn insert(
+        &mut self,
+        names: &mut Names,
+        parent: u32,
+        index: u32,
+        part: &Tree,
+    ) -> Result<u32, AllocError>
+        requires fits { (d : Document) × StandsFor names.old self.old d × Fits d parent index part.now.forest }
+        ensures tree { OnOk result ((d : Document) → StandsFor names.old self.old d → StandsFor names.new self.new (with_nodes d parent index part.now.forest)) }
+        ensures number { IfOk result (λ n. n ≡ length self.old) }
+        ensures change { OnOk result (Plants names.new self.old self.new parent index part.now.forest) }
+        ensures err { OnErr result (self.new ≡ self.old) }
+        ensures grown { Grown names.old names.new }
+        ensures names { AreNames names.new }
+        ensures sound { IsSound self.new }
+    {
+        let number = insert_part(self.alloc, &mut self.links, names, parent, index, part)?;
+        self.count += part.rows().len() as u32;
+        Ok(number)
+    }
+
+    /// Puts a text, which may be empty, below an element, before the child of this place, and answers its number, the next
+    /// free one. It stays apart from the texts beside it.
+    ///
+    /// # Errors
+    ///
+    /// `AllocError` is want of memory. All is then as it was.
+    pub fn add_text(&mut self, parent: u32, index: u32, text: Text) -> Result<u32, AllocError>
+        requires fits { (t : NameTable) × (d : Document) × StandsFor t self.old d × Fits d parent index (text_node 0 text none) }
+        ensures tree { OnOk result ((t : NameTable) (d : Document) → StandsFor t self.old d → StandsFor t self.new (made d (edits.AddText parent index text))) }
+        ensures number { IfOk result (λ n. n ≡ length self.old) }
+        ensures change { OnOk result ((t : NameTable) → Plants t self.old self.new parent index (text_node 0 text none)) }
+        ensures err { OnErr result (self.new ≡ self.old) }
+        ensures sound { IsSound self.new }
+    {
+        let number = add_text(&mut self.links, parent, index, text)?;
+        self.count += 1;
+        Ok(number)
+    }
+
+    /// Takes away a node that is not the root, with all that is below it. It takes no memory.
+    pub fn remove(&mut self, node: u32)
+        requires stands { (t : NameTable) × (d : Document) × StandsFor t self.old d }
+        requires node { parent_at self.old node ≢ None }
+        ensures tree { (t : NameTable) (d : Document) → StandsFor t self.old d → StandsFor t self.new (made d (edits.Remove node)) }
+        ensures change { (t : NameTable) (below : Forest) → IsOver t self.old node below → (p place : ℕ) → IsChildAt self.old p place node → Prunes self.old self.new p place node below }
+        ensures sound { IsSound self.new }
+    {
+        let gone = remove_node(&mut self.links, node);
+        self.count -= gone;
+    }
+
+    /// Gives an element another name. It takes no memory.
+    pub fn rename(&mut self, node: u32, name: NameId)
+        requires { kind_at self.old node ≡ Some kinds.Element }
+        ensures tree { (t : NameTable) (d : Document) → StandsFor t self.old d → name < length t.names → StandsFor t self.new (renamed node (expanded_of t name) d) }
+        ensures change { (it : Node) (e : Element) → IsNode self.old node it → it.content ≡ contents.Element e → Holds self.old self.new node (contents.Element (record e { name = name })) }
+        ensures sound { IsSound self.new }
+    {
+        rename_node(self.alloc, &mut self.links, node, name);
+    }
+
+    /// Gives an attribute of an element this value. It keeps its place; where there is none of the name, it is put behind the
+    /// others.
+    ///
+    /// # Errors
+    ///
+    /// `AllocError` is want of memory. All is then as it was.
+    pub fn set_attr(&mut self, node: u32, name: NameId, value: Text) -> Result<(), AllocError>
+        requires element { kind_at self.old node ≡ Some kinds.Element }
+        requires room { HasRoom self.old node name }
+        ensures tree { OnOk result ((t : NameTable) (d : Document) → StandsFor t self.old d → name < length t.names → StandsFor t self.new (attribute_set node (expanded_of t name) value d)) }
+        ensures change { OnOk result ((it : Node) (e : Element) → IsNode self.old node it → it.content ≡ contents.Element e → Holds self.old self.new node (contents.Element (record e { attributes = set_number name value e.attributes }))) }
+        ensures err { OnErr result (self.new ≡ self.old) }
+        ensures sound { IsSound self.new }
+    {
+        set_attribute(self.alloc, &mut self.links, node, name, value)
+    }
+
+    /// Takes an attribute of an element away. It takes no memory.
+    pub fn unset_attr(&mut self, node: u32, name: NameId)
+        requires { has_number name (attributes_at self.old node) ≡ true }
+        ensures tree { (t : NameTable) (d : Document) → StandsFor t self.old d → StandsFor t self.new (attribute_unset node (expanded_of t name) d) }
+        ensures change { (it : Node) (e : Element) → IsNode self.old node it → it.content ≡ contents.Element e → Holds self.old self.new node (contents.Element (record e { attributes = unset_number name e.attributes })) }
+        ensures sound { IsSound self.new }
+    {
+        unset_attribute(self.alloc, &mut self.links, node, name);
+    }
+
+    /// Gives a text other characters. It takes no memory.
+    pub fn set_text(&mut self, node: u32, text: Text)
+        requires { kind_at self.old node ≡ Some kinds.Chars }
+        ensures tree { (t : NameTable) (d : Document) → StandsFor t self.old d → StandsFor t self.new (made d (edits.SetText node text)) }
+        ensures change { Holds self.old self.new node (contents.Chars text) }
+        ensures sound { IsSound self.new }
+    {
+        set_text(&mut self.links, node, text);
+    }
+}
