@@ -1,8 +1,10 @@
 -- The attributes of an element with one more, with another value, or with one less.
-use Rattle.std.proofs.Common.{◌≡◌, ℕ, zero, suc, ◌+◌, ◌<◌, ◌≤◌, List, [], ◌∷◌, ◌++◌, length, get_or, sym, ap, ◌∙◌, subst, Bool, true, false, ◌||◌, ◌&&◌, if◌then◌else◌, Option, Some, None, refl, arith, nat_le}
+use Rattle.std.proofs.Common.{◌≡◌, ℕ, zero, suc, ◌+◌, ◌<◌, ◌≤◌, List, [], ◌∷◌, ◌++◌, length, get_or, take, drop, append-nil, sym, ap, ◌∙◌, subst, Bool, true, false, ◌||◌, ◌&&◌, if◌then◌else◌, Option, Some, None, refl, arith, nat_le}
 use Rattle.std.specs.Prelude.{bytes_eq, not}
 use Rattle.std.specs.List.{list_any, position, remove}
 use Rattle.std.proofs.Math.ListN.{set}
+use Rattle.std.proofs.Math.Seq.{take-length, drop-length}
+use Rattle.std.proofs.lemmas.List.{length-set}
 use Rattle.std.proofs.lemmas.Bool.{and_parts, or_parts, or_from, or_left, false≢true, true≢false}
 use Rattle.std.proofs.lemmas.Bool.Decides.{nat_tests}
 use Rattle.std.proofs.lemmas.Iterator.Adapters.{position_from-zero}
@@ -186,3 +188,23 @@ unset_named own name bindings xs n = record {
   names = names_unset name xs n.names;
   few = let l = length_unset name xs in omega (arith, l, n.few);
 }
+
+-- an element with fewer attributes and bindings has room for one more, and one that has the name for its value
+pub room_left : (has : Bool) (n : ℕ) → n < 256 → (not has && nat_le 256 n) ≡ false
+room_left true n l = refl
+room_left false n l = grind (arith, nat_tests, l)
+
+pub room_own : (name : Expanded) (bindings : List Binding) (xs : List Attribute) → has_name name xs ≡ true → has_no_room name bindings xs ≡ false
+room_own name bindings xs h = ap (λ b. not b && nat_le 256 (length xs + length bindings)) h
+
+pub no_room : (name : Expanded) (bindings : List Binding) (xs : List Attribute) → has_name name xs ≡ false → 256 ≤ length xs + length bindings → has_no_room name bindings xs ≡ true
+no_room name bindings xs h l = ap (λ b. not b && nat_le 256 (length xs + length bindings)) h ∙ grind (arith, nat_tests, l)
+
+-- a list that was written through a slice of all of it
+pub written : (xs ys : List Attribute) (i : ℕ) (y : Attribute) → ys ≡ xs → take (length xs) (set ys i y ++ drop (length (set ys i y)) xs) ≡ set xs i y
+written xs ys i y e =
+    ap (λ l. take (length xs) (set l i y ++ drop (length (set l i y)) xs)) e
+    ∙ ap (λ n. take (length xs) (set xs i y ++ drop n xs)) (length-set xs i y)
+    ∙ ap (λ l. take (length xs) (set xs i y ++ l)) (drop-length xs)
+    ∙ ap (take (length xs)) (append-nil (set xs i y))
+    ∙ ap (λ n. take n (set xs i y)) (sym (length-set xs i y)) ∙ take-length (set xs i y)
