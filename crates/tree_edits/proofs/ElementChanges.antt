@@ -1,6 +1,7 @@
 -- An element that gets another name or other attributes, on the rows and on the tree.
-use Rattle.std.proofs.Common.{◌≡◌, ℕ, ◌+◌, ◌≤◌, ◌<◌, List, [], ◌∷◌, ◌++◌, Bool, true, false, Some, None, Result, Ok, Err, length, get_or, set, refl, sym, ap, ◌∙◌, arith, max, if◌then◌else◌, subst}
+use Rattle.std.proofs.Common.{◌≡◌, ◌≢◌, ℕ, ◌+◌, ◌≤◌, ◌<◌, List, [], ◌∷◌, ◌++◌, Bool, true, false, Some, None, Result, Ok, Err, length, get_or, set, refl, sym, ap, ◌∙◌, arith, max, if◌then◌else◌, subst}
 use Rattle.std.specs.List.{position_or_len, position, remove}
+use Rattle.std.proofs.lemmas.List.{get_or_default, set-get_or}
 use Rattle.std.proofs.lemmas.List.Quantifiers.{position-Some}
 use Rattle.tree_rows.specs.Forest.{Forest, none, text, element, Document}
 use Rattle.tree_rows.specs.Naming.{same_name}
@@ -23,9 +24,10 @@ use Rattle.tree_edits.specs.Refusals.{IsWhy, refusal_of}
 use Rattle.tree_edits.specs.Spots.{tree_of, Renames, Reattributes, IsElementPlace, CannotChange, Makes, CannotMake}
 use Rattle.tree_edits.specs.declared.edit.Edit.TheVariants as edits
 use Rattle.tree_edits.specs.declared.edit.EditError.{EditError}
-use Rattle.tree_edits.specs.declared.edit.EditError.TheVariants.{UnknownNode, NotElement, NoSuchAttribute, TooManyAttributes}
+use Rattle.tree_edits.specs.declared.edit.EditError.TheVariants.{UnknownNode, NotElement, NoSuchAttribute, TooManyAttributes, Memory}
 use Rattle.tree_edits.proofs.Attributing.{has_at, none_of, unset_is}
 use Rattle.tree_edits.proofs.Changing.{set_at, text_at}
+use Rattle.tree_edits.proofs.Inserting.{why_but_memory}
 use Rattle.tree_edits.proofs.Placing.{deepest-append}
 use Rattle.tree_edits.proofs.Putting.{whole_from}
 use Rattle.tree_edits.proofs.Spotting.{ElementAt, unknown, element_at, depth_is, scope_is}
@@ -91,6 +93,10 @@ pub place_of_element : (rows : List Row) (key k : ℕ) (row : Row) (name : Expan
 place_of_element rows key k row name sound at_k within read c =
     element_placed rows key k row sound (element_at rows key k row name sound.whole at_k within read c) within read
 
+-- the row of a place
+pub one_row : (rows : List Row) (k : ℕ) (a b : Row) → k < length rows → a ≡ get_or rows k a → b ≡ get_or rows k b → a ≡ b
+one_row rows k a b within e f = e ∙ get_or_default rows k a b within ∙ sym f
+
 -- a name that is refused refuses the edit
 refused_by : (end : Result Document EditError) (reason : NameReason) → end ≡ Err (refusal_of reason) → IsWhy end (refusal_of reason)
 refused_by end reasons.BadName e = e
@@ -113,7 +119,7 @@ module _ (rows : List Row) (key k : ℕ) (p : IsElementPlace rows key k) (name :
         gives = λ next. p.changes (rename (tree_of rows next) key name) ∙ sym (ap (by_name (λ own. Ok (renamed key own (tree_of rows next)))) r) ∙ ap Ok (z.gives next);
       }
 
-  setting : ℕ → List ℕ → Expanded → Result Document EditError
+  abbrev setting : ℕ → List ℕ → Expanded → Result Document EditError
   setting next value own =
       if has_no_room own p.row.bindings p.row.attributes then Err TooManyAttributes else Ok (attribute_set key own value (tree_of rows next))
 
@@ -139,7 +145,7 @@ module _ (rows : List Row) (key k : ℕ) (p : IsElementPlace rows key k) (name :
             ∙ ap (λ b. if b then Err TooManyAttributes else Ok (attribute_set key own value (tree_of rows next))) room ∙ ap Ok (z.gives next);
       }
 
-  taking : ℕ → Expanded → Result Document EditError
+  abbrev taking : ℕ → Expanded → Result Document EditError
   taking next own = if has_name own p.row.attributes then Ok (attribute_unset key own (tree_of rows next)) else Err NoSuchAttribute
 
   pub unset_refused : (reason : NameReason) → Err reason ≡ attribute_resolved (scope_in key first_scope (siblings rows 1)) name
@@ -165,3 +171,38 @@ module _ (rows : List Row) (key k : ℕ) (p : IsElementPlace rows key k) (name :
         gives = λ next. p.changes (unset_attribute (tree_of rows next) key name) ∙ sym (ap (by_name (taking next)) r)
             ∙ ap (λ b. if b then Ok (attribute_unset key own (tree_of rows next)) else Err NoSuchAttribute) (has_at own p.row.attributes at d q.0 q.1) ∙ ap Ok (z.gives next);
       }
+
+  -- by the row as it was read
+  pub set_written : (value new : List ℕ) (own : Expanded) (row now : Row) → Ok own ≡ attribute_resolved (scope_in key first_scope (siblings rows 1)) name
+      → row ≡ get_or rows k row → new ≡ value
+      → (now ≡ record row { attributes = set_in own new row.attributes }) × (has_no_room own row.bindings row.attributes ≡ false) → Makes rows (set rows k now) (edits.SetAttr key name value)
+  set_written value new own row now r read same w =
+      let e = one_row rows k row p.row p.within read p.reads in
+      set_made (set rows k now) value own r (sym (ap (λ (x : Row). has_no_room own x.bindings x.attributes) e) ∙ w.1)
+      (ap (set rows k) (w.0 ∙ ap (λ (x : Row). record x { attributes = set_in own new x.attributes }) e ∙ ap (λ v. record p.row { attributes = set_in own v p.row.attributes }) same))
+
+  pub set_past : (value : List ℕ) (own : Expanded) (row : Row) (error : EditError) → Ok own ≡ attribute_resolved (scope_in key first_scope (siblings rows 1)) name
+      → row ≡ get_or rows k row → (error ≢ Memory → (error ≡ TooManyAttributes) × (has_no_room own row.bindings row.attributes ≡ true))
+      → CannotMake rows (edits.SetAttr key name value) error
+  set_past value own row error r read w next =
+      let e = one_row rows k row p.row p.within read p.reads in
+      why_but_memory _ error
+      (λ n. set_full value own r (sym (ap (λ (x : Row). has_no_room own x.bindings x.attributes) e) ∙ (w n).1) next ∙ ap Err (sym (w n).0))
+
+  pub unset_written : (own : Expanded) (at : ℕ) (row read_row now : Row) → Ok own ≡ attribute_resolved (scope_in key first_scope (siblings rows 1)) name
+      → row ≡ get_or rows k row → read_row ≡ get_or rows k read_row → Some at ≡ position (λ a. same_name a.name own) read_row.attributes
+      → now ≡ record row { attributes = remove row.attributes at } → Makes rows (set rows k now) (edits.UnsetAttr key name)
+  unset_written own at row read_row now r read also there is =
+      let e = one_row rows k row p.row p.within read p.reads in
+      let f = one_row rows k read_row p.row p.within also p.reads in
+      unset_made (set rows k now) own at r (there ∙ ap (λ (x : Row). position (λ a. same_name a.name own) x.attributes) f)
+      (ap (set rows k) (is ∙ ap (λ (x : Row). record x { attributes = remove x.attributes at }) e))
+
+  pub unset_none : (own : Expanded) (row : Row) → Ok own ≡ attribute_resolved (scope_in key first_scope (siblings rows 1)) name
+      → row ≡ get_or rows k row → None ≡ position (λ a. same_name a.name own) row.attributes → CannotMake rows (edits.UnsetAttr key name) NoSuchAttribute
+  unset_none own row r read missing =
+      unset_missing own r (missing ∙ ap (λ (x : Row). position (λ a. same_name a.name own) x.attributes) (one_row rows k row p.row p.within read p.reads))
+
+-- a row that is as it was
+pub row_kept : (rows : List Row) (k : ℕ) (row now : Row) → row ≡ get_or rows k row → now ≡ row → set rows k now ≡ rows
+row_kept rows k row now read e = ap (set rows k) (e ∙ read) ∙ set-get_or rows k row
