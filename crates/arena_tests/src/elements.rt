@@ -74,12 +74,7 @@ fn take_attribute(names: &Names, doc: &mut DocTree, node: u32, place: u32) -> bo
 }
 
 /// The scope of an element.
-fn scope_of(
-    alloc: Global,
-    names: &Names,
-    doc: &DocTree,
-    node: u32,
-) -> Result<Prefixes, AllocError>
+fn scope_of(alloc: Global, names: &Names, doc: &DocTree, node: u32) -> Result<Prefixes, AllocError>
     requires element { kind_at doc.now node ≡ Some kinds.Element }
     requires stands { (d : Document) × StandsFor names.now doc.now d }
 {

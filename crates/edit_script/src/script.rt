@@ -143,19 +143,16 @@ fn read_set_text(alloc: Global, rest: Option<&str>) -> Result<Command, ScriptErr
     let Some(rest) = rest else {
         return Err(ScriptError::Refused(ScriptFault::WrongFields));
     };
-    let Some((node, text)) = split(rest) else {
+    let Some((field, text)) = split(rest) else {
         return Err(ScriptError::Refused(ScriptFault::WrongFields));
     };
-    let node = number(node)?;
+    let node = number(field)?;
     let text = read_text(alloc, text)?;
     Ok(Command::Change(Edit::SetText { node, text }))
 }
 
 /// A number and a name behind it, which are the only fields.
-fn number_and_name(
-    alloc: Global,
-    rest: Option<&str>,
-) -> Result<NodeAndName, ScriptError>
+fn number_and_name(alloc: Global, rest: Option<&str>) -> Result<NodeAndName, ScriptError>
     ensures { Gives result (script.number_and_name (option_copied rest.entry)) }
 {
     let Some(rest) = rest else {

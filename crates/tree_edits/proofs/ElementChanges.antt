@@ -1,14 +1,13 @@
 -- An element that gets another name or other attributes, on the rows and on the tree.
-use Rattle.std.proofs.Common.{◌≡◌, ◌≢◌, ℕ, ◌+◌, ◌≤◌, ◌<◌, List, [], ◌∷◌, ◌++◌, Bool, true, false, Some, None, Result, Ok, Err, length, get_or, set, refl, sym, ap, ◌∙◌, arith, max, if◌then◌else◌, subst}
+use Rattle.std.proofs.Common.{◌≡◌, ◌≢◌, ℕ, ◌+◌, ◌≤◌, ◌<◌, List, [], ◌∷◌, ◌++◌, true, false, Some, None, Result, Ok, Err, length, get_or, set, refl, sym, ap, ◌∙◌, arith, max, if◌then◌else◌}
 use Rattle.std.specs.List.{position_or_len, position, remove}
 use Rattle.std.proofs.lemmas.List.{get_or_default, set-get_or}
 use Rattle.std.proofs.lemmas.List.Quantifiers.{position-Some}
-use Rattle.tree_rows.specs.Forest.{Forest, none, text, element, Document}
+use Rattle.tree_rows.specs.Forest.{Forest, none, element, Document}
 use Rattle.tree_rows.specs.Naming.{same_name}
 use Rattle.tree_rows.specs.Rows.{rows_of, siblings}
 use Rattle.tree_rows.specs.declared.name.Expanded.{Expanded}
 use Rattle.tree_rows.specs.declared.row.Attribute.{Attribute}
-use Rattle.tree_rows.specs.declared.row.Binding.{Binding}
 use Rattle.tree_rows.specs.declared.row.Row.{Row}
 use Rattle.tree_rows.specs.declared.row.Content.{Content}
 use Rattle.tree_rows.specs.declared.row.Content.TheVariants as contents
@@ -19,7 +18,7 @@ use Rattle.tag_names.specs.declared.fault.NameReason.TheVariants as reasons
 use Rattle.tree_building.specs.Shape.{AreWhole, AreSound, deepest_with, deepest_row}
 use Rattle.tree_edits.specs.Changes.{with_name, has_name, set_in, unset_in, has_no_room, with_attributes}
 use Rattle.tree_edits.specs.EditRows.{is_numbered}
-use Rattle.tree_edits.specs.Edits.{found, replaced, renamed, attribute_set, attribute_unset, scope_in, change_element, by_name, rename, set_attribute, unset_attribute, after}
+use Rattle.tree_edits.specs.Edits.{replaced, renamed, attribute_set, attribute_unset, scope_in, change_element, by_name, rename, set_attribute, unset_attribute}
 use Rattle.tree_edits.specs.Refusals.{IsWhy, refusal_of}
 use Rattle.tree_edits.specs.Spots.{tree_of, Renames, Reattributes, IsElementPlace, CannotChange, Makes, CannotMake}
 use Rattle.tree_edits.specs.declared.edit.Edit.TheVariants as edits

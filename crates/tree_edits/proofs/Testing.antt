@@ -1,5 +1,5 @@
 -- An edit is refused by the first of its tests that stands.
-use Rattle.std.proofs.Common.{◌≡◌, ℕ, ◌+◌, List, [], ◌∷◌, Bool, true, false, Option, Some, None, Result, Ok, Err, if◌then◌else◌, ◌==◌, nat_lt, refl, sym, ap, ◌∙◌}
+use Rattle.std.proofs.Common.{◌≡◌, ℕ, ◌+◌, List, [], Bool, true, false, Option, Some, None, Result, Ok, Err, if◌then◌else◌, ◌==◌, nat_lt, refl, sym, ◌∙◌}
 use Rattle.std.specs.Prelude.{not}
 use Rattle.std.specs.List.{list_any}
 use Rattle.tree_rows.specs.declared.limits.TheConstants.{MAX_DEPTH}
@@ -14,9 +14,9 @@ use Rattle.tag_names.specs.Scopes.{first_scope}
 use Rattle.tag_names.specs.Tags.{prefix_of}
 use Rattle.tag_names.specs.declared.fault.NameReason.TheVariants as reasons
 use Rattle.tree_building.specs.Building.{block}
-use Rattle.tree_edits.specs.Blocks.{Placed, tags_in, judged, early, late, has_bad_name, has_unbound, uses_reserved, has_too_many, has_double}
+use Rattle.tree_edits.specs.Blocks.{Placed, tags_in, judged, late, has_bad_name, has_unbound, uses_reserved, has_too_many, has_double}
 use Rattle.tree_edits.specs.Edits.{Found, found, has, width, scope_in, put_into, put_at, put_within, insert_within, unless, then_unless, reword, reword_at, remove, change_element, by_name, rename, set_attribute, unset_attribute, names_scope, after, too_many_more, is_root}
-use Rattle.tree_edits.specs.Tests.{Test, first_refusal, is_missing, is_text, is_element, width_of, depth_of, put_tests, name_tests, size_tests, attribute_tests, with_nodes, made, attributes_of, bindings_of, new_name, attribute_named, is_full, has_attribute, unless_refused, tests_of, edited}
+use Rattle.tree_edits.specs.Tests.{Test, first_refusal, is_missing, is_text, is_element, width_of, depth_of, name_tests, size_tests, attribute_tests, with_nodes, made, attributes_of, bindings_of, new_name, attribute_named, is_full, has_attribute, unless_refused, edited}
 use Rattle.tree_rows.specs.Whole.{IsTree}
 use Rattle.tree_edits.specs.Keeping.{KeepsTree}
 use Rattle.tree_edits.proofs.Keeping.{edit_keeps}
