@@ -1,11 +1,8 @@
 -- What a line of a script says.
-use Rattle.std.specs.Prelude.{◌≡◌, ℕ, List, Bool, true, false, ◌&&◌, not, nat_eq, Option, Some, None, Result, Ok, Err, codes, if◌then◌else◌}
-use Rattle.std.specs.List.{list_any, ends_with}
+use Rattle.std.specs.Prelude.{◌≡◌, ℕ, List, true, Option, Some, None, Result, Ok, Err, codes, if◌then◌else◌}
 use Rattle.std.specs.Str.{bytes_eq}
 use Rattle.item_listing.specs.Escapes.{unescaped}
 use Rattle.item_listing.specs.declared.item.Item.{Item}
-use Rattle.item_listing.specs.declared.item.Item.TheVariants as items
-use Rattle.tag_names.specs.Tags.{is_binding}
 use Rattle.tree_building.specs.Blocks.{one_element}
 use Rattle.tree_edits.specs.Edits.{can_be_made}
 use Rattle.tree_edits.specs.declared.edit.Edit.TheVariants as edits
@@ -14,7 +11,7 @@ use Rattle.edit_script.specs.declared.command.Command.{Command}
 use Rattle.edit_script.specs.declared.command.Command.TheVariants as commands
 use Rattle.edit_script.specs.declared.command.ScriptFault.{ScriptFault}
 use Rattle.edit_script.specs.declared.script.NodeAndName.{NodeAndName}
-use Rattle.edit_script.specs.declared.command.ScriptFault.TheVariants.{UnknownCommand, WrongFields, BadEscape, BadBlock, NotYet}
+use Rattle.edit_script.specs.declared.command.ScriptFault.TheVariants.{UnknownCommand, WrongFields, BadEscape, BadBlock}
 
 -- the first field, and what is behind its space, None where there is none
 abbrev pub word_of : List ℕ → Option (List ℕ × List ℕ) → List ℕ
@@ -30,30 +27,10 @@ abbrev pub escaped : Option (List ℕ) → Result (List ℕ) ScriptFault
 escaped None = Err BadEscape
 escaped (Some text) = Ok text
 
--- xsi:type may name xs:ID for any text, and IDs are not assessed yet: it has some prefix, and the local part type
-abbrev pub may_be_type : List ℕ → Bool
-may_be_type name = ends_with nat_eq name (codes ":type")
-
-abbrev pub is_type_attribute : Item → Bool
-is_type_attribute (items.Start name) = false
-is_type_attribute (items.Attr name value) = not (is_binding (record { name = name; value = value })) && may_be_type name
-is_type_attribute (items.Chars text) = false
-is_type_attribute (items.Close name) = false
-is_type_attribute items.Instruction = false
-is_type_attribute (items.Schema locations) = false
-is_type_attribute items.Document = false
-is_type_attribute items.Edits = false
-is_type_attribute items.End = false
-is_type_attribute items.Dot = false
-is_type_attribute (items.Command line) = false
-
-abbrev pub accepted : List Item → Result (List Item) ScriptFault
-accepted its = if list_any is_type_attribute its then Err NotYet else Ok its
-
 -- the items of a block, which are one element; no block is that of no items
 abbrev pub whole : Option (List Item) → Result (List Item) ScriptFault
 whole None = Err BadBlock
-whole (Some its) = if one_element its then accepted its else Err BadBlock
+whole (Some its) = if one_element its then Ok its else Err BadBlock
 
 -- a number, which is the only field
 abbrev pub only_number : Option (List ℕ) → Result ℕ ScriptFault
@@ -94,8 +71,7 @@ rename rest = number_and_name rest >>= λ it. Ok (commands.Change (edits.Rename 
 abbrev pub set : Option (List ℕ) → Result Command ScriptFault
 set rest =
     needed rest >>= λ more. needed (split more) >>= λ parts. needed (split parts.1) >>= λ others.
-    number parts.0 >>= λ node. escaped (unescaped others.1) >>= λ value.
-    if may_be_type others.0 then Err NotYet else Ok (commands.Change (edits.SetAttr node others.0 value))
+    number parts.0 >>= λ node. escaped (unescaped others.1) >>= λ value. Ok (commands.Change (edits.SetAttr node others.0 value))
 
 -- `unset N NAME`
 abbrev pub unset : Option (List ℕ) → Result Command ScriptFault

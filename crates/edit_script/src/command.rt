@@ -27,8 +27,6 @@ pub enum ScriptFault {
     BadEscape,
     /// The block is not one whole element.
     BadBlock,
-    /// The block has an attribute that may be `xsi:type`, or one is set.
-    NotYet,
 }
 
 impl ScriptFault {
@@ -42,7 +40,6 @@ impl ScriptFault {
             ScriptFault::BadNumber => 22,
             ScriptFault::BadEscape => 23,
             ScriptFault::BadBlock => 24,
-            ScriptFault::NotYet => 25,
         }
     }
 
@@ -56,7 +53,6 @@ impl ScriptFault {
             ScriptFault::BadNumber => "BadNumber",
             ScriptFault::BadEscape => "BadEscape",
             ScriptFault::BadBlock => "BadBlock",
-            ScriptFault::NotYet => "NotYet",
         }
     }
 }

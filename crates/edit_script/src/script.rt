@@ -7,7 +7,6 @@ ghost use Rattle.edit_script.specs.Fields as fields;
 ghost use Rattle.edit_script.specs.Commands as script;
 ghost use Rattle.edit_script.specs.Faults.{Gives};
 
-use crate::block::{has_type_attribute, may_be_type};
 use crate::fields::{has_space, number, split};
 use crate::{Command, ScriptFault};
 use item_listing::{Items, unescape};
@@ -66,9 +65,6 @@ fn read_block(alloc: Global, block: Option<Items>) -> Result<Items, ScriptError>
     };
     if !is_one_element(alloc, items.as_slice())? {
         return Err(ScriptError::Refused(ScriptFault::BadBlock));
-    }
-    if has_type_attribute(items.as_slice()) {
-        return Err(ScriptError::Refused(ScriptFault::NotYet));
     }
     Ok(items)
 }
@@ -192,9 +188,6 @@ fn read_set(alloc: Global, rest: Option<&str>) -> Result<Command, ScriptError>
     };
     let node = number(node)?;
     let value = read_text(alloc, value)?;
-    if may_be_type(name) {
-        return Err(ScriptError::Refused(ScriptFault::NotYet));
-    }
     let name = Text::new(alloc, name)?;
     Ok(Command::Change(Edit::SetAttr { node, name, value }))
 }
