@@ -179,7 +179,7 @@ fn a_failed_change_leaves_all_as_it_was(rt: HostRuntime) {
 
 #[test]
 fn drawn_changes(rt: HostRuntime) -> Result<(), Fail> {
-    let made = change_document(&rt, rt.alloc(), 5_000)?;
+    let made = change_document(&rt, rt.alloc(), 20_000)?;
     for count in made {
         assert!(rt; count > 100);
     }
