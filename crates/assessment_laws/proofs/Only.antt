@@ -1,48 +1,42 @@
 -- The assessment is the only one, where a text has one outcome by each type.
 use Rattle.std.proofs.Common.{◌≡◌, ℕ, Option, List, sym, ap, ◌∙◌, subst}
+use Rattle.xs_names.specs.Names.{IsSound}
 use Rattle.xs_names.specs.Scope.{first_scope}
 use Rattle.tree_rows.specs.Forest.{Forest, none, text, element}
 use Rattle.tree_rows.specs.declared.row.Attribute.{Attribute}
 use Rattle.assess_records.specs.Counts.{counts_of}
-use Rattle.assess_records.specs.declared.record.AttrRecord.{AttrRecord}
 use Rattle.assess_records.specs.declared.shape.ElementShape.{ElementShape}
-use Rattle.instance_names.specs.Instance.{instance_text}
-use Rattle.instance_names.specs.declared.InstanceAttribute.TheVariants.{TypeName}
-use Rattle.elem_governing.specs.LocalType.{xsi_type}
 use Rattle.elem_governing.specs.declared.pairs.Governing.{Governing}
-use Rattle.element_judging.specs.Judged.{IsElementJudged}
-use Rattle.set_assessment.specs.Numbered.{Scope, Head, head_of, heads, names_of, named_texts, scope_in, characters, shape_of}
-use Rattle.set_assessment.specs.Attribution.{SchemaSet, content_particle}
-use Rattle.set_assessment.specs.Assessment.{Entry, Assessed, entry, Beside, first_pair, other_pairs, sibling_records, governed, AreJudged, IsEntry, AreAssessed, root_pairs, IsAssessment}
+use Rattle.elem_assess.specs.Local.{IsLocal}
+use Rattle.assessed_ids.specs.Added.{AreNamed}
+use Rattle.assessed_ids.specs.Numbered.{Scope, Head, head_of, heads, names_of, named_texts, scope_in, characters, shape_of}
+use Rattle.assessed_ids.specs.Attribution.{SchemaSet, content_particle}
+use Rattle.assessed_ids.specs.Assessment.{Entry, Assessed, entry, Beside, first_pair, other_pairs, sibling_records, judged_of, governed, AreJudged, IsEntry, AreAssessed, root_pairs, IsAssessment}
 use Rattle.validity_laws.specs.Determined.{HasOneOutcomeEach}
 use Rattle.assessment_laws.proofs.Terms.{terms-are}
-use Rattle.assessment_laws.proofs.Judged.{element-is}
+use Rattle.assessment_laws.proofs.Judged.{local-is}
 
-module _ (s : SchemaSet) (b : Beside) (one : HasOneOutcomeEach s.parts) where
+module _ (s : SchemaSet) (b : Beside) (one : HasOneOutcomeEach s.parts) (sound : IsSound s.names) (names_there : AreNamed s.names s.parts) where
   -- two entries of one element with one shape
-  judged-same : (shape : ElementShape) (x y : Entry) → x.number ≡ y.number → x.governing ≡ y.governing → AreJudged s b shape x → AreJudged s b shape y → x ≡ y
+  judged-same : (shape : ElementShape) (x y : Entry) → x.number ≡ y.number → x.governing ≡ y.governing → AreJudged s shape x → AreJudged s shape y → x ≡ y
   judged-same shape x y number governing a c =
-      let attrs : x.attrs ≡ y.attrs = a.attrs_are ∙ (ap (λ (h : Governing). (b.attributes h.of shape.scope shape.attrs).records) governing ∙ sym c.attrs_are) in
-      let values : x.attr_values ≡ y.attr_values = a.attr_values_are ∙ (ap (λ (h : Governing). (b.attributes h.of shape.scope shape.attrs).values) governing ∙ sym c.attr_values_are) in
-      let judged =
-      subst (λ (given : List AttrRecord). IsElementJudged s.names s.parts y.governing (xsi_type s.names s.parts y.governing.declaration (instance_text s.names shape.attrs TypeName) shape.scope) shape given (b.attributes y.governing.of shape.scope shape.attrs).missing x.element x.value) attrs
-      (subst (λ (h : Governing). IsElementJudged s.names s.parts h (xsi_type s.names s.parts h.declaration (instance_text s.names shape.attrs TypeName) shape.scope) shape x.attrs (b.attributes h.of shape.scope shape.attrs).missing x.element x.value) governing a.judged) in
-      let own = element-is s.parts one s.names y.governing (xsi_type s.names s.parts y.governing.declaration (instance_text s.names shape.attrs TypeName) shape.scope) shape y.attrs (b.attributes y.governing.of shape.scope shape.attrs).missing x.element y.element x.value y.value judged c.judged in
-      λ i. record { number = number i; governing = governing i; element = own.0 i; value = own.1 i; attrs = attrs i; attr_values = values i }
+      let known = subst (λ (g : Governing). IsLocal s.names s.parts g shape (judged_of x)) governing a in
+      let own = local-is s.names s.parts one y.governing shape sound names_there (judged_of x) (judged_of y) known c in
+      λ i. record { number = number i; governing = governing i; element = (own i).element; value = (own i).value; attrs = (own i).attrs; attr_values = (own i).attr_values }
 
   module _ (g : Governing) (h : Head) (number : ℕ) (attributes : List Attribute) (children : Forest) where
     inner-same : (xs ys : List Governing) (below other : Assessed) (x y : Entry) → IsEntry s b g h number attributes children xs below x → IsEntry s b g h number attributes children ys other y → xs ≡ ys
     inner-same xs ys below other x y a c =
         let same = terms-are s (content_particle s.parts g.of) (names_of (heads s.names h.scope children)) a.stuck c.stuck a.terms c.terms a.attributed c.attributed in
-        a.inner_is ∙ (ap (λ (terms : List (Option ℕ)). governed s b g terms (heads s.names h.scope children)) same.1 ∙ sym c.inner_is)
+        a.inner_is ∙ (ap (λ (terms : List (Option ℕ)). governed s g terms (heads s.names h.scope children)) same.1 ∙ sym c.inner_is)
 
     entry-same : (xs ys : List Governing) (below other : Assessed) (x y : Entry) → below ≡ other → IsEntry s b g h number attributes children xs below x → IsEntry s b g h number attributes children ys other y → x ≡ y
     entry-same xs ys below other x y under a c =
         let same = terms-are s (content_particle s.parts g.of) (names_of (heads s.names h.scope children)) a.stuck c.stuck a.terms c.terms a.attributed c.attributed in
         judged-same (shape_of h (named_texts s.names attributes) (characters children) c.stuck (counts_of (sibling_records other)) (b.identity number) (b.ids number)) x y
         (a.number_is ∙ sym c.number_is) (a.governing_is ∙ sym c.governing_is)
-        (subst (λ (q : Option ℕ). AreJudged s b (shape_of h (named_texts s.names attributes) (characters children) q (counts_of (sibling_records other)) (b.identity number) (b.ids number)) x) same.0
-        (subst (λ (q : Assessed). AreJudged s b (shape_of h (named_texts s.names attributes) (characters children) a.stuck (counts_of (sibling_records q)) (b.identity number) (b.ids number)) x) under a.known))
+        (subst (λ (q : Option ℕ). AreJudged s (shape_of h (named_texts s.names attributes) (characters children) q (counts_of (sibling_records other)) (b.identity number) (b.ids number)) x) same.0
+        (subst (λ (q : Assessed). AreJudged s (shape_of h (named_texts s.names attributes) (characters children) a.stuck (counts_of (sibling_records q)) (b.identity number) (b.ids number)) x) under a.known))
         c.known
 
   assessed-same : (f : Forest) (scope : Scope) (pairs : List Governing) (x y : Assessed) → AreAssessed s b scope pairs f x → AreAssessed s b scope pairs f y → x ≡ y
@@ -58,4 +52,4 @@ module _ (s : SchemaSet) (b : Beside) (one : HasOneOutcomeEach s.parts) where
       a.4 ∙ ((λ i. entry (own i) (below i) (after i)) ∙ sym c.4)
 
   pub only-assessment : (f : Forest) (x y : Assessed) → IsAssessment s b f x → IsAssessment s b f y → x ≡ y
-  only-assessment f x y a c = assessed-same f first_scope (root_pairs s b (heads s.names first_scope f)) x y a c
+  only-assessment f x y a c = assessed-same f first_scope (root_pairs s (heads s.names first_scope f)) x y a c

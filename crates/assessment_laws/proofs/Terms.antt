@@ -15,7 +15,7 @@ use Rattle.model_symbols.specs.Attribution.{IsFirstTerm}
 use Rattle.content_automaton.specs.Modelled.{IsTermAt}
 use Rattle.content_models.specs.Terms.{model_terms, terms_of}
 use Rattle.content_models.specs.Built.{IsFirstIn}
-use Rattle.set_assessment.specs.Attribution.{SchemaSet, expanded, IsWord, Begins, IsStuck, IsTermOf, AreTermsBy, AreTerms}
+use Rattle.assessed_ids.specs.Attribution.{SchemaSet, expanded, IsWord, Begins, IsStuck, IsTermOf, AreTermsBy, AreTerms}
 
 module _ (accepts : ℕ → ExpandedName → Bool) (model : Particle) where
   -- the first names of a word begin one

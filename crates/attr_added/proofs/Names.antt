@@ -8,14 +8,16 @@ use Rattle.std.proofs.lemmas.List.Elements.{All-push, All-weaker, All-nil, Conta
 use Rattle.std.proofs.lemmas.List.Folds.{list_any_none}
 use Rattle.std.proofs.lemmas.Map.Keys.{IsDistinct-push}
 use Rattle.attr_added.specs.Lacking.{AreThose}
-use Rattle.attr_added.specs.inside.Uses.{AreFound, picked}
+use Rattle.attr_added.specs.inside.Uses.{picked}
 
 module _ (test : ℕ → Bool) where
-  pub found-none : AreFound test 0 []
+  pub found-none : AreThose test 0 []
   unfolding IsDistinct
   found-none = record {
-    those = record { once = tt; hold = All-nil (λ name. test name ≡ true); each = λ name h e. absurd (omega arith) };
+    once = tt;
     below = All-nil (λ name. name < 0);
+    hold = All-nil (λ name. test name ≡ true);
+    each = λ name h e. absurd (omega arith);
   }
 
   apart : (n x : ℕ) → x < n → nat_eq n x ≡ false
@@ -25,34 +27,34 @@ module _ (test : ℕ → Bool) where
   below_more n names below = All-weaker (λ name. name < n) (λ name. name < n + 1) (λ name h. omega arith) names below
 
   -- the names from one bound up to another do not pass the test
-  pub found-gap : (from to : ℕ) (names : List ℕ) → from ≤ to → ((name : ℕ) → from ≤ name → name < to → test name ≡ false) → AreFound test from names → AreFound test to names
+  pub found-gap : (from to : ℕ) (names : List ℕ) → from ≤ to → ((name : ℕ) → from ≤ name → name < to → test name ≡ false) → AreThose test from names → AreThose test to names
   found-gap from to names up none found = record {
-    those = record { once = found.those.once; hold = found.those.hold; each = each };
+    once = found.once;
     below = All-weaker (λ name. name < from) (λ name. name < to) (λ name h. omega arith) names found.below;
+    hold = found.hold;
+    each = each;
   }
     where
       each : (name : ℕ) → name < to → test name ≡ true → Contains names name
-      each name h e = elim (cases_lt name from) [ inl b ↦ found.those.each name b e | inr a ↦ absurd (true≢false (sym e ∙ none name a h)) ]
+      each name h e = elim (cases_lt name from) [ inl b ↦ found.each name b e | inr a ↦ absurd (true≢false (sym e ∙ none name a h)) ]
 
-  found-one : (n : ℕ) (names : List ℕ) → test n ≡ true → AreFound test n names → AreFound test (n + 1) (names ++ n ∷ [])
+  found-one : (n : ℕ) (names : List ℕ) → test n ≡ true → AreThose test n names → AreThose test (n + 1) (names ++ n ∷ [])
   found-one n names is found = record {
-    those = record {
-      once = IsDistinct-push nat_eq_equiv names n found.those.once (list_any_none (nat_eq n) names (All-weaker (λ name. name < n) (λ name. nat_eq n name ≡ false) (apart n) names found.below));
-      hold = All-push (λ name. test name ≡ true) names n found.those.hold is;
-      each = each;
-    };
+    once = IsDistinct-push nat_eq_equiv names n found.once (list_any_none (nat_eq n) names (All-weaker (λ name. name < n) (λ name. nat_eq n name ≡ false) (apart n) names found.below));
     below = All-push (λ name. name < n + 1) names n (below_more n names found.below) (omega arith);
+    hold = All-push (λ name. test name ≡ true) names n found.hold is;
+    each = each;
   }
     where
       each : (name : ℕ) → name < n + 1 → test name ≡ true → Contains (names ++ n ∷ []) name
       each name h e = elim (cases_lt name n) [
-        | inl b ↦ Contains-append_left names (n ∷ []) name (found.those.each name b e)
+        | inl b ↦ Contains-append_left names (n ∷ []) name (found.each name b e)
         | inr a ↦ (let same : n ≡ name = omega arith in subst (λ x. Contains (names ++ n ∷ []) x) same (Contains-push names n))
       ]
 
-  pub found-step : (n : ℕ) (names : List ℕ) → AreFound test n names → AreFound test (n + 1) (names ++ picked (test n) n)
+  pub found-step : (n : ℕ) (names : List ℕ) → AreThose test n names → AreThose test (n + 1) (names ++ picked (test n) n)
   found-step n names found = of (test n) refl
     where
-      of : (b : Bool) → test n ≡ b → AreFound test (n + 1) (names ++ picked b n)
+      of : (b : Bool) → test n ≡ b → AreThose test (n + 1) (names ++ picked b n)
       of true is = found-one n names is found
       of false is = rw append-nil (found-gap n (n + 1) names (omega arith) (λ name a b. (let same : n ≡ name = omega arith in sym (ap test same) ∙ is)) found)

@@ -27,6 +27,7 @@ use_order_total = then_total (on_texts (λ (a : AddedUse). a.space.now)) (on_tex
 pub those-permutation : (test : ℕ → Bool) (bound : ℕ) (xs ys : List ℕ) → IsPermutation xs ys → AreThose test bound xs → AreThose test bound ys
 those-permutation test bound xs ys moved those = record {
   once = IsDistinct-IsPermutation nat_eq nat_eq_equiv.symm xs ys moved those.once;
+  below = All-permutation (λ name. name < bound) xs ys moved those.below;
   hold = All-permutation (λ name. test name ≡ true) xs ys moved those.hold;
   each = λ name h e. Contains-permutation xs ys name moved (those.each name h e);
 }

@@ -15,7 +15,7 @@ use Rattle.assess_records.specs.declared.shape.NamedText.{NamedText}
 use Rattle.attr_added.specs.Lacking.{is_lacking, is_missing, is_added, AreThose}
 use Rattle.attr_added.specs.Order.{is_before}
 use Rattle.attr_added.specs.Added.{IsAddedUse, AreAddedNames, AreLacking}
-use Rattle.attr_added.specs.inside.Uses.{is_use_before, name_of, AreFound, picked, IsNotedIf, IsNoted, AreLackingBelow, AreLackingUpTo, numbers_left}
+use Rattle.attr_added.specs.inside.Uses.{is_use_before, name_of, picked, IsNotedIf, IsNoted, AreLackingBelow, AreLackingUpTo, numbers_left}
 use Rattle.attr_added.specs.declared.added.AddedUse.{AddedUse}
 use Rattle.attr_added.specs.declared.lacking.Lacking.{Lacking}
 use Rattle.attr_added.proofs.Names.{found-none, found-gap, found-step}
@@ -26,8 +26,8 @@ module _ (names : NameTable) (t : Tables) (uses : List UseAt) (given : List Name
   -- at the start
   pub lacking-none : (lacking : Lacking) → lacking.missing ≡ [] → lacking.added ≡ [] → AreLackingBelow names t uses given 0 lacking
   lacking-none lacking m a = record {
-    missing = subst (AreFound (is_missing t uses given) 0) (sym m) (found-none (is_missing t uses given));
-    added = subst (λ xs. AreFound (is_added t uses given) 0 (map name_of xs)) (sym a) (found-none (is_added t uses given));
+    missing = subst (AreThose (is_missing t uses given) 0) (sym m) (found-none (is_missing t uses given));
+    added = subst (λ xs. AreThose (is_added t uses given) 0 (map name_of xs)) (sym a) (found-none (is_added t uses given));
     uses_are = subst (All (IsAddedUse names t uses)) (sym a) (All-nil (IsAddedUse names t uses));
   }
 
@@ -53,8 +53,8 @@ module _ (names : NameTable) (t : Tables) (uses : List UseAt) (given : List Name
       new.missing ≡ old.missing ++ picked (is_missing t uses given n) n → IsNoted names t uses given n old.added new.added →
       AreLackingBelow names t uses given (n + 1) new
   lacking-step n old new below m a = record {
-    missing = subst (AreFound (is_missing t uses given) (n + 1)) (sym m) (found-step (is_missing t uses given) n old.missing below.missing);
-    added = subst (AreFound (is_added t uses given) (n + 1)) (sym (noted-names (is_added t uses given n) n old.added new.added a)) (found-step (is_added t uses given) n (map name_of old.added) below.added);
+    missing = subst (AreThose (is_missing t uses given) (n + 1)) (sym m) (found-step (is_missing t uses given) n old.missing below.missing);
+    added = subst (AreThose (is_added t uses given) (n + 1)) (sym (noted-names (is_added t uses given n) n old.added new.added a)) (found-step (is_added t uses given) n (map name_of old.added) below.added);
     uses_are = noted-uses (is_added t uses given n) n old.added new.added a below.uses_are;
   }
 
@@ -75,9 +75,9 @@ module _ (names : NameTable) (t : Tables) (uses : List UseAt) (given : List Name
   lacking-sorted lacking sorted below same moved up =
       let all : All (IsAddedUse names t uses) sorted.added = All-permutation (IsAddedUse names t uses) lacking.added sorted.added moved below.uses_are in
       record {
-        missing = subst (AreThose (is_missing t uses given) (2 ^ 32)) (sym same) below.missing.those;
+        missing = subst (AreThose (is_missing t uses given) (2 ^ 32)) (sym same) below.missing;
         added = record {
-          those = those-permutation (is_added t uses given) (2 ^ 32) (map name_of lacking.added) (map name_of sorted.added) (IsPermutation-map name_of lacking.added sorted.added moved) below.added.those;
+          those = those-permutation (is_added t uses given) (2 ^ 32) (map name_of lacking.added) (map name_of sorted.added) (IsPermutation-map name_of lacking.added sorted.added moved) below.added;
           sorted = names-sorted names t uses sorted.added all up;
         };
         uses_are = all;
@@ -102,6 +102,7 @@ pub nothing-missing : (t : Tables) (given : List NamedText) → AreThose (is_mis
 unfolding IsDistinct
 nothing-missing t given = record {
   once = tt;
+  below = All-nil (λ name. name < 2 ^ 32);
   hold = All-nil (λ name. is_missing t [] given name ≡ true);
   each = λ name h e. absurd (true≢false (sym e ∙ and-false (is_lacking given name)));
 }
@@ -111,6 +112,7 @@ unfolding IsDistinct
 nothing-added names t given = record {
   those = record {
     once = tt;
+    below = All-nil (λ name. name < 2 ^ 32);
     hold = All-nil (λ name. is_added t [] given name ≡ true);
     each = λ name h e. absurd (true≢false (sym e ∙ and-false (is_lacking given name)));
   };

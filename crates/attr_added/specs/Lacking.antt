@@ -48,5 +48,6 @@ module _ (t : Tables) (uses : List UseAt) (given : List NamedText) where
 -- all names whose numbers are below a bound and of which the test is true, each once
 pub record AreThose (test : ℕ → Bool) (bound : ℕ) (names : List ℕ) : Type 0 where
   pub once : IsDistinct nat_eq names
+  pub below : All (λ name. name < bound) names
   pub hold : All (λ name. test name ≡ true) names
   pub each : (name : ℕ) → name < bound → test name ≡ true → Contains names name

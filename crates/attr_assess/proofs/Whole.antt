@@ -4,7 +4,7 @@ use Rattle.xs_names.specs.Names.{NameTable}
 use Rattle.xs_components.specs.Tables.{Tables}
 use Rattle.xs_components.specs.declared.common.TypeId.{TypeId}
 use Rattle.use_maps.specs.declared.entry.UseAt.{UseAt}
-use Rattle.facets.specs.Trying.{Scope}
+use Rattle.attr_codes.specs.Trying.{Scope}
 use Rattle.assess_records.specs.declared.shape.NamedText.{NamedText}
 use Rattle.attr_governing.specs.Governing.{uses_for}
 use Rattle.attr_added.specs.Lacking.{is_missing, AreThose}

@@ -7,7 +7,7 @@ use Rattle.xs_components.specs.Tables.{Tables}
 use Rattle.xs_components.specs.declared.common.TypeId.{TypeId}
 use Rattle.use_maps.specs.declared.entry.UseAt.{UseAt}
 use Rattle.simple_values.specs.declared.value.Value.{Value}
-use Rattle.facets.specs.Trying.{Scope}
+use Rattle.attr_codes.specs.Trying.{Scope}
 use Rattle.attr_uses.specs.Written.{use_at}
 use Rattle.attr_uses.specs.Uses.{use_named}
 use Rattle.assess_records.specs.declared.outcome.ValueSource.TheVariants.{Given, Schema}

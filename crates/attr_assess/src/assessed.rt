@@ -11,9 +11,8 @@ ghost use Rattle.attr_assess.specs.inside.Lists.{Holds, HoldsEach, HoldsLacking,
 
 use assess_records::{AttrRecords, NamedText, ValueSource};
 use attr_added::{AddedUse, Lacking, lacking_attrs};
-use attr_codes::{AttrItem, JudgedAttr, judge};
+use attr_codes::{AttrItem, JudgedAttr, SimpleTypes, judge};
 use attr_governing::{AttrGoverning, AttrSchema};
-use simple_types::SimpleTypes;
 use simple_values::Value;
 use std::alloc::{AllocError, Global};
 use xs_components::{Components, NameIdList, TypeId};

@@ -11,7 +11,7 @@ use Rattle.xs_components.specs.declared.common.TypeId.TheVariants.{Builtin}
 use Rattle.xs_components.specs.declared.common.ValueConstraint.{ValueConstraint}
 use Rattle.use_maps.specs.declared.entry.UseAt.{UseAt}
 use Rattle.simple_values.specs.declared.value.Value.{Value}
-use Rattle.facets.specs.Trying.{Scope}
+use Rattle.simple_types.specs.Trying.{Scope}
 use Rattle.attr_uses.specs.Written.{use_at}
 use Rattle.assess_records.specs.declared.outcome.Validity.{Validity}
 use Rattle.assess_records.specs.declared.outcome.Validity.TheVariants as validities

@@ -3,7 +3,7 @@ use Rattle.std.specs.Prelude.{◌≡◌, ℕ, Some, slice_get}
 use Rattle.xs_components.specs.Tables.{Tables}
 use Rattle.xs_components.specs.declared.attribute.AttributeDecl.{AttributeDecl}
 use Rattle.xs_references.specs.Ranked.{IsRanked}
-use Rattle.simple_validity.specs.Trees.{type_tree}
+use Rattle.simple_types.specs.Trees.{type_tree}
 use Rattle.simple_types.specs.SimpleTypes.{AreTypesOf, AreWhole, IsSimpleTree}
 use Rattle.simple_types.specs.declared.types.SimpleTypes.{SimpleTypes}
 

@@ -6,8 +6,8 @@ use Rattle.xs_components.specs.declared.common.TypeId.{TypeId}
 use Rattle.xs_components.specs.declared.common.ValueConstraint.{ValueConstraint}
 use Rattle.simple_values.specs.Same.{same}
 use Rattle.simple_values.specs.declared.value.Value.{Value}
-use Rattle.facets.specs.Trying.{Scope}
-use Rattle.simple_validity.specs.Trees.{type_tree}
+use Rattle.simple_types.specs.Trying.{Scope}
+use Rattle.simple_types.specs.Trees.{type_tree}
 use Rattle.simple_types.specs.SimpleTypes.{IsValueOf}
 use Rattle.attr_codes.specs.declared.values.AttrText.{AttrText}
 use Rattle.attr_codes.specs.declared.values.AttrText.TheVariants.{Invalid, Valid}

@@ -6,4 +6,5 @@ mod records;
 mod values;
 
 pub use judged::{AttrItem, JudgedAttr, judge};
+pub use simple_types::SimpleTypes;
 pub use values::{AttrText, read_text};

@@ -1,1 +1,2 @@
 pub mod AttrLaws
+pub mod FaultlessLaws

@@ -52,3 +52,9 @@ module _ (t : Tables) (ids : List Bool) where
   -- a fault of some complex type or attribute group in phase 6, of attributes and value constraints
   abbrev pub IsAttrFault : Fault → Type 0
   IsAttrFault fault = ((n : ℕ) × IsTypeAt n fault) ⊎ ((n : ℕ) × IsGroupAt n fault)
+
+-- The complex type of a number has attribute uses, no two of which have one name, and a wildcard where it has one (Structures 3.4.1).
+pub record HasUses (t : Tables) (n : ℕ) : Type 0 where
+  pub own : AttrUses
+  pub are : uses_of t (Complex n) ≡ Ok own
+  pub once : HasTwoOfOneName t own.uses → ⊥

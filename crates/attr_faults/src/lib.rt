@@ -3,6 +3,9 @@
 
 mod faults;
 mod ids;
+mod laws;
 
+pub use attr_uses::AttrTables;
 pub use faults::first_attr_fault;
 pub use ids::id_marks;
+pub use laws::faultless_types_have_uses;

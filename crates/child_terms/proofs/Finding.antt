@@ -8,7 +8,7 @@ use Rattle.particle_models.specs.Words.{BeginsWord}
 use Rattle.particle_forms.specs.Models.{model_of}
 use Rattle.particle_forms.specs.Accepted.{accepts}
 use Rattle.model_symbols.specs.Terms.{ExpandedName, name_at}
-use Rattle.set_assessment.specs.Attribution.{SchemaSet, expanded, IsWord, Begins, BeginUpTo, IsStuck, IsBefore, IsTermOf, AreTermsBy}
+use Rattle.child_terms.specs.Attribution.{SchemaSet, expanded, IsWord, Begins, BeginUpTo, IsStuck, IsBefore, IsTermOf, AreTermsBy}
 use Rattle.child_terms.specs.inside.Found.{stuck_after, IsNextTerm, AreFound}
 use Rattle.child_terms.proofs.Prefixes.{begins-first, word-begins}
 

@@ -25,7 +25,7 @@ use Rattle.content_models.proofs.Building.{first-of-states, first-of-all}
 use Rattle.content_models.proofs.TermLaws.{named-in}
 use Rattle.grown_models.proofs.Accepting.{same-accepts}
 use Rattle.grown_models.proofs.Growing.{built-kept}
-use Rattle.set_assessment.specs.Attribution.{SchemaSet, expanded, IsWord, Begins, AreTermsBy, AreTerms}
+use Rattle.child_terms.specs.Attribution.{SchemaSet, expanded, IsWord, Begins, AreTermsBy, AreTerms}
 use Rattle.child_terms.specs.Fitting.{IsAutomatonFor, Fits}
 use Rattle.child_terms.specs.inside.Found.{symbols_in, all_state_in, IsKept, BeginsBy, IsAmbivalentBy, IsNextTerm, AreFound, stuck_after}
 use Rattle.child_terms.proofs.Prefixes.{begins-ends, one-place}

@@ -7,7 +7,7 @@ use Rattle.content_automaton.specs.Recognized.{IsUnambiguous}
 use Rattle.content_models.specs.Built.{IsBuilt}
 use Rattle.content_models.specs.declared.automaton.ContentAutomaton.{ContentAutomaton}
 use Rattle.grown_models.specs.Named.{AreNamed}
-use Rattle.set_assessment.specs.Attribution.{SchemaSet}
+use Rattle.child_terms.specs.Attribution.{SchemaSet}
 
 module _ (s : SchemaSet) where
   -- The automaton was built for the content model of a particle, over names from which those of the schema set have grown; and the

@@ -4,7 +4,7 @@ ghost use Rattle.std.specs.Prelude.{◌≡◌, ◌<◌, ◌^◌, ℕ, Option, No
 ghost use Rattle.std.specs.Option.{option_copied};
 ghost use Rattle.model_symbols.specs.Symbols.{AreNamesOf};
 ghost use Rattle.content_models.specs.Built.{symbols_of};
-ghost use Rattle.set_assessment.specs.Attribution.{SchemaSet, AreTerms, AreTermsBy};
+ghost use Rattle.child_terms.specs.Attribution.{SchemaSet, AreTerms, AreTermsBy};
 ghost use Rattle.child_terms.specs.Fitting.{Fits};
 ghost use Rattle.child_terms.specs.inside.Found.{IsKept};
 

@@ -1,8 +1,10 @@
 -- A set with more names.
-use Rattle.std.proofs.Common.{ℕ, ◌<◌, ◌≤◌, Option, None, Some, IfSome, arith}
+use Rattle.std.proofs.Common.{ℕ, ◌<◌, ◌≤◌, Option, None, Some, IfSome, length, arith}
+use Rattle.std.proofs.lemmas.List.Elements.{All-weaker}
 use Rattle.xs_names.specs.Names.{NameTable, Grown}
 use Rattle.xs_names.proofs.GrownLaws.{Grown-trans}
 use Rattle.xs_components.specs.Tables.{Tables}
+use Rattle.xs_components.specs.declared.attribute.AttributeDecl.{AttributeDecl}
 use Rattle.content_models.specs.declared.automaton.ContentAutomaton.{ContentAutomaton}
 use Rattle.compiled_schema.specs.declared.compiled.Compiled.{Compiled}
 use Rattle.compiled_schema.specs.Usable.{AreNamed, HasModelOver, AreModels, IsUsable}
@@ -19,6 +21,8 @@ named-more old new t g h = record {
   elements = λ n part at. below-more _ _ part.name g.more_names (h.elements n part at);
   simples = λ n part at. name-more _ _ part.name g.more_names (h.simples n part at);
   complexes = λ n part at. name-more _ _ part.name g.more_names (h.complexes n part at);
+  attributes = All-weaker (λ (decl : AttributeDecl). decl.name < length old.names) (λ (decl : AttributeDecl). decl.name < length new.names)
+      (λ decl l. below-more _ _ decl.name g.more_names l) t.attributes.parts h.attributes;
 }
 
 module _ (c : Compiled) (new : NameTable) where
@@ -41,6 +45,8 @@ module _ (c : Compiled) (new : NameTable) where
     named = named-more c.names new c.parts g h.named;
     view = h.view;
     judging = h.judging;
+    attributes = h.attributes;
+    attribute_types = h.attribute_types;
     groups = h.groups;
     classes_are = h.classes_are;
     first = h.first;

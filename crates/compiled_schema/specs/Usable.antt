@@ -1,5 +1,5 @@
 -- What a compiled schema set stands for, and when documents may be assessed by it.
-use Rattle.std.specs.Prelude.{◌≡◌, ℕ, ◌<◌, Option, None, Some, Contains, IfSome, length, slice_get}
+use Rattle.std.specs.Prelude.{◌≡◌, ℕ, ◌<◌, List, Bool, Option, None, Some, Contains, IfSome, length, slice_get}
 use Rattle.xs_names.specs.Names.{NameTable, Grown}
 use Rattle.xs_names.specs.Numbering.{HasNoRepeats}
 use Rattle.xs_components.specs.Tables.{Tables}
@@ -9,24 +9,28 @@ use Rattle.xs_components.specs.declared.simple.SimpleType.{SimpleType}
 use Rattle.xs_members.specs.Heads.{names_of}
 use Rattle.subst_groups.specs.Groups.{AreGroups}
 use Rattle.elem_governing.specs.View.{IsView}
-use Rattle.set_assessment.specs.Source.{IsSource}
+use Rattle.assessed_ids.specs.Source.{IsSource}
+use Rattle.assessed_ids.specs.Schema.{IsAttrSet}
+use Rattle.assessed_ids.specs.Types.{IsTypeSet}
+use Rattle.assessed_ids.specs.Added.{AreNamed as AreAttrsNamed}
 use Rattle.element_classes.specs.Classes.{AreClassesOf}
 use Rattle.content_models.specs.Built.{IsBuilt}
 use Rattle.content_models.specs.declared.automaton.ContentAutomaton.{ContentAutomaton}
 use Rattle.schema_models.specs.Checks.{IsAmbiguousModel}
 use Rattle.schema_models.specs.SetModels.{content_of}
-use Rattle.set_assessment.specs.Attribution.{SchemaSet}
+use Rattle.assessed_ids.specs.Attribution.{SchemaSet}
 use Rattle.compiled_schema.specs.declared.compiled.Compiled.{Compiled}
 
 -- the schema set that is compiled
 abbrev pub set_of : Compiled → SchemaSet
 set_of c = record { names = c.names; parts = c.parts; members = c.members; classes = c.classes.items }
 
--- elements and types have names of the table, where they have one
+-- elements, types and attributes have names of the table, where they have one
 pub record AreNamed (names : NameTable) (t : Tables) : Type 0 where
   pub elements : (n : ℕ) (part : ElementDecl) → slice_get t.elements.parts n ≡ Some part → part.name < length names.names
   pub simples : (n : ℕ) (part : SimpleType) → slice_get t.simples.parts n ≡ Some part → IfSome part.name (λ name. name < length names.names)
   pub complexes : (n : ℕ) (part : ComplexType) → slice_get t.complexes.parts n ≡ Some part → IfSome part.name (λ name. name < length names.names)
+  pub attributes : AreAttrsNamed names t
 
 -- The automaton of the content model of a particle, built over this table of names; the model is unambiguous (cos-nonambig,
 -- Structures 3.8.6).
@@ -50,12 +54,14 @@ pub record AreModels (c : Compiled) (first : NameTable) : Type 0 where
   pub contents_each : length c.parts.contents ≡ length c.parts.complexes.parts
   pub are : (n : ℕ) (model : Option ContentAutomaton) → slice_get c.models n ≡ Some model → HasModelOver first c n model
 
--- Documents may be assessed by the set: governing declarations and types are read off it, elements are judged by it, and child
--- elements are attributed to the terms of its content models.
+-- Documents may be assessed by the set: governing declarations and types are read off it, elements and their attributes are judged
+-- by it, and child elements are attributed to the terms of its content models.
 pub record IsUsable (c : Compiled) : Type 0 where
   pub named : AreNamed c.names c.parts
   pub view : IsView c.parts c.declarations c.named
   pub judging : IsSource c.parts c.contents c.types
+  pub attributes : (ids : List Bool) × IsAttrSet c.parts c.named ids c.attr_uses
+  pub attribute_types : IsTypeSet c.parts c.types
   pub groups : AreGroups c.parts c.members
   pub classes_are : AreClassesOf c.parts c.classes.items
   pub first : NameTable

@@ -1,8 +1,8 @@
+use assessed_ids::{AttrTables, SimpleTypes};
 use component_names::ComponentNames;
 use content_types::ContentTypes;
 use element_types::Declarations;
 use schema_models::Models;
-use set_assessment::SimpleTypes;
 use xs_components::Components;
 use xs_members::Members;
 use xs_names::Names;
@@ -24,6 +24,8 @@ pub struct Compiled {
     pub declarations: Declarations,
     /// The types and attribute declarations at the top of documents, by their names.
     pub named: ComponentNames,
+    /// The attribute uses and the attribute wildcards of its complex types and attribute groups (Structures 3.4.2, 3.6.2).
+    pub attr_uses: AttrTables,
     /// The content types of its complex types (Structures 3.4.1).
     pub contents: ContentTypes,
     /// The automata of the content models of its complex types.

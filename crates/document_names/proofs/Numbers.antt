@@ -9,7 +9,7 @@ use Rattle.xs_names.specs.Numbering.{number_of, with_item}
 use Rattle.xs_names.proofs.GrownLaws.{space_number-Grown, name_number-Grown, within-name_number, within-space_number, two_spaces}
 use Rattle.xs_names.proofs.NumberingLaws.{same_name-Decides, with_item-old, with_item-new, number_of-new}
 use Rattle.tree_rows.specs.declared.name.Expanded.{Expanded}
-use Rattle.set_assessment.specs.Numbered.{space_in, name_in}
+use Rattle.document_names.specs.Numbered.{space_in, name_in}
 use Rattle.document_names.specs.Table.{with_namespace, with_local, with_expanded}
 use Rattle.document_names.specs.Found.{HasSpace, HasName}
 

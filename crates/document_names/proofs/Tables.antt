@@ -7,7 +7,7 @@ use Rattle.tree_rows.specs.Forest.{Forest, none, text, element}
 use Rattle.tree_rows.specs.declared.name.Expanded.{Expanded}
 use Rattle.tree_rows.specs.declared.row.Attribute.{Attribute}
 use Rattle.tree_rows.specs.declared.row.Binding.{Binding}
-use Rattle.set_assessment.specs.Numbered.{space_in}
+use Rattle.document_names.specs.Numbered.{space_in}
 use Rattle.document_names.specs.Table.{with_namespace, with_local, with_expanded, with_bindings, with_attributes, with_tag, document_table}
 use Rattle.document_names.specs.Found.{HasName, HasBindings, HasAttributes, HasTag, HasNames}
 use Rattle.document_names.proofs.Numbers.{space_put, space_kept, has_name_kept, has_expanded}

@@ -5,7 +5,7 @@ use Rattle.tree_rows.specs.Forest.{Forest, none, text, element}
 use Rattle.tree_rows.specs.declared.name.Expanded.{Expanded}
 use Rattle.tree_rows.specs.declared.row.Attribute.{Attribute}
 use Rattle.tree_rows.specs.declared.row.Binding.{Binding}
-use Rattle.set_assessment.specs.Numbered.{space_in}
+use Rattle.document_names.specs.Numbered.{space_in}
 
 -- the namespace has a number; the absent one has its number in every table
 abbrev pub HasSpace : NameTable → Option (List ℕ) → Type 0

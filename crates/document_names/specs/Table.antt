@@ -5,7 +5,7 @@ use Rattle.tree_rows.specs.Forest.{Forest, none, text, element}
 use Rattle.tree_rows.specs.declared.name.Expanded.{Expanded}
 use Rattle.tree_rows.specs.declared.row.Attribute.{Attribute}
 use Rattle.tree_rows.specs.declared.row.Binding.{Binding}
-use Rattle.set_assessment.specs.Numbered.{space_in}
+use Rattle.document_names.specs.Numbered.{space_in}
 
 -- the table with a namespace in it; the absent one is in every table
 abbrev pub with_namespace : NameTable → Option (List ℕ) → NameTable

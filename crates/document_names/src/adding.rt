@@ -2,7 +2,7 @@
 
 ghost use Rattle.std.specs.Prelude.{◌≡◌, ◌<◌, length, IfOk, OnOk};
 ghost use Rattle.xs_names.specs.Names.{Grown, IsSound};
-ghost use Rattle.set_assessment.specs.Numbered.{space_in};
+ghost use Rattle.document_names.specs.Numbered.{space_in};
 ghost use Rattle.document_names.specs.Table.{with_namespace, with_expanded, with_bindings, with_attributes, document_table};
 ghost use Rattle.document_names.specs.inside.Rows.{with_row};
 

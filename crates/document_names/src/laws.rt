@@ -4,7 +4,7 @@ ghost use Rattle.std.specs.Prelude.{◌≡◌, ◌<◌, length};
 ghost use Rattle.xs_names.specs.Names.{NameTable, Grown};
 ghost use Rattle.tree_rows.specs.Forest.{Forest};
 ghost use Rattle.tree_rows.specs.declared.name.Expanded.{Expanded};
-ghost use Rattle.set_assessment.specs.Numbered.{name_in};
+ghost use Rattle.document_names.specs.Numbered.{name_in};
 ghost use Rattle.document_names.specs.Table.{document_table};
 ghost use Rattle.document_names.specs.Found.{HasName, HasNames};
 

@@ -1,24 +1,21 @@
 //! The records of an element and of its attributes.
 
 ghost use Rattle.std.specs.Prelude.{◌≡◌, List, Bool, IfOk};
-ghost use Rattle.attr_added.specs.Added.{AreNamed};
-ghost use Rattle.attr_codes.specs.Types.{IsTypeSet};
-ghost use Rattle.attr_governing.specs.Schema.{IsAttrSet};
+ghost use Rattle.attr_assess.specs.Added.{AreNamed};
+ghost use Rattle.attr_assess.specs.Types.{IsTypeSet};
+ghost use Rattle.attr_assess.specs.Schema.{IsAttrSet};
 ghost use Rattle.elem_governing.specs.View.{IsView};
 ghost use Rattle.element_judging.specs.Source.{IsSource};
 ghost use Rattle.elem_assess.specs.Local as spec;
 ghost use Rattle.elem_assess.specs.Set.{IsWithin};
 
 use assess_records::{AttrRecords, ElementRecord, ElementShape};
-use attr_assess::{AttrValues, assess_attrs};
-use attr_governing::AttrSchema;
-use attr_uses::AttrTables;
+use attr_assess::{AttrSchema, AttrTables, AttrValues, assess_attrs};
 use content_types::ContentTypes;
 use elem_governing::{Governing, SchemaView, XsiType, xsi_type};
 use element_codes::{ElementInput, ElementSource};
-use element_judging::judge_element;
+use element_judging::{SimpleTypes, judge_element};
 use instance_names::{InstanceAttribute, instance_text};
-use simple_types::SimpleTypes;
 use simple_values::Value;
 use std::alloc::{AllocError, Global};
 

@@ -1,7 +1,7 @@
 -- How many codes an element has at most.
-use Rattle.std.proofs.Common.{ℕ, ◌+◌, ◌≤◌, Bool, true, false, not, ◌&&◌, List, [], ◌++◌, Option, Some, None, length, arith}
+use Rattle.std.proofs.Common.{ℕ, ◌+◌, ◌≤◌, Bool, true, false, not, ◌&&◌, List, [], ◌++◌, Option, Some, None, map, length, arith}
 use Rattle.std.specs.Prelude.{if◌then◌else◌}
-use Rattle.std.proofs.lemmas.List.{length-append}
+use Rattle.std.proofs.lemmas.List.{length-append, length-map}
 use Rattle.xs_names.specs.Names.{NameTable}
 use Rattle.xs_codes.specs.declared.code.Code.{Code}
 use Rattle.xs_codes.specs.declared.code.Code.TheVariants.{CvcElt1, CvcElt2, CvcElt3_1, CvcElt3_2_1, CvcElt3_2_2, CvcType2, CvcType3_1_1, CvcType3_1_2, CvcType3_1_3}
@@ -18,7 +18,7 @@ use Rattle.element_codes.specs.declared.outcome.TextOutcome.{TextOutcome}
 use Rattle.element_codes.specs.declared.outcome.TextOutcome.TheVariants.{NotRead, Invalid, Valid}
 use Rattle.element_codes.specs.Facts.{governing_content}
 use Rattle.element_codes.specs.Used.{text_used, fixed_value}
-use Rattle.element_codes.specs.Codes.{code_if, code_of, is_undeclared, is_abstract, said_unless_skipped, is_abstract_type, is_nil_refused, is_filled_nil, is_fixed_nil, declaration_codes, type_codes, nil_codes, text_codes, has_other_attributes, has_elements_inside, simple_codes, content_codes, stuck_codes, filled_codes, complex_codes, governed_codes, mixed_codes, is_mixed, fixed_codes, local_codes}
+use Rattle.element_codes.specs.Codes.{code_if, code_of, is_undeclared, is_abstract, said_unless_skipped, is_abstract_type, is_nil_refused, is_filled_nil, is_fixed_nil, declaration_codes, type_codes, nil_codes, text_codes, has_other_attributes, has_elements_inside, simple_codes, content_codes, stuck_codes, filled_codes, complex_codes, governed_codes, missing_code, missing_codes, mixed_codes, is_mixed, fixed_codes, local_codes}
 
 -- a list of so many codes at most
 pub record AtMost (n : ℕ) (xs : List Found) : Type 0 where
@@ -58,20 +58,25 @@ few-filled : (nil : Bool) (content : ContentType) (shape : ElementShape) (text :
 few-filled true content shape text outcome = record { few = omega arith }
 few-filled false content shape text outcome = both (few-content content shape text outcome) (few-stuck shape.stuck)
 
-few-complex : (nil : Bool) (content : ContentType) (shape : ElementShape) (text : List ℕ) (outcome : TextOutcome) → AtMost 4 (complex_codes nil content shape text outcome [])
-few-complex nil content shape text outcome = both {b = 0} (few-filled nil content shape text outcome) (record { few = omega arith })
+few-missing : (missing : List ℕ) → AtMost (length missing) (missing_codes missing)
+few-missing missing = record { few = omega (arith, length-map missing missing_code) }
 
-few-simple : (names : NameTable) (nil : Bool) (shape : ElementShape) (outcome : TextOutcome) → AtMost 4 (simple_codes names nil shape outcome)
-few-simple names nil shape outcome = both (few-if (has_other_attributes names shape.attrs) CvcType3_1_1) (both (few-if (has_elements_inside nil shape) CvcType3_1_2) (few-text CvcType3_1_3 outcome))
+module _ (missing : List ℕ) where
+  few-complex : (nil : Bool) (content : ContentType) (shape : ElementShape) (text : List ℕ) (outcome : TextOutcome) → AtMost (4 + length missing) (complex_codes nil content shape text outcome missing)
+  few-complex nil content shape text outcome = both (few-filled nil content shape text outcome) (few-missing missing)
 
-few-governed : (names : NameTable) (nil : Bool) (content : Option ContentType) (shape : ElementShape) (text : List ℕ) (outcome : TextOutcome)
-    → AtMost 4 (governed_codes names nil content shape text outcome [])
-few-governed names nil None shape text outcome = record { few = omega arith }
-few-governed names nil (Some SimpleType) shape text outcome = few-simple names nil shape outcome
-few-governed names nil (Some Empty) shape text outcome = few-complex nil Empty shape text outcome
-few-governed names nil (Some SimpleContent) shape text outcome = few-complex nil SimpleContent shape text outcome
-few-governed names nil (Some ElementOnly) shape text outcome = few-complex nil ElementOnly shape text outcome
-few-governed names nil (Some Mixed) shape text outcome = few-complex nil Mixed shape text outcome
+  few-simple : (names : NameTable) (nil : Bool) (shape : ElementShape) (outcome : TextOutcome) → AtMost (4 + length missing) (simple_codes names nil shape outcome)
+  few-simple names nil shape outcome =
+      more (omega arith) (both (few-if (has_other_attributes names shape.attrs) CvcType3_1_1) (both (few-if (has_elements_inside nil shape) CvcType3_1_2) (few-text CvcType3_1_3 outcome)))
+
+  few-governed : (names : NameTable) (nil : Bool) (content : Option ContentType) (shape : ElementShape) (text : List ℕ) (outcome : TextOutcome)
+      → AtMost (4 + length missing) (governed_codes names nil content shape text outcome missing)
+  few-governed names nil None shape text outcome = record { few = omega arith }
+  few-governed names nil (Some SimpleType) shape text outcome = few-simple names nil shape outcome
+  few-governed names nil (Some Empty) shape text outcome = few-complex nil Empty shape text outcome
+  few-governed names nil (Some SimpleContent) shape text outcome = few-complex nil SimpleContent shape text outcome
+  few-governed names nil (Some ElementOnly) shape text outcome = few-complex nil ElementOnly shape text outcome
+  few-governed names nil (Some Mixed) shape text outcome = few-complex nil Mixed shape text outcome
 
 few-mixed : (mixed : Bool) (fixed : Option ValueConstraint) (shape : ElementShape) → AtMost 2 (if mixed then mixed_codes fixed shape else [])
 few-mixed true fixed shape = both (few-if _ _) (few-if _ _)
@@ -90,16 +95,17 @@ few-nil : (decl : Option ElementDecl) (constraint : Option ValueConstraint) (xsi
 few-nil decl constraint xsi nil shape =
     both (few-if (is_nil_refused decl xsi) CvcElt3_1) (both (few-if (is_filled_nil nil shape) CvcElt3_2_1) (few-if (is_fixed_nil nil constraint) CvcElt3_2_2))
 
--- the codes of an element by itself, where no required attribute is missing
-few-local : (names : NameTable) (t : Tables) (g : Governing) (said : XsiType) (shape : ElementShape) (outcome : TextOutcome) (decl : Option ElementDecl) (constraint : Option ValueConstraint) (xsi : Option (List ℕ)) (nil taken : Bool)
-    → AtMost 14 (local_codes names t g said shape [] outcome decl constraint xsi nil taken)
-few-local names t g said shape outcome decl constraint xsi nil taken =
-    both (few-declaration g said decl)
-    (both (few-type t g said)
-    (both (few-nil decl constraint xsi nil shape)
-    (both (few-governed names nil (governing_content t g.of) shape (text_used taken constraint shape) outcome)
-    (few-fixed nil (governing_content t g.of) (fixed_value taken constraint) shape outcome))))
+-- the codes of an element by itself
+module _ (names : NameTable) (t : Tables) (g : Governing) (said : XsiType) (shape : ElementShape) (missing : List ℕ) (outcome : TextOutcome) where
+  few-local : (decl : Option ElementDecl) (constraint : Option ValueConstraint) (xsi : Option (List ℕ)) (nil taken : Bool)
+      → AtMost (2 + (2 + (3 + ((4 + length missing) + 3)))) (local_codes names t g said shape missing outcome decl constraint xsi nil taken)
+  few-local decl constraint xsi nil taken =
+      both (few-declaration g said decl)
+      (both (few-type t g said)
+      (both (few-nil decl constraint xsi nil shape)
+      (both (few-governed missing names nil (governing_content t g.of) shape (text_used taken constraint shape) outcome)
+      (few-fixed nil (governing_content t g.of) (fixed_value taken constraint) shape outcome))))
 
-pub local-few : (names : NameTable) (t : Tables) (g : Governing) (said : XsiType) (shape : ElementShape) (outcome : TextOutcome) (decl : Option ElementDecl) (constraint : Option ValueConstraint) (xsi : Option (List ℕ)) (nil taken : Bool)
-    → length (local_codes names t g said shape [] outcome decl constraint xsi nil taken) ≤ 14
-local-few names t g said shape outcome decl constraint xsi nil taken = (few-local names t g said shape outcome decl constraint xsi nil taken).few
+  pub local-few : (decl : Option ElementDecl) (constraint : Option ValueConstraint) (xsi : Option (List ℕ)) (nil taken : Bool)
+      → length (local_codes names t g said shape missing outcome decl constraint xsi nil taken) ≤ 14 + length missing
+  local-few decl constraint xsi nil taken = omega (arith, (few-local decl constraint xsi nil taken).few)

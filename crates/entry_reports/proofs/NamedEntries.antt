@@ -1,13 +1,14 @@
 -- The names and types of the records of a document.
 use Rattle.std.proofs.Common.{◌≡◌, inl, inr, ℕ, ◌<◌, List, [], ◌∷◌, ◌++◌, Option, Some, None, length, refl, sym, ap, subst, ◌∙◌, arith}
 use Rattle.std.specs.Prelude.{All, IsSome, IfSome, slice_get, unwrap_or}
-use Rattle.std.proofs.lemmas.List.Elements.{All-nil, All-cons, All-append, All-head, All-tail}
+use Rattle.std.proofs.lemmas.List.Elements.{All-nil, All-cons, All-append, All-head, All-tail, All-weaker}
 use Rattle.std.proofs.lemmas.Option.{slice_get_cases}
 use Rattle.xs_components.specs.declared.common.TypeId.{TypeId}
 use Rattle.xs_components.specs.declared.common.TypeId.TheVariants.{AnyType, Builtin, Simple, Complex}
 use Rattle.xs_references.specs.Heights.{IsType}
 use Rattle.tree_rows.specs.Forest.{Forest, none, text, element}
 use Rattle.tree_rows.specs.declared.name.Expanded.{Expanded}
+use Rattle.tree_rows.specs.declared.row.Attribute.{Attribute}
 use Rattle.tree_rows.specs.declared.row.Attribute.{Attribute}
 use Rattle.xs_names.specs.Names.{NameTable, name_number}
 use Rattle.xs_names.specs.Scope.{first_scope}
@@ -17,13 +18,15 @@ use Rattle.governed_types.proofs.There.{root-there, child-there}
 use Rattle.xs_names.proofs.GrownLaws.{within-name_number}
 use Rattle.assess_records.specs.declared.record.AttrRecord.{AttrRecord}
 use Rattle.assess_records.specs.declared.record.ElementRecord.{ElementRecord}
+use Rattle.assess_records.specs.declared.shape.NamedText.{NamedText}
+use Rattle.attr_laws.specs.There.{IsThere}
+use Rattle.attr_laws.proofs.There.{attrs-there}
 use Rattle.session_model.specs.Named.{IsName, IsTypeNamed, IsNamed, AreNamed}
 use Rattle.session_model.specs.Usable.{IsUsable, set_of}
 use Rattle.session_model.specs.Compiled.{Compiled}
-use Rattle.session_model.specs.Found.{HasName, HasNames}
-use Rattle.session_model.specs.Numbered.{Scope, Head, head_of, heads, scope_in, space_in, name_in}
-use Rattle.session_model.specs.Assessment.{Entry, Assessed, entries, first_pair, other_pairs, governed, root_pairs, IsEntry, AreAssessed, IsAssessment}
-use Rattle.session_model.specs.Plain.{plain_beside}
+use Rattle.session_model.specs.Found.{HasName, HasAttributes, HasNames}
+use Rattle.session_model.specs.Numbered.{Scope, Head, head_of, heads, scope_in, space_in, name_in, named_text, named_texts}
+use Rattle.session_model.specs.Assessment.{Entry, Assessed, Beside, entries, first_pair, other_pairs, governed, root_pairs, IsEntry, AreAssessed, IsAssessment}
 use Rattle.session_model.specs.Reports.{IsEntryNamed}
 
 -- a name of the document is one of the table
@@ -37,9 +40,9 @@ name-within t name h = name-by t (space_in t name.namespace) name.local (name_nu
 there : {X : Type 0} (xs : List X) (i : ℕ) → i < length xs → (x : X) × (slice_get xs i ≡ Some x)
 there xs i lt = elim (slice_get_cases xs i).1 [ inl found ↦ (found.0, found.2) | inr past ↦ absurd (omega (arith, lt, past.0)) ]
 
-module _ (c : Compiled) (usable : IsUsable c) where
-  abbrev IsThere : Governing → Type 0
-  IsThere g = IfSome g.of (IsType c.parts)
+module _ (c : Compiled) (usable : IsUsable c) (b : Beside) where
+  abbrev IsGoverned : Governing → Type 0
+  IsGoverned g = IfSome g.of (IsType c.parts)
 
   type-named : (of : TypeId) → IsType c.parts of → IsTypeNamed c.names c.parts of
   type-named AnyType h = tt
@@ -51,42 +54,55 @@ module _ (c : Compiled) (usable : IsUsable c) where
   types-named None h = tt
   types-named (Some of) h = type-named of h
 
+  -- the numbers of the names of attributes
+  texts-named : (attributes : List Attribute) → HasAttributes c.names attributes → All (λ (a : NamedText). a.name < length c.names.names) (named_texts c.names attributes)
+  texts-named [] has = All-nil (λ (a : NamedText). a.name < length c.names.names)
+  texts-named (a ∷ more) has =
+      All-cons (λ (b : NamedText). b.name < length c.names.names) (named_text c.names a) (named_texts c.names more) (name-within c.names a.name has.0) (texts-named more has.1)
+
+  attrs-named : (attrs : List AttrRecord) → All (IsThere c.names c.parts) attrs → AreNamed c.names c.parts attrs
+  attrs-named attrs there_all =
+      All-weaker (IsThere c.names c.parts) (λ (a : AttrRecord). IsNamed c.names c.parts a.name a.of)
+      (λ a h. record { name_there = h.named; type_there = types-named a.of h.typed }) attrs there_all
+
   -- the record of an element with this head, and those of its attributes
-  own-named : (g : Governing) (h : Head) (number : ℕ) (attributes : List Attribute) (children : Forest) (inner : List Governing) (below : Assessed) (own : Entry) → IsName c.names h.name → IsThere g
-      → IsEntry (set_of c) plain_beside g h number attributes children inner below own → IsEntryNamed c own
-  own-named g h number attributes children inner below own named governed_there e =
-      let is = e.known.judged.record_is in
+  own-named : (g : Governing) (h : Head) (number : ℕ) (attributes : List Attribute) (children : Forest) (inner : List Governing) (below : Assessed) (own : Entry) → IsName c.names h.name →
+      HasAttributes c.names attributes → IsGoverned g → IsEntry (set_of c) b g h number attributes children inner below own → IsEntryNamed c own
+  own-named g h number attributes children inner below own named has governed_there e =
+      let is = e.known.known.record_is in
+      let attrs = attrs-there c.names c.parts usable.named.attributes usable.attribute_types.ranked usable.attribute_types.simple own.governing.of h.scope (named_texts c.names attributes)
+      (texts-named attributes has) e.known.attributes e.known.assessed in
       record {
         element_named = record {
           name_there = subst (IsName c.names) (sym (ap (λ (r : ElementRecord). r.name) is)) named;
           type_there = subst (λ of. IfSome of (IsTypeNamed c.names c.parts)) (sym (ap (λ (r : ElementRecord). r.of) is ∙ ap (λ (p : Governing). p.of) e.governing_is)) (types-named g.of governed_there);
         };
-        attrs_named = subst (AreNamed c.names c.parts) (sym e.known.attrs_are) (All-nil (λ (a : AttrRecord). IsNamed c.names c.parts a.name a.of));
+        attrs_named = subst (AreNamed c.names c.parts) (sym e.known.attrs_are) (attrs-named e.known.attributes.records attrs);
       }
 
   -- the types that govern children, and the root
-  inner-there : (parent : Governing) (terms : List (Option ℕ)) (hs : List Head) → All IsThere (governed (set_of c) plain_beside parent terms hs)
-  inner-there parent [] hs = All-nil IsThere
-  inner-there parent (term ∷ terms) [] = All-nil IsThere
+  inner-there : (parent : Governing) (terms : List (Option ℕ)) (hs : List Head) → All IsGoverned (governed (set_of c) parent terms hs)
+  inner-there parent [] hs = All-nil IsGoverned
+  inner-there parent (term ∷ terms) [] = All-nil IsGoverned
   inner-there parent (term ∷ terms) (h ∷ hs) =
-      All-cons IsThere (govern_child c.names c.parts parent.mode term h.name h.xsi h.scope) (governed (set_of c) plain_beside parent terms hs)
+      All-cons IsGoverned (govern_child c.names c.parts parent.mode term h.name h.xsi h.scope) (governed (set_of c) parent terms hs)
       (child-there c.names c.parts c.declarations c.named usable.view parent.mode term h.name h.xsi h.scope) (inner-there parent terms hs)
 
-  root-pairs-there : (hs : List Head) → All IsThere (root_pairs (set_of c) plain_beside hs)
-  root-pairs-there [] = All-nil IsThere
+  root-pairs-there : (hs : List Head) → All IsGoverned (root_pairs (set_of c) hs)
+  root-pairs-there [] = All-nil IsGoverned
   root-pairs-there (h ∷ hs) =
-      All-cons IsThere (govern_root c.names c.parts h.name h.xsi h.scope) (root_pairs (set_of c) plain_beside hs)
+      All-cons IsGoverned (govern_root c.names c.parts h.name h.xsi h.scope) (root_pairs (set_of c) hs)
       (root-there c.names c.parts c.declarations c.named usable.view h.name h.xsi h.scope) (root-pairs-there hs)
 
-  first-there : (pairs : List Governing) → All IsThere pairs → IsThere (first_pair pairs)
+  first-there : (pairs : List Governing) → All IsGoverned pairs → IsGoverned (first_pair pairs)
   first-there [] h = tt
-  first-there (g ∷ gs) h = All-head IsThere g gs h
+  first-there (g ∷ gs) h = All-head IsGoverned g gs h
 
-  others-there : (pairs : List Governing) → All IsThere pairs → All IsThere (other_pairs pairs)
+  others-there : (pairs : List Governing) → All IsGoverned pairs → All IsGoverned (other_pairs pairs)
   others-there [] h = h
-  others-there (g ∷ gs) h = All-tail IsThere g gs h
+  others-there (g ∷ gs) h = All-tail IsGoverned g gs h
 
-  named : (scope : Scope) (pairs : List Governing) (f : Forest) (found : Assessed) → All IsThere pairs → HasNames c.names f → AreAssessed (set_of c) plain_beside scope pairs f found
+  named : (scope : Scope) (pairs : List Governing) (f : Forest) (found : Assessed) → All IsGoverned pairs → HasNames c.names f → AreAssessed (set_of c) b scope pairs f found
       → All (IsEntryNamed c) (entries found)
   named scope pairs none found ps has are = subst (λ x. All (IsEntryNamed c) (entries x)) (sym are) (All-nil (IsEntryNamed c))
   named scope pairs (text number chars next) found ps has are = named scope pairs next found ps has are
@@ -94,15 +110,15 @@ module _ (c : Compiled) (usable : IsUsable c) where
       let h = head_of c.names scope name bindings attributes in
       let e = are.5 in
       let inside = scope_in c.names bindings scope in
-      let inner = subst (All IsThere) (sym e.inner_is) (inner-there (first_pair pairs) e.terms (heads c.names inside children)) in
+      let inner = subst (All IsGoverned) (sym e.inner_is) (inner-there (first_pair pairs) e.terms (heads c.names inside children)) in
       subst (λ x. All (IsEntryNamed c) (entries x)) (sym are.4)
       (All-cons (IsEntryNamed c) are.0 (entries are.2 ++ entries are.3)
-      (own-named (first_pair pairs) h number attributes children are.1 are.2 are.0 (name-within c.names name has.0.own) (first-there pairs ps) e)
+      (own-named (first_pair pairs) h number attributes children are.1 are.2 are.0 (name-within c.names name has.0.own) has.0.names (first-there pairs ps) e)
       (All-append (IsEntryNamed c) (entries are.2) (entries are.3)
       (named inside are.1 children are.2 inner has.1 are.6)
       (named scope (other_pairs pairs) next are.3 (others-there pairs ps) has.2 are.7)))
 
-pub all-named : (c : Compiled) (f : Forest) (found : Assessed) → IsUsable c → HasNames c.names f → IsAssessment (set_of c) plain_beside f found → All (IsEntryNamed c) (entries found)
-all-named c f found usable has is =
+pub all-named : (c : Compiled) (b : Beside) (f : Forest) (found : Assessed) → IsUsable c → HasNames c.names f → IsAssessment (set_of c) b f found → All (IsEntryNamed c) (entries found)
+all-named c b f found usable has is =
     let hs = heads c.names first_scope f in
-    named c usable first_scope (root_pairs (set_of c) plain_beside hs) f found (root-pairs-there c usable hs) has is
+    named c usable b first_scope (root_pairs (set_of c) hs) f found (root-pairs-there c usable b hs) has is

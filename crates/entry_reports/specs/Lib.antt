@@ -3,7 +3,7 @@ pub use Rattle.tree_assess.specs.Entries
 pub use Rattle.session_model.specs.Assessor
 pub use Rattle.session_model.specs.Assessment
 pub use Rattle.session_model.specs.Attribution
-pub use Rattle.session_model.specs.Plain
+pub use Rattle.session_model.specs.Joined
 pub use Rattle.session_model.specs.State
 pub use Rattle.session_model.specs.StateCode
 pub use Rattle.session_model.specs.Asking

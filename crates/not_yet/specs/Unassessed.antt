@@ -1,54 +1,22 @@
 -- What is not assessed yet, by the forms of a document's elements.
-use Rattle.std.specs.Prelude.{ℕ, Bool, true, false, ◌||◌, ◌&&◌, List, [], ◌∷◌, Option, None, Some, is_some, bytes_eq, codes}
+use Rattle.std.specs.Prelude.{Bool, true, false, not, List}
 use Rattle.std.specs.List.{list_any}
-use Rattle.tree_rows.specs.declared.name.Expanded.{Expanded}
-use Rattle.schema_grammar.specs.Names.{schema_namespace}
-use Rattle.schema_shape.specs.declared.forms.ElementForm.{ElementForm}
 use Rattle.schema_shape.specs.declared.forms.Form.{Form}
 use Rattle.schema_shape.specs.declared.forms.Form.TheVariants as forms
 use Rattle.schema_shape.specs.declared.forms.Shape.{Shape}
 
--- the built-in types of ids and references to ids (Datatypes 3.3.8 to 3.3.10)
-abbrev pub id_types : List (List ℕ)
-id_types = codes "ID" ∷ codes "IDREF" ∷ codes "IDREFS" ∷ []
-
-abbrev pub is_schema_space : Option (List ℕ) → Bool
-is_schema_space None = false
-is_schema_space (Some space) = bytes_eq space schema_namespace
-
--- a name of one of these types
-abbrev pub is_id_type : Expanded → Bool
-is_id_type name = is_schema_space name.namespace && list_any (λ id. bytes_eq name.local id) id_types
-
-abbrev pub names_id_type : Option Expanded → Bool
-names_id_type None = false
-names_id_type (Some name) = is_id_type name
-
--- the attributes default and fixed, and a reference to a type of ids
-abbrev pub is_unassessed_element : ElementForm → Bool
-is_unassessed_element form = is_some form.value || names_id_type form.of
-
--- What is not assessed yet: value constraints of elements, references to types of ids, and the elements include, import, redefine,
--- attribute, attributeGroup, anyAttribute, simpleContent, complexContent, unique, key and keyref. So a set without them is one document,
--- in which no complex type is derived and nothing has attributes. What else elements and types may say is looked at: mixed, abstract
--- and nillable by the assessment alone; the methods in block and final, where no complex type is derived, by simple types, substitution
--- groups and xsi:type; an `all` by its limits and its automaton; a wildcard by the automata and by how strictly what it admits is
--- assessed.
+-- What is not assessed yet: restrictions of complex types, and the elements redefine, unique, key and keyref. So in a set without them
+-- no component is redefined, and a complex type is derived by extension alone. What else elements, attributes and types may say is
+-- looked at: what documents say of others by include and import by phase 2; attributes, attribute groups and their wildcards by phase 6
+-- (wildcards without a form, two uses of one name or of types of IDs), and so are value constraints (default and fixed); extensions by
+-- phases 4 (circles, bases of the wrong kind), 6 (wildcards without a union, two uses of one name with those of the base) and 7 (the
+-- final of the base, content of another kind), and their contents by phases 7 and 8; IDs, mixed, abstract and nillable by the
+-- assessment; the methods in block and final by simple types, extensions, substitution groups and xsi:type; an `all` by its limits and
+-- its automaton; a wildcard of elements by the automata and by how strictly what it admits is assessed.
 abbrev pub is_unassessed_form : Form → Bool
-is_unassessed_form (forms.Include location) = true
-is_unassessed_form (forms.Import namespace location) = true
 is_unassessed_form (forms.Redefine location) = true
-is_unassessed_form (forms.Element form) = is_unassessed_element form
-is_unassessed_form (forms.Attribute form) = true
-is_unassessed_form (forms.AttributeGroup name) = true
-is_unassessed_form (forms.AttributeGroupReference to) = true
-is_unassessed_form (forms.AnyAttribute wildcard) = true
-is_unassessed_form forms.SimpleContent = true
-is_unassessed_form (forms.ComplexContent mixed) = true
+is_unassessed_form (forms.Derivation by_extension base) = not by_extension
 is_unassessed_form (forms.Identity kind name refer) = true
-is_unassessed_form (forms.Restriction base) = names_id_type base
-is_unassessed_form (forms.ItemType of) = names_id_type of
-is_unassessed_form (forms.Union members) = list_any is_id_type members
 is_unassessed_form _ = false
 
 -- some element of the document is not assessed yet

@@ -1,31 +1,16 @@
 ghost use Rattle.std.specs.Prelude.{◌≡◌};
 ghost use Rattle.not_yet.specs.Unassessed as spec;
 
-use crate::references::{name_id_types, names_id_type};
-use schema_shape::{ElementForm, Form, Shape};
-
-// Whether an element declaration has a value constraint, or a type of ids.
-fn is_unassessed_element(form: &ElementForm) -> bool
-    ensures { result ≡ spec.is_unassessed_element form.now }
-{
-    form.value.is_some() || names_id_type(&form.of)
-}
+use schema_shape::{Form, Shape};
 
 // Whether an element of a document, or one of its attributes, is not assessed yet.
 fn is_unassessed_form(form: &Form) -> bool
     ensures { result ≡ spec.is_unassessed_form form.now }
 {
     match form {
-        Form::Include { .. } | Form::Import { .. } | Form::Redefine { .. } => true,
-        Form::Element(form) => is_unassessed_element(form),
-        Form::Attribute(_) => true,
-        Form::AttributeGroup { .. } | Form::AttributeGroupReference { .. } => true,
-        Form::AnyAttribute(_) => true,
-        Form::SimpleContent | Form::ComplexContent { .. } => true,
+        Form::Redefine { .. } => true,
+        Form::Derivation { by_extension, .. } => !by_extension,
         Form::Identity { .. } => true,
-        Form::Restriction { base } => names_id_type(base),
-        Form::ItemType { of } => names_id_type(of),
-        Form::Union { members } => name_id_types(members.as_slice()),
         _ => false,
     }
 }

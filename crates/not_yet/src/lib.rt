@@ -2,6 +2,5 @@
 #![tactic(auto)]
 
 mod forms;
-mod references;
 
 pub use forms::is_unassessed;

@@ -1,5 +1,5 @@
 -- Streams of which no line is refused.
-use Rattle.std.proofs.Common.{◌≡◌, ◌⊎◌, inl, inr, ℕ, List, [], ◌∷◌, ◌++◌, true, Option, Some, refl, sym, ap, ◌∙◌, subst, append_assoc, append-nil, if◌then◌else◌, ◌+◌, arith}
+use Rattle.std.proofs.Common.{◌≡◌, ◌⊎◌, inl, inr, ℕ, List, [], ◌∷◌, ◌++◌, true, Option, Some, refl, sym, ap, ◌∙◌, subst, append_assoc, append-nil, ◌+◌, arith}
 use Rattle.item_listing.specs.Listed.{listed, Listed}
 use Rattle.item_listing.specs.State.{unread}
 use Rattle.item_listing.specs.declared.item.Item.{Item}
@@ -19,7 +19,7 @@ use Rattle.xsv_run.specs.State.{OpenState}
 use Rattle.xsv_run.specs.Told.{Last, Told, over, asks, Leads, free, before, answered, schema_ok, ending_of, not_yet, inputs, sections_told, stream_told, compiled_told, check_told, opened_told, opening, commands_told}
 use Rattle.xsv_run.specs.Output.{Output, asked, refused_words, output_of, ComesTo, IsOutput, IsOutputBy, told_of}
 use Rattle.xsv_run.specs.declared.status.Status.TheVariants.{Valid}
-use Rattle.output_laws.specs.Complete.{HasNoAttributes, IsByOutcome, replies, state_after, first_state, costs, last_line, answer, check_output, stream_output}
+use Rattle.output_laws.specs.Complete.{IsByOutcome, replies, state_after, first_state, costs, last_line, answer, check_output, stream_output}
 
 -- the output of what is told, where nothing is asked
 abbrev output_told : Told → Output
@@ -128,22 +128,21 @@ module _ (p : RightAssessor) where
     stream_last (Broken fault) = last_of (stream_next (Broken fault))
     stream_last NotYet = not_yet
 
-    opened_is : (set : Compiled) → HasNoAttributes d → opened_told p a set (sections.document d (given orders))
+    opened_is : (set : Compiled) → opened_told p a set (sections.document d (given orders))
         ≡ over (ended_at (opening p a (first_state set d) ++ (replies p (first_state set d) orders ++ last_line p (state_after (first_state set d) orders)))
         (costs (first_state set d) orders) (state_after (first_state set d) orders))
-    opened_is set plain =
-        ap (λ r. if r then over not_yet else before (free (opening p a (first_state set d))) (commands_told p (first_state set d) (given orders))) plain
-        ∙ ap (before (free (opening p a (first_state set d)))) (orders_told (first_state set d) orders)
+    opened_is set =
+        ap (before (free (opening p a (first_state set d)))) (orders_told (first_state set d) orders)
         ∙ free_first (opening p a (first_state set d)) (replies p (first_state set d) orders ++ last_line p (state_after (first_state set d) orders))
         (costs (first_state set d) orders) (state_after (first_state set d) orders)
 
-    stream_tells : HasNoAttributes d → (o : Outcome) → stream_next o ≡ over (stream_last o)
-    stream_tells plain (Accepted set) =
-        ap (before (free schema_ok)) (opened_is set plain)
+    stream_tells : (o : Outcome) → stream_next o ≡ over (stream_last o)
+    stream_tells (Accepted set) =
+        ap (before (free schema_ok)) (opened_is set)
         ∙ free_first schema_ok (opening p a (first_state set d) ++ (replies p (first_state set d) orders ++ last_line p (state_after (first_state set d) orders)))
         (costs (first_state set d) orders) (state_after (first_state set d) orders)
-    stream_tells plain (Broken fault) = refl
-    stream_tells plain NotYet = refl
+    stream_tells (Broken fault) = refl
+    stream_tells NotYet = refl
 
     stream_writes : (o : Outcome) → output_of (stream_last o) ≡ stream_output p a d orders o
     stream_writes (Accepted set) = refl
@@ -162,13 +161,13 @@ module _ (law : (a : Asked) (all : List SchemaSection) (d : Document) (orders : 
       told_is p Session bytes its (asks (inputs all) (stream_next p Session d orders)) reads (ap (stream_told (opened_told p Session)) (law Session all d orders its spells))
 
   module _ (a : Asked) (words : List (List ℕ)) (bytes : List ℕ) (its : List Item) (all : List SchemaSection) (d : Document) (orders : List Order) (out : Output)
-      (asks_for : asked words ≡ Some a) (reads : listed unread bytes true ≡ whole its) (spells : SpellsStream a all d orders its) (plain : HasNoAttributes d) where
+      (asks_for : asked words ≡ Some a) (reads : listed unread bytes true ≡ whole its) (spells : SpellsStream a all d orders its) where
     pub stream_answered : IsOutput p words bytes out → IsByOutcome all (stream_output p a d orders) out
     stream_answered h =
-        by_outcome all (stream_next p a d orders) (stream_output p a d orders) (stream_last p a d orders) (stream_tells p a d orders plain) (stream_writes p a d orders) out
+        by_outcome all (stream_next p a d orders) (stream_output p a d orders) (stream_last p a d orders) (stream_tells p a d orders) (stream_writes p a d orders) out
         (comes_from p a words bytes (asks (inputs all) (stream_next p a d orders)) out asks_for (stream_told_is a bytes its all d orders reads spells) h)
 
     pub stream_comes : IsByOutcome all (stream_output p a d orders) out → IsOutput p words bytes out
     stream_comes h =
         comes_to p a words bytes (asks (inputs all) (stream_next p a d orders)) out asks_for (stream_told_is a bytes its all d orders reads spells)
-        (of_outcome all (stream_next p a d orders) (stream_output p a d orders) (stream_last p a d orders) (stream_tells p a d orders plain) (stream_writes p a d orders) out h)
+        (of_outcome all (stream_next p a d orders) (stream_output p a d orders) (stream_last p a d orders) (stream_tells p a d orders) (stream_writes p a d orders) out h)

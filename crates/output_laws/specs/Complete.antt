@@ -1,7 +1,6 @@
 -- What is written for a whole stream of which no line is refused.
-use Rattle.std.specs.Prelude.{◌≡◌, ℕ, ◌+◌, List, [], ◌∷◌, ◌++◌, false, Some}
+use Rattle.std.specs.Prelude.{◌≡◌, ℕ, ◌+◌, List, [], ◌∷◌, ◌++◌, Some}
 use Rattle.tree_rows.specs.Forest.{Document}
-use Rattle.tree_rows.specs.Rows.{rows_of}
 use Rattle.stream_sections.specs.Spelled.{Order}
 use Rattle.stream_sections.specs.declared.asked.Asked.{Asked}
 use Rattle.stream_sections.specs.declared.schemas.SchemaSection.{SchemaSection}
@@ -15,13 +14,9 @@ use Rattle.xsv_run.specs.Outcomes.{IsOutcome}
 use Rattle.xsv_run.specs.State.{OpenState}
 use Rattle.xsv_run.specs.Statuses.{status_of}
 use Rattle.xsv_run.specs.Output.{Output, output_of}
-use Rattle.xsv_run.specs.Told.{has_attributes, schema_ok, opening, end_line, ending_of, inputs, not_yet}
+use Rattle.xsv_run.specs.Told.{schema_ok, opening, end_line, ending_of, inputs, not_yet}
 use Rattle.xsv_run.specs.declared.status.Status.{Status}
 use Rattle.xsv_run.specs.declared.status.Status.TheVariants.{Valid}
-
--- no element has an attribute that is no binding
-abbrev pub HasNoAttributes : Document → Type 0
-HasNoAttributes d = has_attributes (rows_of 1 d.forest) ≡ false
 
 -- a document that was just opened by a schema set
 abbrev pub first_state : Compiled → Document → OpenState

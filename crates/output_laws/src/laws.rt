@@ -9,7 +9,7 @@ ghost use Rattle.stream_sections.specs.declared.asked.Asked.TheVariants.{Check};
 ghost use Rattle.stream_sections.specs.declared.schemas.SchemaSection.{SchemaSection};
 ghost use Rattle.xsv_run.specs.Assessor.{RightAssessor};
 ghost use Rattle.xsv_run.specs.Output.{Output, asked, IsOutput};
-ghost use Rattle.output_laws.specs.Complete.{HasNoAttributes, IsByOutcome, check_output, stream_output};
+ghost use Rattle.output_laws.specs.Complete.{IsByOutcome, check_output, stream_output};
 
 use stream_sections::streams_are_read;
 
@@ -23,10 +23,10 @@ pub fn streams_are_answered()
         → asked words ≡ Some Check → listed unread bytes true ≡ whole its → SpellsCheck all its
         → IsByOutcome all check_output out → IsOutput p words bytes out }
     ensures stream { (p : RightAssessor) (a : Asked) (words : List (List ℕ)) (bytes : List ℕ) (its : List Item) (all : List SchemaSection) (d : Document) (orders : List Order) (out : Output)
-        → asked words ≡ Some a → listed unread bytes true ≡ whole its → SpellsStream a all d orders its → HasNoAttributes d
+        → asked words ≡ Some a → listed unread bytes true ≡ whole its → SpellsStream a all d orders its
         → IsOutput p words bytes out → IsByOutcome all (stream_output p a d orders) out }
     ensures streamed { (p : RightAssessor) (a : Asked) (words : List (List ℕ)) (bytes : List ℕ) (its : List Item) (all : List SchemaSection) (d : Document) (orders : List Order) (out : Output)
-        → asked words ≡ Some a → listed unread bytes true ≡ whole its → SpellsStream a all d orders its → HasNoAttributes d
+        → asked words ≡ Some a → listed unread bytes true ≡ whole its → SpellsStream a all d orders its
         → IsByOutcome all (stream_output p a d orders) out → IsOutput p words bytes out }
 {
     streams_are_read();

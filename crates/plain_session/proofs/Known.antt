@@ -1,7 +1,8 @@
 -- What is known of a tree is its assessment from scratch.
 use Rattle.std.proofs.Common.{◌≡◌, ◌*◌, ◌≤◌, ◌<◌, ◌^◌, List, map, sym, ap, subst, ◌∙◌, arith}
 use Rattle.std.specs.Prelude.{All, false}
-use Rattle.tree_rows.specs.Forest.{Forest, count}
+use Rattle.tree_rows.specs.Forest.{Document, count}
+use Rattle.tree_rows.specs.Whole.{IsTree}
 use Rattle.tree_rows.specs.declared.limits.TheConstants.{MAX_NODES}
 use Rattle.entry_reports.specs.Asking.{code_total}
 use Rattle.entry_reports.specs.Assessment.{entries}
@@ -14,17 +15,18 @@ use Rattle.entry_reports.specs.Reports.{IsEntryNamed, record_lines, report}
 use Rattle.entry_reports.specs.State.{State, known}
 use Rattle.entry_reports.specs.Usable.{set_of}
 use Rattle.plain_session.specs.Held.{state_of, IsPresent, IsUpToDate}
+use Rattle.plain_session.specs.Stocks.{IsReady}
 use Rattle.plain_session.specs.declared.session.PlainSession.TheInside.{Inside}
 
-module _ (set : Compiled) (f : Forest) (es : List ElementEntry) (are : AreEntries (set_of set) f es) where
-  pub are_known : (p : RightAssessor) → map entry_of es ≡ entries (p.assess (set_of set) f)
-  are_known p = are.entries_are ∙ sym (ap entries (p.right (set_of set) f are.found are.assessed))
+module _ (set : Compiled) (d : Document) (es : List ElementEntry) (are : AreEntries (set_of set) d.forest es) where
+  pub are_known : IsReady set → IsTree d → (p : RightAssessor) → map entry_of es ≡ entries (p.assess (set_of set) d.forest)
+  are_known ready tree p = are.entries_are ∙ sym (ap entries (p.right (set_of set) d are.found ready.sound ready.usable.named tree are.assessed))
 
   pub are_named : All (IsEntryNamed set) (entries are.found) → All (IsEntryNamed set) (map entry_of es)
   are_named named = subst (All (IsEntryNamed set)) (sym are.entries_are) named
 
   -- the codes of a tree within its limits can be counted
-  pub can_count : code_total (entries are.found) ≤ most_codes * count f → count f ≤ MAX_NODES → code_total (map entry_of es) < 2 ^ 64
+  pub can_count : code_total (entries are.found) ≤ most_codes * count d.forest → count d.forest ≤ MAX_NODES → code_total (map entry_of es) < 2 ^ 64
   can_count few within = omega (arith, few, within, ap code_total are.entries_are)
 
 -- what an open session holds is what is known of its document
@@ -34,7 +36,7 @@ module _ (s : Inside) (v : State) (is : state_of s ≡ v) (up : IsUpToDate s) (o
 
   module _ (p : RightAssessor) where
     known_now : map entry_of s.stock.entries.items ≡ known p v
-    known_now = are_known s.set.value s.tree.forest s.stock.entries.items present.stock.entries_are p ∙ ap (known p) is
+    known_now = are_known s.set.value s.tree s.stock.entries.items present.stock.entries_are present.ready present.stock.tree p ∙ ap (known p) is
 
     pub entries_now : (es : List ElementEntry) → es ≡ s.stock.entries.items → map entry_of es ≡ known p v
     entries_now es e = ap (map entry_of) e ∙ known_now

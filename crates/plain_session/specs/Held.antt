@@ -10,7 +10,7 @@ state_of s = record { set = s.set.value; document = s.tree; revision = s.revisio
 -- what is known is known of the present tree
 pub record IsPresent (s : Inside) : Type 0 where
   pub ready : IsReady s.set.value
-  pub stock : IsStock s.set.value s.tree.forest s.stock
+  pub stock : IsStock s.set.value s.tree s.stock
 
 -- so it is while the session is not closed
 abbrev pub IsUpToDate : Inside → Type 0

@@ -1,7 +1,8 @@
 -- What is known of a tree.
 use Rattle.std.specs.Prelude.{◌≡◌, All, map}
 use Rattle.xs_names.specs.Names.{IsSound}
-use Rattle.tree_rows.specs.Forest.{Forest}
+use Rattle.tree_rows.specs.Forest.{Document}
+use Rattle.tree_rows.specs.Whole.{IsTree}
 use Rattle.entry_reports.specs.Entries.{AreEntries, entry_of}
 use Rattle.entry_reports.specs.Asking.{code_total}
 use Rattle.entry_reports.specs.Compiled.{Compiled}
@@ -14,8 +15,9 @@ pub record IsReady (set : Compiled) : Type 0 where
   pub usable : IsUsable set
   pub sound : IsSound set.names
 
--- the entries are those of the tree, by names and types of the set, and the total is the number of their codes
-pub record IsStock (set : Compiled) (forest : Forest) (s : Stock) : Type 0 where
-  pub entries_are : AreEntries (set_of set) forest s.entries.items
+-- the entries are those of the document, by names and types of the set, and the total is the number of their codes
+pub record IsStock (set : Compiled) (d : Document) (s : Stock) : Type 0 where
+  pub tree : IsTree d
+  pub entries_are : AreEntries (set_of set) d.forest s.entries.items
   pub named : All (IsEntryNamed set) (map entry_of s.entries.items)
   pub total_is : s.total ≡ code_total (map entry_of s.entries.items)

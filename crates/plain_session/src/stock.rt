@@ -27,10 +27,10 @@ pub(crate) struct Stock {
 fn assessed(alloc: Global, set: &mut Compiled, tree: &Tree) -> Result<Stock, AllocError>
     requires ready { IsReady set.old }
     requires names { HasNames set.old.names tree.now.forest }
-    ensures stock { IfOk result (IsStock set.old tree.now.forest) }
+    ensures stock { IfOk result (IsStock set.old tree.now) }
     ensures same { set.new ≡ set.old }
 {
-    // Who reads a tree is told that it is within the limits: its codes can be counted.
+    // Who reads a tree is told that it is one, and within the limits: its codes can be counted.
     let _whole = tree.next_free();
     entries_are_named();
     entries_have_few_codes();
@@ -52,7 +52,7 @@ pub(crate) fn take_stock(
     requires ready { IsReady set.old }
     ensures ready { OnOk result (IsReady set.new) }
     ensures named { OnOk result (set.new ≡ with_names set.old tree.now.forest) }
-    ensures stock { IfOk result (IsStock set.new tree.now.forest) }
+    ensures stock { IfOk result (IsStock set.new tree.now) }
 {
     document_names_are_found();
     usable_with_more_names();
@@ -73,7 +73,7 @@ pub(crate) fn first_stock(
     requires usable { IsUsable set.old }
     ensures ready { OnOk result (IsReady set.new) }
     ensures named { OnOk result (set.new ≡ with_names set.old tree.now.forest) }
-    ensures stock { IfOk result (IsStock set.new tree.now.forest) }
+    ensures stock { IfOk result (IsStock set.new tree.now) }
 {
     // Who reads a table of names is told that it is sound.
     let _sound = set.names.lookup(NsId::ABSENT, "");

@@ -4,4 +4,4 @@
 mod building;
 
 pub use building::build;
-pub use document_representations::{Available, EffectiveSet, close_set};
+pub use document_representations::{Available, EffectiveSet};

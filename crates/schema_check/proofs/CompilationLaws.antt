@@ -1,78 +1,60 @@
--- The phases of documents from their shape and from those of the set.
-use Rattle.std.specs.Prelude.{All, IfOk, slice_get}
-use Rattle.std.proofs.lemmas.Bool.{or_parts}
-use Rattle.std.proofs.lemmas.List.Elements.{All-nil, All-cons}
-use Rattle.std.proofs.Common.{◌≡◌, ◌⊎◌, inl, inr, Bool, false, List, [], ◌∷◌, Option, None, Some, Result, Ok, Err, ℕ, ◌<◌, length, refl, sym, subst, ◌∙◌, arith}
+-- The phases of documents from those of the documents alone and from those of the set.
+use Rattle.std.specs.Prelude.{IfOk}
+use Rattle.std.proofs.Common.{◌≡◌, ◌⊎◌, inl, inr, false, List, ◌∷◌, [], Option, None, Some, Result, Ok, Err, subst}
 use Rattle.xs_codes.specs.declared.fault.Fault.{Fault}
-use Rattle.set_types.specs.Shape.{Shape}
-use Rattle.set_types.specs.ShapedSchema.{ShapedSchema}
-use Rattle.set_types.specs.SchemaShapeShaped as shape_of
-use Rattle.schema_build.specs.Available.{Available}
+use Rattle.xs_faults.specs.Least.{IsLeast}
 use Rattle.schema_build.specs.SetDocument.{SetDocument}
-use Rattle.schema_build.specs.EffectiveSet.{is_composition, AreAlone, IsEffectiveSet}
+use Rattle.schema_documents.specs.declared.inputs.SchemaInput.{SchemaInput}
+use Rattle.schema_documents.specs.Documents.{available, IsSet, IsShapeFault}
+use Rattle.schema_documents.specs.Composition.{Broken as IsCompositionFault}
 use Rattle.schema_check.specs.declared.documents.CompiledSet.{CompiledSet}
 use Rattle.schema_check.specs.declared.documents.Refusal.{Refusal}
-use Rattle.schema_check.specs.declared.documents.Refusal.TheVariants.{Broken, Composed}
-use Rattle.schema_check.specs.declared.documents.SchemaInput.{SchemaInput}
+use Rattle.schema_check.specs.declared.documents.Refusal.TheVariants.{Broken, NotYet}
 use Rattle.schema_check.specs.Phases.{IsFirstOfPhases}
-use Rattle.schema_check.specs.SetPhases.{name_phase, base_phase, type_phase, by_components, set_phases, IsSetCompiled, IsAloneCompiled}
-use Rattle.schema_check.specs.Compilation.{composes, IsShaped, shape_phase, IsSet, later_phases, IsCompilation}
-use Rattle.schema_check.specs.inside.Typed.{as_refusal, IsShapedCompiled}
+use Rattle.schema_check.specs.SetPhases.{name_phase, base_phase, type_phase, by_components, set_phases, IsSetCompiled}
+use Rattle.schema_check.specs.Compilation.{are_unassessed, by_set, shape_phase, composition_phase, later_phases, IsCompilation}
+use Rattle.schema_check.specs.inside.Typed.{as_refusal, IsComposedCompiled, IsClosedCompiled}
 use Rattle.schema_check.proofs.PhaseLaws.{after-one, first-implied}
 
-pub first-shaped : (documents : List SchemaInput) (input : SchemaInput) (answer : Result ShapedSchema Fault) → slice_get documents 0 ≡ Some input
-    → answer ≡ shape_of.shaped 1 input.tree.forest → IsShaped documents answer
-unfolding IsShaped
-first-shaped documents input answer at is = (input, at, is)
+pub as-refusal : (set : List SetDocument) (answer : Result CompiledSet Fault) → IsSetCompiled set answer → IsComposedCompiled set (as_refusal answer)
+as-refusal set (Ok made) h = h
+as-refusal set (Err fault) h = h
+
+-- a set without a fault of phase 2
+pub composed : {E : Type 0} (result : Result (Result CompiledSet Refusal) E) (set : List SetDocument) (assessed : are_unassessed set ≡ false) (found : Option Fault) → found ≡ None
+    → IfOk result (IsComposedCompiled set) → IfOk result (IsClosedCompiled set found)
+composed (Ok (Ok made)) set assessed found none h = (assessed, none, h)
+composed (Ok (Err (Broken fault))) set assessed found none h = (assessed, inr (none, h))
+composed (Ok (Err NotYet)) set assessed found none h = absurd h
+composed (Err e) set assessed found none h = h
 
 module _ (documents : List SchemaInput) where
-  pub shape-refused : (fault : Fault) → IsShaped documents (Err fault) → IsCompilation documents (Err (Broken fault))
-  shape-refused fault is = inl (Err fault, is, refl)
+  pub shape-phase : (found : Option Fault) → IsLeast (IsShapeFault documents) found → shape_phase documents found
+  unfolding shape_phase
+  shape-phase found least = least
 
-  module _ (shaped : ShapedSchema) (is : IsShaped documents (Ok shaped)) (alone : composes shaped.shapes ≡ false) where
-    in-set : (first : Available) (set : List SetDocument) → first.shaped ≡ shaped → IsEffectiveSet (first ∷ []) set → IsSet documents set
-    in-set first set same effective =
-        (first, subst (λ (s : ShapedSchema). IsShaped documents (Ok s)) (sym same) is, subst (λ (s : ShapedSchema). composes s.shapes ≡ false) (sym same) alone, effective)
+  pub composition-phase : (found : Option Fault) → IsLeast (IsCompositionFault (available documents)) found → composition_phase documents found
+  unfolding composition_phase
+  composition-phase found least = least
 
-    all-phases : (set : List SetDocument) → IsSet documents set → (found : Option Fault) → IsFirstOfPhases (set_phases set) found
-        → IsFirstOfPhases (shape_phase documents ∷ later_phases documents) found
-    all-phases set of found h = after-one (shape_phase documents) (later_phases documents) found (Ok shaped, is, refl)
-        (first-implied (set_phases set) (later_phases documents) found
+  pub shape-refused : (fault : Fault) → shape_phase documents (Some fault) → IsCompilation documents (Err (Broken fault))
+  shape-refused fault is = inl is
+
+  module _ (set : List SetDocument) (of : IsSet documents set) (shaped : shape_phase documents None) where
+    behind : (found : Option Fault) → composition_phase documents None → IsFirstOfPhases (set_phases set) found → IsFirstOfPhases (later_phases documents) found
+    behind found none h =
+        after-one (composition_phase documents) (by_set documents name_phase ∷ by_set documents (λ s. by_components s base_phase) ∷ by_set documents (λ s. by_components s type_phase) ∷ []) found none
+        (first-implied (set_phases set) (by_set documents name_phase ∷ by_set documents (λ s. by_components s base_phase) ∷ by_set documents (λ s. by_components s type_phase) ∷ []) found
         ((λ f p. (set, of, p)), ((λ f p. (set, of, p)), ((λ f p. (set, of, p)), tt))) h)
 
-    compiled : (made : CompiledSet) → IsAloneCompiled shaped (Ok made) → IsCompilation documents (Ok made)
-    compiled made h = let of = in-set h.0 h.2 h.1 h.3 in (all-phases h.2 of None h.4.0, h.2, of, h.4)
+    refused : (fault : Fault) (found : Option Fault) → composition_phase documents found → (found ≡ Some fault) ⊎ ((found ≡ None) × IsSetCompiled set (Err fault))
+        → IsFirstOfPhases (later_phases documents) (Some fault)
+    refused fault found least (inl here) = inl (subst (composition_phase documents) here least)
+    refused fault found least (inr later) = behind (Some fault) (subst (composition_phase documents) later.0 least) later.1
 
-    refused : (fault : Fault) → IsAloneCompiled shaped (Err fault) → IsCompilation documents (Err (Broken fault))
-    refused fault h = let of = in-set h.0 h.2 h.1 h.3 in all-phases h.2 of (Some fault) h.4
-
-  pub shaped-compiled : {E : Type 0} (result : Result (Result CompiledSet Refusal) E) (shaped : ShapedSchema) → IsShaped documents (Ok shaped)
-      → IfOk result (IsShapedCompiled shaped) → IfOk result (IsCompilation documents)
-  shaped-compiled (Ok (Ok made)) shaped is h = compiled shaped is h.0 made h.1
-  shaped-compiled (Ok (Err (Broken fault))) shaped is h = refused shaped is h.0 fault h.1
-  shaped-compiled (Ok (Err Composed)) shaped is h = (shaped, is, h)
-  shaped-compiled (Err e) shaped is h = h
-
--- what is answered for a document that leads to no others
-pub as-refusal : (shaped : ShapedSchema) (answer : Result CompiledSet Fault) → composes shaped.shapes ≡ false → IsAloneCompiled shaped answer → IsShapedCompiled shaped (as_refusal answer)
-as-refusal shaped (Ok made) alone h = (alone, h)
-as-refusal shaped (Err fault) alone h = (alone, h)
-
--- a document that composes nothing
-pub alone-shapes : (shapes : List Shape) → composes shapes ≡ false → All (λ shape. is_composition shape.form ≡ false) shapes
-alone-shapes [] e = All-nil (λ (shape : Shape). is_composition shape.form ≡ false)
-alone-shapes (shape ∷ shapes) e =
-    let parts = or_parts (is_composition shape.form) (composes shapes) e in
-    All-cons (λ (s : Shape). is_composition s.form ≡ false) shape shapes parts.0 (alone-shapes shapes parts.1)
-
--- the documents of such a set before it is closed
-pub one-available : (slice list : List Available) (first : Available) → slice ≡ list → list ≡ first ∷ [] → 0 < length slice
-one-available slice list first same is = rw (same ∙ is) (omega arith)
-
-pub alone-available : (slice list : List Available) (first : Available) (shaped : ShapedSchema) → slice ≡ list → list ≡ first ∷ [] → first.shaped ≡ shaped
-    → composes shaped.shapes ≡ false → AreAlone slice
-alone-available slice list first shaped same is of alone =
-    subst (λ (l : List Available). AreAlone l) (sym (same ∙ is))
-    (All-cons (λ (a : Available). All (λ (s : Shape). is_composition s.form ≡ false) a.shaped.shapes) first []
-    (subst (λ (x : ShapedSchema). All (λ (s : Shape). is_composition s.form ≡ false) x.shapes) (sym of) (alone-shapes shaped.shapes alone))
-    (All-nil (λ (a : Available). All (λ (s : Shape). is_composition s.form ≡ false) a.shaped.shapes)))
+    pub closed-compiled : {E : Type 0} (result : Result (Result CompiledSet Refusal) E) (found : Option Fault) → composition_phase documents found
+        → IfOk result (IsClosedCompiled set found) → IfOk result (IsCompilation documents)
+    closed-compiled (Ok (Ok made)) found least h = ((shaped, behind None (subst (composition_phase documents) h.1 least) h.2.0), set, of, h.0, h.2)
+    closed-compiled (Ok (Err (Broken fault))) found least h = inr (shaped, (set, of, h.0), refused fault found least h.1)
+    closed-compiled (Ok (Err NotYet)) found least h = (shaped, (set, of, h))
+    closed-compiled (Err e) found least h = h

@@ -6,15 +6,12 @@ use Rattle.xs_components.specs.Tables.{Tables}
 use Rattle.xs_faults.specs.Least.{IsLeast}
 use Rattle.xs_names.specs.Names.{NameTable, no_names}
 use Rattle.schema_build.specs.Documents.{set_table}
-use Rattle.set_types.specs.ShapedSchema.{ShapedSchema}
-use Rattle.schema_build.specs.Available.{Available}
 use Rattle.schema_build.specs.SetDocument.{SetDocument}
-use Rattle.schema_build.specs.EffectiveSet.{IsEffectiveSet}
 use Rattle.representations.specs.declared.source.Source.{Source}
 use Rattle.schema_build.specs.Built.{built}
 use Rattle.schema_build.specs.Components.{IsBuilt, IsNameFault, AreComponents}
 use Rattle.schema_check.specs.Phases.{IsFirstOfPhases}
-use Rattle.schema_check.specs.SetPhases.{names, name_phase, AreParts, set_phases, base_phase, type_phase, part_phases, by_components, IsSetCompiled, IsAloneCompiled}
+use Rattle.schema_check.specs.SetPhases.{names, name_phase, AreParts, set_phases, base_phase, type_phase, part_phases, by_components, IsSetCompiled}
 use Rattle.schema_check.specs.declared.documents.CompiledSet.{CompiledSet}
 use Rattle.schema_check.specs.inside.Typed.{ArePartsCompiled}
 use Rattle.schema_check.proofs.PhaseLaws.{after-one, first-implied}
@@ -51,12 +48,6 @@ set-compiled result set t parts same built compiled = parts-compiled result set 
 
 pub set-unnamed : (set : List SetDocument) (t : NameTable) (fault : Fault) → t ≡ names set → IsBuilt t set (Err fault) → IsSetCompiled set (Err fault)
 set-unnamed set t fault same built = inl (unnamed set t same fault built)
-
--- the set of one document
-pub alone-compiled : {E : Type 0} (result : Result (Result CompiledSet Fault) E) (shaped : ShapedSchema) (first : Available) (set : List SetDocument)
-    → first.shaped ≡ shaped → IsEffectiveSet (first ∷ []) set → IfOk result (IsSetCompiled set) → IfOk result (IsAloneCompiled shaped)
-alone-compiled (Ok answer) shaped first set same effective compiled = (first, same, set, effective, compiled)
-alone-compiled (Err e) shaped first set same effective compiled = compiled
 
 -- the names of documents before which no names were there
 pub first-names : (set : List SetDocument) (none t : NameTable) → none ≡ no_names → t ≡ set_table none set → t ≡ names set

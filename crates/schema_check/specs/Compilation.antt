@@ -1,56 +1,51 @@
 -- What becomes of schema documents: the set that the first one leads to, compiled, or the first broken constraint.
-use Rattle.std.specs.Prelude.{◌≡◌, Bool, true, false, List, [], ◌∷◌, Option, None, Some, Result, Ok, Err, slice_get}
+use Rattle.std.specs.Prelude.{◌≡◌, ◌⊎◌, Bool, true, false, List, [], ◌∷◌, Option, None, Some, Result, Ok, Err}
 use Rattle.std.specs.List.{list_any}
 use Rattle.xs_codes.specs.declared.fault.Fault.{Fault}
-use Rattle.set_types.specs.Shape.{Shape}
-use Rattle.set_types.specs.ShapedSchema.{ShapedSchema}
-use Rattle.set_types.specs.SchemaShapeShaped.{shaped}
-use Rattle.schema_build.specs.Available.{Available}
+use Rattle.xs_faults.specs.Least.{IsLeast}
+use Rattle.not_yet.specs.Unassessed.{is_unassessed}
+use Rattle.schema_documents.specs.declared.inputs.SchemaInput.{SchemaInput}
+use Rattle.schema_documents.specs.Documents.{available, IsSet, IsShapeFault}
+use Rattle.schema_documents.specs.Composition.{Broken as IsCompositionFault}
 use Rattle.schema_build.specs.SetDocument.{SetDocument}
-use Rattle.schema_build.specs.EffectiveSet.{is_composition, IsEffectiveSet}
 use Rattle.schema_check.specs.declared.documents.CompiledSet.{CompiledSet}
 use Rattle.schema_check.specs.declared.documents.Refusal.{Refusal}
-use Rattle.schema_check.specs.declared.documents.Refusal.TheVariants.{Broken, Composed}
-use Rattle.schema_check.specs.declared.documents.SchemaInput.{SchemaInput}
+use Rattle.schema_check.specs.declared.documents.Refusal.TheVariants.{Broken, NotYet}
 use Rattle.schema_check.specs.Phases.{IsFirstOfPhases}
 use Rattle.schema_check.specs.SetPhases.{name_phase, by_components, base_phase, type_phase, IsSetCompiled}
 
--- an element of a document includes, imports or redefines another document (Structures 4.2)
-abbrev pub composes : List Shape → Bool
-composes shapes = list_any (λ shape. is_composition shape.form) shapes
-
-abbrev pub fault_in : Result ShapedSchema Fault → Option Fault
-fault_in (Ok shaped) = None
-fault_in (Err fault) = Some fault
+-- something in the documents of a set is not assessed yet
+abbrev pub are_unassessed : List SetDocument → Bool
+are_unassessed set = list_any (λ d. is_unassessed d.shaped.now.shapes) set
 
 module _ (documents : List SchemaInput) where
-  -- what the first document declares, or its first fault
-  unfoldable pub IsShaped : Result ShapedSchema Fault → Type 0
-  IsShaped answer = (input : SchemaInput) × (slice_get documents 0 ≡ Some input) × (answer ≡ shaped 1 input.tree.forest)
+  -- phase 1: the shapes of the documents of the set
+  unfoldable pub shape_phase : Option Fault → Type 0
+  shape_phase found = IsLeast (IsShapeFault documents) found
 
-  -- phase 1: the shape of the first document, which is the only one of the set
-  abbrev pub shape_phase : Option Fault → Type 0
-  shape_phase found = (answer : Result ShapedSchema Fault) × IsShaped answer × (found ≡ fault_in answer)
-
-  -- the documents of the set, where the first leads to no others
-  abbrev pub IsSet : List SetDocument → Type 0
-  IsSet set = (first : Available) × IsShaped (Ok first.shaped) × (composes first.shaped.shapes ≡ false) × IsEffectiveSet (first ∷ []) set
+  -- phase 2: what the documents of the set say of others by include, import and redefine
+  unfoldable pub composition_phase : Option Fault → Type 0
+  composition_phase found = IsLeast (IsCompositionFault (available documents)) found
 
   -- a phase that looks at the documents of the set
   abbrev pub by_set : (List SetDocument → Option Fault → Type 0) → Option Fault → Type 0
-  by_set phase found = (set : List SetDocument) × IsSet set × phase set found
+  by_set phase found = (set : List SetDocument) × IsSet documents set × phase set found
 
   abbrev pub later_phases : List (Option Fault → Type 0)
   later_phases =
-      by_set name_phase ∷ by_set (λ set. by_components set base_phase) ∷ by_set (λ set. by_components set type_phase) ∷ []
+      composition_phase ∷ by_set name_phase ∷ by_set (λ set. by_components set base_phase) ∷ by_set (λ set. by_components set type_phase) ∷ []
 
-  -- the phases that there are: shapes, names, bases, simple types
+  -- the phases that there are: shapes, composition, names, bases, simple types
   abbrev pub phases : List (Option Fault → Type 0)
   phases = shape_phase ∷ later_phases
 
-  -- The compiled set where no phase has a fault, else the first fault of the first phase that has one. A first document that
-  -- leads to others is not compiled yet: where its shape is right nothing further is said.
+  -- a set of the documents has something that is not assessed yet, or has not
+  abbrev pub IsAssessed : Bool → Type 0
+  IsAssessed answer = (set : List SetDocument) × IsSet documents set × (are_unassessed set ≡ answer)
+
+  -- The compiled set where no phase has a fault, else the first fault of the first phase that has one. A set whose documents are of
+  -- the right shape and have something that is not assessed yet is not compiled.
   abbrev pub IsCompilation : Result CompiledSet Refusal → Type 0
-  IsCompilation (Ok made) = IsFirstOfPhases phases None × (set : List SetDocument) × IsSet set × IsSetCompiled set (Ok made)
-  IsCompilation (Err (Broken fault)) = IsFirstOfPhases phases (Some fault)
-  IsCompilation (Err Composed) = (first : ShapedSchema) × IsShaped (Ok first) × (composes first.shapes ≡ true)
+  IsCompilation (Ok made) = IsFirstOfPhases phases None × (set : List SetDocument) × IsSet documents set × (are_unassessed set ≡ false) × IsSetCompiled set (Ok made)
+  IsCompilation (Err (Broken fault)) = shape_phase (Some fault) ⊎ (shape_phase None × IsAssessed false × IsFirstOfPhases later_phases (Some fault))
+  IsCompilation (Err NotYet) = shape_phase None × IsAssessed true

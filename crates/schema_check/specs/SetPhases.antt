@@ -10,10 +10,7 @@ use Rattle.type_derivation.specs.Cycles.{IsBroken, IsGrown}
 use Rattle.type_derivation.specs.Particles.{AreContentsSet}
 use Rattle.simple_types.specs.declared.types.SimpleTypes.{SimpleTypes}
 use Rattle.simple_types.specs.SimpleTypes.{AreTypesOf, AreWhole, first_fault_of}
-use Rattle.set_types.specs.ShapedSchema.{ShapedSchema}
-use Rattle.schema_build.specs.Available.{Available}
 use Rattle.schema_build.specs.SetDocument.{SetDocument}
-use Rattle.schema_build.specs.EffectiveSet.{IsEffectiveSet}
 use Rattle.schema_build.specs.Documents.{set_table}
 use Rattle.schema_build.specs.Components.{IsNameFault, AreComponents}
 use Rattle.schema_check.specs.declared.documents.CompiledSet.{CompiledSet}
@@ -70,8 +67,3 @@ module _ (set : List SetDocument) where
   abbrev pub IsSetCompiled : Result CompiledSet Fault → Type 0
   IsSetCompiled (Ok made) = IsFirstOfPhases set_phases None × IsCompiled made
   IsSetCompiled (Err fault) = IsFirstOfPhases set_phases (Some fault)
-
--- the set of this document, which leads to no others, compiled, or its first fault
-abbrev pub IsAloneCompiled : ShapedSchema → Result CompiledSet Fault → Type 0
-IsAloneCompiled shaped answer =
-    (first : Available) × (first.shaped ≡ shaped) × (set : List SetDocument) × IsEffectiveSet (first ∷ []) set × IsSetCompiled set answer

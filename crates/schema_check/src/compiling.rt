@@ -1,36 +1,25 @@
-ghost use Rattle.std.specs.Prelude.{◌≡◌, ◌<◌, false, length, IfOk};
-ghost use Rattle.schema_build.specs.EffectiveSet.{is_composition};
-ghost use Rattle.schema_check.specs.SetPhases.{IsSetCompiled, IsAloneCompiled};
+ghost use Rattle.std.specs.Prelude.{◌≡◌, ◌<◌, List, length, IfOk};
+ghost use Rattle.schema_check.specs.SetPhases.{IsSetCompiled};
 ghost use Rattle.schema_check.specs.Compilation as spec;
 ghost use Rattle.schema_check.specs.inside.Typed as inside;
 
-use crate::documents::{CompiledSet, Refusal, SchemaInput};
+use crate::documents::{CompiledSet, Refusal};
 use crate::types::compile_parts;
-use schema_build::{Available, EffectiveSet, build, close_set};
-use set_types::{Form, Shape, ShapedSchema, shape, tables_are_closed};
+use not_yet::is_unassessed;
+use schema_build::build;
+use schema_documents::{
+    ClosedSet, EffectiveSet, SchemaInput, SetDocument, close_set, first_shape_fault, read_documents,
+};
+use set_types::tables_are_closed;
 use std::alloc::{AllocError, Global};
 use xs_codes::Fault;
-use xs_lists::Listed;
-use xs_names::{Names, Texts};
+use xs_names::Names;
 
-// The number of the document that the set begins with.
-const FIRST: u32 = 1;
-
-// Whether an element is an include, an import or a redefine.
-fn leads_on(form: &Form) -> bool
-    ensures { result ≡ is_composition form.now }
+// Whether something in the documents of a set is not assessed yet.
+fn are_unassessed(set: &[SetDocument<'_>]) -> bool
+    ensures { result ≡ spec.are_unassessed set.now }
 {
-    matches!(
-        form,
-        Form::Include { .. } | Form::Import { .. } | Form::Redefine { .. }
-    )
-}
-
-/// Whether a document includes, imports or redefines others.
-pub fn composes(shapes: &[Shape]) -> bool
-    ensures { result ≡ spec.composes shapes.now }
-{
-    shapes.iter().any(|shape| leads_on(&shape.form))
+    set.iter().any(|document| is_unassessed(document.shaped.shapes.as_slice()))
 }
 
 // The documents of a set compiled, or their first fault.
@@ -49,37 +38,6 @@ fn compile_set(
     }
 }
 
-// A document as the only one that there is.
-fn available_alone(alloc: Global, shaped: ShapedSchema) -> Result<Listed<Available>, AllocError>
-    ensures { IfOk result (λ available. inside.IsAlone shaped available) }
-{
-    let mut available = Listed::new(alloc);
-    // No document of the set names another, so no location is looked for.
-    available.push(Available {
-        shaped,
-        locations: Texts::new(alloc),
-    })?;
-    Ok(available)
-}
-
-/// The set of a document that leads to no others, compiled: the phases behind that of its shape. The first fault of the first
-/// phase that has one is answered.
-///
-/// # Errors
-///
-/// `AllocError` is want of memory, or of places: a set has at most 2 to the power of 32 elements.
-pub fn compile_alone(
-    alloc: Global,
-    shaped: ShapedSchema,
-) -> Result<Result<CompiledSet, Fault>, AllocError>
-    requires alone { spec.composes shaped.shapes ≡ false }
-    ensures { IfOk result (IsAloneCompiled shaped) }
-{
-    let available = available_alone(alloc, shaped)?;
-    let closed = close_set(alloc, available.as_slice())?;
-    compile_set(alloc, &closed.set)
-}
-
 // A fault as the reason of a refusal.
 fn as_refusal(answer: Result<CompiledSet, Fault>) -> Result<CompiledSet, Refusal>
     ensures { result ≡ inside.as_refusal answer }
@@ -90,26 +48,42 @@ fn as_refusal(answer: Result<CompiledSet, Fault>) -> Result<CompiledSet, Refusal
     }
 }
 
-// The set of a document whose shape is right, if it leads to no others.
-fn compile_shaped(
+// A set that breaks no constraint of the phases on its documents.
+fn compile_composed(
     alloc: Global,
-    shaped: ShapedSchema,
+    set: &EffectiveSet<'_>,
 ) -> Result<Result<CompiledSet, Refusal>, AllocError>
-    ensures { IfOk result (inside.IsShapedCompiled shaped) }
+    ensures { IfOk result (λ answer. inside.IsComposedCompiled set.now.documents answer) }
 {
-    if composes(shaped.shapes.as_slice()) {
-        return Ok(Err(Refusal::Composed));
-    }
-    let answer = compile_alone(alloc, shaped)?;
+    let answer = compile_set(alloc, set)?;
     Ok(as_refusal(answer))
 }
 
-/// The schema set of documents compiled: phase by phase, shapes, names, bases, simple types. The first fault of the first
-/// phase that has one is answered, by document, element and the order of codes. As yet the set is the first document alone.
+// A set whose documents are of the right shape.
+fn compile_closed(
+    alloc: Global,
+    closed: &ClosedSet<'_>,
+) -> Result<Result<CompiledSet, Refusal>, AllocError>
+    ensures { IfOk result (inside.IsClosedCompiled closed.now.set.documents closed.now.fault) }
+{
+    let set = closed.set.documents.as_slice();
+    if are_unassessed(set) {
+        return Ok(Err(Refusal::NotYet));
+    }
+    match closed.fault {
+        Some(fault) => Ok(Err(Refusal::Broken(fault))),
+        None => compile_composed(alloc, &closed.set),
+    }
+}
+
+/// The schema set of documents compiled: phase by phase, shapes, composition, names, bases, simple types. The set is what the
+/// first document leads to. The first fault of the first phase that has one is answered, by document, element and the order of
+/// codes.
 ///
 /// # Errors
 ///
-/// `AllocError` is want of memory, or of places: a set has at most 2 to the power of 32 elements.
+/// `AllocError` is want of memory, or of places: there are 65,535 documents at most, and a set has at most 2 to the power of 32
+/// elements.
 pub fn compile(
     alloc: Global,
     documents: &[SchemaInput],
@@ -117,9 +91,13 @@ pub fn compile(
     requires some { 0 < length documents.now }
     ensures { IfOk result (spec.IsCompilation documents.now) }
 {
-    let answer = shape(alloc, FIRST, &documents[0].tree)?;
-    match answer {
-        Ok(shaped) => compile_shaped(alloc, shaped),
-        Err(fault) => Ok(Err(Refusal::Broken(fault))),
+    let read = read_documents(alloc, documents)?;
+    let available = read.available.as_slice();
+    let closed = close_set(alloc, available)?;
+    let faults = read.faults.as_slice();
+    let set = closed.set.documents.as_slice();
+    match first_shape_fault(faults, set) {
+        Some(fault) => Ok(Err(Refusal::Broken(fault))),
+        None => compile_closed(alloc, &closed),
     }
 }

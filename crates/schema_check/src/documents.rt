@@ -1,16 +1,7 @@
-use item_listing::Locations;
-use plain_tree::Tree;
 use simple_types::SimpleTypes;
 use xs_codes::Fault;
 use xs_components::Components;
 use xs_names::Names;
-
-/// A schema document as it comes: its tree, and the locations that name it.
-#[derive(Debug, Drop)]
-pub struct SchemaInput {
-    pub tree: Tree,
-    pub locations: Locations,
-}
 
 /// A schema set that breaks no constraint of the phases that there are.
 #[derive(Drop)]
@@ -28,6 +19,6 @@ pub struct CompiledSet {
 pub enum Refusal {
     /// The first constraint that is broken.
     Broken(Fault),
-    /// The first document breaks no constraint on its shape, and includes, imports or redefines others.
-    Composed,
+    /// The documents of the set break no constraint on their shape, and have something that is not assessed yet.
+    NotYet,
 }

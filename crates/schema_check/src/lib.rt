@@ -6,7 +6,8 @@ mod documents;
 mod laws;
 mod types;
 
-pub use compiling::{compile, compile_alone, composes};
-pub use documents::{CompiledSet, Refusal, SchemaInput};
+pub use compiling::compile;
+pub use documents::{CompiledSet, Refusal};
 pub use laws::compiled_types_are_simple;
+pub use schema_documents::SchemaInput;
 pub use set_types::tables_are_closed;

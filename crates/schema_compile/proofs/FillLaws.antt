@@ -14,11 +14,12 @@ use Rattle.schema_check.specs.SchemaNamesNaming.{with_space_of, with_declared, d
 use Rattle.schema_check.specs.SchemaNamesForms.{form_table}
 use Rattle.schema_check.specs.SchemaNamesDocuments.{bindings_table, shape_table, shapes_table, document_table}
 use Rattle.schema_check.specs.Documents.{shapes_of, set_table}
-use Rattle.schema_compile.proofs.TableLaws.{count, some-more, expanded-some, three-more, shapes-more, set-more}
+use Rattle.schema_compile.proofs.TableLaws.{count, some-more, expanded-some, two-more, three-more, shapes-more, set-more}
 
--- the name that an element, a simple type or a complex type declares
+-- the name that an element, an attribute, a simple type or a complex type declares
 abbrev pub declared_name : Form → Option (List ℕ)
 declared_name (forms.Element form) = form.name
+declared_name (forms.Attribute form) = form.name
 declared_name (forms.ComplexType form) = form.name
 declared_name (forms.SimpleType name finals) = name
 declared_name _ = None
@@ -39,6 +40,9 @@ module _ (naming : Naming) where
   form-fills (forms.Element form) t local is =
       some-more _ _ (declared-some (form.global || unwrap_or form.qualified naming.elements_qualified) form.name t local is)
       ((three-more naming form.head form.of form.reference (with_declared naming (form.global || unwrap_or form.qualified naming.elements_qualified) form.name t)).many)
+  form-fills (forms.Attribute form) t local is =
+      some-more _ _ (declared-some (form.global || unwrap_or form.qualified naming.attributes_qualified) form.name t local is)
+      ((two-more naming form.of form.reference (with_declared naming (form.global || unwrap_or form.qualified naming.attributes_qualified) form.name t)).many)
   form-fills (forms.ComplexType form) t local is = declared-some true form.name t local is
   form-fills (forms.SimpleType name finals) t local is = declared-some true name t local is
   form-fills _ t local is = absurd (none-some local is)

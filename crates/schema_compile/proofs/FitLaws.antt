@@ -1,19 +1,22 @@
 -- What is asked of components is so of compiled ones.
 use Rattle.std.proofs.Common.{◌≡◌, inr, ℕ, ◌<◌, ◌≤◌, ◌++◌, List, Option, None, Some, Ok, true, length, sym, ap, subst, ◌∙◌, arith}
-use Rattle.std.specs.Prelude.{IfSome, slice_get}
+use Rattle.std.specs.Prelude.{All, IfSome, slice_get}
 use Rattle.std.proofs.lemmas.List.{length-append}
+use Rattle.tree_rows.specs.Whole.{IsTree}
 use Rattle.xs_codes.specs.declared.fault.Fault.{Fault}
 use Rattle.xs_components.specs.Tables.{Tables}
 use Rattle.xs_components.specs.declared.common.TypeId.{TypeId}
 use Rattle.xs_components.specs.declared.complex.ComplexType.{ComplexType}
 use Rattle.xs_references.specs.Heights.{IsType}
 use Rattle.xs_references.specs.Ranked.{IsRanked}
+use Rattle.type_derives.specs.Derives.{is_simple}
 use Rattle.type_derives.specs.Within.{AreSimple}
 use Rattle.base_kinds.specs.Bases.{IsWrongBase}
 use Rattle.component_circles.specs.Circles.{Ranks, with_all_ranks}
 use Rattle.component_circles.specs.References.{IsClosed, effective_of}
 use Rattle.type_derivation.specs.Cycles.{IsGrown}
-use Rattle.simple_contents.specs.SimpleTypes.{AreWhole, IsWhole}
+use Rattle.simple_contents.specs.SimpleTypes.{AreWhole, IsWhole, IsSimpleTree}
+use Rattle.simple_contents.specs.Trees.{type_tree}
 use Rattle.simple_contents.specs.SimpleTypesSimpleTypes.{SimpleTypes}
 use Rattle.content_types.specs.ContentTypes.{content_of}
 use Rattle.simple_contents.specs.Texts.{is_simple_content}
@@ -22,14 +25,15 @@ use Rattle.schema_check.specs.Built.{built}
 use Rattle.schema_check.specs.There.{AreThere}
 use Rattle.simple_contents.specs.Own.{AreOwnSimple}
 use Rattle.schema_check.specs.SimpleParts.{HasSimpleTypes}
-use Rattle.schema_shape.specs.declared.forms.ShapedSchema.{ShapedSchema}
 use Rattle.schema_check.specs.SetDocument.{SetDocument}
-use Rattle.schema_check.specs.OfTree.{IsDeclared}
-use Rattle.schema_check.specs.SetPhases.{AreParts, IsSetCompiled, IsAloneCompiled}
+use Rattle.schema_check.specs.Compilation.{IsCompilation}
+use Rattle.schema_check.specs.OfTree.{IsOfTree}
+use Rattle.schema_check.specs.SchemaInput.{SchemaInput}
+use Rattle.schema_check.specs.SetPhases.{AreParts, IsSetCompiled}
 use Rattle.schema_check.specs.declared.documents.CompiledSet.{CompiledSet}
 use Rattle.schema_compile.specs.Fit.{IsFit}
 use Rattle.schema_compile.proofs.NamedLaws.{set-named, set-once}
-use Rattle.schema_compile.proofs.KeptLaws.{grown-alike, element-types, wrong-was, own-simple}
+use Rattle.schema_compile.proofs.KeptLaws.{grown-alike, element-types, attribute-types, wrong-was, own-simple}
 use Rattle.schema_compile.proofs.ContentLaws.{contents-there}
 
 -- components of the same representations are the same
@@ -69,9 +73,10 @@ effectives-there old new ranks grown closed n part at =
 
 module _ (closed : (source : Source) (t : Tables) → t ≡ built source → IsClosed t)
     (there : (source : Source) (t : Tables) → t ≡ built source → AreThere t)
-    (simple : (schema : ShapedSchema) (made : CompiledSet) → IsDeclared schema → IsAloneCompiled schema (Ok made) → HasSimpleTypes made.parts)
+    (simple : (set : List SetDocument) (made : CompiledSet) → All IsOfTree set → IsSetCompiled set (Ok made) → HasSimpleTypes made.parts)
     (read : (t : Tables) (types : SimpleTypes) → IsRanked t → AreSimple t → AreOwnSimple t → ((fault : Fault) → IsWrongBase t fault → ⊥) → AreWhole t types
     → (of : TypeId) → IsType t of → is_simple_content (content_of t of) ≡ true → IsWhole types of)
+    (trees : (t : Tables) → IsRanked t → AreSimple t → (of : TypeId) → IsType t of → is_simple of ≡ true → IsSimpleTree (type_tree t of))
   where
     parts-closed : (set : List SetDocument) (old : Tables) → AreParts set old → IsClosed old
     unfolding AreParts
@@ -81,26 +86,33 @@ module _ (closed : (source : Source) (t : Tables) → t ≡ built source → IsC
     unfolding AreParts
     parts-there set old are = there are.0 old are.4
 
-    pub alone-fit : (schema : ShapedSchema) (made : CompiledSet) → IsDeclared schema → IsAloneCompiled schema (Ok made) → IsFit made
-    alone-fit schema made declared alone =
-        let set = alone.2 in
-        let is = alone.4 in
+    set-fit : (set : List SetDocument) (made : CompiledSet) → All IsOfTree set → IsSetCompiled set (Ok made) → IsFit made
+    set-fit set made of_trees is =
         let old = is.1.1 in
         let ready = is.1.3 in
         let ranks = ready.same.0 in
         let grown = ready.same.1 in
         let alike = grown-alike old made.parts ranks grown in
         let was-there = parts-there set old is.1.2 in
-        let types = simple schema made declared alone in
+        let types = simple set made of_trees is in
+        let attributes = attribute-types old made.parts alike was-there in
+        let own = own-simple old made.parts alike was-there types.used in
         let effectives = effectives-there old made.parts ranks grown (parts-closed set old is.1.2) in
         record {
           ranked = ready.ranked;
           simple = types.made;
           types = element-types old made.parts alike was-there;
+          attributes = attributes;
+          readable = λ n decl at. trees made.parts ready.ranked types.made decl.of (attributes n decl at) (types.used.attributes n decl at);
           once = set-once set made is;
           named = set-named set made is;
           judged = ready.judged;
-          whole = read made.parts made.types ready.ranked types.made (own-simple old made.parts alike was-there types.used)
-              (λ fault wrong. no-wrong set made is fault (wrong-was old made.parts alike fault wrong)) ready.whole;
+          literals = ready.whole;
+          whole = read made.parts made.types ready.ranked types.made own (λ fault wrong. no-wrong set made is fault (wrong-was old made.parts alike fault wrong)) ready.whole;
+          own = own;
           contents = contents-there made.parts ready.ranked ready.contents effectives;
         }
+
+    pub compiled-fit : ((documents : List SchemaInput) (made : CompiledSet) → All (λ input. IsTree input.tree) documents → IsCompilation documents (Ok made) → (set : List SetDocument) × All IsOfTree set × IsSetCompiled set (Ok made))
+        → (documents : List SchemaInput) (made : CompiledSet) → All (λ input. IsTree input.tree) documents → IsCompilation documents (Ok made) → IsFit made
+    compiled-fit shaped documents made trees_are is = let s = shaped documents made trees_are is in set-fit s.0 made s.1 s.2

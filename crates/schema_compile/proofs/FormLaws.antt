@@ -23,9 +23,10 @@ use Rattle.schema_check.specs.Scopes.{openings}
 use Rattle.schema_compile.proofs.TableLaws.{count, name-below}
 use Rattle.schema_compile.proofs.FillLaws.{IsFilled, AreFilled}
 
--- an element, a simple type or a complex type has a name of the table, if it has one
+-- an element, an attribute, a simple type or a complex type has a name of the table, if it has one
 abbrev pub HasNumber : NameTable → Represented → Type 0
 HasNumber t (parts.Element element) = IfSome element.name (λ n. n < count t)
+HasNumber t (parts.Attribute attribute) = IfSome attribute.name (λ n. n < count t)
 HasNumber t (parts.SimpleType name finals) = IfSome name (λ n. n < count t)
 HasNumber t (parts.ComplexType head) = IfSome head.name (λ n. n < count t)
 HasNumber t _ = Unit {0}
@@ -41,6 +42,7 @@ module _ (t : NameTable) (naming : Naming) where
   module _ (defaults : Defaults) where
     form-numbered : (form : Form) → IsFilled t form → HasNumber t (represented t naming defaults form)
     form-numbered (forms.Element form) filled = declared-below (form.global || unwrap_or form.qualified naming.elements_qualified) form.name filled
+    form-numbered (forms.Attribute form) filled = declared-below (form.global || unwrap_or form.qualified naming.attributes_qualified) form.name filled
     form-numbered (forms.ComplexType form) filled = declared-below true form.name filled
     form-numbered (forms.SimpleType name finals) filled = declared-below true name filled
     form-numbered (forms.Identity identities.Unique name refer) filled = tt

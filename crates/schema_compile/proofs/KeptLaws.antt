@@ -3,6 +3,7 @@ use Rattle.std.proofs.Common.{◌≡◌, ℕ, ◌<◌, List, Option, None, Some,
 use Rattle.std.specs.Prelude.{IfSome, slice_get}
 use Rattle.xs_codes.specs.declared.fault.Fault.{Fault}
 use Rattle.xs_components.specs.Tables.{Tables}
+use Rattle.xs_components.specs.declared.attribute.AttributeDecl.{AttributeDecl}
 use Rattle.xs_components.specs.declared.common.TypeId.{TypeId}
 use Rattle.xs_components.specs.declared.common.TypeId.TheVariants.{AnyType, Builtin, Simple, Complex}
 use Rattle.xs_components.specs.declared.complex.ComplexType.{ComplexType}
@@ -22,17 +23,19 @@ use Rattle.schema_check.specs.There.{AreThere, own_type}
 use Rattle.schema_check.specs.Simple.{AreTypesSimple}
 use Rattle.simple_contents.specs.Own.{AreOwnSimple}
 
--- two sets of tables have the same types and elements
+-- two sets of tables have the same types, elements and attributes
 pub record AreAlike (old new : Tables) : Type 0 where
   pub simples : new.simples.parts ≡ old.simples.parts
   pub complexes : new.complexes.parts ≡ old.complexes.parts
   pub elements : new.elements.parts ≡ old.elements.parts
+  pub attributes : new.attributes.parts ≡ old.attributes.parts
 
 pub grown-alike : (old new : Tables) (ranks : Ranks) → IsGrown (with_all_ranks old ranks) new → AreAlike old new
 grown-alike old new ranks g = record {
   simples = ap (λ (t : Tables). t.simples.parts) g.tables;
   complexes = ap (λ (t : Tables). t.complexes.parts) g.tables;
   elements = ap (λ (t : Tables). t.elements.parts) g.tables;
+  attributes = ap (λ (t : Tables). t.attributes.parts) g.tables;
 }
 
 module _ (old new : Tables) (alike : AreAlike old new) where
@@ -48,6 +51,9 @@ module _ (old new : Tables) (alike : AreAlike old new) where
 
   pub element-types : AreThere old → (n : ℕ) (part : ElementDecl) → slice_get new.elements.parts n ≡ Some part → IfSome part.of (IsType new)
   element-types there n part at = some-kept part.of (there.element_types n part (sym (ap (λ (xs : List ElementDecl). slice_get xs n) alike.elements) ∙ at))
+
+  pub attribute-types : AreThere old → (n : ℕ) (decl : AttributeDecl) → slice_get new.attributes.parts n ≡ Some decl → IsType new decl.of
+  attribute-types there n decl at = type-kept decl.of (there.attribute_types n decl (sym (ap (λ (xs : List AttributeDecl). slice_get xs n) alike.attributes) ∙ at))
 
   complex-was : (n : ℕ) (part : ComplexType) → slice_get new.complexes.parts n ≡ Some part → slice_get old.complexes.parts n ≡ Some part
   complex-was n part at = sym (ap (λ (xs : List ComplexType). slice_get xs n) alike.complexes) ∙ at

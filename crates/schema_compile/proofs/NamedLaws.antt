@@ -1,12 +1,13 @@
 -- The components that are built of representations have their names.
-use Rattle.std.proofs.Common.{ℕ, ◌<◌, List, [], ◌∷◌, Option, None, Some, Ok, suc, sym, subst}
-use Rattle.std.specs.Prelude.{All, IfSome}
+use Rattle.std.proofs.Common.{ℕ, ◌<◌, Bool, true, false, List, [], ◌∷◌, Option, None, Some, Ok, suc, sym, subst}
+use Rattle.std.specs.Prelude.{All, IfSome, if◌then◌else◌}
 use Rattle.std.specs.List.{flat_map}
 use Rattle.std.proofs.lemmas.List.Elements.{All-nil, All-head, All-tail, All-append}
 use Rattle.std.proofs.lemmas.Option.{none-some}
 use Rattle.xs_names.specs.Names.{NameTable, no_names}
 use Rattle.xs_names.specs.Numbering.{HasNoRepeats}
 use Rattle.xs_components.specs.Tables.{Tables}
+use Rattle.xs_components.specs.declared.attribute.AttributeDecl.{AttributeDecl}
 use Rattle.xs_components.specs.declared.common.Place.{Place}
 use Rattle.xs_components.specs.declared.common.TypeId.{TypeId}
 use Rattle.xs_components.specs.declared.complex.ComplexType.{ComplexType}
@@ -15,6 +16,7 @@ use Rattle.xs_components.specs.declared.simple.SimpleType.{SimpleType}
 use Rattle.component_circles.specs.Circles.{Ranks, with_all_ranks}
 use Rattle.type_derivation.specs.Cycles.{IsGrown}
 use Rattle.schema_check.specs.SetDocument.{SetDocument}
+use Rattle.representations.specs.declared.parts.AttributeRepresentation.{AttributeRepresentation}
 use Rattle.representations.specs.declared.parts.ElementRepresentation.{ElementRepresentation}
 use Rattle.representations.specs.declared.parts.Representation.{Representation}
 use Rattle.representations.specs.declared.parts.Represented.{Represented}
@@ -22,6 +24,7 @@ use Rattle.representations.specs.declared.parts.Represented.TheVariants as parts
 use Rattle.representations.specs.declared.source.Source.{Source}
 use Rattle.schema_check.specs.Documents.{representations, set_table}
 use Rattle.build_types.specs.SimpleTypes as simple
+use Rattle.build_attributes.specs.Declarations as attributes
 use Rattle.schema_check.specs.Complexes as complex
 use Rattle.build_elements.specs.Elements.{declared, elements_by, elements_of, head_of}
 use Rattle.build_elements.specs.Elements as elements
@@ -45,6 +48,9 @@ module _ (t : NameTable) where
   abbrev IsElementNamed : ElementDecl → Type 0
   IsElementNamed part = part.name < count t
 
+  abbrev IsAttributeNamed : AttributeDecl → Type 0
+  IsAttributeNamed part = part.name < count t
+
   abbrev IsSimpleNamed : SimpleType → Type 0
   IsSimpleNamed part = IfSome part.name (λ n. n < count t)
 
@@ -67,6 +73,21 @@ module _ (t : NameTable) where
       elements-named : (numbers : List (Option ℕ)) (reps : List Representation) → HaveNumbers t reps → All IsElementNamed (flat_map (elements_of source ids constraints numbers) reps)
       elements-named numbers reps h =
           all-by IsElementNamed IsRepNamed (elements_of source ids constraints numbers) (λ rep. element-named rep.form rep (head_of source numbers rep)) reps h
+
+    unless-prohibited : (is : Bool) (part : AttributeDecl) → IsAttributeNamed part → All IsAttributeNamed (if is then [] else part ∷ [])
+    unless-prohibited true part h = All-nil IsAttributeNamed
+    unless-prohibited false part h = all-one IsAttributeNamed part h
+
+    declared-attribute : (attribute : AttributeRepresentation) (rep : Representation) (name : Option ℕ) → IfSome name (λ n. n < count t) → All IsAttributeNamed (attributes.declared source ids attribute rep name)
+    declared-attribute attribute rep None h = All-nil IsAttributeNamed
+    declared-attribute attribute rep (Some name) h = unless-prohibited attribute.prohibited (attributes.declaration source ids attribute rep name) h
+
+    attribute-named : (form : Represented) (rep : Representation) → HasNumber t form → All IsAttributeNamed (attributes.attributes_by source ids form rep)
+    attribute-named (parts.Attribute attribute) rep h = declared-attribute attribute rep attribute.name h
+    attribute-named _ rep h = All-nil IsAttributeNamed
+
+    attributes-named : (reps : List Representation) → HaveNumbers t reps → All IsAttributeNamed (flat_map (attributes.attributes_of source ids) reps)
+    attributes-named reps h = all-by IsAttributeNamed IsRepNamed (attributes.attributes_of source ids) (λ rep. attribute-named rep.form rep) reps h
 
     simple-named : (form : Represented) (at : Place) (members : List ℕ) → HasNumber t form → All IsSimpleNamed (simple.simples_by source ids form at members)
     simple-named (parts.SimpleType name finals) at members h =
@@ -96,11 +117,12 @@ module _ (t : NameTable) where
     simples = all-at IsSimpleNamed (simple.simple_types source (built.types source)) (simples-named source (built.types source) source.reps.now h);
     complexes = all-at IsComplexNamed (built.complex_types source)
         (complexes-named source (built.types source) (built.attribute_numbers source) (built.attr_group_numbers source) (built.particles source).numbers 0 source.reps.now h);
+    attributes = attributes-named source (built.types source) source.reps.now h;
   }
 
   grown-named : (old new : Tables) (ranks : Ranks) → IsGrown (with_all_ranks old ranks) new → AreNamed t old → AreNamed t new
   grown-named old new ranks g h =
-      subst (AreNamed t) (sym g.tables) (record { elements = h.elements; simples = h.simples; complexes = h.complexes })
+      subst (AreNamed t) (sym g.tables) (record { elements = h.elements; simples = h.simples; complexes = h.complexes; attributes = h.attributes })
 
 set-numbered : (ds : List SetDocument) → HaveNumbers (set_table no_names ds) (representations (set_table no_names ds) ds)
 set-numbered ds = all-numbered (set_table no_names ds) 0 1 ds (set-fills ds no_names)

@@ -1,11 +1,13 @@
 -- A set without a fault, with what was found of it, is usable.
-use Rattle.std.proofs.Common.{◌≡◌, ℕ, ◌<◌, List, Option, None, Some, Result, Ok, Err, length, refl, sym, ap, subst, ◌∙◌}
+use Rattle.std.proofs.Common.{◌≡◌, ℕ, ◌<◌, Bool, List, Option, None, Some, Result, Ok, Err, length, refl, sym, ap, subst, ◌∙◌}
 use Rattle.std.specs.Prelude.{slice_get, slice_index_or}
 use Rattle.std.proofs.lemmas.Option.{slice_get_within, get_or_from_slice_get}
 use Rattle.xs_codes.specs.declared.code.Code.TheVariants.{CosNonambig}
 use Rattle.xs_codes.specs.declared.fault.Fault.{Fault}
 use Rattle.xs_faults.specs.Least.{IsLeast}
 use Rattle.xs_names.proofs.GrownLaws.{Grown-refl}
+use Rattle.xs_components.specs.Tables.{Tables}
+use Rattle.attr_faults.specs.AttrFaults.{IsAttrFault}
 use Rattle.content_models.specs.declared.automaton.ContentAutomaton.{ContentAutomaton}
 use Rattle.compiled_schema.specs.Checks.{IsAmbiguousModel}
 use Rattle.compiled_schema.specs.ModelFault.TheVariants.{Ambiguous}
@@ -17,7 +19,7 @@ use Rattle.schema_compile.specs.Fit.{IsFit}
 use Rattle.schema_compile.specs.declared.finding.Found.{Found}
 use Rattle.schema_compile.specs.declared.outcome.Outcome.{Outcome}
 use Rattle.schema_compile.specs.declared.outcome.Outcome.TheVariants.{Accepted}
-use Rattle.schema_compile.specs.Outcomes.{IsSetOutcome}
+use Rattle.schema_compile.specs.Outcomes.{HaveUses, IsSetOutcome}
 use Rattle.schema_compile.specs.inside.Finding.{IsFound, AreModelsOf, AreContentsThere, IsJudged, joined}
 use Rattle.schema_compile.proofs.MemberLaws.{members-named}
 
@@ -59,14 +61,17 @@ module _ (made : CompiledSet) (found : Found) (automata : List (Option ContentAu
       named = fit.named;
       view = record { ranked = fit.ranked; simple = fit.simple; types = fit.types; declarations = is.declarations; named = is.named };
       judging = record { ranked = fit.ranked; contents_are = is.contents; types_are = fit.judged; whole = fit.whole };
+      attributes = (is.attr_uses.ids, record { ranked = fit.ranked; at_top = is.named; uses = is.attr_uses.are });
+      attribute_types = record { ranked = fit.ranked; judged = fit.judged; whole = fit.literals; simple = fit.readable };
       groups = is.members;
       classes_are = is.classes;
       first = made.names;
       models_are = automata-are;
     }
 
-pub accepted : (made : CompiledSet) (found : Found) (automata : List (Option ContentAutomaton)) (c : Compiled) → IsFit made → c ≡ joined made found automata → IsJudged made (Ok (found, automata))
+pub accepted : ((t : Tables) (ids : List Bool) → IsLeast (IsAttrFault t ids) None → HaveUses t) → (made : CompiledSet) (found : Found) (automata : List (Option ContentAutomaton)) (c : Compiled) → IsFit made → c ≡ joined made found automata → IsJudged made (Ok (found, automata))
     → IsSetOutcome made (Accepted c)
-accepted made found automata c fit same judged =
+accepted uses made found automata c fit same judged =
+    let attrs = judged.0.0 in
     subst (λ (x : Compiled). IsSetOutcome made (Accepted x)) (sym same)
-    (judged.0, record { names = refl; parts = refl; types = refl }, usable made found automata fit judged.1 judged.3 judged.2)
+    (judged.0, record { names = refl; parts = refl; types = refl }, usable made found automata fit judged.1 judged.3 judged.2, uses made.parts attrs.0 attrs.2)

@@ -1,31 +1,45 @@
 -- What becomes of schema documents: a set that documents are assessed by, the first broken constraint, or neither yet.
-use Rattle.std.specs.Prelude.{◌≡◌, ◌⊎◌, ℕ, true, false, List, [], ◌∷◌, Option, None, Some, Ok, Err}
+use Rattle.std.specs.Prelude.{◌≡◌, ◌⊎◌, ℕ, ◌<◌, Bool, List, [], ◌∷◌, Option, None, Some, Ok, Err, length}
 use Rattle.xs_codes.specs.declared.fault.Fault.{Fault}
 use Rattle.xs_components.specs.Tables.{Tables}
 use Rattle.xs_faults.specs.Least.{IsLeast}
 use Rattle.subst_groups.specs.Groups.{AreGroups}
+use Rattle.attr_faults.specs.AttrFaults.{AreIdMarks, IsAttrFault, HasUses}
+use Rattle.complex_extension.specs.Extensions.{IsExtensionFault}
+use Rattle.value_faults.specs.ValueFaults.{IsValueFault}
 use Rattle.head_exclusions.specs.Exclusions.{IsExcluded}
 use Rattle.all_limits.specs.AllLimits.{IsUnlimited}
 use Rattle.element_classes.specs.Classes.{AreClassesOf}
 use Rattle.all_limits.specs.SetModels.{IsBroken}
-use Rattle.schema_shape.specs.declared.forms.ShapedSchema.{ShapedSchema}
-use Rattle.not_yet.specs.Unassessed.{is_unassessed}
-use Rattle.schema_check.specs.Compilation.{IsShaped}
+use Rattle.schema_check.specs.Compilation.{IsCompilation}
 use Rattle.schema_check.specs.Phases.{IsFirstOfPhases}
-use Rattle.schema_check.specs.SetPhases.{IsAloneCompiled}
 use Rattle.schema_check.specs.declared.documents.CompiledSet.{CompiledSet}
-use Rattle.schema_check.specs.declared.documents.SchemaInput.{SchemaInput}
+use Rattle.schema_check.specs.declared.documents.Refusal.{Refusal}
+use Rattle.schema_check.specs.declared.documents.Refusal.TheVariants as refusals
+use Rattle.schema_check.specs.SchemaInput.{SchemaInput}
 use Rattle.compiled_schema.specs.Usable.{IsUsable}
 use Rattle.compiled_schema.specs.declared.compiled.Compiled.{Compiled}
 use Rattle.schema_compile.specs.declared.outcome.Outcome.{Outcome}
 use Rattle.schema_compile.specs.declared.outcome.Outcome.TheVariants.{Accepted, Broken, NotYet}
 
--- phase 7, of derivation: e-props-correct.4 (Structures 3.3.6), and x-limit.all, cos-all-limited.1 and .2 (Structures 3.8.6)
+-- phase 7, of derivation: cos-ct-extends.1.1 and .1.4 (Structures 3.4.6), e-props-correct.4 (Structures 3.3.6), and x-limit.all,
+-- cos-all-limited.1 and .2 (Structures 3.8.6). The other clauses of cos-ct-extends.1 have no fault: an extension has the attribute uses,
+-- the wildcard and the content of its base by construction (Structures 3.4.2).
 abbrev pub IsDerivationFault : Tables → Fault → Type 0
-IsDerivationFault t fault = IsExcluded t fault ⊎ IsUnlimited t fault
+IsDerivationFault t fault = IsExtensionFault t fault ⊎ (IsExcluded t fault ⊎ IsUnlimited t fault)
+
+-- phase 6, of attributes and value constraints: src-attribute_group.2, src-ct.4 and src-ct.5 (Structures 3.4.3, 3.6.3),
+-- ag-props-correct.2 and .3, ct-props-correct.4 and .5 (Structures 3.4.6, 3.6.6); and of value constraints x-limit.value,
+-- a-props-correct.2 and .3, au-props-correct.2, e-props-correct.2 and .5, cos-valid-default.2.1 and .2.2.2 (Structures 3.2.6, 3.3.6, 3.5.6)
+abbrev pub IsPropertyFault : Tables → List Bool → Fault → Type 0
+IsPropertyFault t ids fault = IsAttrFault t ids fault ⊎ IsValueFault t fault
 
 -- of a set of components with their names and simple types
 module _ (made : CompiledSet) where
+  -- phase 6, of attributes and value constraints, by the attribute declarations of types of IDs
+  abbrev pub attr_phase : Option Fault → Type 0
+  attr_phase found = (ids : List Bool) × AreIdMarks made.parts ids × IsLeast (IsPropertyFault made.parts ids) found
+
   abbrev pub derivation_phase : Option Fault → Type 0
   derivation_phase found = IsLeast (IsDerivationFault made.parts) found
 
@@ -35,8 +49,12 @@ module _ (made : CompiledSet) where
       (members : List (List ℕ)) × (classes : List ℕ) × AreGroups made.parts members × AreClassesOf made.parts classes × IsLeast (IsBroken made.names made.parts members classes) found
 
   -- the phases behind simple types
-  abbrev pub model_phases : List (Option Fault → Type 0)
-  model_phases = derivation_phase ∷ model_phase ∷ []
+  abbrev pub late_phases : List (Option Fault → Type 0)
+  late_phases = attr_phase ∷ derivation_phase ∷ model_phase ∷ []
+
+-- each complex type has attribute uses, no two of which have one name
+abbrev pub HaveUses : Tables → Type 0
+HaveUses t = (n : ℕ) → n < length t.complexes.parts → HasUses t n
 
 -- a set with these names, components and simple types
 pub record IsOf (made : CompiledSet) (c : Compiled) : Type 0 where
@@ -46,22 +64,19 @@ pub record IsOf (made : CompiledSet) (c : Compiled) : Type 0 where
 
 -- what the components of a set come to in the phases behind simple types
 abbrev pub IsSetOutcome : CompiledSet → Outcome → Type 0
-IsSetOutcome made (Accepted c) = IsFirstOfPhases (model_phases made) None × IsOf made c × IsUsable c
-IsSetOutcome made (Broken fault) = IsFirstOfPhases (model_phases made) (Some fault)
+IsSetOutcome made (Accepted c) = IsFirstOfPhases (late_phases made) None × IsOf made c × IsUsable c × HaveUses made.parts
+IsSetOutcome made (Broken fault) = IsFirstOfPhases (late_phases made) (Some fault)
 IsSetOutcome made NotYet = ⊥
 
--- What a document of the right shape comes to in the phases behind that of shapes, where it has nothing that is not assessed yet. Then
--- the others have no fault: composition, attributes and value constraints, restriction, and identity constraints.
-abbrev pub IsShapedOutcome : ShapedSchema → Outcome → Type 0
-IsShapedOutcome first outcome =
-    ((fault : Fault) × IsAloneCompiled first (Err fault) × (outcome ≡ Broken fault)) ⊎
-    ((made : CompiledSet) × IsAloneCompiled first (Ok made) × IsSetOutcome made outcome)
+abbrev pub of_refusal : Refusal → Outcome
+of_refusal (refusals.Broken fault) = Broken fault
+of_refusal refusals.NotYet = NotYet
 
 -- What documents come to: the first fault of the first phase that has one, by document, element and the order of codes; else the
--- compiled set, by which documents may be assessed. A first document of the right shape that has something that is not assessed yet
--- comes to neither.
+-- compiled set, by which documents may be assessed. A set whose documents are of the right shape and have something that is not assessed
+-- yet comes to neither. The phases that there are not yet have no fault where there is nothing of that: restrictions, and identity
+-- constraints.
 abbrev pub IsOutcome : List SchemaInput → Outcome → Type 0
 IsOutcome documents outcome =
-    ((fault : Fault) × IsShaped documents (Err fault) × (outcome ≡ Broken fault)) ⊎
-    ((first : ShapedSchema) × IsShaped documents (Ok first) ×
-    (((is_unassessed first.shapes ≡ true) × (outcome ≡ NotYet)) ⊎ ((is_unassessed first.shapes ≡ false) × IsShapedOutcome first outcome)))
+    ((refusal : Refusal) × IsCompilation documents (Err refusal) × (outcome ≡ of_refusal refusal)) ⊎
+    ((made : CompiledSet) × IsCompilation documents (Ok made) × IsSetOutcome made outcome)

@@ -1,5 +1,5 @@
 -- Which documents are in a schema set, and with which target namespaces (Structures 4.2).
-use Rattle.std.specs.Prelude.{◌≡◌, ℕ, ◌+◌, ◌==◌, ◌⊎◌, Bool, true, false, List, [], ◌∷◌, Option, Some, None, All, Contains, slice_get, if◌then◌else◌}
+use Rattle.std.specs.Prelude.{◌≡◌, ℕ, ◌+◌, ◌⊎◌, List, [], ◌∷◌, Option, Some, None, All, Contains, slice_get, if◌then◌else◌}
 use Rattle.std.specs.Option.{option_and_then}
 use Rattle.std.specs.List.{list_any}
 use Rattle.std.specs.Str.{bytes_eq}
@@ -59,14 +59,3 @@ pub record IsEffectiveSet (available : List Available) (documents : List SetDocu
   pub only : All (λ d. InSet available d.number d.target) documents
   pub each : (number : ℕ) (target : Option (List ℕ)) → InSet available number target → (d : SetDocument) × Contains documents d × (d.number ≡ number) × (d.target ≡ target)
   pub once : (m n : ℕ) (d e : SetDocument) → slice_get documents m ≡ Some d → slice_get documents n ≡ Some e → d.number ≡ e.number → d.target ≡ e.target → m ≡ n
-
--- the form of an include, an import or a redefine
-abbrev pub is_composition : Form → Bool
-is_composition (forms.Include location) = true
-is_composition (forms.Import namespace location) = true
-is_composition (forms.Redefine location) = true
-is_composition _ = false
-
--- no document includes, imports or redefines
-abbrev pub AreAlone : List Available → Type 0
-AreAlone available = All (λ a. All (λ shape. is_composition shape.form ≡ false) a.shaped.shapes) available

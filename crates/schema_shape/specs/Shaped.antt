@@ -14,10 +14,23 @@ use Rattle.schema_shape.specs.declared.forms.ShapedSchema.{ShapedSchema}
 abbrev pub constructs_of : Forest → List Construct
 constructs_of tree = constructs k.Document 0 first_scope tree
 
-abbrev pub answer : ℕ → List Construct → Option Broken → Result ShapedSchema Fault
-answer document es None = Ok (record { shapes = shapes es })
-answer document es (Some broken) = Err (record { phase = 1; document = document; item = broken.item; code = broken.code })
+-- what the elements of a document declare, whether or not they have faults
+abbrev pub declared : Forest → ShapedSchema
+declared tree = record { shapes = shapes (constructs_of tree) }
 
--- what the document of this number declares, or its fault at the least element
+-- a broken constraint on the shape of the document of this number
+abbrev pub fault_at : ℕ → Option Broken → Option Fault
+fault_at document None = None
+fault_at document (Some broken) = Some (record { phase = 1; document = document; item = broken.item; code = broken.code })
+
+-- the first constraint on its shape that it breaks: that at the least element
+abbrev pub shape_fault : ℕ → Forest → Option Fault
+shape_fault document tree = fault_at document (least_fault (constructs_of tree))
+
+abbrev pub answer : ShapedSchema → Option Fault → Result ShapedSchema Fault
+answer schema None = Ok schema
+answer schema (Some fault) = Err fault
+
+-- what the document of this number declares, or its fault
 abbrev pub shaped : ℕ → Forest → Result ShapedSchema Fault
-shaped document tree = answer document (constructs_of tree) (least_fault (constructs_of tree))
+shaped document tree = answer (declared tree) (shape_fault document tree)

@@ -1,5 +1,6 @@
 use schema_values::{Occurs, Spaces};
 use tree_rows::{Binding, Expanded};
+use xs_codes::Fault;
 use xs_components::{FacetKind, Methods, Process};
 use xs_lists::Listed;
 use xs_names::Text;
@@ -204,4 +205,11 @@ pub type ShapeList = Listed<Shape>;
 #[derive(Debug, Drop)]
 pub struct ShapedSchema {
     pub shapes: ShapeList,
+}
+
+/// What the elements of a schema document declare, and the first constraint on its shape that it breaks, if it breaks one.
+#[derive(Debug, Drop)]
+pub struct Reading {
+    pub schema: ShapedSchema,
+    pub fault: Option<Fault>,
 }

@@ -9,8 +9,8 @@ mod simple_shapes;
 mod walk;
 
 pub use forms::{
-    AttributeForm, ComplexTypeForm, Compositor, ElementForm, Form, IdentityKind, SchemaForm, Shape,
-    ShapeList, ShapedSchema, Use, ValueForm, WildcardForm,
+    AttributeForm, ComplexTypeForm, Compositor, ElementForm, Form, IdentityKind, Reading,
+    SchemaForm, Shape, ShapeList, ShapedSchema, Use, ValueForm, WildcardForm,
 };
 pub use schema_values::{Occurs, SpaceToken, Spaces};
-pub use walk::shape;
+pub use walk::{read, shape};

@@ -1,12 +1,12 @@
 ghost use Rattle.std.specs.Prelude.{◌≡◌, ◌++◌, OnOk, IfOk};
 ghost use Rattle.schema_faults.specs.Constructs.{constructs};
 ghost use Rattle.schema_faults.specs.Constructs as spec;
-ghost use Rattle.schema_shape.specs.Shaped.{shaped};
+ghost use Rattle.schema_shape.specs.Shaped.{shaped, declared, shape_fault, fault_at as spec_fault};
 ghost use Rattle.schema_shape.specs.Shapes.{shapes_of};
 ghost use Rattle.schema_faults.specs.Elements.{construct_of};
 ghost use Rattle.schema_shape.specs.inside.Walks.{with_construct, with_constructs, element_constructs};
 
-use crate::forms::{ShapeList, ShapedSchema};
+use crate::forms::{Reading, ShapeList, ShapedSchema};
 use crate::shaped::{declares, shape_of};
 use plain_tree::Tree;
 use schema_faults::{Broken, Element, fault_of, lesser};
@@ -123,19 +123,16 @@ fn enter(
     Ok(())
 }
 
-/// What the schema document of this number declares by its tree, or the first constraint on its shape that it breaks: the
-/// one of the least element, and of that element the first in the order of the codes (Structures, appendix A, and the
-/// constraints on the representation of schemas).
+/// What the elements of the schema document of this number declare by its tree, and the first constraint on its shape that it
+/// breaks: the one of the least element, and of that element the first in the order of the codes (Structures, appendix A, and the
+/// constraints on the representation of schemas). What an element with a fault declares is of no account.
 ///
 /// # Errors
 ///
 /// `AllocError` is want of memory. The fault has phase 1.
-pub fn shape(
-    alloc: Global,
-    document: u32,
-    tree: &Tree,
-) -> Result<Result<ShapedSchema, Fault>, AllocError>
-    ensures { IfOk result (λ answer. answer ≡ shaped document tree.now.forest) }
+pub fn read(alloc: Global, document: u32, tree: &Tree) -> Result<Reading, AllocError>
+    ensures schema { IfOk result (λ reading. reading.schema ≡ declared tree.now.forest) }
+    ensures fault { IfOk result (λ reading. reading.fault ≡ shape_fault document tree.now.forest) }
 {
     let index = tree.index(alloc)?;
     let mut scope = Prefixes::new(alloc)?;
@@ -152,13 +149,42 @@ pub fn shape(
         &mut found,
     )?;
     let Findings { fault, shapes } = found;
-    match fault {
-        None => Ok(Ok(ShapedSchema { shapes })),
-        Some(Broken { item, code }) => Ok(Err(Fault {
+    Ok(Reading {
+        schema: ShapedSchema { shapes },
+        fault: phase_fault(document, fault),
+    })
+}
+
+// A broken constraint as a fault of the document of this number.
+fn phase_fault(document: u32, broken: Option<Broken>) -> Option<Fault>
+    ensures { result ≡ spec_fault document broken }
+{
+    match broken {
+        None => None,
+        Some(Broken { item, code }) => Some(Fault {
             phase: 1,
             document,
             item,
             code,
-        })),
+        }),
+    }
+}
+
+/// What the schema document of this number declares by its tree, or the first constraint on its shape that it breaks.
+///
+/// # Errors
+///
+/// `AllocError` is want of memory. The fault has phase 1.
+pub fn shape(
+    alloc: Global,
+    document: u32,
+    tree: &Tree,
+) -> Result<Result<ShapedSchema, Fault>, AllocError>
+    ensures { IfOk result (λ answer. answer ≡ shaped document tree.now.forest) }
+{
+    let Reading { schema, fault } = read(alloc, document, tree)?;
+    match fault {
+        None => Ok(Ok(schema)),
+        Some(fault) => Ok(Err(fault)),
     }
 }

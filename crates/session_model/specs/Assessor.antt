@@ -1,13 +1,19 @@
 -- The assessment of documents as a function.
 use Rattle.std.specs.Prelude.{◌≡◌}
-use Rattle.tree_rows.specs.Forest.{Forest}
-use Rattle.document_names.specs.Attribution.{SchemaSet}
-use Rattle.document_names.specs.Assessment.{Assessed, IsAssessment}
-use Rattle.document_names.specs.Plain.{plain_beside}
+use Rattle.xs_names.specs.Names.{IsSound}
+use Rattle.tree_rows.specs.Forest.{Forest, Document}
+use Rattle.tree_rows.specs.Whole.{IsTree}
+use Rattle.compiled_schema.specs.Attribution.{SchemaSet}
+use Rattle.compiled_schema.specs.Assessment.{Assessed, IsAssessment}
+use Rattle.compiled_schema.specs.Joined.{beside_of}
+use Rattle.compiled_schema.specs.Usable.{AreNamed}
 
--- It answers of each document that has an assessment by a schema set (Structures 5.2) that assessment, of which there is only one.
+-- It answers of each document that has an assessment by a schema set (Structures 5.2) that assessment, with the codes of its IDs
+-- (3.15.4), of which there is only one: the set's table has each name once, and those of its components.
 abbrev pub IsAssessor : (SchemaSet → Forest → Assessed) → Type 0
-IsAssessor assess = (s : SchemaSet) (f : Forest) (found : Assessed) → IsAssessment s plain_beside f found → assess s f ≡ found
+IsAssessor assess =
+    (s : SchemaSet) (d : Document) (found : Assessed) → IsSound s.names → AreNamed s.names s.parts → IsTree d
+    → IsAssessment s (beside_of d.forest found) d.forest found → assess s d.forest ≡ found
 
 -- one that does
 pub record RightAssessor : Type 0 where

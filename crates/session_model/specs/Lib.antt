@@ -6,9 +6,11 @@ pub mod Reports
 pub mod Applying
 pub mod Counting
 pub use Rattle.document_names.specs.Numbered
-pub use Rattle.document_names.specs.Assessment
-pub use Rattle.document_names.specs.Attribution
-pub use Rattle.document_names.specs.Plain
+pub use Rattle.compiled_schema.specs.Assessment
+pub use Rattle.compiled_schema.specs.Attribution
+pub use Rattle.compiled_schema.specs.Ids
+pub use Rattle.compiled_schema.specs.Joined
+pub use Rattle.compiled_schema.specs.Bearings
 pub use Rattle.document_names.specs.Table
 pub use Rattle.document_names.specs.Found
 pub use Rattle.compiled_schema.specs.Usable

@@ -3,7 +3,7 @@ use Rattle.std.specs.Prelude.{ℕ, List, Bool, false}
 use Rattle.tree_rows.specs.Forest.{Forest, Document}
 use Rattle.compiled_schema.specs.Usable.{set_of}
 use Rattle.compiled_schema.specs.declared.compiled.Compiled.{Compiled}
-use Rattle.document_names.specs.Assessment.{Entry, entries}
+use Rattle.compiled_schema.specs.Assessment.{Entry, entries}
 use Rattle.document_names.specs.Table.{document_table}
 use Rattle.session_model.specs.Assessor.{RightAssessor}
 

@@ -11,9 +11,9 @@ use Rattle.assess_records.specs.Counts.{counts_of}
 use Rattle.assess_records.specs.declared.shape.ElementShape.{ElementShape}
 use Rattle.instance_names.specs.Instance.{instance_text}
 use Rattle.instance_names.specs.declared.InstanceAttribute.TheVariants.{TypeName}
-use Rattle.element_judging.specs.Governing.{Governing}
-use Rattle.set_assessment.specs.Numbered.{Scope, Head, head_of, heads, names_of, name_in, named_texts, scope_in, characters, shape_of}
-use Rattle.set_assessment.specs.Attribution.{SchemaSet, content_particle, AreTerms}
+use Rattle.elem_assess.specs.Governing.{Governing}
+use Rattle.document_names.specs.Numbered.{Scope, Head, head_of, heads, names_of, name_in, named_texts, scope_in, characters, shape_of}
+use Rattle.child_terms.specs.Attribution.{SchemaSet, content_particle, AreTerms}
 use Rattle.set_assessment.specs.Assessment.{Beside, governed, sibling_records, AreJudged, IsEntry, AreAssessed, IsAssessment}
 use Rattle.set_assessment.specs.Local.{Readers, element_numbers, IsRead, AreRead, HasElement, Kept, head_at, pair_at, record_at, shape_at, IsScoped, IsSettled, AreRoots, kept_entries}
 
@@ -65,8 +65,8 @@ module _ (s : SchemaSet) (b : Beside) (r : Readers) (ks : ℕ → Kept) where
       stuck = (ks number).stuck;
       terms = settled.terms;
       attributed = subst (λ (hs : List Head). AreTerms s (content_particle s.parts (pair_at s b r ks number).of) (names_of hs) (ks number).stuck settled.terms) child-heads settled.attributed;
-      inner_is = ap (map (pair_at s b r ks)) (sym read.children_are) ∙ (settled.pairs ∙ ap (governed s b (pair_at s b r ks number) settled.terms) child-heads);
-      known = subst (λ (shape : ElementShape). AreJudged s b shape (ks number).found) shape-is settled.known;
+      inner_is = ap (map (pair_at s b r ks)) (sym read.children_are) ∙ (settled.pairs ∙ ap (governed s (pair_at s b r ks number) settled.terms) child-heads);
+      known = subst (λ (shape : ElementShape). AreJudged s shape (ks number).found) shape-is settled.known;
     }
 
   inner-scoped : (scope : Scope) (number : ℕ) (name : Expanded) (bindings : List Binding) (attributes : List Attribute) (children : Forest) →

@@ -2,7 +2,6 @@
 use Rattle.std.specs.Prelude.{◌≡◌, ℕ, List, [], ◌∷◌, ◌++◌, map, Option}
 use Rattle.xs_names.specs.Scope.{first_scope}
 use Rattle.xs_codes.specs.declared.fault.Found.{Found}
-use Rattle.xs_components.specs.declared.common.TypeId.{TypeId}
 use Rattle.simple_values.specs.declared.value.Value.{Value}
 use Rattle.tree_rows.specs.Forest.{Forest, none, text, element}
 use Rattle.tree_rows.specs.declared.row.Attribute.{Attribute}
@@ -10,15 +9,12 @@ use Rattle.assess_records.specs.Counts.{counts_of}
 use Rattle.assess_records.specs.declared.record.AttrRecord.{AttrRecord}
 use Rattle.assess_records.specs.declared.record.ElementRecord.{ElementRecord}
 use Rattle.assess_records.specs.declared.shape.ElementShape.{ElementShape}
-use Rattle.assess_records.specs.declared.shape.NamedText.{NamedText}
-use Rattle.instance_names.specs.Instance.{instance_text}
-use Rattle.instance_names.specs.declared.InstanceAttribute.TheVariants.{TypeName}
-use Rattle.element_judging.specs.ElemGoverningGoverning.{skipped, govern_root, govern_child}
-use Rattle.element_judging.specs.LocalType.{xsi_type}
-use Rattle.element_judging.specs.Governing.{Governing}
-use Rattle.element_judging.specs.Judged.{IsElementJudged}
-use Rattle.set_assessment.specs.Numbered.{Scope, Head, head_of, heads, names_of, named_texts, scope_in, characters, shape_of}
-use Rattle.set_assessment.specs.Attribution.{SchemaSet, content_particle, AreTerms}
+use Rattle.elem_assess.specs.ElemGoverningGoverning.{skipped, govern_root, govern_child}
+use Rattle.elem_assess.specs.Governing.{Governing}
+use Rattle.elem_assess.specs.Local.{IsLocal}
+use Rattle.elem_assess.specs.declared.records.Judged.{Judged}
+use Rattle.document_names.specs.Numbered.{Scope, Head, head_of, heads, names_of, named_texts, scope_in, characters, shape_of}
+use Rattle.child_terms.specs.Attribution.{SchemaSet, content_particle, AreTerms}
 
 -- what is found out about an element and its attributes, under its number: what governs it, its record, and the records of its
 -- attributes, each with the value of its text, where that is valid by a simple type
@@ -54,33 +50,31 @@ abbrev pub other_pairs : List Governing → List Governing
 other_pairs [] = []
 other_pairs (g ∷ gs) = gs
 
--- the records of an element's attributes, each with the value of its text, where that is valid by a simple type; and the names of the
--- required attributes that it lacks
-pub record AttrFindings : Type 0 where
-  pub records : List AttrRecord
-  pub values : List (Option Value)
-  pub missing : List ℕ
+-- what was found of an element and its attributes by themselves
+abbrev pub judged_of : Entry → Judged
+judged_of own = record { element = own.element; value = own.value; attrs = own.attrs; attr_values = own.attr_values }
 
--- What is said elsewhere of an element: the records of its attributes with their values and the required attributes that it lacks, by
--- its governing type, its scope and its attributes; and the codes of the identity constraints and of the ids of the element of a number.
+-- What is said elsewhere: the codes of the identity constraints and of the ids of the element of a number.
 pub record Beside : Type 0 where
-  pub attributes : Option TypeId → Scope → List NamedText → AttrFindings
   pub identity : ℕ → List Found
   pub ids : ℕ → List Found
 
-module _ (s : SchemaSet) (b : Beside) where
+module _ (s : SchemaSet) where
   -- what governs siblings, by how their parent is governed, by the terms that they are attributed to, and by their heads
   abbrev pub governed : Governing → List (Option ℕ) → List Head → List Governing
   governed parent [] hs = []
   governed parent (term ∷ terms) [] = []
   governed parent (term ∷ terms) (h ∷ hs) = govern_child s.names s.parts parent.mode term h.name h.xsi h.scope ∷ governed parent terms hs
 
-  -- the record and the value of an element with this shape, and those of its attributes
-  pub record AreJudged (shape : ElementShape) (own : Entry) : Type 0 where
-    pub attrs_are : own.attrs ≡ (b.attributes own.governing.of shape.scope shape.attrs).records
-    pub attr_values_are : own.attr_values ≡ (b.attributes own.governing.of shape.scope shape.attrs).values
-    pub judged : IsElementJudged s.names s.parts own.governing (xsi_type s.names s.parts own.governing.declaration (instance_text s.names shape.attrs TypeName) shape.scope) shape own.attrs (b.attributes own.governing.of shape.scope shape.attrs).missing own.element own.value
+  -- the pairs of the root
+  abbrev pub root_pairs : List Head → List Governing
+  root_pairs hs = map (λ (h : Head). govern_root s.names s.parts h.name h.xsi h.scope) hs
 
+  -- the records and the values of an element with this shape and of its attributes, by what governs it
+  abbrev pub AreJudged : ElementShape → Entry → Type 0
+  AreJudged shape own = IsLocal s.names s.parts own.governing shape (judged_of own)
+
+module _ (s : SchemaSet) (b : Beside) where
   -- an element with this head, these attributes and children: what governs it is given; its child elements are attributed to the
   -- terms of its type's content model, all at once by their names, and have these governing pairs; how many of them are of each
   -- validity and attempt enters its record, and nothing else of them
@@ -90,8 +84,8 @@ module _ (s : SchemaSet) (b : Beside) where
     pub stuck : Option ℕ
     pub terms : List (Option ℕ)
     pub attributed : AreTerms s (content_particle s.parts g.of) (names_of (heads s.names h.scope children)) stuck terms
-    pub inner_is : inner ≡ governed g terms (heads s.names h.scope children)
-    pub known : AreJudged (shape_of h (named_texts s.names attributes) (characters children) stuck (counts_of (sibling_records below)) (b.identity number) (b.ids number)) own
+    pub inner_is : inner ≡ governed s g terms (heads s.names h.scope children)
+    pub known : AreJudged s (shape_of h (named_texts s.names attributes) (characters children) stuck (counts_of (sibling_records below)) (b.identity number) (b.ids number)) own
 
   abbrev pub AreAssessed : Scope → List Governing → Forest → Assessed → Type 0
   AreAssessed scope pairs none found = found ≡ nothing
@@ -102,10 +96,6 @@ module _ (s : SchemaSet) (b : Beside) where
       AreAssessed (scope_in s.names bindings scope) inner children below ×
       AreAssessed scope (other_pairs pairs) next after
 
-  -- the pairs of the root
-  abbrev pub root_pairs : List Head → List Governing
-  root_pairs hs = map (λ (h : Head). govern_root s.names s.parts h.name h.xsi h.scope) hs
-
   -- The assessment of a document: its root is governed by the declaration at the top with its name, and is assessed strictly.
   abbrev pub IsAssessment : Forest → Assessed → Type 0
-  IsAssessment forest found = AreAssessed first_scope (root_pairs (heads s.names first_scope forest)) forest found
+  IsAssessment forest found = AreAssessed first_scope (root_pairs s (heads s.names first_scope forest)) forest found

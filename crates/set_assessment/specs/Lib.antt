@@ -1,7 +1,12 @@
-pub mod Numbered
-pub mod Attribution
 pub mod Assessment
 pub mod Local
 pub mod Plain
-pub use Rattle.element_judging.specs.Source
-pub use Rattle.element_judging.specs.Judged
+pub use Rattle.document_names.specs.Numbered
+pub use Rattle.child_terms.specs.Attribution
+pub use Rattle.child_terms.specs.Fitting
+pub use Rattle.elem_assess.specs.Schema
+pub use Rattle.elem_assess.specs.Types
+pub use Rattle.elem_assess.specs.Added
+pub use Rattle.elem_assess.specs.Source
+pub use Rattle.elem_assess.specs.Marked
+pub use Rattle.elem_assess.specs.Governing

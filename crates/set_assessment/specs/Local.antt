@@ -11,9 +11,9 @@ use Rattle.assess_records.specs.declared.record.ElementRecord.{ElementRecord}
 use Rattle.assess_records.specs.declared.shape.ElementShape.{ElementShape}
 use Rattle.instance_names.specs.Instance.{instance_text}
 use Rattle.instance_names.specs.declared.InstanceAttribute.TheVariants.{TypeName}
-use Rattle.element_judging.specs.Governing.{Governing}
-use Rattle.set_assessment.specs.Numbered.{Scope, Head, name_in, named_texts, scope_in, heads, names_of, characters, shape_of}
-use Rattle.set_assessment.specs.Attribution.{SchemaSet, content_particle, AreTerms}
+use Rattle.elem_assess.specs.Governing.{Governing}
+use Rattle.document_names.specs.Numbered.{Scope, Head, name_in, named_texts, scope_in, heads, names_of, characters, shape_of}
+use Rattle.child_terms.specs.Attribution.{SchemaSet, content_particle, AreTerms}
 use Rattle.set_assessment.specs.Assessment.{Entry, Assessed, nothing, entry, Beside, governed, root_pairs, AreJudged}
 
 -- ---- a document, read by the numbers of its elements
@@ -84,14 +84,14 @@ module _ (s : SchemaSet) (b : Beside) (r : Readers) (ks : ℕ → Kept) where
     pub scopes : All (IsScoped (ks n).scope) (r.children n)
     pub terms : List (Option ℕ)
     pub attributed : AreTerms s (content_particle s.parts (pair_at n).of) (names_of (map head_at (r.children n))) (ks n).stuck terms
-    pub pairs : map pair_at (r.children n) ≡ governed s b (pair_at n) terms (map head_at (r.children n))
+    pub pairs : map pair_at (r.children n) ≡ governed s (pair_at n) terms (map head_at (r.children n))
     pub counts_are : (ks n).counts ≡ counts_of (map record_at (r.children n))
-    pub known : AreJudged s b (shape_at n) (ks n).found
+    pub known : AreJudged s (shape_at n) (ks n).found
 
   -- what is kept of the root
   pub record AreRoots (f : Forest) : Type 0 where
     pub scopes : All (IsScoped first_scope) (element_numbers f)
-    pub pairs : map pair_at (element_numbers f) ≡ root_pairs s b (heads s.names first_scope f)
+    pub pairs : map pair_at (element_numbers f) ≡ root_pairs s (heads s.names first_scope f)
 
 -- the entries that are kept of the elements of a tree
 abbrev pub kept_entries : (ℕ → Kept) → Forest → Assessed

@@ -1,10 +1,6 @@
--- Documents of which nothing is said beside: no records of attributes, no codes of identity constraints and none of ids.
+-- Documents of which nothing is said beside: no codes of identity constraints and none of ids.
 use Rattle.std.specs.Prelude.{[]}
 use Rattle.set_assessment.specs.Assessment.{Beside}
 
 abbrev pub plain_beside : Beside
-plain_beside = record {
-  attributes = λ of scope attrs. record { records = []; values = []; missing = [] };
-  identity = λ number. [];
-  ids = λ number. [];
-}
+plain_beside = record { identity = λ number. []; ids = λ number. [] }

@@ -2,7 +2,7 @@
 
 ghost use Rattle.std.specs.Prelude.{ℕ};
 ghost use Rattle.tree_rows.specs.Forest.{Forest};
-ghost use Rattle.set_assessment.specs.Attribution.{SchemaSet};
+ghost use Rattle.child_terms.specs.Attribution.{SchemaSet};
 ghost use Rattle.set_assessment.specs.Assessment.{Beside, IsAssessment};
 ghost use Rattle.set_assessment.specs.Local.{Readers, AreRead, HasElement, Kept, IsSettled, AreRoots, kept_entries};
 

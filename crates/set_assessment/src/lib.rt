@@ -3,5 +3,6 @@
 
 mod laws;
 
-pub use element_judging::{JudgedElement, SimpleTypes, judge_element};
+pub use child_terms::{ChildTerms, child_terms};
+pub use elem_assess::{AssessSet, AttrTables, Judged, SimpleTypes, codes_of_ids_stand_last, local};
 pub use laws::fitting_records_are_the_assessment;

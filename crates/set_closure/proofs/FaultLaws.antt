@@ -26,7 +26,7 @@ use Rattle.set_closure.specs.Order.{own_target_of}
 use Rattle.set_closure.specs.inside.Faults.{fault_at, shape_faults, document_faults, set_faults}
 
 -- ---- lists
-in-flat_map : {X Y : Type 0} (f : X → List Y) (xs : List X) (y : Y) → Contains (flat_map f xs) y → (x : X) × Contains xs x × Contains (f x) y
+pub in-flat_map : {X Y : Type 0} (f : X → List Y) (xs : List X) (y : Y) → Contains (flat_map f xs) y → (x : X) × Contains xs x × Contains (f x) y
 in-flat_map f [] y c = absurd (omega (arith, c.1))
 in-flat_map f (x ∷ xs) y c = elim (Contains-append_cases (f x) (flat_map f xs) y c) [
   | inl here ↦ (x, Contains-append_left (x ∷ []) xs x (Contains-push [] x), here)
@@ -38,7 +38,7 @@ flat_map-place f [] k d y h c = absurd (omega (arith, h))
 flat_map-place f (x ∷ xs) zero d y h c = Contains-append_left (f x) (flat_map f xs) y c
 flat_map-place f (x ∷ xs) (suc k) d y h c = Contains-append_right (f x) (flat_map f xs) y (flat_map-place f xs k d y (omega (arith, h)) c)
 
-flat_map-has : {X Y : Type 0} (f : X → List Y) (xs : List X) (x : X) (y : Y) → Contains xs x → Contains (f x) y → Contains (flat_map f xs) y
+pub flat_map-has : {X Y : Type 0} (f : X → List Y) (xs : List X) (x : X) (y : Y) → Contains xs x → Contains (f x) y → Contains (flat_map f xs) y
 flat_map-has {X} {Y} f xs x y c is = flat_map-place f xs c.0 x y c.1 (subst (λ (z : X). Contains (f z) y) (sym c.2) is)
 
 in-map : {X Y : Type 0} (f : X → Y) (xs : List X) (y : Y) → Contains (map f xs) y → (x : X) × Contains xs x × (f x ≡ y)

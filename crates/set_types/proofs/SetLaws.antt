@@ -10,7 +10,7 @@ use Rattle.schema_faults.specs.Constructs.{Construct}
 use Rattle.schema_faults.specs.Faults.{least_fault}
 use Rattle.schema_faults.specs.declared.broken.Broken.{Broken}
 use Rattle.document_representations.specs.Shapes.{shapes}
-use Rattle.document_representations.specs.Shaped.{constructs_of, answer}
+use Rattle.document_representations.specs.Shaped.{constructs_of, answer, fault_at}
 use Rattle.document_representations.specs.Shape.{Shape}
 use Rattle.document_representations.specs.ShapedSchema.{ShapedSchema}
 use Rattle.document_representations.specs.SetDocument.{SetDocument}
@@ -31,7 +31,8 @@ use Rattle.set_types.proofs.LaidLaws.{AreLaid, laid-tail}
 use Rattle.set_types.proofs.ShapeLaws.{element-shaped}
 
 -- a document that is of a tree is walked whole
-answered : (number : ℕ) (es : List Construct) (fault : Option Broken) (schema : ShapedSchema) → answer number es fault ≡ Ok schema → (fault ≡ None) × (schema.shapes ≡ shapes es)
+answered : (number : ℕ) (es : List Construct) (broken : Option Broken) (schema : ShapedSchema) → answer (record { shapes = shapes es }) (fault_at number broken) ≡ Ok schema
+    → (broken ≡ None) × (schema.shapes ≡ shapes es)
 answered number es None schema is =
     (refl, sym (ap (λ (s : ShapedSchema). s.shapes) (ok-same (record { shapes = shapes es }) schema is)))
   where

@@ -14,8 +14,8 @@ use Rattle.xs_references.specs.Ranked.{named_types, IsRanked}
 use Rattle.type_derives.specs.Derives.{is_simple}
 use Rattle.type_derives.specs.Within.{AreSimple}
 use Rattle.simple_validity.specs.TypeTree.{members_of}
-use Rattle.simple_validity.specs.Trees.{form_tree, part_tree, simple_tree}
-use Rattle.simple_validity.proofs.TreeLaws.{simple_tree_is}
+use Rattle.simple_validity.specs.Trees.{form_tree, part_tree, simple_tree, type_tree}
+use Rattle.simple_validity.proofs.TreeLaws.{simple_tree_is, type_tree_is}
 use Rattle.simple_types.specs.SimpleTypes.{IsSimpleTree, AreSimpleTrees}
 
 -- a part that is there is none that is not
@@ -61,3 +61,10 @@ module _ (t : Tables) (ranked : IsRanked t) (simple : AreSimple t) where
   type-simple (types.Builtin kind) there is = subst IsSimpleTree (sym (simple_tree_is t ranked (types.Builtin kind))) tt
   type-simple (types.Simple id) there is = entry-simple (suc (slice_index t.simples.ranks id)) id (omega arith) there
   type-simple (types.Complex id) there is = absurd (false≢true is)
+
+  -- the same type, unfolded with the simple contents of complex types
+  pub type-tree-simple : (of : TypeId) → IsType t of → is_simple of ≡ true → IsSimpleTree (type_tree t of)
+  type-tree-simple types.AnyType there is = absurd (false≢true is)
+  type-tree-simple (types.Builtin kind) there is = subst IsSimpleTree (sym (type_tree_is t ranked (types.Builtin kind))) (type-simple (types.Builtin kind) there is)
+  type-tree-simple (types.Simple id) there is = subst IsSimpleTree (sym (type_tree_is t ranked (types.Simple id))) (type-simple (types.Simple id) there is)
+  type-tree-simple (types.Complex id) there is = absurd (false≢true is)

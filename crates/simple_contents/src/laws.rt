@@ -8,7 +8,9 @@ ghost use Rattle.xs_references.specs.Heights.{IsType};
 ghost use Rattle.xs_references.specs.Ranked.{IsRanked};
 ghost use Rattle.type_derives.specs.Within.{AreSimple};
 ghost use Rattle.base_kinds.specs.Bases.{IsWrongBase};
-ghost use Rattle.simple_types.specs.SimpleTypes.{AreWhole, IsWhole};
+ghost use Rattle.type_derives.specs.Derives.{is_simple};
+ghost use Rattle.simple_validity.specs.Trees.{type_tree};
+ghost use Rattle.simple_types.specs.SimpleTypes.{AreWhole, IsWhole, IsSimpleTree};
 ghost use Rattle.simple_types.specs.declared.types.SimpleTypes.{SimpleTypes};
 ghost use Rattle.content_types.specs.ContentTypes.{content_of};
 ghost use Rattle.element_judging.specs.Texts.{is_simple_content};
@@ -19,4 +21,9 @@ ghost use Rattle.simple_contents.specs.Own.{AreOwnSimple};
 pub fn simple_contents_are_read()
     ensures read { (t : Tables) (types : SimpleTypes) → IsRanked t → AreSimple t → AreOwnSimple t → ((fault : Fault) → IsWrongBase t fault → ⊥) → AreWhole t types
         → (of : TypeId) → IsType t of → is_simple_content (content_of t of) ≡ true → IsWhole types of }
+{}
+
+/// Where references go to lower ranks and what simple types are made of is simple, a simple type is made of simple ones alone.
+pub fn simple_types_are_simple_trees()
+    ensures simple { (t : Tables) → IsRanked t → AreSimple t → (of : TypeId) → IsType t of → is_simple of ≡ true → IsSimpleTree (type_tree t of) }
 {}

@@ -1,5 +1,5 @@
 -- What a turn of the code has done is what was to be done.
-use Rattle.std.proofs.Common.{◌≡◌, ℕ, ◌+◌, ◌≤◌, List, [], Bool, false, Option, Result, Ok, Err, IfOk, IsErrAnd, if◌then◌else◌, refl, sym, ap, ◌∙◌, subst, le_refl, arith}
+use Rattle.std.proofs.Common.{◌≡◌, ℕ, ◌+◌, ◌≤◌, List, [], Option, Result, Ok, Err, IfOk, IsErrAnd, refl, sym, ap, ◌∙◌, subst, le_refl, arith}
 use Rattle.std.proofs.lemmas.Result.{err_from_is_err_and}
 use Rattle.std.proofs.KnownBytes.{Appends-nil}
 use Rattle.open_document.specs.BreakOff.{BreakOff}
@@ -9,8 +9,8 @@ use Rattle.open_document.specs.Counting.{Counts}
 use Rattle.open_document.specs.State.{OpenState, WorkState, empty, ready, working, IsReady, IsOpen as IsDocumentOpen}
 use Rattle.open_document.specs.Tells.{Wrote}
 use Rattle.stream_sections.specs.declared.commands.CommandReader.{CommandReader}
-use Rattle.stream_answers.specs.Output.{Said, Last}
-use Rattle.stream_answers.specs.inside.Turns.{Spot, commands, Turned, goes, stops, compiles, LeadsTo, silent, no_block}
+use Rattle.stream_answers.specs.Output.{Said}
+use Rattle.stream_answers.specs.inside.Turns.{Spot, commands, Turned, goes, LeadsTo, silent, no_block}
 use Rattle.stream_answers.specs.inside.Turning.{spot_of, said_of, MovesTo, GoesTo, Takes}
 use Rattle.stream_answers.specs.declared.place.Place.{Place}
 use Rattle.stream_answers.specs.declared.place.Place.TheVariants as places
@@ -74,12 +74,6 @@ pub if_goes : (result : Result Turn BreakOff) (said : Said) (next : Spot) (place
     → IfOk result (MovesTo stood work (goes said next))
 if_goes (Ok turn) said next place stood work e h = goes_to said next place stood work turn e h
 if_goes (Err why) said next place stood work e h = tt
-
--- the document is taken, where no element has an attribute
-pub unless_it_has : (has : Bool) (last : Last) (said : Said) (next : Spot) (result : Result Turn BreakOff) (place stood : Place) (work : WorkState) → false ≡ has
-    → spot_of place work ≡ next → IfOk result (GoesTo place) → IfOk result (MovesTo stood work (if has then stops last else goes said next))
-unless_it_has has last said next result place stood work none e h =
-    subst (λ x. IfOk result (MovesTo stood work (if x then stops last else goes said next))) none (if_goes result said next place stood work e h)
 
 -- a command was answered, and no block is open
 pub if_stays : (result : Result Turn BreakOff) (said : Said) (s : OpenState) (r : CommandReader) (work : WorkState) → r ≡ no_block

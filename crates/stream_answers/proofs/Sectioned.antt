@@ -1,7 +1,6 @@
 -- What is told spot by spot is what is told section by section.
-use Rattle.std.proofs.Common.{◌≡◌, ℕ, ◌+◌, List, Bool, true, false, Option, Some, None, if◌then◌else◌, refl, ap, ◌∙◌}
+use Rattle.std.proofs.Common.{◌≡◌, ℕ, ◌+◌, List, Option, Some, None, refl, ap, ◌∙◌}
 use Rattle.item_listing.specs.Listed as listed
-use Rattle.tree_rows.specs.Rows.{rows_of}
 use Rattle.open_document.specs.Assessor.{RightAssessor}
 use Rattle.open_document.specs.Compiled.{Compiled}
 use Rattle.open_document.specs.Outcome.{Outcome}
@@ -19,7 +18,7 @@ use Rattle.stream_sections.specs.declared.commands.CommandReader.{CommandReader}
 use Rattle.stream_sections.specs.declared.document.DocumentReader.{DocumentReader}
 use Rattle.stream_sections.specs.declared.schemas.SchemaReader.{SchemaReader}
 use Rattle.stream_sections.specs.declared.schemas.SchemaSection.{SchemaSection}
-use Rattle.stream_answers.specs.Output.{Told, over, asks, free, before, closing_told, commands_told, opening, has_attributes, not_yet, opened_told, schema_ok, inputs, compiled_told, stream_told, check_told, sections_told, answered}
+use Rattle.stream_answers.specs.Output.{Told, over, asks, free, before, closing_told, commands_told, opening, opened_told, schema_ok, inputs, compiled_told, stream_told, check_told, sections_told, answered}
 use Rattle.stream_answers.specs.inside.Turns.{Spot, schemas, document, commands, ended, Turned, goes, stops, silent, unbegun, no_block, document_ended, spot_behind, compiled, schemas_turned, document_turned, commands_turned, command_at, end_last, turn_then, told}
 use Rattle.stream_answers.proofs.Leading.{before_silent}
 
@@ -49,12 +48,6 @@ module _ (p : RightAssessor) where
   commands_are a lines s r listed.goes_on = refl
   commands_are a lines s r listed.done = refl
 
-  -- a document is taken where no element has an attribute
-  accepted_is : (has : Bool) (next : Turned) (more : Spot → Told) (behind : Told) → turn_then next more ≡ behind
-      → turn_then (if has then stops not_yet else next) more ≡ (if has then over not_yet else behind)
-  accepted_is true next more behind h = refl
-  accepted_is false next more behind h = h
-
   module _ (law : (lines : ℕ) (its : listed.Listed) → command_turns.read lines command_turns.unbegun its ≡ sections.commands lines None its) where
     -- an item in the document section, and those that come
     document_step : (a : Asked) (line : ℕ) (set : Compiled) (turn : document_turns.Turned) (more : listed.Listed)
@@ -63,13 +56,9 @@ module _ (p : RightAssessor) where
         ≡ opened_told p a set (document_turns.turn_then turn (λ next. document_turns.read a line next more) (sections.commands line None more) (sections.closing line more))
     document_step a line set (document_turns.goes next) more h = before_silent (told p a line (document set next) more) ∙ h next
     document_step a line set (document_turns.edits d) more h =
-        accepted_is (has_attributes (rows_of 1 d.forest)) (goes (free (opening p a (opened set d))) (commands (opened set d) no_block)) (λ spot. told p a line spot more)
-        (before (free (opening p a (opened set d))) (commands_told p (opened set d) (sections.commands line None more)))
-        (ap (before (free (opening p a (opened set d)))) (commands_are a line (opened set d) no_block more ∙ ap (commands_told p (opened set d)) (law line more)))
+        ap (before (free (opening p a (opened set d)))) (commands_are a line (opened set d) no_block more ∙ ap (commands_told p (opened set d)) (law line more))
     document_step a line set (document_turns.ends d) more h =
-        accepted_is (has_attributes (rows_of 1 d.forest)) (goes (free (opening p a (opened set d))) (document_ended p (opened set d))) (λ spot. told p a line spot more)
-        (before (free (opening p a (opened set d))) (commands_told p (opened set d) (sections.closes (sections.closing line more))))
-        (ap (before (free (opening p a (opened set d)))) (ended_are a line (Some (verdict p (opened set d))) more))
+        ap (before (free (opening p a (opened set d)))) (ended_are a line (Some (verdict p (opened set d))) more)
     document_step a line set (document_turns.stops stop) more h = refl
 
     document_is : (a : Asked) (lines : ℕ) (set : Compiled) (r : DocumentReader) (its : listed.Listed)

@@ -1,12 +1,9 @@
 -- What is told of a stream, by what its items give: schema sections, a document, commands, the end; or a line that is refused. What schema documents
 -- come to is asked, since a relation says it.
-use Rattle.std.specs.Prelude.{◌≡◌, ◌⊎◌, ℕ, ◌+◌, List, [], ◌∷◌, ◌++◌, Bool, ◌==◌, not, length, map, Option, Some, None, codes, if◌then◌else◌}
-use Rattle.std.specs.List.{list_any}
+use Rattle.std.specs.Prelude.{◌≡◌, ◌⊎◌, ℕ, ◌+◌, List, [], ◌∷◌, ◌++◌, map, Option, Some, None, codes}
 use Rattle.std.specs.Fmt.{decimal}
 use Rattle.item_listing.specs.Listed.{Listed}
 use Rattle.item_listing.specs.declared.item.Item.{Item}
-use Rattle.tree_rows.specs.Rows.{rows_of}
-use Rattle.tree_rows.specs.declared.row.Row.{Row}
 use Rattle.assess_records.specs.declared.outcome.Validity.{Validity}
 use Rattle.assess_records.specs.declared.outcome.Validity.TheVariants as validities
 use Rattle.open_document.specs.Assessor.{RightAssessor}
@@ -93,10 +90,6 @@ end_line v = codes "end " ++ validity_word v.validity ++ codes " " ++ decimal v.
 abbrev pub verdict_last : Verdict → Last
 verdict_last v = ends (end_line v) (ending_of v.validity)
 
--- an element has an attribute that is no binding
-abbrev pub has_attributes : List Row → Bool
-has_attributes rows = list_any (λ row. not (length row.attributes == 0)) rows
-
 -- not of the form that is accepted so far
 abbrev pub not_yet : Last
 not_yet = ends (codes "unsupported NotYet" ++ 10 ∷ []) Unsupported
@@ -143,11 +136,9 @@ module _ (p : RightAssessor) where
   opening Assess s = report p s
   opening Session s = first_line p s
 
-  -- the document, where no element has an attribute that is no binding
+  -- the document
   abbrev pub opened_told : Asked → Compiled → Opened → Told
-  opened_told a set (sections.document d more) =
-      if has_attributes (rows_of 1 d.forest) then over not_yet
-      else before (free (opening a (opened set d))) (commands_told (opened set d) more)
+  opened_told a set (sections.document d more) = before (free (opening a (opened set d))) (commands_told (opened set d) more)
   opened_told a set (sections.undocumented stop) = stop_told stop
 
   -- what is told of items, by what they give

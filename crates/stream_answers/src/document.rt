@@ -12,21 +12,13 @@ ghost use Rattle.stream_answers.specs.declared.place.Place.TheVariants as places
 
 use crate::Place;
 use crate::place::boxed;
-use crate::turn::{Turn, not_yet, refuse};
+use crate::turn::{Turn, refuse};
 use item_listing::Item;
 use open_document::{BreakOff, Workspace};
 use plain_tree::Tree;
 use std::alloc::Global;
 use stream_sections::{Asked, CommandReader, DocumentReader, DocumentTurn};
-use tree_rows::Row;
 use xsv_io::Sink;
-
-/// Whether some element has an attribute that is no binding.
-fn have_attributes(rows: &[Row]) -> bool
-    ensures { result ≡ output.has_attributes rows.now }
-{
-    rows.iter().any(|row| !row.attributes.as_slice().is_empty())
-}
 
 /// Writes the report on a document that was opened, or the first line of a session.
 fn write_opening<W: Sink>(asked: Asked, work: &Workspace, sink: &mut W) -> Result<(), BreakOff>
@@ -77,7 +69,7 @@ fn end_document<W: Sink>(
     Ok(Turn::Goes(place))
 }
 
-/// Opens the document, where no element has an attribute, and takes commands from here on.
+/// Opens the document, and takes commands from here on.
 fn take_edits<W: Sink>(
     alloc: Global,
     asked: Asked,
@@ -92,14 +84,11 @@ fn take_edits<W: Sink>(
     ensures open { (stood : Place) → IfOk result (MovesOpen stood work.new) }
     ensures writes { KeepsCount W.faults W.fault_bound sink.old sink.new (IsWriteFault result) }
 {
-    if have_attributes(tree.rows()) {
-        return not_yet(sink);
-    }
     work.open(alloc, tree)?;
     begin_edits(alloc, asked, work, sink)
 }
 
-/// Opens the document, where no element has an attribute, and ends the stream.
+/// Opens the document, and ends the stream.
 fn take_end<W: Sink>(
     alloc: Global,
     asked: Asked,
@@ -114,9 +103,6 @@ fn take_end<W: Sink>(
     ensures open { (stood : Place) → IfOk result (MovesOpen stood work.new) }
     ensures writes { KeepsCount W.faults W.fault_bound sink.old sink.new (IsWriteFault result) }
 {
-    if have_attributes(tree.rows()) {
-        return not_yet(sink);
-    }
     work.open(alloc, tree)?;
     end_document(alloc, asked, work, sink)
 }

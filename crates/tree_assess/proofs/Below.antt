@@ -16,30 +16,31 @@ use Rattle.elem_governing.specs.declared.pairs.Governing.{Governing}
 use Rattle.compiled_schema.specs.Usable.{set_of}
 use Rattle.compiled_schema.specs.declared.compiled.Compiled.{Compiled}
 use Rattle.element_heads.specs.Heads.{head_by}
-use Rattle.child_terms.specs.Numbered.{Scope, Head, head_of, heads, names_of, named_texts, characters, scope_in, shape_of}
-use Rattle.child_terms.specs.Attribution.{SchemaSet, content_particle, AreTerms}
-use Rattle.child_terms.specs.Assessment.{Entry, nothing, entry, entries, governed, sibling_records, AreAssessed, AreJudged, IsEntry}
-use Rattle.child_terms.specs.Plain.{plain_beside}
-use Rattle.tree_assess.specs.Entries.{entry_of, AreEntries}
+use Rattle.compiled_schema.specs.Numbered.{Scope, Head, head_of, heads, names_of, named_texts, characters, scope_in, shape_of}
+use Rattle.compiled_schema.specs.Attribution.{SchemaSet, content_particle, AreTerms}
+use Rattle.compiled_schema.specs.Assessment.{nothing, entry, governed, sibling_records, AreAssessed, AreJudged, IsEntry}
+use Rattle.compiled_schema.specs.Plain.{plain_beside}
+use Rattle.compiled_schema.specs.Bearings.{Bearing, bearings_below}
+use Rattle.tree_assess.specs.Entries.{entry_of}
 use Rattle.tree_assess.specs.declared.entry.ElementEntry.{ElementEntry}
 use Rattle.tree_assess.specs.declared.entry.ChildOutcome.{ChildOutcome}
 use Rattle.tree_assess.specs.declared.elements.Entered.{Entered}
-use Rattle.tree_assess.specs.inside.Steps.{AreDone, IsDone, alone, root_pair_of, pairs_in}
+use Rattle.tree_assess.specs.inside.Steps.{AreBorne, AreDone, IsDone, alone, bearing_of, root_pair_of, pairs_in}
 use Rattle.tree_assess.specs.inside.Entering.{IsEntered, IsFinished, shape_from}
 
 -- an entry takes the place that was kept for it
-pub placed : (old pushed mid new : List ElementEntry) (blank own : ElementEntry) (below : List Entry) (place : ℕ) → pushed ≡ old ++ blank ∷ [] → map entry_of mid ≡ map entry_of pushed ++ below → place ≡ length old
-    → new ≡ slice_set mid place own → map entry_of new ≡ map entry_of old ++ entry_of own ∷ below
+pub placed : (old pushed mid new : List ElementEntry) (blank own : ElementEntry) (below : List Bearing) (place : ℕ) → pushed ≡ old ++ blank ∷ [] → map bearing_of mid ≡ map bearing_of pushed ++ below → place ≡ length old
+    → new ≡ slice_set mid place own → map bearing_of new ≡ map bearing_of old ++ bearing_of own ∷ below
 placed old pushed mid new blank own below place push more at set =
-    let held : map entry_of mid ≡ map entry_of old ++ entry_of blank ∷ below =
-    more ∙ ap (λ es. map entry_of es ++ below) push ∙ ap (λ es. es ++ below) (map-append entry_of old (blank ∷ []))
-    ∙ append_assoc (map entry_of old) (entry_of blank ∷ []) below in
-    let place_is : place ≡ length (map entry_of old) = at ∙ sym (length-map old entry_of) in
-    ap (map entry_of) set ∙ map-set entry_of mid place own ∙ ap (λ es. slice_set es place (entry_of own)) held
-    ∙ ap (λ n. slice_set (map entry_of old ++ entry_of blank ∷ below) n (entry_of own)) place_is
-    ∙ set-append_seam (map entry_of old) (entry_of blank) below (entry_of own)
+    let held : map bearing_of mid ≡ map bearing_of old ++ bearing_of blank ∷ below =
+    more ∙ ap (λ es. map bearing_of es ++ below) push ∙ ap (λ es. es ++ below) (map-append bearing_of old (blank ∷ []))
+    ∙ append_assoc (map bearing_of old) (bearing_of blank ∷ []) below in
+    let place_is : place ≡ length (map bearing_of old) = at ∙ sym (length-map old bearing_of) in
+    ap (map bearing_of) set ∙ map-set bearing_of mid place own ∙ ap (λ es. slice_set es place (bearing_of own)) held
+    ∙ ap (λ n. slice_set (map bearing_of old ++ bearing_of blank ∷ below) n (bearing_of own)) place_is
+    ∙ set-append_seam (map bearing_of old) (bearing_of blank) below (bearing_of own)
 
-module _ (c : Compiled) (outer : Scope) (g : Governing) (name : Expanded) (row : Row) (children : Forest) (e : Entered) (is : IsEntered c outer g name row children e) where
+module _ (c : Compiled) (bearer : ℕ) (outer : Scope) (g : Governing) (name : Expanded) (row : Row) (children : Forest) (e : Entered) (is : IsEntered c bearer outer g name row children e) where
   abbrev own_head : Head
   own_head = head_of c.names outer name row.bindings row.attributes
 
@@ -56,59 +57,62 @@ module _ (c : Compiled) (outer : Scope) (g : Governing) (name : Expanded) (row :
       ∙ ap (λ chars. shape_of own_head (named_texts c.names row.attributes) chars e.inner.stuck counts [] []) is.text_is
 
   module _ (counts : ChildCounts) (old pushed mid new : List ElementEntry) (blank : ElementEntry) (place : ℕ) (outcome : ChildOutcome)
-      (below : AreDone (set_of c) e.head.scope (pairs_in e.inner.begun.items) children pushed mid counts) (end : IsFinished (set_of c) g row.number (shape_from e counts) place mid new outcome) where
-    known : AreJudged (set_of c) plain_beside (own_shape (counts_of (sibling_records below.found))) (entry_of end.own)
-    known = subst (λ shape. AreJudged (set_of c) plain_beside shape (entry_of end.own)) (shape_is counts ∙ ap own_shape below.counts_are) end.judged
+      (below : AreDone (set_of c) e.number e.head.scope (pairs_in e.inner.begun.items) children pushed mid counts) (end : IsFinished (set_of c) g e.number e.bearer (shape_from e counts) place mid new outcome) where
+    known : AreJudged (set_of c) (own_shape (counts_of (sibling_records below.found))) (entry_of end.own)
+    known = subst (λ shape. AreJudged (set_of c) shape (entry_of end.own)) (shape_is counts ∙ ap own_shape below.counts_are) end.judged
 
-    pub element_done : pushed ≡ old ++ blank ∷ [] → place ≡ length old → IsDone (set_of c) outer g name row children old new outcome
+    pub element_done : pushed ≡ old ++ blank ∷ [] → place ≡ length old → IsDone (set_of c) bearer outer g name row children old new outcome
     element_done push at = record {
       own = entry_of end.own;
       inner = pairs_in e.inner.begun.items;
       below = below.found;
       entry_is = record {
-        number_is = end.number_is;
+        number_is = end.number_is ∙ is.number_is;
         governing_is = end.governing_is;
         stuck = e.inner.stuck;
         terms = is.inner_are.terms;
         attributed = subst (λ scope. AreTerms (set_of c) (content_particle c.parts g.of) (names_of (heads c.names scope children)) e.inner.stuck is.inner_are.terms) scope_is is.inner_are.attributed;
-        inner_is = is.inner_are.pairs_are ∙ ap (λ scope. governed (set_of c) plain_beside g is.inner_are.terms (heads c.names scope children)) scope_is;
+        inner_is = is.inner_are.pairs_are ∙ ap (λ scope. governed (set_of c) g is.inner_are.terms (heads c.names scope children)) scope_is;
         known = known;
       };
       below_are = subst (λ scope. AreAssessed (set_of c) plain_beside scope (pairs_in e.inner.begun.items) children below.found) scope_is below.assessed;
-      entries_are = placed old pushed mid new blank end.own (entries below.found) place push below.entries_are at end.placed;
+      bearings_are =
+          placed old pushed mid new blank end.own (bearings_below e.number below.found) place push below.bearings_are at end.placed
+          ∙ ap (λ n. map bearing_of old ++ record { bearer = n; own = entry_of end.own } ∷ bearings_below e.number below.found) (end.bearer_is ∙ is.bearer_is)
+          ∙ ap (λ n. map bearing_of old ++ record { bearer = bearer; own = entry_of end.own } ∷ bearings_below n below.found) (sym end.number_is);
       validity_is = end.validity_is;
       attempted_is = end.attempted_is;
     }
 
 -- the place that was kept is there
-pub place_there : (old pushed mid : List ElementEntry) (blank : ElementEntry) (below : List Entry) (place : ℕ) → pushed ≡ old ++ blank ∷ [] → map entry_of mid ≡ map entry_of pushed ++ below → place ≡ length old → place < length mid
+pub place_there : (old pushed mid : List ElementEntry) (blank : ElementEntry) (below : List Bearing) (place : ℕ) → pushed ≡ old ++ blank ∷ [] → map bearing_of mid ≡ map bearing_of pushed ++ below → place ≡ length old → place < length mid
 place_there old pushed mid blank below place push more at =
-    let size = length-map mid entry_of in
+    let size = length-map mid bearing_of in
     let all = ap length more in
-    let sum = length-append (map entry_of pushed) below in
-    let held = length-map pushed entry_of in
+    let sum = length-append (map bearing_of pushed) below in
+    let held = length-map pushed bearing_of in
     let first = ap length push in
     let one = length-append old (blank ∷ []) in
     omega arith
 
 -- an element by the results of its calls, each of which leaves the set as it was
-pub element_from : {E : Type 0} (k d b : Compiled) (outer : Scope) (g : Governing) (name : Expanded) (row : Row) (children : Forest) (e : Entered) → IsEntered k outer g name row children e → d ≡ k → b ≡ k
+pub element_from : {E : Type 0} (k d b : Compiled) (bearer : ℕ) (outer : Scope) (g : Governing) (name : Expanded) (row : Row) (children : Forest) (e : Entered) → IsEntered k bearer outer g name row children e → d ≡ k → b ≡ k
     → (counts : ChildCounts) (old pushed mid new : List ElementEntry) (place : ℕ) (r : Result ChildOutcome E) → (blank : ElementEntry) × (pushed ≡ old ++ blank ∷ []) → place ≡ length old
-    → AreDone (set_of d) e.head.scope (pairs_in e.inner.begun.items) children pushed mid counts → IfOk r (IsFinished (set_of b) g row.number (shape_from e counts) place mid new)
-    → IfOk r (IsDone (set_of k) outer g name row children old new)
-element_from k d b outer g name row children e is same later counts old pushed mid new place r kept at below =
-    let done = subst (λ (c : Compiled). AreDone (set_of c) e.head.scope (pairs_in e.inner.begun.items) children pushed mid counts) same below in
-    IfOk-weaker r _ _ (λ outcome h. element_done k outer g name row children e is counts old pushed mid new kept.0 place outcome done
-    (subst (λ (c : Compiled). IsFinished (set_of c) g row.number (shape_from e counts) place mid new outcome) later h) kept.1 at)
+    → AreDone (set_of d) e.number e.head.scope (pairs_in e.inner.begun.items) children pushed mid counts → IfOk r (IsFinished (set_of b) g e.number e.bearer (shape_from e counts) place mid new)
+    → IfOk r (IsDone (set_of k) bearer outer g name row children old new)
+element_from k d b bearer outer g name row children e is same later counts old pushed mid new place r kept at below =
+    let done = subst (λ (c : Compiled). AreDone (set_of c) e.number e.head.scope (pairs_in e.inner.begun.items) children pushed mid counts) same below in
+    IfOk-weaker r _ _ (λ outcome h. element_done k bearer outer g name row children e is counts old pushed mid new kept.0 place outcome done
+    (subst (λ (c : Compiled). IsFinished (set_of c) g e.number e.bearer (shape_from e counts) place mid new outcome) later h) kept.1 at)
 
 -- the place that was kept for an element is there when its child elements are assessed
-pub kept_there : (s : SchemaSet) (scope : Scope) (pairs : List Governing) (children : Forest) (counts : ChildCounts) (old pushed mid : List ElementEntry) (place : ℕ) → (blank : ElementEntry) × (pushed ≡ old ++ blank ∷ []) → place ≡ length old
-    → AreDone s scope pairs children pushed mid counts → place < length mid
-kept_there s scope pairs children counts old pushed mid place kept at below = place_there old pushed mid kept.0 (entries below.found) place kept.1 below.entries_are at
+pub kept_there : (s : SchemaSet) (parent : ℕ) (scope : Scope) (pairs : List Governing) (children : Forest) (counts : ChildCounts) (old pushed mid : List ElementEntry) (place : ℕ) → (blank : ElementEntry) × (pushed ≡ old ++ blank ∷ []) → place ≡ length old
+    → AreDone s parent scope pairs children pushed mid counts → place < length mid
+kept_there s parent scope pairs children counts old pushed mid place kept at below = place_there old pushed mid kept.0 (bearings_below parent below.found) place kept.1 below.bearings_are at
 
 -- a document is its root
 pub root_done : (s : SchemaSet) (g : Governing) (name : Expanded) (row : Row) (children : Forest) (new : List ElementEntry) (outcome : ChildOutcome)
-    → g ≡ root_pair_of s (head_of s.names first_scope name row.bindings row.attributes) → IsDone s first_scope g name row children [] new outcome → AreEntries s (alone name row children) new
+    → g ≡ root_pair_of s (head_of s.names first_scope name row.bindings row.attributes) → IsDone s row.number first_scope g name row children [] new outcome → AreBorne s (alone name row children) new
 root_done s g name row children new outcome e done = record {
   found = entry done.own done.below nothing;
   assessed = (
@@ -121,13 +125,15 @@ root_done s g name row children new outcome e done = record {
     done.below_are,
     refl,
   );
-  entries_are = done.entries_are ∙ ap (λ es. done.own ∷ es) (sym (append-nil (entries done.below)));
+  bearings_are =
+      done.bearings_are ∙ ap (λ n. record { bearer = n; own = done.own } ∷ bearings_below done.own.number done.below) (sym done.entry_is.number_is)
+      ∙ ap (λ bs. record { bearer = done.own.number; own = done.own } ∷ bs) (sym (append-nil (bearings_below done.own.number done.below)));
 }
 
 pub root_from : (k d : Compiled) (outer : Scope) (g : Governing) (name : Expanded) (row : Row) (children : Forest) (old new : List ElementEntry) (outcome : ChildOutcome) → d ≡ k → outer ≡ first_scope
-    → g ≡ root_pair_of (set_of k) (head_of k.names first_scope name row.bindings row.attributes) → old ≡ [] → IsDone (set_of d) outer g name row children old new outcome
-    → AreEntries (set_of k) (alone name row children) new
+    → g ≡ root_pair_of (set_of k) (head_of k.names first_scope name row.bindings row.attributes) → old ≡ [] → IsDone (set_of d) row.number outer g name row children old new outcome
+    → AreBorne (set_of k) (alone name row children) new
 root_from k d outer g name row children old new outcome same first pair empty done =
     root_done (set_of k) g name row children new outcome pair
-    (subst (λ es. IsDone (set_of k) first_scope g name row children es new outcome) empty
-    (subst (λ scope. IsDone (set_of k) scope g name row children old new outcome) first (subst (λ (c : Compiled). IsDone (set_of c) outer g name row children old new outcome) same done)))
+    (subst (λ es. IsDone (set_of k) row.number first_scope g name row children es new outcome) empty
+    (subst (λ scope. IsDone (set_of k) row.number scope g name row children old new outcome) first (subst (λ (c : Compiled). IsDone (set_of c) row.number outer g name row children old new outcome) same done)))

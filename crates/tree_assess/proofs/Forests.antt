@@ -8,7 +8,7 @@ use Rattle.tree_rows.specs.declared.row.Content.{Content}
 use Rattle.tree_rows.specs.declared.row.Content.TheVariants as contents
 use Rattle.tree_rows.specs.declared.row.Row.{Row}
 use Rattle.xs_names.specs.Names.{NameTable}
-use Rattle.child_terms.specs.Numbered.{Scope, Head, head_of, heads, names_of}
+use Rattle.compiled_schema.specs.Numbered.{Scope, Head, head_of, heads, names_of}
 use Rattle.compiled_schema.specs.declared.compiled.Compiled.{Compiled}
 use Rattle.element_heads.specs.Found.{HasNames, HasTag}
 use Rattle.element_heads.specs.Heads.{IsHead}

@@ -5,14 +5,12 @@ use Rattle.std.proofs.lemmas.Result.{IfOk-weaker}
 use Rattle.xs_names.specs.Names.{NameTable}
 use Rattle.xs_components.specs.Tables.{Tables}
 use Rattle.elem_governing.specs.Governing.{govern_root, govern_child}
-use Rattle.elem_governing.specs.LocalType.{xsi_type}
-use Rattle.elem_governing.specs.declared.local_types.XsiType.{XsiType}
 use Rattle.elem_governing.specs.declared.pairs.Governing.{Governing}
 use Rattle.elem_governing.specs.declared.pairs.Mode.{Mode}
 use Rattle.governed_types.proofs.There.{root-there}
 use Rattle.compiled_schema.specs.Usable.{IsUsable, set_of}
 use Rattle.compiled_schema.specs.declared.compiled.Compiled.{Compiled}
-use Rattle.child_terms.specs.Numbered.{Scope, Head}
+use Rattle.compiled_schema.specs.Numbered.{Scope, Head}
 use Rattle.element_heads.specs.Heads.{head_by}
 use Rattle.element_heads.specs.declared.head.ElementHead.{ElementHead}
 use Rattle.tree_assess.specs.inside.Steps.{IsThere, pair_of, root_pair_of}
@@ -47,9 +45,3 @@ pub child_is : (c : Compiled) (names : NameTable) (same : names ≡ c.names) (h 
     → pair ≡ pair_of (set_of (record c { names = names })) parent term (head_by names h) → pair ≡ pair_of (set_of c) parent term own
 child_is c names same h own is parent term pair e =
     e ∙ ap (pair_of (set_of (record c { names = names })) parent term) (ap (λ n. head_by n h) same ∙ is) ∙ ap (λ d. pair_of (set_of d) parent term own) (names_same c names same)
-
--- what xsi:type says
-pub said_read : {E : Type 0} (c : Compiled) (names : NameTable) (parts : Tables) (xsi own : Option (List ℕ)) (declaration : Option ℕ) (scope : Scope) (r : Result XsiType E) → names ≡ c.names → parts ≡ c.parts → xsi ≡ own
-    → IfOk r (λ said. said ≡ xsi_type names parts declaration xsi scope) → IfOk r (λ said. said ≡ xsi_type c.names c.parts declaration own scope)
-said_read c names parts xsi own declaration scope r e f g =
-    IfOk-weaker r _ _ (λ said h. h ∙ ap (λ n. xsi_type n parts declaration xsi scope) e ∙ ap (λ t. xsi_type c.names t declaration xsi scope) f ∙ ap (λ x. xsi_type c.names c.parts declaration x scope) g)

@@ -6,3 +6,4 @@ mod Forests
 mod Root
 mod Steps
 mod Below
+mod Joining

@@ -20,18 +20,17 @@ use Rattle.governed_types.proofs.There.{child-there}
 use Rattle.content_models.specs.declared.automaton.ContentAutomaton.{ContentAutomaton}
 use Rattle.compiled_schema.specs.Usable.{IsUsable, AreModels, IsModelOver, set_of}
 use Rattle.compiled_schema.specs.declared.compiled.Compiled.{Compiled}
-use Rattle.child_terms.specs.Fitting.{IsAutomatonFor, Fits}
+use Rattle.compiled_schema.specs.Fitting.{IsAutomatonFor, Fits}
 use Rattle.element_heads.proofs.RowLaws.{drop_next}
-use Rattle.child_terms.specs.Numbered.{Scope, Head, head_of, heads, names_of}
-use Rattle.child_terms.specs.Attribution.{SchemaSet, content_particle, AreTerms}
-use Rattle.child_terms.specs.Assessment.{governed}
-use Rattle.child_terms.specs.Plain.{plain_beside}
+use Rattle.compiled_schema.specs.Numbered.{Scope, Head, head_of, heads, names_of}
+use Rattle.compiled_schema.specs.Attribution.{SchemaSet, content_particle, AreTerms}
+use Rattle.compiled_schema.specs.Assessment.{governed}
 use Rattle.tree_assess.specs.inside.Steps.{IsThere, AreInner, pair_of}
 use Rattle.tree_assess.proofs.Forests.{heads_here}
 
 module _ (s : SchemaSet) (parent : Governing) where
   abbrev pub pairs_of : List (Option ℕ) → List Head → List Governing
-  pairs_of = governed s plain_beside parent
+  pairs_of = governed s parent
 
   pairs_there : (d : DeclarationTable) (named : Spaces) → IsView s.parts d named → (terms : List (Option ℕ)) (hs : List Head) → All (IsThere s.parts) (pairs_of terms hs)
   pairs_there d named view [] hs = All-nil (IsThere s.parts)

@@ -9,7 +9,7 @@ use Rattle.component_names.specs.Named.{Spaces}
 use Rattle.elem_governing.specs.View.{IsView, AreKnown}
 use Rattle.compiled_schema.specs.Usable.{IsUsable}
 use Rattle.compiled_schema.specs.declared.compiled.Compiled.{Compiled}
-use Rattle.child_terms.specs.Numbered.{Scope}
+use Rattle.compiled_schema.specs.Numbered.{Scope}
 
 module _ (c : Compiled) (names : NameTable) (e : names ≡ c.names) where
   pub names_same : record c { names = names } ≡ c

@@ -11,52 +11,52 @@ use Rattle.assess_records.specs.Counts.{no_children, with_child, counts_of}
 use Rattle.assess_records.specs.declared.counts.ChildCounts.{ChildCounts}
 use Rattle.elem_governing.specs.declared.pairs.Governing.{Governing}
 use Rattle.element_heads.proofs.RowLaws.{drop_next}
-use Rattle.child_terms.specs.Numbered.{Scope}
-use Rattle.child_terms.specs.Attribution.{SchemaSet}
-use Rattle.child_terms.specs.Assessment.{Assessed, nothing, entry, entries, sibling_records, AreAssessed}
-use Rattle.child_terms.specs.Plain.{plain_beside}
-use Rattle.tree_assess.specs.Entries.{entry_of}
+use Rattle.compiled_schema.specs.Numbered.{Scope}
+use Rattle.compiled_schema.specs.Attribution.{SchemaSet}
+use Rattle.compiled_schema.specs.Assessment.{Assessed, nothing, entry, sibling_records, AreAssessed}
+use Rattle.compiled_schema.specs.Plain.{plain_beside}
+use Rattle.compiled_schema.specs.Bearings.{bearings_below}
 use Rattle.tree_assess.specs.declared.entry.ElementEntry.{ElementEntry}
 use Rattle.tree_assess.specs.declared.entry.ChildOutcome.{ChildOutcome}
-use Rattle.tree_assess.specs.inside.Steps.{IsThere, IsSoFar, AreDone, IsDone, counted_onto, pairs_in}
+use Rattle.tree_assess.specs.inside.Steps.{IsThere, IsSoFar, AreDone, IsDone, counted_onto, pairs_in, bearing_of}
 use Rattle.tree_assess.proofs.Counting.{counted}
 use Rattle.tree_assess.proofs.Forests.{here, here_text}
 
-module _ (s : SchemaSet) (scope : Scope) (pairs : List Governing) (all : Forest) (old : List ElementEntry) where
-  pub begun : (counts : ChildCounts) → counts ≡ no_children → IsSoFar s scope pairs all all 0 old old counts
+module _ (s : SchemaSet) (parent : ℕ) (scope : Scope) (pairs : List Governing) (all : Forest) (old : List ElementEntry) where
+  pub begun : (counts : ChildCounts) → counts ≡ no_children → IsSoFar s parent scope pairs all all 0 old old counts
   begun counts e = record {
     whole = λ rest. rest;
     assessed = λ rest h. h;
-    entries_are = λ rest. refl;
+    bearings_are = λ rest. refl;
     counts_are = λ rest. sym (counted (sibling_records rest)) ∙ ap (counted_onto (sibling_records rest)) (sym e);
   }
 
-  pub ended : (left : Forest) (place : ℕ) (new : List ElementEntry) (counts : ChildCounts) → IsSoFar s scope pairs all left place old new counts → left ≡ none → AreDone s scope pairs all old new counts
+  pub ended : (left : Forest) (place : ℕ) (new : List ElementEntry) (counts : ChildCounts) → IsSoFar s parent scope pairs all left place old new counts → left ≡ none → AreDone s parent scope pairs all old new counts
   ended left place new counts so e = record {
     found = so.whole nothing;
     assessed = so.assessed nothing (subst (λ f. AreAssessed s plain_beside scope (drop place pairs) f nothing) (sym e) refl);
-    entries_are = sym (so.entries_are nothing ∙ append-nil (map entry_of new));
+    bearings_are = sym (so.bearings_are nothing ∙ append-nil (map bearing_of new));
     counts_are = sym (so.counts_are nothing);
   }
 
   module _ (left children next : Forest) (row : Row) (place : ℕ) (first : left ≡ node row.number row.content row.bindings row.attributes children next) where
-    pub past_text : (new : List ElementEntry) (counts : ChildCounts) (chars : List ℕ) → row.content ≡ contents.Chars chars → IsSoFar s scope pairs all left place old new counts → IsSoFar s scope pairs all next place old new counts
+    pub past_text : (new : List ElementEntry) (counts : ChildCounts) (chars : List ℕ) → row.content ≡ contents.Chars chars → IsSoFar s parent scope pairs all left place old new counts → IsSoFar s parent scope pairs all next place old new counts
     past_text new counts chars is so = record {
       whole = so.whole;
       assessed = λ rest h. so.assessed rest (subst (λ f. AreAssessed s plain_beside scope (drop place pairs) f rest) (sym (here_text left children next row first chars is)) h);
-      entries_are = so.entries_are;
+      bearings_are = so.bearings_are;
       counts_are = so.counts_are;
     }
 
     module _ (name : Expanded) (is : row.content ≡ contents.Element name) (g : Governing) (within : place < length pairs) (at : g ≡ get_or pairs place g)
-        (mid new : List ElementEntry) (outcome : ChildOutcome) (done : IsDone s scope g name row children mid new outcome) where
+        (mid new : List ElementEntry) (outcome : ChildOutcome) (done : IsDone s parent scope g name row children mid new outcome) where
       one_more : (rest : Assessed) → AreAssessed s plain_beside scope (drop (place + 1) pairs) next rest → AreAssessed s plain_beside scope (drop place pairs) left (entry done.own done.below rest)
       one_more rest h =
           subst (λ f. AreAssessed s plain_beside scope (drop place pairs) f (entry done.own done.below rest)) (sym (here left children next row first name is))
           (subst (λ ps. AreAssessed s plain_beside scope ps (element row.number name row.bindings row.attributes children next) (entry done.own done.below rest)) (sym (drop_next pairs place g within at))
           (done.own, done.inner, done.below, rest, refl, done.entry_is, done.below_are, h))
 
-      pub past_element : (counts more : ChildCounts) → IsSoFar s scope pairs all left place old mid counts → more ≡ with_child outcome.validity outcome.attempted counts → IsSoFar s scope pairs all next (place + 1) old new more
+      pub past_element : (counts more : ChildCounts) → IsSoFar s parent scope pairs all left place old mid counts → more ≡ with_child outcome.validity outcome.attempted counts → IsSoFar s parent scope pairs all next (place + 1) old new more
       past_element counts more so e =
           let own = done.own.element in
           let counted_own : with_child own.validity own.attempted counts ≡ more =
@@ -64,9 +64,9 @@ module _ (s : SchemaSet) (scope : Scope) (pairs : List Governing) (all : Forest)
           record {
             whole = λ rest. so.whole (entry done.own done.below rest);
             assessed = λ rest h. so.assessed (entry done.own done.below rest) (one_more rest h);
-            entries_are =
-                λ rest. so.entries_are (entry done.own done.below rest)
-                ∙ sym (ap (λ l. l ++ entries rest) done.entries_are ∙ append_assoc (map entry_of mid) (done.own ∷ entries done.below) (entries rest));
+            bearings_are =
+                λ rest. so.bearings_are (entry done.own done.below rest)
+                ∙ sym (ap (λ l. l ++ bearings_below parent rest) done.bearings_are ∙ append_assoc (map bearing_of mid) (record { bearer = parent; own = done.own } ∷ bearings_below done.own.number done.below) (bearings_below parent rest));
             counts_are = λ rest. so.counts_are (entry done.own done.below rest) ∙ ap (counted_onto (sibling_records rest)) counted_own;
           }
 
@@ -79,7 +79,7 @@ pair_at (p ∷ pairs) (suc place) pair g within at e = pair_at pairs place pair 
 pub there_at : (t : Tables) (pairs : List Governing) (place : ℕ) (g : Governing) → All (IsThere t) pairs → place < length pairs → g ≡ get_or pairs place g → IsThere t g
 there_at t pairs place g there within at = subst (IsThere t) (sym at) (there place g within)
 
-pub done_by : (s : SchemaSet) (scope other : Scope) (pairs more : List Governing) (f : Forest) (old new : List ElementEntry) (counts : ChildCounts) → scope ≡ other → pairs ≡ more
-    → AreDone s scope pairs f old new counts → AreDone s other more f old new counts
-done_by s scope other pairs more f old new counts e d h =
-    subst (λ ps. AreDone s other ps f old new counts) d (subst (λ sc. AreDone s sc pairs f old new counts) e h)
+pub done_by : (s : SchemaSet) (parent : ℕ) (scope other : Scope) (pairs more : List Governing) (f : Forest) (old new : List ElementEntry) (counts : ChildCounts) → scope ≡ other → pairs ≡ more
+    → AreDone s parent scope pairs f old new counts → AreDone s parent other more f old new counts
+done_by s parent scope other pairs more f old new counts e d h =
+    subst (λ ps. AreDone s parent other ps f old new counts) d (subst (λ sc. AreDone s parent sc pairs f old new counts) e h)

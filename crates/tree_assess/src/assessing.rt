@@ -3,20 +3,22 @@
 ghost use Rattle.std.specs.Prelude.{◌≡◌, ◌<◌, ◌∷◌, ◌++◌, [], All, length, IfOk, OnOk};
 ghost use Rattle.xs_names.specs.Names.{IsSound};
 ghost use Rattle.xs_names.specs.Scope.{first_scope};
+ghost use Rattle.tree_rows.specs.Whole.{IsTree};
 ghost use Rattle.elem_governing.specs.View.{AreKnown};
 ghost use Rattle.compiled_schema.specs.Usable.{IsUsable, set_of};
 ghost use Rattle.element_heads.specs.Found.{HasNames};
-ghost use Rattle.child_terms.specs.Numbered.{heads};
+ghost use Rattle.compiled_schema.specs.Numbered.{heads};
 ghost use Rattle.tree_assess.specs.Entries.{AreEntries};
 ghost use Rattle.tree_assess.specs.declared.entry.ElementEntry.{ElementEntry as ElementEntryData};
-ghost use Rattle.tree_assess.specs.inside.Steps.{CanAssess, IsThere, AreDone, IsDone, alone, pairs_in};
+ghost use Rattle.tree_assess.specs.inside.Steps.{CanAssess, IsThere, AreBorne, AreDone, IsDone, alone, pairs_in};
 ghost use Rattle.tree_assess.specs.inside.Entering.{IsFinished, shape_from};
 
 use crate::ElementEntry;
 use crate::elements::{Entered, enter, leave, root_of};
 use crate::entry::{ChildOutcome, begun, outcome_of};
+use crate::ids::join_ids;
 use assess_records::ChildCounts;
-use compiled_schema::Compiled;
+use compiled_schema::{Compiled, codes_of_ids_join_the_assessment};
 use elem_governing::Governing;
 use plain_tree::Tree;
 use std::alloc::{AllocError, Global};
@@ -45,7 +47,6 @@ fn keep_place(
 fn finish(
     alloc: Global,
     compiled: &mut Compiled,
-    number: u32,
     governing: &Governing,
     entered: Entered,
     counts: ChildCounts,
@@ -57,10 +58,10 @@ fn finish(
     requires known { AreKnown compiled.old.names entered.head.scope }
     requires named { All (λ a. a.name < length compiled.old.names.names) entered.head.attrs }
     requires kept { place < length found.old.items }
-    ensures finished { IfOk result (IsFinished (set_of compiled.old) governing.now number (shape_from entered counts) place found.old.items found.new.items) }
+    ensures finished { IfOk result (IsFinished (set_of compiled.old) governing.now entered.number entered.bearer (shape_from entered counts) place found.old.items found.new.items) }
     ensures same { compiled.new ≡ compiled.old }
 {
-    let entry = leave(alloc, compiled, number, governing, entered, counts)?;
+    let entry = leave(alloc, compiled, governing, entered, counts)?;
     let outcome = outcome_of(&entry.element);
     found[place] = entry;
     Ok(outcome)
@@ -79,7 +80,7 @@ fn assess_children(
     requires can { CanAssess compiled.old parent.now.head.scope children }
     requires each { length (pairs_in parent.now.inner.begun.items) ≡ length (heads compiled.old.names parent.now.head.scope children) }
     requires there { All (IsThere compiled.old.parts) (pairs_in parent.now.inner.begun.items) }
-    ensures done { IfOk result (AreDone (set_of compiled.old) parent.now.head.scope (pairs_in parent.now.inner.begun.items) children.entry found.old.items found.new.items) }
+    ensures done { IfOk result (AreDone (set_of compiled.old) parent.now.number parent.now.head.scope (pairs_in parent.now.inner.begun.items) children.entry found.old.items found.new.items) }
     ensures same { compiled.new ≡ compiled.old }
 {
     let scope = parent.scope();
@@ -99,7 +100,15 @@ fn assess_children(
             let child = &entries[place];
             let governing = child.governing();
             let outcome = assess_element(
-                alloc, compiled, scope, governing, name, row, children, found,
+                alloc,
+                compiled,
+                parent.number,
+                scope,
+                governing,
+                name,
+                row,
+                children,
+                found,
             )?;
             counts.add(outcome.validity, outcome.attempted);
             place += 1;
@@ -114,6 +123,7 @@ fn assess_children(
 fn assess_element(
     alloc: Global,
     compiled: &mut Compiled,
+    bearer: u32,
     outer: &Scope,
     governing: &Governing,
     name: &Expanded,
@@ -123,15 +133,15 @@ fn assess_element(
 ) -> Result<ChildOutcome, AllocError>
     requires can { CanAssess compiled.old outer.now (alone name.now row.now children) }
     requires there { IsThere compiled.old.parts governing.now }
-    ensures done { IfOk result (IsDone (set_of compiled.old) outer.now governing.now name.now row.now children.entry found.old.items found.new.items) }
+    ensures done { IfOk result (IsDone (set_of compiled.old) bearer outer.now governing.now name.now row.now children.entry found.old.items found.new.items) }
     ensures same { compiled.new ≡ compiled.old }
 {
-    let entered = enter(alloc, compiled, outer, governing, name, row, &children)?;
+    let entered = enter(
+        alloc, compiled, bearer, outer, governing, name, row, &children,
+    )?;
     let place = keep_place(alloc, row.number, governing, &entered, found)?;
     let counts = assess_children(alloc, compiled, &entered, children, found)?;
-    finish(
-        alloc, compiled, row.number, governing, entered, counts, found, place,
-    )
+    finish(alloc, compiled, governing, entered, counts, found, place)
 }
 
 // Assesses a document by its root's name and row.
@@ -143,7 +153,7 @@ fn assess_root(
     children: Siblings<'_>,
 ) -> Result<Vec<ElementEntry>, AllocError>
     requires can { CanAssess compiled.old first_scope (alone name.now row.now children) }
-    ensures assessed { IfOk result (λ entries. AreEntries (set_of compiled.old) (alone name.now row.now children.entry) entries.items) }
+    ensures assessed { IfOk result (λ entries. AreBorne (set_of compiled.old) (alone name.now row.now children.entry) entries.items) }
     ensures same { compiled.new ≡ compiled.old }
 {
     let root = root_of(alloc, compiled, name, row)?;
@@ -151,9 +161,32 @@ fn assess_root(
     let outer = root.outer();
     let governing = root.governing();
     assess_element(
-        alloc, compiled, outer, governing, name, row, children, &mut found,
+        alloc, compiled, row.number, outer, governing, name, row, children, &mut found,
     )?;
     Ok(found)
+}
+
+// Assesses a document but for its IDs.
+fn assess_tree(
+    alloc: Global,
+    compiled: &mut Compiled,
+    tree: &Tree,
+) -> Result<Vec<ElementEntry>, AllocError>
+    requires usable { IsUsable compiled.old }
+    requires sound { IsSound compiled.old.names }
+    requires names { HasNames compiled.old.names tree.now.forest }
+    ensures assessed { IfOk result (λ entries. AreBorne (set_of compiled.old) tree.now.forest entries.items) }
+    ensures tree { IfOk result (λ entries. IsTree tree.now) }
+    ensures same { compiled.new ≡ compiled.old }
+{
+    let index = tree.index(alloc)?;
+    match index.top().first() {
+        Some(Sibling { row, children, .. }) => match &row.content {
+            Content::Element(name) => assess_root(alloc, compiled, name, row, children),
+            Content::Chars(_) => unreachable!(),
+        },
+        None => unreachable!(),
+    }
 }
 
 /// The assessment of a document by a schema set (Structures 5.2): the entries of its elements in document order. The set is
@@ -173,12 +206,8 @@ pub fn assess(
     ensures assessed { IfOk result (λ entries. AreEntries (set_of compiled.old) tree.now.forest entries.items) }
     ensures same { compiled.new ≡ compiled.old }
 {
-    let index = tree.index(alloc)?;
-    match index.top().first() {
-        Some(Sibling { row, children, .. }) => match &row.content {
-            Content::Element(name) => assess_root(alloc, compiled, name, row, children),
-            Content::Chars(_) => unreachable!(),
-        },
-        None => unreachable!(),
-    }
+    let mut entries = assess_tree(alloc, compiled, tree)?;
+    join_ids(alloc, &mut entries)?;
+    codes_of_ids_join_the_assessment();
+    Ok(entries)
 }

@@ -5,9 +5,8 @@ ghost use Rattle.xs_names.specs.Scope.{first_scope};
 ghost use Rattle.elem_governing.specs.View.{AreKnown};
 ghost use Rattle.compiled_schema.specs.Usable.{IsUsable, set_of};
 ghost use Rattle.element_heads.specs.Found.{HasTag};
-ghost use Rattle.child_terms.specs.Numbered.{head_of as head_in};
-ghost use Rattle.child_terms.specs.Assessment.{AreJudged};
-ghost use Rattle.child_terms.specs.Plain.{plain_beside};
+ghost use Rattle.compiled_schema.specs.Numbered.{head_of as head_in};
+ghost use Rattle.compiled_schema.specs.Assessment.{AreJudged};
 ghost use Rattle.tree_assess.specs.Entries.{entry_of};
 ghost use Rattle.tree_assess.specs.inside.Steps.{CanAssess, IsThere, alone, root_pair_of};
 ghost use Rattle.tree_assess.specs.inside.Entering.{IsEntered, shape_from};
@@ -28,6 +27,9 @@ use xs_names::{Scope, Text};
 /// What is known of an element before its child elements are assessed.
 #[derive(Drop)]
 pub(crate) struct Entered {
+    pub number: u32,
+    /// The element that bears the IDs of its text.
+    pub bearer: u32,
     pub head: ElementHead,
     pub text: Text,
     pub inner: Inner,
@@ -117,6 +119,7 @@ pub(crate) fn root_of(
 pub(crate) fn enter(
     alloc: Global,
     compiled: &mut Compiled,
+    bearer: u32,
     outer: &Scope,
     governing: &Governing,
     name: &Expanded,
@@ -124,20 +127,31 @@ pub(crate) fn enter(
     children: &Siblings<'_>,
 ) -> Result<Entered, AllocError>
     requires can { CanAssess compiled.old outer.now (alone name.now row.now children.now) }
-    ensures entered { IfOk result (IsEntered compiled.old outer.now governing.now name.now row.now children.now) }
+    ensures entered { IfOk result (IsEntered compiled.old bearer outer.now governing.now name.now row.now children.now) }
     ensures same { compiled.new ≡ compiled.old }
 {
     let head = read_head(alloc, &mut compiled.names, outer, name, row)?;
     let text = text_of(alloc, children)?;
     let inner = govern_inner(alloc, compiled, governing, &head.scope, children)?;
-    Ok(Entered { head, text, inner })
+    Ok(Entered {
+        number: row.number,
+        bearer,
+        head,
+        text,
+        inner,
+    })
 }
 
 // What an element has to show.
 fn shape_of(alloc: Global, entered: Entered, counts: ChildCounts) -> ElementShape
     ensures { result ≡ shape_from entered counts }
 {
-    let Entered { head, text, inner } = entered;
+    let Entered {
+        head,
+        text,
+        inner,
+        ..
+    } = entered;
     let ElementHead { name, attrs, scope } = head;
     ElementShape {
         name,
@@ -151,12 +165,11 @@ fn shape_of(alloc: Global, entered: Entered, counts: ChildCounts) -> ElementShap
     }
 }
 
-/// The entry of an element of this number when its child elements are assessed, of which so many are of each kind (Structures
-/// 3.3.4, 3.3.5, 3.4.4).
+/// The entry of an element when its child elements are assessed, of which so many are of each kind (Structures 3.3.4, 3.3.5,
+/// 3.4.4).
 pub(crate) fn leave(
     alloc: Global,
     compiled: &mut Compiled,
-    number: u32,
     governing: &Governing,
     entered: Entered,
     counts: ChildCounts,
@@ -165,11 +178,14 @@ pub(crate) fn leave(
     requires there { IsThere compiled.old.parts governing.now }
     requires known { AreKnown compiled.old.names entered.head.scope }
     requires named { All (λ a. a.name < length compiled.old.names.names) entered.head.attrs }
-    ensures judged { IfOk result (λ entry. AreJudged (set_of compiled.old) plain_beside (shape_from entered counts) (entry_of entry)) }
-    ensures number { IfOk result (λ entry. entry.number ≡ number) }
+    ensures judged { IfOk result (λ entry. AreJudged (set_of compiled.old) (shape_from entered counts) (entry_of entry)) }
+    ensures number { IfOk result (λ entry. entry.number ≡ entered.number) }
+    ensures bearer { IfOk result (λ entry. entry.bearer ≡ entered.bearer) }
     ensures governing { IfOk result (λ entry. entry.governing ≡ governing.now) }
     ensures same { compiled.new ≡ compiled.old }
 {
+    let number = entered.number;
+    let bearer = entered.bearer;
     let shape = shape_of(alloc, entered, counts);
-    judge(alloc, compiled, number, governing, &shape)
+    judge(alloc, compiled, number, bearer, governing, &shape)
 }

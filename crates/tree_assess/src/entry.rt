@@ -13,6 +13,9 @@ use xs_names::NameId;
 #[derive(Debug, Drop)]
 pub struct ElementEntry {
     pub number: u32,
+    /// The number of the element that bears the IDs of its text: its parent, or the element itself where it is the root
+    /// (Structures 3.15.5).
+    pub bearer: u32,
     /// What governs it.
     pub governing: Governing,
     pub element: ElementRecord,
@@ -50,12 +53,13 @@ pub(crate) fn outcome_of(record: &ElementRecord) -> ChildOutcome
     }
 }
 
-/// The entry of an element whose record is not known yet.
+/// The entry of an element of which no more is known than what governs it.
 pub(crate) fn begun(alloc: Global, number: u32, governing: Governing, name: NameId) -> ElementEntry
     ensures { result.governing ≡ governing }
 {
     ElementEntry {
         number,
+        bearer: number,
         governing,
         element: ElementRecord {
             name,

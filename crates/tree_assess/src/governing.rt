@@ -5,16 +5,14 @@ ghost use Rattle.std.specs.Option.{option_map};
 ghost use Rattle.elem_governing.specs.View.{AreKnown};
 ghost use Rattle.compiled_schema.specs.Usable.{IsUsable, set_of};
 ghost use Rattle.element_heads.specs.Found.{HasTag};
-ghost use Rattle.child_terms.specs.Numbered.{head_of as head_in, heads, names_of};
-ghost use Rattle.child_terms.specs.Attribution.{content_particle, AreTerms};
-ghost use Rattle.child_terms.specs.Assessment.{governed};
+ghost use Rattle.compiled_schema.specs.Numbered.{head_of as head_in, heads, names_of};
+ghost use Rattle.compiled_schema.specs.Attribution.{content_particle, AreTerms};
+ghost use Rattle.compiled_schema.specs.Assessment.{governed};
 ghost use Rattle.element_heads.specs.Heads.{head_by};
-ghost use Rattle.child_terms.specs.Plain.{plain_beside};
 ghost use Rattle.tree_assess.specs.inside.Steps.{CanAssess, IsThere, AreInner, pair_of, root_pair_of, pairs_in};
 
 use crate::entry::{ElementEntry, begun};
-use child_terms::{ChildTerms, child_terms};
-use compiled_schema::Compiled;
+use compiled_schema::{ChildTerms, Compiled, child_terms};
 use elem_governing::{Governing, SchemaView, govern_child, govern_root};
 use element_heads::{ElementHead, child_names, read_head};
 use instance_names::{InstanceAttribute, instance_text};
@@ -143,7 +141,7 @@ fn begin_children(
 ) -> Result<Vec<ElementEntry>, AllocError>
     requires can { CanAssess compiled.old scope.now children.now }
     requires each { length terms.now ≡ length (heads compiled.old.names scope.now children.now) }
-    ensures pairs { IfOk result (λ entries. pairs_in entries.items ≡ governed (set_of compiled.old) plain_beside parent.now terms.now (heads compiled.old.names scope.now children.now)) }
+    ensures pairs { IfOk result (λ entries. pairs_in entries.items ≡ governed (set_of compiled.old) parent.now terms.now (heads compiled.old.names scope.now children.now)) }
     ensures same { compiled.new ≡ compiled.old }
 {
     let mut entries = Vec::new(alloc);

@@ -5,6 +5,7 @@ mod assessing;
 mod elements;
 mod entry;
 mod governing;
+mod ids;
 mod judging;
 
 pub use assessing::assess;

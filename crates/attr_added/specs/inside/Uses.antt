@@ -54,11 +54,6 @@ pub record IsAddedOf (names : NameTable) (found : FoundUse) (added : AddedUse) :
   pub space : added.space.now ≡ space_text names added.name
   pub local : added.local.now ≡ local_of names added.name
 
--- the names that are found up to a bound
-pub record AreFound (test : ℕ → Bool) (bound : ℕ) (names : List ℕ) : Type 0 where
-  pub those : AreThose test bound names
-  pub below : All (λ name. name < bound) names
-
 -- the name, if the test is true of it
 abbrev pub picked : Bool → ℕ → List ℕ
 picked true name = name ∷ []
@@ -76,8 +71,8 @@ module _ (names : NameTable) (t : Tables) (uses : List UseAt) (given : List Name
 
   -- what an element lacks among the names below a bound
   pub record AreLackingBelow (bound : ℕ) (lacking : Lacking) : Type 0 where
-    pub missing : AreFound (is_missing t uses given) bound lacking.missing
-    pub added : AreFound (is_added t uses given) bound (map name_of lacking.added)
+    pub missing : AreThose (is_missing t uses given) bound lacking.missing
+    pub added : AreThose (is_added t uses given) bound (map name_of lacking.added)
     pub uses_are : All (IsAddedUse names t uses) lacking.added
 
   -- and the next name to be looked at is this one

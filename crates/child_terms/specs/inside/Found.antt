@@ -15,7 +15,7 @@ use Rattle.content_models.specs.Terms.{model_terms}
 use Rattle.content_models.specs.Built.{IsBuilt, IsFirstIn}
 use Rattle.content_models.specs.declared.automaton.ContentAutomaton.{ContentAutomaton}
 use Rattle.model_symbols.specs.Attribution.{IsAmbivalent}
-use Rattle.set_assessment.specs.Attribution.{SchemaSet, expanded, Begins, BeginUpTo}
+use Rattle.child_terms.specs.Attribution.{SchemaSet, expanded, Begins, BeginUpTo}
 
 -- the symbols of names
 abbrev pub symbols_in : NameTable → SymbolTable → List ℕ → List ℕ

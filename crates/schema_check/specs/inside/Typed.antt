@@ -1,17 +1,16 @@
--- What judging the components of a set comes to, and what a document whose shape is right does.
-use Rattle.std.specs.Prelude.{◌≡◌, true, false, List, [], ◌∷◌, None, Some, Result, Ok, Err}
+-- What judging the components of a set comes to, and what a set whose documents are of the right shape does.
+use Rattle.std.specs.Prelude.{◌≡◌, ◌⊎◌, true, false, List, Option, None, Some, Result, Ok, Err}
 use Rattle.xs_codes.specs.declared.fault.Fault.{Fault}
 use Rattle.xs_components.specs.Tables.{Tables}
 use Rattle.xs_names.specs.Names.{NameTable}
 use Rattle.simple_types.specs.declared.types.SimpleTypes.{SimpleTypes}
-use Rattle.set_types.specs.ShapedSchema.{ShapedSchema}
-use Rattle.schema_build.specs.Available.{Available}
+use Rattle.schema_build.specs.SetDocument.{SetDocument}
 use Rattle.schema_check.specs.declared.documents.CompiledSet.{CompiledSet}
 use Rattle.schema_check.specs.declared.documents.Refusal.{Refusal}
-use Rattle.schema_check.specs.declared.documents.Refusal.TheVariants.{Broken, Composed}
+use Rattle.schema_check.specs.declared.documents.Refusal.TheVariants.{Broken, NotYet}
 use Rattle.schema_check.specs.Phases.{IsFirstOfPhases}
-use Rattle.schema_check.specs.SetPhases.{part_phases, IsReady, IsAloneCompiled}
-use Rattle.schema_check.specs.Compilation.{composes}
+use Rattle.schema_check.specs.SetPhases.{part_phases, IsReady, IsSetCompiled}
+use Rattle.schema_check.specs.Compilation.{are_unassessed}
 
 abbrev pub IsTyped : Tables → Tables → Result SimpleTypes Fault → Type 0
 IsTyped old new (Ok types) = IsFirstOfPhases (part_phases old) None × IsReady old new types
@@ -26,10 +25,14 @@ abbrev pub as_refusal : Result CompiledSet Fault → Result CompiledSet Refusal
 as_refusal (Ok made) = Ok made
 as_refusal (Err fault) = Err (Broken fault)
 
-abbrev pub IsShapedCompiled : ShapedSchema → Result CompiledSet Refusal → Type 0
-IsShapedCompiled shaped (Ok made) = (composes shaped.shapes ≡ false) × IsAloneCompiled shaped (Ok made)
-IsShapedCompiled shaped (Err (Broken fault)) = (composes shaped.shapes ≡ false) × IsAloneCompiled shaped (Err fault)
-IsShapedCompiled shaped (Err Composed) = composes shaped.shapes ≡ true
+-- a set without a fault of phases 1 and 2
+abbrev pub IsComposedCompiled : List SetDocument → Result CompiledSet Refusal → Type 0
+IsComposedCompiled set (Ok made) = IsSetCompiled set (Ok made)
+IsComposedCompiled set (Err (Broken fault)) = IsSetCompiled set (Err fault)
+IsComposedCompiled set (Err NotYet) = ⊥
 
-abbrev pub IsAlone : ShapedSchema → List Available → Type 0
-IsAlone shaped available = (first : Available) × (first.shaped ≡ shaped) × (available ≡ first ∷ [])
+-- a set whose documents are of the right shape, with its first fault of phase 2
+abbrev pub IsClosedCompiled : List SetDocument → Option Fault → Result CompiledSet Refusal → Type 0
+IsClosedCompiled set found (Ok made) = (are_unassessed set ≡ false) × (found ≡ None) × IsSetCompiled set (Ok made)
+IsClosedCompiled set found (Err (Broken fault)) = (are_unassessed set ≡ false) × ((found ≡ Some fault) ⊎ ((found ≡ None) × IsSetCompiled set (Err fault)))
+IsClosedCompiled set found (Err NotYet) = are_unassessed set ≡ true

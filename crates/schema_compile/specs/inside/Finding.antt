@@ -1,8 +1,13 @@
 -- What is found of the components of a set, for content models and for assessing.
-use Rattle.std.specs.Prelude.{◌≡◌, ◌⊎◌, ℕ, ◌<◌, true, false, List, Option, None, Some, Result, Ok, Err, length}
+use Rattle.std.specs.Prelude.{◌≡◌, ◌⊎◌, ℕ, ◌<◌, Bool, List, Option, None, Some, Result, Ok, Err, length}
 use Rattle.xs_codes.specs.declared.fault.Fault.{Fault}
 use Rattle.xs_components.specs.Tables.{Tables}
 use Rattle.xs_faults.specs.Least.{IsLeast}
+use Rattle.attr_faults.specs.AttrFaults.{AreIdMarks}
+use Rattle.attr_faults.specs.Tables.{AreTablesOf}
+use Rattle.attr_faults.specs.AttrTables.{AttrTables}
+use Rattle.head_exclusions.specs.Exclusions.{IsExcluded}
+use Rattle.all_limits.specs.AllLimits.{IsUnlimited}
 use Rattle.element_types.specs.Types.{AreDeclarationsOf}
 use Rattle.subst_groups.specs.Groups.{AreGroups}
 use Rattle.element_classes.specs.Classes.{AreClassesOf}
@@ -10,22 +15,29 @@ use Rattle.component_names.specs.Named.{spaces_of}
 use Rattle.content_types.specs.ContentTypes.{AreContentsOf}
 use Rattle.content_models.specs.declared.automaton.ContentAutomaton.{ContentAutomaton}
 use Rattle.all_limits.specs.SetModels.{content_of, AreModels, IsBroken}
-use Rattle.schema_shape.specs.declared.forms.ShapedSchema.{ShapedSchema}
-use Rattle.not_yet.specs.Unassessed.{is_unassessed}
 use Rattle.schema_check.specs.Phases.{IsFirstOfPhases}
 use Rattle.schema_check.specs.declared.documents.CompiledSet.{CompiledSet}
 use Rattle.compiled_schema.specs.declared.compiled.Compiled.{Compiled}
 use Rattle.schema_compile.specs.declared.finding.Found.{Found}
-use Rattle.schema_compile.specs.declared.outcome.Outcome.{Outcome}
-use Rattle.schema_compile.specs.declared.outcome.Outcome.TheVariants.{NotYet}
-use Rattle.schema_compile.specs.Outcomes.{model_phases, IsShapedOutcome}
+use Rattle.schema_compile.specs.Outcomes.{late_phases}
+
+-- the attribute uses of all complex types and attribute groups, with the marks of types of IDs
+pub record AreAttrUses (t : Tables) (tables : AttrTables) : Type 0 where
+  pub ids : List Bool
+  pub marks : AreIdMarks t ids
+  pub are : AreTablesOf t ids tables
 
 pub record IsFound (t : Tables) (found : Found) : Type 0 where
   pub declarations : AreDeclarationsOf t found.declarations
   pub members : AreGroups t found.members
   pub classes : AreClassesOf t found.classes.items
   pub named : found.named ≡ spaces_of t
+  pub attr_uses : AreAttrUses t found.attr_uses
   pub contents : AreContentsOf t found.contents
+
+-- elements whose types do not derive from those of their heads, and an `all` that is not limited
+abbrev pub IsPlacingFault : Tables → Fault → Type 0
+IsPlacingFault t fault = IsExcluded t fault ⊎ IsUnlimited t fault
 
 -- the automata of the content models, or the first fault of one
 abbrev pub AreModelsOf : CompiledSet → Found → Result (List (Option ContentAutomaton)) Fault → Type 0
@@ -35,8 +47,8 @@ AreModelsOf made found (Err fault) = IsLeast (IsBroken made.names made.parts fou
 
 -- the same, or the first fault of the phases behind simple types
 abbrev pub AreModelsIn : CompiledSet → Found → Result (List (Option ContentAutomaton)) Fault → Type 0
-AreModelsIn made found (Ok models) = IsFirstOfPhases (model_phases made) None × AreModelsOf made found (Ok models)
-AreModelsIn made found (Err fault) = IsFirstOfPhases (model_phases made) (Some fault)
+AreModelsIn made found (Ok models) = IsFirstOfPhases (late_phases made) None × AreModelsOf made found (Ok models)
+AreModelsIn made found (Err fault) = IsFirstOfPhases (late_phases made) (Some fault)
 
 -- the particle of each content is there, and no other type has one
 pub record AreContentsThere (t : Tables) : Type 0 where
@@ -53,16 +65,12 @@ joined made found models = record {
   classes = found.classes;
   declarations = found.declarations;
   named = found.named;
+  attr_uses = found.attr_uses;
   contents = found.contents;
   models = models;
 }
 
 -- what is found of a set without a fault, and its automata; or the first fault
 abbrev pub IsJudged : CompiledSet → Result (Found × List (Option ContentAutomaton)) Fault → Type 0
-IsJudged made (Ok pair) = IsFirstOfPhases (model_phases made) None × IsFound made.parts pair.0 × AreModelsOf made pair.0 (Ok pair.1) × AreContentsThere made.parts
-IsJudged made (Err fault) = IsFirstOfPhases (model_phases made) (Some fault)
-
--- what a document of the right shape comes to
-abbrev pub IsKnownOutcome : ShapedSchema → Outcome → Type 0
-IsKnownOutcome first outcome =
-    ((is_unassessed first.shapes ≡ true) × (outcome ≡ NotYet)) ⊎ ((is_unassessed first.shapes ≡ false) × IsShapedOutcome first outcome)
+IsJudged made (Ok pair) = IsFirstOfPhases (late_phases made) None × IsFound made.parts pair.0 × AreModelsOf made pair.0 (Ok pair.1) × AreContentsThere made.parts
+IsJudged made (Err fault) = IsFirstOfPhases (late_phases made) (Some fault)

@@ -1,9 +1,8 @@
 -- What an item does where a stream stands, and what is told of all that come.
-use Rattle.std.specs.Prelude.{◌≡◌, ◌⊎◌, ℕ, ◌+◌, List, [], Option, Some, None, if◌then◌else◌}
+use Rattle.std.specs.Prelude.{◌≡◌, ◌⊎◌, ℕ, ◌+◌, List, [], Option, Some, None}
 use Rattle.item_listing.specs.Listed as listed
 use Rattle.item_listing.specs.declared.item.Item.{Item}
 use Rattle.tree_rows.specs.Forest.{Document}
-use Rattle.tree_rows.specs.Rows.{rows_of}
 use Rattle.open_document.specs.Assessor.{RightAssessor}
 use Rattle.open_document.specs.Compiled.{Compiled}
 use Rattle.open_document.specs.SchemaInput.{SchemaInput}
@@ -23,7 +22,7 @@ use Rattle.stream_sections.specs.declared.commands.CommandReader.{CommandReader}
 use Rattle.stream_sections.specs.declared.document.DocumentReader.{DocumentReader}
 use Rattle.stream_sections.specs.declared.schemas.SchemaReader.{SchemaReader}
 use Rattle.stream_answers.specs.Faults.{fault_line, fault_ending}
-use Rattle.stream_answers.specs.Output.{Said, free, Last, Told, over, asks, before, ends, stop_last, stop_told, verdict_last, answered, opening, has_attributes, not_yet, schema_ok, inputs}
+use Rattle.stream_answers.specs.Output.{Said, free, Last, Told, over, asks, before, ends, stop_last, stop_told, verdict_last, answered, opening, not_yet, schema_ok, inputs}
 use Rattle.stream_answers.specs.declared.ending.Ending.TheVariants.{Valid}
 
 -- Where a stream stands between two lines: among the schema sections; in the document section, by a schema set that was accepted; among the
@@ -73,9 +72,6 @@ schemas_turned a line (schema_turns.goes next) = goes silent (schemas next)
 schemas_turned a line (schema_turns.ends all) = compiles (inputs all) (compiled (spot_behind a line))
 schemas_turned a line (schema_turns.stops stop) = stops (stop_last stop)
 
-abbrev pub accepted : Document → Turned → Turned
-accepted d next = if has_attributes (rows_of 1 d.forest) then stops not_yet else next
-
 -- the line `end` came
 abbrev pub end_last : Option Verdict → Last
 end_last None = ends [] Valid
@@ -104,11 +100,11 @@ module _ (p : RightAssessor) where
 
   -- the document is whole, and commands follow
   abbrev pub edits_begun : Asked → Compiled → Document → Turned
-  edits_begun a set d = accepted d (goes (free (opening p a (opened set d))) (commands (opened set d) no_block))
+  edits_begun a set d = goes (free (opening p a (opened set d))) (commands (opened set d) no_block)
 
   -- the document is whole, and the stream has ended
   abbrev pub document_over : Asked → Compiled → Document → Turned
-  document_over a set d = accepted d (goes (free (opening p a (opened set d))) (document_ended (opened set d)))
+  document_over a set d = goes (free (opening p a (opened set d))) (document_ended (opened set d))
 
   -- an item in the document section
   abbrev pub document_turned : Asked → Compiled → document_turns.Turned → Turned

@@ -8,19 +8,20 @@ use Rattle.assess_records.specs.declared.shape.ElementShape.{ElementShape}
 use Rattle.elem_governing.specs.declared.pairs.Governing.{Governing}
 use Rattle.compiled_schema.specs.Usable.{set_of}
 use Rattle.compiled_schema.specs.declared.compiled.Compiled.{Compiled}
-use Rattle.child_terms.specs.Numbered.{Scope, characters}
-use Rattle.child_terms.specs.Attribution.{SchemaSet}
-use Rattle.child_terms.specs.Assessment.{AreJudged}
+use Rattle.compiled_schema.specs.Numbered.{Scope, characters}
+use Rattle.compiled_schema.specs.Attribution.{SchemaSet}
+use Rattle.compiled_schema.specs.Assessment.{AreJudged}
 use Rattle.element_heads.specs.Heads.{IsHead}
 use Rattle.tree_assess.specs.Entries.{entry_of}
-use Rattle.child_terms.specs.Plain.{plain_beside}
 use Rattle.tree_assess.specs.declared.entry.ChildOutcome.{ChildOutcome}
 use Rattle.tree_assess.specs.declared.entry.ElementEntry.{ElementEntry}
 use Rattle.tree_assess.specs.inside.Steps.{CanAssess, AreInner, pairs_in}
 use Rattle.tree_assess.specs.declared.elements.Entered.{Entered}
 
 -- what is known of an element: its head, its characters, and where its child elements get stuck and what governs them
-pub record IsEntered (c : Compiled) (outer : Scope) (g : Governing) (name : Expanded) (row : Row) (children : Forest) (e : Entered) : Type 0 where
+pub record IsEntered (c : Compiled) (bearer : ℕ) (outer : Scope) (g : Governing) (name : Expanded) (row : Row) (children : Forest) (e : Entered) : Type 0 where
+  pub number_is : e.number ≡ row.number
+  pub bearer_is : e.bearer ≡ bearer
   pub head_is : IsHead c.names outer name row.bindings row.attributes e.head
   pub text_is : e.text ≡ characters children
   pub inner_are : AreInner (set_of c) g e.head.scope children e.inner.stuck (pairs_in e.inner.begun.items)
@@ -40,10 +41,11 @@ shape_from e counts = record {
 }
 
 -- the element of a number is judged by its shape, and its entry stands at the place that was kept for it
-pub record IsFinished (s : SchemaSet) (g : Governing) (number : ℕ) (shape : ElementShape) (place : ℕ) (old new : List ElementEntry) (outcome : ChildOutcome) : Type 0 where
+pub record IsFinished (s : SchemaSet) (g : Governing) (number bearer : ℕ) (shape : ElementShape) (place : ℕ) (old new : List ElementEntry) (outcome : ChildOutcome) : Type 0 where
   pub own : ElementEntry
-  pub judged : AreJudged s plain_beside shape (entry_of own)
+  pub judged : AreJudged s shape (entry_of own)
   pub number_is : own.number ≡ number
+  pub bearer_is : own.bearer ≡ bearer
   pub governing_is : own.governing ≡ g
   pub placed : new ≡ slice_set old place own
   pub validity_is : outcome.validity ≡ own.element.validity

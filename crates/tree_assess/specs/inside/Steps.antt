@@ -14,10 +14,11 @@ use Rattle.elem_governing.specs.declared.pairs.Governing.{Governing}
 use Rattle.compiled_schema.specs.Usable.{IsUsable}
 use Rattle.compiled_schema.specs.declared.compiled.Compiled.{Compiled}
 use Rattle.element_heads.specs.Found.{HasNames}
-use Rattle.child_terms.specs.Numbered.{Scope, Head, head_of, heads, names_of, scope_in}
-use Rattle.child_terms.specs.Attribution.{SchemaSet, content_particle, AreTerms}
-use Rattle.child_terms.specs.Assessment.{Entry, Assessed, governed, entries, sibling_records, IsEntry, AreAssessed}
-use Rattle.child_terms.specs.Plain.{plain_beside}
+use Rattle.compiled_schema.specs.Numbered.{Scope, Head, head_of, heads, names_of, scope_in}
+use Rattle.compiled_schema.specs.Attribution.{SchemaSet, content_particle, AreTerms}
+use Rattle.compiled_schema.specs.Assessment.{Entry, Assessed, governed, sibling_records, IsEntry, AreAssessed, IsAssessment}
+use Rattle.compiled_schema.specs.Plain.{plain_beside}
+use Rattle.compiled_schema.specs.Bearings.{Bearing, bearings_below, bearings}
 use Rattle.tree_assess.specs.Entries.{entry_of}
 use Rattle.tree_assess.specs.declared.entry.ElementEntry.{ElementEntry}
 use Rattle.tree_assess.specs.declared.entry.ChildOutcome.{ChildOutcome}
@@ -46,6 +47,10 @@ root_pair_of s h = govern_root s.names s.parts h.name h.xsi h.scope
 abbrev pub pair_of : SchemaSet → Governing → Option ℕ → Head → Governing
 pair_of s parent term h = govern_child s.names s.parts parent.mode term h.name h.xsi h.scope
 
+-- the entry that is kept of an element, with the element that bears the IDs of its text
+abbrev pub bearing_of : ElementEntry → Bearing
+bearing_of e = record { bearer = e.bearer; own = entry_of e }
+
 abbrev pub pairs_in : List ElementEntry → List Governing
 pairs_in pairs = map (λ (p : ElementEntry). p.governing) pairs
 
@@ -53,7 +58,7 @@ pairs_in pairs = map (λ (p : ElementEntry). p.governing) pairs
 pub record AreInner (s : SchemaSet) (parent : Governing) (scope : Scope) (children : Forest) (stuck : Option ℕ) (pairs : List Governing) : Type 0 where
   pub terms : List (Option ℕ)
   pub attributed : AreTerms s (content_particle s.parts parent.of) (names_of (heads s.names scope children)) stuck terms
-  pub pairs_are : pairs ≡ governed s plain_beside parent terms (heads s.names scope children)
+  pub pairs_are : pairs ≡ governed s parent terms (heads s.names scope children)
   pub each : length pairs ≡ length (heads s.names scope children)
   pub there : All (IsThere s.parts) pairs
 
@@ -64,26 +69,32 @@ counted_onto (child ∷ more) counts = counted_onto more (with_child child.valid
 
 module _ (s : SchemaSet) where
   -- Siblings with these pairs are assessed up to those that are left: each assessment of these gives one of all.
-  pub record IsSoFar (scope : Scope) (pairs : List Governing) (all left : Forest) (place : ℕ) (old new : List ElementEntry) (counts : ChildCounts) : Type 0 where
+  pub record IsSoFar (parent : ℕ) (scope : Scope) (pairs : List Governing) (all left : Forest) (place : ℕ) (old new : List ElementEntry) (counts : ChildCounts) : Type 0 where
     pub whole : Assessed → Assessed
     pub assessed : (rest : Assessed) → AreAssessed s plain_beside scope (drop place pairs) left rest → AreAssessed s plain_beside scope pairs all (whole rest)
-    pub entries_are : (rest : Assessed) → map entry_of old ++ entries (whole rest) ≡ map entry_of new ++ entries rest
+    pub bearings_are : (rest : Assessed) → map bearing_of old ++ bearings_below parent (whole rest) ≡ map bearing_of new ++ bearings_below parent rest
     pub counts_are : (rest : Assessed) → counts_of (sibling_records (whole rest)) ≡ counted_onto (sibling_records rest) counts
 
   -- siblings are assessed, and their entries stand behind the old ones
-  pub record AreDone (scope : Scope) (pairs : List Governing) (f : Forest) (old new : List ElementEntry) (counts : ChildCounts) : Type 0 where
+  pub record AreDone (parent : ℕ) (scope : Scope) (pairs : List Governing) (f : Forest) (old new : List ElementEntry) (counts : ChildCounts) : Type 0 where
     pub found : Assessed
     pub assessed : AreAssessed s plain_beside scope pairs f found
-    pub entries_are : map entry_of new ≡ map entry_of old ++ entries found
+    pub bearings_are : map bearing_of new ≡ map bearing_of old ++ bearings_below parent found
     pub counts_are : counts ≡ counts_of (sibling_records found)
 
   -- an element is assessed with what is below it, and their entries stand behind the old ones
-  pub record IsDone (outer : Scope) (g : Governing) (name : Expanded) (row : Row) (children : Forest) (old new : List ElementEntry) (outcome : ChildOutcome) : Type 0 where
+  pub record IsDone (bearer : ℕ) (outer : Scope) (g : Governing) (name : Expanded) (row : Row) (children : Forest) (old new : List ElementEntry) (outcome : ChildOutcome) : Type 0 where
     pub own : Entry
     pub inner : List Governing
     pub below : Assessed
     pub entry_is : IsEntry s plain_beside g (head_of s.names outer name row.bindings row.attributes) row.number row.attributes children inner below own
     pub below_are : AreAssessed s plain_beside (scope_in s.names row.bindings outer) inner children below
-    pub entries_are : map entry_of new ≡ map entry_of old ++ own ∷ entries below
+    pub bearings_are : map bearing_of new ≡ map bearing_of old ++ record { bearer = bearer; own = own } ∷ bearings_below own.number below
     pub validity_is : outcome.validity ≡ own.element.validity
     pub attempted_is : outcome.attempted ≡ own.element.attempted
+
+-- these are the entries of a document's assessment without the codes of its IDs, in document order, with those that bear the IDs
+pub record AreBorne (s : SchemaSet) (f : Forest) (es : List ElementEntry) : Type 0 where
+  pub found : Assessed
+  pub assessed : IsAssessment s plain_beside f found
+  pub bearings_are : map bearing_of es ≡ bearings found

@@ -1,18 +1,43 @@
-use Rattle.std.proofs.Common.{Ok, Err, get_or, sym, ◌∙◌}
-use Rattle.std.proofs.lemmas.Option.{slice_get-get_or}
-use Rattle.schema_check.proofs.CompilationLaws.{first-shaped, shaped-compiled, shape-refused}
+use Rattle.std.proofs.Common.{List, Option, None, Some, ◌<◌, sym, subst, ◌∙◌}
+use Rattle.std.specs.Prelude.{All}
+use Rattle.xs_codes.specs.declared.fault.Fault.{Fault}
+use Rattle.xs_faults.specs.Least.{IsLeast}
+use Rattle.schema_documents.specs.Available.{Available}
+use Rattle.schema_documents.specs.SetDocument.{SetDocument}
+use Rattle.schema_documents.specs.Composition.{Broken}
+use Rattle.schema_documents.specs.Documents.{IsSet, IsShapeFault}
+use Rattle.schema_check.proofs.ReadLaws.{some-available, numbers, read-set}
+use Rattle.schema_check.proofs.CompilationLaws.{shape-phase, composition-phase, shape-refused, closed-compiled}
 use Rattle.schema_check.proofs.compiling.compile.Goals as goal
 
-pub returns-in-Ok : goal.returns-in-Ok
-returns-in-Ok c =
-    let documents = c.args.documents.now in
-    let at = slice_get-get_or documents 0 c.index-documents-0.result c.requires.some in
-    shaped-compiled documents c.compile_shaped.result c.in-Ok.shaped
-    (first-shaped documents (get_or documents 0 c.index-documents-0.result) (Ok c.in-Ok.shaped) at (sym c.in-Ok.is ∙ c.in_ok-answer.ensures)) c.compile_shaped.ensures
+pub close_set-requires : goal.close_set-requires
+close_set-requires c =
+    record { some = some-available c.args.documents.now c.as_slice-available.result.now (c.as_slice-available.ensures ∙ c.in_ok-read.ensures.available) c.requires.some }
 
-pub returns-in-Err : goal.returns-in-Err
-returns-in-Err c =
+pub first_shape_fault-requires : goal.first_shape_fault-requires
+first_shape_fault-requires c = record {
+  numbers = subst (λ (l : List SetDocument). All (λ d. 0 < d.number) l) (sym c.as_slice-set.ensures)
+      (numbers c.as_slice-available.result.now c.in_ok-closed.closed.set.documents c.in_ok-closed.ensures.set);
+}
+
+pub returns-in-Some : goal.returns-in-Some
+returns-in-Some c =
     let documents = c.args.documents.now in
-    let at = slice_get-get_or documents 0 c.index-documents-0.result c.requires.some in
-    shape-refused documents c.in-Err.fault
-    (first-shaped documents (get_or documents 0 c.index-documents-0.result) (Err c.in-Err.fault) at (sym c.in-Err.is ∙ c.in_ok-answer.ensures))
+    let closed = c.in_ok-closed.closed in
+    let same = c.as_slice-available.ensures ∙ c.in_ok-read.ensures.available in
+    let set = read-set documents c.as_slice-available.result.now closed.set.documents same c.in_ok-closed.ensures.set c.in_ok-closed.ensures.order in
+    let least = c.first_shape_fault.ensures.least documents (c.as_slice-faults.ensures ∙ c.in_ok-read.ensures.faults)
+    (subst (λ (l : List SetDocument). IsSet documents l) (sym c.as_slice-set.ensures) set) in
+    shape-refused documents c.in-Some.fault (shape-phase documents (Some c.in-Some.fault) (subst (λ (o : Option Fault). IsLeast (IsShapeFault documents) o) c.in-Some.is least))
+
+pub returns : goal.returns
+returns c =
+    let documents = c.args.documents.now in
+    let closed = c.in_ok-closed.closed in
+    let same = c.as_slice-available.ensures ∙ c.in_ok-read.ensures.available in
+    let set = read-set documents c.as_slice-available.result.now closed.set.documents same c.in_ok-closed.ensures.set c.in_ok-closed.ensures.order in
+    let least = c.first_shape_fault.ensures.least documents (c.as_slice-faults.ensures ∙ c.in_ok-read.ensures.faults)
+    (subst (λ (l : List SetDocument). IsSet documents l) (sym c.as_slice-set.ensures) set) in
+    closed-compiled documents closed.set.documents set (shape-phase documents None (subst (λ (o : Option Fault). IsLeast (IsShapeFault documents) o) c.in-None.is least))
+    c.compile_closed.result closed.fault
+    (composition-phase documents closed.fault (subst (λ (l : List Available). IsLeast (Broken l) closed.fault) same c.in_ok-closed.ensures.fault)) c.compile_closed.ensures

@@ -1,11 +1,11 @@
-use Rattle.schema_check.proofs.CompiledLaws.{set-simple, alone-simple, compiled-simple}
+use Rattle.schema_check.proofs.CompiledLaws.{set-simple, shaped-set, compiled-simple}
 use Rattle.schema_check.proofs.laws.compiled_types_are_simple.Goals as goal
 
 pub returns-clause-set : goal.returns-clause-set
-returns-clause-set c = set-simple c.set_types_are_simple.ensures.documents c.set_types_are_simple.ensures.built c.set_types_are_simple.ensures.grown
+returns-clause-set c = set-simple c.set_types_are_simple.ensures.built c.set_types_are_simple.ensures.grown
 
-pub returns-clause-alone : goal.returns-clause-alone
-returns-clause-alone c = alone-simple c.set_types_are_simple.ensures.documents c.set_types_are_simple.ensures.built c.set_types_are_simple.ensures.grown
+pub returns-clause-shaped : goal.returns-clause-shaped
+returns-clause-shaped c = λ documents made trees is. shaped-set documents trees made is
 
 pub returns-clause-compiled : goal.returns-clause-compiled
-returns-clause-compiled c = compiled-simple c.set_types_are_simple.ensures.documents c.set_types_are_simple.ensures.built c.set_types_are_simple.ensures.grown
+returns-clause-compiled c = compiled-simple c.set_types_are_simple.ensures.built c.set_types_are_simple.ensures.grown

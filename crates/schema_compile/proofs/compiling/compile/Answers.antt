@@ -1,32 +1,13 @@
-use Rattle.std.proofs.Common.{Ok, Err, get_or, sym, ◌∙◌}
-use Rattle.std.proofs.lemmas.Option.{slice_get-get_or}
-use Rattle.schema_check.proofs.CompilationLaws.{first-shaped}
-use Rattle.schema_compile.proofs.OutcomeLaws.{shaped-outcome, shape-broken, declared}
+use Rattle.std.proofs.Common.{inl, subst}
+use Rattle.schema_check.specs.Compilation.{IsCompilation}
+use Rattle.schema_compile.proofs.OutcomeLaws.{set-outcome}
 use Rattle.schema_compile.proofs.compiling.compile.Goals as goal
 
-pub compile_shaped-requires : goal.compile_shaped-requires
-compile_shaped-requires c =
-    let documents = c.args.documents.now in
-    let at = slice_get-get_or documents 0 c.index-documents-0.result c.requires.some in
-    record {
-      declared = declared documents c.in-Ok.shaped c.requires.trees
-          (first-shaped documents (get_or documents 0 c.index-documents-0.result) (Ok c.in-Ok.shaped) at (sym c.in-Ok.is ∙ c.in_ok-answer.ensures));
-    }
+pub complete-requires : goal.complete-requires
+complete-requires c = record { fit = c.compiled_parts_are_fit.ensures.fit c.args.documents.now c.in-Ok.set c.requires.trees c.in-Ok.ensures }
 
 pub returns-in-Ok : goal.returns-in-Ok
-returns-in-Ok c =
-    let documents = c.args.documents.now in
-    let at = slice_get-get_or documents 0 c.index-documents-0.result c.requires.some in
-    record {
-      outcome = shaped-outcome documents c.compile_shaped.result c.in-Ok.shaped
-          (first-shaped documents (get_or documents 0 c.index-documents-0.result) (Ok c.in-Ok.shaped) at (sym c.in-Ok.is ∙ c.in_ok-answer.ensures)) c.compile_shaped.ensures;
-    }
+returns-in-Ok c = record { outcome = set-outcome c.args.documents.now c.complete.result c.in-Ok.set c.in-Ok.ensures c.complete.ensures }
 
 pub returns-in-Err : goal.returns-in-Err
-returns-in-Err c =
-    let documents = c.args.documents.now in
-    let at = slice_get-get_or documents 0 c.index-documents-0.result c.requires.some in
-    record {
-      outcome = shape-broken documents c.in-Err.fault
-          (first-shaped documents (get_or documents 0 c.index-documents-0.result) (Err c.in-Err.fault) at (sym c.in-Err.is ∙ c.in_ok-answer.ensures));
-    }
+returns-in-Err c = record { outcome = inl (c.in-Err.refusal, c.in-Err.ensures, c.outcome_of_refusal.ensures) }

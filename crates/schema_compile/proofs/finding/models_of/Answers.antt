@@ -1,17 +1,10 @@
-use Rattle.std.proofs.Common.{inl, subst}
-use Rattle.all_limits.specs.SetModels.{AreContentsLimited}
-use Rattle.schema_compile.specs.Outcomes.{derivation_phase}
-use Rattle.schema_compile.proofs.PhaseLaws.{none-found, models-in}
+use Rattle.std.proofs.Common.{subst}
+use Rattle.schema_compile.specs.Outcomes.{attr_phase}
+use Rattle.schema_compile.proofs.PhaseLaws.{first-of-six}
 use Rattle.schema_compile.proofs.finding.models_of.Goals as goal
 
-pub find_models-requires-clause-limited : goal.find_models-requires-clause-limited
-find_models-requires-clause-limited c = none-found (AreContentsLimited c.args.set.now.parts) _ c.in-None.is c.in_ok-fault.ensures.limited
+pub models_behind-requires-clause-none : goal.models_behind-requires-clause-none
+models_behind-requires-clause-none c = subst (attr_phase c.args.set.now) c.in-None.is c.requires.attrs
 
 pub returns-in-Some : goal.returns-in-Some
-returns-in-Some c = record { models = inl (subst (derivation_phase c.args.set.now) c.in-Some.is c.in_ok-fault.ensures.least) }
-
-pub returns-in-None : goal.returns-in-None
-returns-in-None c = record {
-  models = models-in c.args.set.now c.args.found.now c.requires.found c.find_models.result (subst (derivation_phase c.args.set.now) c.in-None.is c.in_ok-fault.ensures.least)
-      c.find_models.ensures.models;
-}
+returns-in-Some c = record { models = first-of-six c.args.set.now c.in-Some.fault (subst (attr_phase c.args.set.now) c.in-Some.is c.requires.attrs) }

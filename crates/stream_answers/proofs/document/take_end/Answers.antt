@@ -1,17 +1,13 @@
-use Rattle.std.proofs.Common.{◌≡◌, false, Some, ap, subst}
-use Rattle.tree_rows.specs.Rows.{rows_of}
+use Rattle.std.proofs.Common.{Some, refl}
 use Rattle.open_document.specs.Answers.{opened, verdict}
-use Rattle.stream_answers.specs.Output.{free, opening, not_yet, has_attributes}
+use Rattle.stream_answers.specs.Output.{free, opening}
 use Rattle.stream_answers.specs.inside.Turns.{document_ended}
 use Rattle.stream_answers.specs.declared.place.Place.TheVariants as places
-use Rattle.stream_answers.proofs.Moved.{unless_it_has}
+use Rattle.stream_answers.proofs.Moved.{if_goes}
 use Rattle.stream_answers.proofs.document.take_end.Goals as goal
-use Rattle.std.proofs.Common.{refl}
 
 pub returns-clause-moves : goal.returns-clause-moves
 returns-clause-moves g c p set stood e =
     let s = opened set c.args.tree in
-    unless_it_has (has_attributes (rows_of 1 c.args.tree.forest)) not_yet (free (opening p c.args.asked s)) (document_ended p s)
-    c.end_document.result (places.Ended (Some (verdict p s))) stood c.open.new.self
-    (subst (λ rows. false ≡ has_attributes rows) c.rows.ensures c.if-have_attributes.ensures) refl
-    (c.end_document.ensures.goes p s (c.in_ok-open.ensures.opened set e))
+    if_goes c.end_document.result (free (opening p c.args.asked s)) (document_ended p s) (places.Ended (Some (verdict p s))) stood c.open.new.self
+    refl (c.end_document.ensures.goes p s (c.in_ok-open.ensures.opened set e))

@@ -3,7 +3,7 @@ use Rattle.std.proofs.Common.{◌<◌, length, sym, ap, subst, ◌∙◌, arith,
 use Rattle.assess_records.specs.Counts.{child_count, attempt_count}
 use Rattle.compiled_schema.specs.Usable.{set_of}
 use Rattle.compiled_schema.specs.declared.compiled.Compiled.{Compiled}
-use Rattle.child_terms.specs.Numbered.{heads}
+use Rattle.compiled_schema.specs.Numbered.{heads}
 use Rattle.tree_assess.specs.inside.Steps.{CanAssess, IsThere, IsDone, alone, pairs_in}
 use Rattle.tree_assess.proofs.Below.{element_from}
 use Rattle.tree_assess.proofs.Counting.{child_more, attempt_more}
@@ -23,7 +23,7 @@ assess_children-left-init t c =
     let none_tried = ap attempt_count c.new-counts.ensures in
     let few = c.requires.can.few in
     record {
-      so_far = begun (set_of k) scope pairs c.args.children c.args.found.now.items c.new-counts.result c.new-counts.ensures;
+      so_far = begun (set_of k) c.args.parent.now.number scope pairs c.args.children c.args.found.now.items c.new-counts.result c.new-counts.ensures;
       can = subst (λ s. CanAssess k s c.args.children) (sym c.scope-scope.ensures) c.requires.can;
       each = omega arith;
       counted = omega arith;
@@ -35,9 +35,9 @@ assess_children-left-init t c =
 pub assess_children-returns-clause-done : goal.assess_children-returns-clause-done
 assess_children-returns-clause-done t c =
     let k = c.args.compiled.now in
-    done_by (set_of k) c.scope-scope.result.now c.args.parent.now.head.scope (pairs_in c.begun-entries.result.now) (pairs_in c.args.parent.now.inner.begun.items) c.args.children c.args.found.now.items c.left.found.items c.left.counts
+    done_by (set_of k) c.args.parent.now.number c.scope-scope.result.now c.args.parent.now.head.scope (pairs_in c.begun-entries.result.now) (pairs_in c.args.parent.now.inner.begun.items) c.args.children c.args.found.now.items c.left.found.items c.left.counts
     c.scope-scope.ensures (ap pairs_in c.begun-entries.ensures)
-    (ended (set_of k) c.scope-scope.result.now (pairs_in c.begun-entries.result.now) c.args.children c.args.found.now.items c.left.left c.left.place c.left.found.items c.left.counts c.left.invariant.so_far c.in_default.ensures)
+    (ended (set_of k) c.args.parent.now.number c.scope-scope.result.now (pairs_in c.begun-entries.result.now) c.args.children c.args.found.now.items c.left.left c.left.place c.left.found.items c.left.counts c.left.invariant.so_far c.in_default.ensures)
 
 pub assess_children-left-preserved-in_ok-outcome : goal.assess_children-left-preserved-in_ok-outcome
 assess_children-left-preserved-in_ok-outcome t c =
@@ -62,9 +62,9 @@ assess_children-left-preserved-in_ok-outcome t c =
     let counted = i.counted in
     let attempts = i.attempts in
     let fewer = i.fewer in
-    let done = subst (λ (d : Compiled). IsDone (set_of d) scope pair name row s.children l.found.items c.assess_element.new.found.items outcome) i.same c.in_ok-outcome.ensures.done in
+    let done = subst (λ (d : Compiled). IsDone (set_of d) c.args.parent.now.number scope pair name row s.children l.found.items c.assess_element.new.found.items outcome) i.same c.in_ok-outcome.ensures.done in
     record {
-      so_far = past_element (set_of k) scope pairs c.args.children c.args.found.now.items l.left s.children s.next row l.place first name is pair within (pair_at c.begun-entries.result.now l.place c.index-entries-place.result pair within c.index-entries-place.is c.governing-governing.ensures) l.found.items c.assess_element.new.found.items outcome done
+      so_far = past_element (set_of k) c.args.parent.now.number scope pairs c.args.children c.args.found.now.items l.left s.children s.next row l.place first name is pair within (pair_at c.begun-entries.result.now l.place c.index-entries-place.result pair within c.index-entries-place.is c.governing-governing.ensures) l.found.items c.assess_element.new.found.items outcome done
           l.counts c.add.new.self i.so_far c.add.ensures;
       can = can_next l.left s.children s.next row first name is k scope i.can;
       each = omega arith;
@@ -76,7 +76,7 @@ assess_children-left-preserved-in_ok-outcome t c =
 
 pub assess_element-returns-clause-done : goal.assess_element-returns-clause-done
 assess_element-returns-clause-done t c =
-    element_from c.args.compiled.now c.enter.new.compiled c.assess_children.new.compiled c.args.outer.now c.args.governing.now c.args.name.now c.args.row.now c.args.children c.in_ok-entered.entered c.in_ok-entered.ensures.entered
+    element_from c.args.compiled.now c.enter.new.compiled c.assess_children.new.compiled c.args.bearer c.args.outer.now c.args.governing.now c.args.name.now c.args.row.now c.args.children c.in_ok-entered.entered c.in_ok-entered.ensures.entered
     c.enter.ensures.same (c.assess_children.ensures.same ∙ c.enter.ensures.same) c.in_ok-counts.counts c.args.found.now.items c.keep_place.new.found.items c.assess_children.new.found.items c.finish.new.found.items c.in_ok-place.place c.finish.result
     c.in_ok-place.ensures.kept c.in_ok-place.ensures.place c.in_ok-counts.ensures.done c.finish.ensures.finished
 

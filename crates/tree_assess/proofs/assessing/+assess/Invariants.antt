@@ -2,7 +2,7 @@ use Rattle.std.proofs.Common.{◌≡◌, ◌+◌, ◌*◌, ◌<◌, ◌≤◌, �
 use Rattle.tree_rows.specs.Forest.{count}
 use Rattle.assess_records.specs.Counts.{child_count, attempt_count}
 use Rattle.compiled_schema.specs.Usable.{set_of}
-use Rattle.child_terms.specs.Numbered.{heads}
+use Rattle.compiled_schema.specs.Numbered.{heads}
 use Rattle.tree_assess.specs.inside.Steps.{CanAssess, IsSoFar, pairs_in}
 use Rattle.tree_assess.proofs.assessing.+assess.Given as goal
 
@@ -14,7 +14,7 @@ decreases-assess_element l = 2 * count l.children + 1
 
 abbrev pub invariant-assess_children-left : goal.invariant-assess_children-left
 invariant-assess_children-left l = record {
-  so_far : IsSoFar (set_of l.initial.compiled) l.scope (pairs_in l.entries) l.fn.children l.left l.place l.initial.found.items l.found.items l.counts;
+  so_far : IsSoFar (set_of l.initial.compiled) l.parent.number l.scope (pairs_in l.entries) l.fn.children l.left l.place l.initial.found.items l.found.items l.counts;
   can : CanAssess l.initial.compiled l.scope l.left;
   each : l.place + length (heads l.initial.compiled.names l.scope l.left) ≡ length (pairs_in l.entries);
   counted : child_count l.counts + count l.left < 2 ^ 32;

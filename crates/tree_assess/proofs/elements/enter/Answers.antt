@@ -1,4 +1,4 @@
-use Rattle.std.proofs.Common.{subst, sym, ◌∙◌}
+use Rattle.std.proofs.Common.{refl, subst, sym, ◌∙◌}
 use Rattle.compiled_schema.specs.Usable.{set_of}
 use Rattle.compiled_schema.specs.declared.compiled.Compiled.{Compiled}
 use Rattle.tree_assess.specs.inside.Steps.{CanAssess, AreInner, pairs_in}
@@ -21,6 +21,8 @@ pub returns-clause-entered : goal.returns-clause-entered
 returns-clause-entered c =
     let k = c.args.compiled.now in
     record {
+      number_is = refl;
+      bearer_is = refl;
       head_is = c.in_ok-head.ensures.head;
       text_is = c.in_ok-text.ensures;
       inner_are = subst (λ (d : Compiled). AreInner (set_of d) c.args.governing.now c.in_ok-head.head.scope c.args.children.now c.in_ok-inner.inner.stuck (pairs_in c.in_ok-inner.inner.begun.items))

@@ -5,9 +5,8 @@ use Rattle.assess_records.specs.declared.shape.ElementShape.{ElementShape}
 use Rattle.assess_records.specs.declared.shape.NamedText.{NamedText}
 use Rattle.elem_governing.specs.View.{AreKnown}
 use Rattle.compiled_schema.specs.Usable.{set_of}
-use Rattle.child_terms.specs.Assessment.{AreJudged}
+use Rattle.compiled_schema.specs.Assessment.{AreJudged}
 use Rattle.tree_assess.specs.Entries.{entry_of}
-use Rattle.child_terms.specs.Plain.{plain_beside}
 use Rattle.tree_assess.proofs.elements.leave.Goals as goal
 
 pub judge-requires-clause-known : goal.judge-requires-clause-known
@@ -19,4 +18,4 @@ judge-requires-clause-named c =
 
 pub returns-clause-judged : goal.returns-clause-judged
 returns-clause-judged c =
-    IfOk-weaker c.judge.result _ _ (λ entry h. subst (λ (shape : ElementShape). AreJudged (set_of c.args.compiled.now) plain_beside shape (entry_of entry)) c.shape_of-shape.ensures h) c.judge.ensures.judged
+    IfOk-weaker c.judge.result _ _ (λ entry h. subst (λ (shape : ElementShape). AreJudged (set_of c.args.compiled.now) shape (entry_of entry)) c.shape_of-shape.ensures h) c.judge.ensures.judged

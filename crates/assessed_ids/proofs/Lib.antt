@@ -1,0 +1,4 @@
+pub mod Alike
+pub mod Roots
+pub mod Bearers
+pub mod Marks

@@ -1,0 +1,13 @@
+pub mod Bearings
+pub mod Joined
+pub use Rattle.document_ids.specs.Ids
+pub use Rattle.document_ids.specs.Table
+pub use Rattle.set_assessment.specs.Numbered
+pub use Rattle.set_assessment.specs.Attribution
+pub use Rattle.set_assessment.specs.Fitting
+pub use Rattle.set_assessment.specs.Assessment
+pub use Rattle.set_assessment.specs.Plain
+pub use Rattle.set_assessment.specs.Schema
+pub use Rattle.set_assessment.specs.Types
+pub use Rattle.set_assessment.specs.Added
+pub use Rattle.set_assessment.specs.Source

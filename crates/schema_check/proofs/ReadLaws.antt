@@ -1,0 +1,23 @@
+-- What is known of documents that were read and of the set that is closed of them.
+use Rattle.std.proofs.Common.{◌≡◌, ◌<◌, List, length, ap, subst, ◌∙◌, arith}
+use Rattle.std.specs.Prelude.{All}
+use Rattle.std.proofs.lemmas.List.{length-map}
+use Rattle.schema_documents.specs.Available.{Available}
+use Rattle.schema_documents.specs.SetDocument.{SetDocument}
+use Rattle.schema_documents.specs.declared.inputs.SchemaInput.{SchemaInput}
+use Rattle.schema_documents.specs.EffectiveSet.{IsEffectiveSet}
+use Rattle.schema_documents.specs.Order.{IsInOrder}
+use Rattle.schema_documents.specs.Documents.{available_of, available, IsSet}
+
+pub some-available : (documents : List SchemaInput) (slice : List Available) → slice ≡ available documents → 0 < length documents → 0 < length slice
+some-available documents slice same some =
+    let long : length slice ≡ length documents = ap length same ∙ length-map documents available_of in
+    omega (arith, long, some)
+
+-- the numbers of the documents of a set begin with 1
+pub numbers : (slice : List Available) (set : List SetDocument) → IsEffectiveSet slice set → All (λ d. 0 < d.number) set
+numbers slice set is = λ k d h. let there = is.there k d h in omega (arith, there.2)
+
+pub read-set : (documents : List SchemaInput) (slice : List Available) (set : List SetDocument) → slice ≡ available documents → IsEffectiveSet slice set → IsInOrder slice set → IsSet documents set
+read-set documents slice set same is order =
+    (subst (λ (l : List Available). IsEffectiveSet l set) same is, subst (λ (l : List Available). IsInOrder l set) same order)

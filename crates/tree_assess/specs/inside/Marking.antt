@@ -1,0 +1,18 @@
+-- The codes of a document's IDs, put to its root.
+use Rattle.std.specs.Prelude.{List, [], ◌∷◌, map}
+use Rattle.std.specs.List.{flat_map}
+use Rattle.xs_codes.specs.declared.fault.Found.{Found}
+use Rattle.compiled_schema.specs.Ids.{id_codes}
+use Rattle.compiled_schema.specs.Bearings.{borne_of}
+use Rattle.compiled_schema.specs.Joined.{marked_record}
+use Rattle.tree_assess.specs.declared.entry.ElementEntry.{ElementEntry}
+use Rattle.tree_assess.specs.inside.Steps.{bearing_of}
+
+-- the codes of the IDs in the texts of elements
+abbrev pub codes_in : List ElementEntry → List Found
+codes_in es = id_codes (flat_map borne_of (map bearing_of es))
+
+-- codes behind those of the first element
+abbrev pub with_marks : List Found → List ElementEntry → List ElementEntry
+with_marks codes [] = []
+with_marks codes (own ∷ more) = record own { element = marked_record codes own.element } ∷ more
