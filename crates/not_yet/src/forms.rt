@@ -9,8 +9,6 @@ fn is_unassessed_form(form: &Form) -> bool
 {
     match form {
         Form::Redefine { .. } => true,
-        Form::Element(form) => form.value.is_some(),
-        Form::Attribute(form) => form.value.is_some(),
         Form::Derivation { by_extension, .. } => !by_extension,
         Form::Identity { .. } => true,
         _ => false,

@@ -4,7 +4,7 @@ use Rattle.std.proofs.Common.{◌≡◌, ◌⊎◌, inl, inr, false, List, ◌�
 use Rattle.xs_codes.specs.declared.fault.Fault.{Fault}
 use Rattle.xs_faults.specs.Least.{IsLeast}
 use Rattle.schema_build.specs.SetDocument.{SetDocument}
-use Rattle.schema_documents.specs.SchemaInput.{SchemaInput}
+use Rattle.schema_documents.specs.declared.inputs.SchemaInput.{SchemaInput}
 use Rattle.schema_documents.specs.Documents.{available, IsSet, IsShapeFault}
 use Rattle.schema_documents.specs.Composition.{Broken as IsCompositionFault}
 use Rattle.schema_check.specs.declared.documents.CompiledSet.{CompiledSet}

@@ -15,7 +15,7 @@ use Rattle.representations.specs.Names.{spaces_of}
 use Rattle.schema_build.specs.Documents.{representations, origins}
 use Rattle.reference_faults.specs.Faults.{IsBroken}
 use Rattle.schema_build.specs.Built.{built}
-use Rattle.schema_documents.specs.SchemaInput.{SchemaInput}
+use Rattle.schema_documents.specs.declared.inputs.SchemaInput.{SchemaInput}
 use Rattle.schema_documents.specs.Documents.{IsShapeFault}
 use Rattle.schema_documents.proofs.ShapedLaws.{IsShapedBy, all-shaped}
 use Rattle.schema_check.specs.Compilation.{shape_phase, IsCompilation}

@@ -4,7 +4,7 @@ use Rattle.std.specs.Prelude.{All}
 use Rattle.std.proofs.lemmas.List.{length-map}
 use Rattle.schema_documents.specs.Available.{Available}
 use Rattle.schema_documents.specs.SetDocument.{SetDocument}
-use Rattle.schema_documents.specs.SchemaInput.{SchemaInput}
+use Rattle.schema_documents.specs.declared.inputs.SchemaInput.{SchemaInput}
 use Rattle.schema_documents.specs.EffectiveSet.{IsEffectiveSet}
 use Rattle.schema_documents.specs.Order.{IsInOrder}
 use Rattle.schema_documents.specs.Documents.{available_of, available, IsSet}

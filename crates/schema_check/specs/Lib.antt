@@ -2,7 +2,7 @@ pub mod Phases
 pub mod SetPhases
 pub mod Compilation
 pub mod inside
-pub use Rattle.schema_documents.specs.SchemaInput
+pub use Rattle.schema_documents.specs.declared.inputs.SchemaInput
 pub use Rattle.set_types.specs.OfTree
 pub use Rattle.set_types.specs.SimpleParts
 pub use Rattle.set_types.specs.Simple

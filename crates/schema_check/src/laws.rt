@@ -1,7 +1,7 @@
 ghost use Rattle.std.specs.Prelude.{List, Ok, All};
 ghost use Rattle.schema_build.specs.SetDocument.{SetDocument};
 ghost use Rattle.tree_rows.specs.Whole.{IsTree};
-ghost use Rattle.schema_documents.specs.SchemaInput.{SchemaInput};
+ghost use Rattle.schema_documents.specs.declared.inputs.SchemaInput.{SchemaInput};
 ghost use Rattle.schema_check.specs.Compilation.{IsCompilation};
 ghost use Rattle.schema_check.specs.SetPhases.{IsSetCompiled};
 ghost use Rattle.schema_check.specs.declared.documents.CompiledSet.{CompiledSet};

@@ -9,3 +9,4 @@ pub mod MemberLaws
 pub mod PhaseLaws
 pub mod UsableLaws
 pub mod OutcomeLaws
+pub mod ValueLaws

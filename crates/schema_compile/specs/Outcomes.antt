@@ -6,6 +6,7 @@ use Rattle.xs_faults.specs.Least.{IsLeast}
 use Rattle.subst_groups.specs.Groups.{AreGroups}
 use Rattle.attr_faults.specs.AttrFaults.{AreIdMarks, IsAttrFault, HasUses}
 use Rattle.complex_extension.specs.Extensions.{IsExtensionFault}
+use Rattle.value_faults.specs.ValueFaults.{IsValueFault}
 use Rattle.head_exclusions.specs.Exclusions.{IsExcluded}
 use Rattle.all_limits.specs.AllLimits.{IsUnlimited}
 use Rattle.element_classes.specs.Classes.{AreClassesOf}
@@ -27,12 +28,17 @@ use Rattle.schema_compile.specs.declared.outcome.Outcome.TheVariants.{Accepted, 
 abbrev pub IsDerivationFault : Tables → Fault → Type 0
 IsDerivationFault t fault = IsExtensionFault t fault ⊎ (IsExcluded t fault ⊎ IsUnlimited t fault)
 
+-- phase 6, of attributes and value constraints: src-attribute_group.2, src-ct.4 and src-ct.5 (Structures 3.4.3, 3.6.3),
+-- ag-props-correct.2 and .3, ct-props-correct.4 and .5 (Structures 3.4.6, 3.6.6); and of value constraints x-limit.value,
+-- a-props-correct.2 and .3, au-props-correct.2, e-props-correct.2 and .5, cos-valid-default.2.1 and .2.2.2 (Structures 3.2.6, 3.3.6, 3.5.6)
+abbrev pub IsPropertyFault : Tables → List Bool → Fault → Type 0
+IsPropertyFault t ids fault = IsAttrFault t ids fault ⊎ IsValueFault t fault
+
 -- of a set of components with their names and simple types
 module _ (made : CompiledSet) where
-  -- phase 6, of attributes, by the attribute declarations of types of IDs: src-attribute_group.2, src-ct.4 and src-ct.5 (Structures 3.4.3,
-  -- 3.6.3), ag-props-correct.2 and .3, ct-props-correct.4 and .5 (Structures 3.4.6, 3.6.6)
+  -- phase 6, of attributes and value constraints, by the attribute declarations of types of IDs
   abbrev pub attr_phase : Option Fault → Type 0
-  attr_phase found = (ids : List Bool) × AreIdMarks made.parts ids × IsLeast (IsAttrFault made.parts ids) found
+  attr_phase found = (ids : List Bool) × AreIdMarks made.parts ids × IsLeast (IsPropertyFault made.parts ids) found
 
   abbrev pub derivation_phase : Option Fault → Type 0
   derivation_phase found = IsLeast (IsDerivationFault made.parts) found
@@ -68,8 +74,8 @@ of_refusal refusals.NotYet = NotYet
 
 -- What documents come to: the first fault of the first phase that has one, by document, element and the order of codes; else the
 -- compiled set, by which documents may be assessed. A set whose documents are of the right shape and have something that is not assessed
--- yet comes to neither. The phases that there are not yet have no fault where there is nothing of that: value constraints of phase 6,
--- restrictions, and identity constraints.
+-- yet comes to neither. The phases that there are not yet have no fault where there is nothing of that: restrictions, and identity
+-- constraints.
 abbrev pub IsOutcome : List SchemaInput → Outcome → Type 0
 IsOutcome documents outcome =
     ((refusal : Refusal) × IsCompilation documents (Err refusal) × (outcome ≡ of_refusal refusal)) ⊎

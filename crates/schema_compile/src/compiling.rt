@@ -48,11 +48,11 @@ fn outcome_of(set: CompiledSet, judged: Result<(Found, Models), Fault>) -> Outco
 }
 
 // What a set comes to in the phases behind simple types.
-fn complete(alloc: Global, set: CompiledSet) -> Result<Outcome, AllocError>
+fn complete(alloc: Global, mut set: CompiledSet) -> Result<Outcome, AllocError>
     requires fit { IsFit set }
     ensures { IfOk result (spec.IsSetOutcome set) }
 {
-    match judge(alloc, &set) {
+    match judge(alloc, &mut set) {
         Ok(judged) => Ok(outcome_of(set, judged)),
         Err(error) => Err(error),
     }

@@ -3,6 +3,7 @@
 ghost use Rattle.std.specs.Prelude.{◌≡◌, IfOk, IfNone, None};
 ghost use Rattle.xs_faults.specs.Least.{IsLeast};
 ghost use Rattle.all_limits.specs.SetModels.{AreContentsLimited};
+ghost use Rattle.value_faults.specs.ValueFaults.{IsValueFault};
 ghost use Rattle.schema_compile.specs.Fit.{IsFit};
 ghost use Rattle.schema_compile.specs.Outcomes as phases;
 ghost use Rattle.schema_compile.specs.inside.Finding as spec;
@@ -20,6 +21,7 @@ use particle_forms::Inhabited;
 use schema_check::CompiledSet;
 use std::alloc::{AllocError, Global};
 use subst_groups::groups;
+use value_faults::first_value_fault;
 use xs_codes::Fault;
 use xs_faults::sooner;
 use xs_members::Members;
@@ -73,12 +75,40 @@ fn contents_are_there(set: &CompiledSet)
     let _contents = set.parts.contents();
 }
 
-// The first fault of phase 6.
-fn attr_fault(set: &CompiledSet, found: &Found) -> Option<Fault>
-    requires found { spec.IsFound set.now.parts found.now }
-    ensures least { phases.attr_phase set.now result }
+// The first fault of value constraints.
+fn value_fault(
+    alloc: Global,
+    set: &mut CompiledSet,
+    found: &Found,
+) -> Result<Option<Fault>, AllocError>
+    requires fit { IsFit set.old }
+    requires found { spec.IsFound set.old.parts found.now }
+    ensures least { IfOk result (IsLeast (IsValueFault set.old.parts)) }
+    ensures same { set.new ≡ set.old }
 {
-    first_attr_fault(&set.parts, &found.attr_uses)
+    first_value_fault(
+        alloc,
+        &set.parts,
+        &found.declarations,
+        &found.contents,
+        &mut set.types,
+    )
+}
+
+// The first fault of phase 6.
+fn attr_fault(
+    alloc: Global,
+    set: &mut CompiledSet,
+    found: &Found,
+) -> Result<Option<Fault>, AllocError>
+    requires fit { IsFit set.old }
+    requires found { spec.IsFound set.old.parts found.now }
+    ensures least { IfOk result (phases.attr_phase set.old) }
+    ensures same { set.new ≡ set.old }
+{
+    let values = value_fault(alloc, set, found)?;
+    let uses = first_attr_fault(&set.parts, &found.attr_uses);
+    Ok(sooner(uses, values))
 }
 
 // The first fault of phase 7 but for extensions.
@@ -180,14 +210,15 @@ fn models_of(
 /// What is found of a set, and the automata of its content models; or the first fault of phases 6 to 8.
 pub(crate) fn judge(
     alloc: Global,
-    set: &CompiledSet,
+    set: &mut CompiledSet,
 ) -> Result<Result<(Found, Models), Fault>, AllocError>
-    requires fit { IsFit set.now }
-    ensures judged { IfOk result (spec.IsJudged set.now) }
+    requires fit { IsFit set.old }
+    ensures judged { IfOk result (spec.IsJudged set.old) }
+    ensures same { set.new ≡ set.old }
 {
     contents_are_there(set);
     let found = find(alloc, set)?;
-    let attrs = attr_fault(set, &found);
+    let attrs = attr_fault(alloc, set, &found)?;
     match models_of(alloc, set, &found, attrs)? {
         Ok(models) => Ok(Ok((found, models))),
         Err(fault) => Ok(Err(fault)),

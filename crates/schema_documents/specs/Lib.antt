@@ -5,4 +5,3 @@ pub use Rattle.set_closure.specs.Available
 pub use Rattle.set_closure.specs.SetDocument
 pub use Rattle.set_closure.specs.Order
 pub use Rattle.set_closure.specs.Composition
-pub use Rattle.schema_documents.specs.declared.inputs.SchemaInput

@@ -1,0 +1,5 @@
+pub mod ValueLaws
+pub mod TextLaws
+pub mod IdLaws
+pub mod PartLaws
+pub mod CodeLaws
