@@ -43,7 +43,7 @@ pub fn compare<A: Abort>(
 }
 
 /// Makes an edit on the plain tree, and answers whether it could be made.
-fn is_made(alloc: Global, tree: &mut Tree, edit: &Edit) -> bool
+pub fn is_made(alloc: Global, tree: &mut Tree, edit: &Edit) -> bool
     requires { can_be_made edit.now ≡ true }
     ensures made { result ≡ true → edited tree.old edit.now ≡ Ok tree.new }
     ensures refused { result ≡ false → tree.new ≡ tree.old }
@@ -144,7 +144,7 @@ fn remove<A: Abort>(rt: &A, names: &Names, doc: &mut DocTree, tree: &Tree, node:
     doc.remove(node);
 }
 
-/// Makes an edit that the plain tree has made.
+/// Makes an edit of children or of a text that the plain tree has made.
 fn make<A: Abort>(
     rt: &A,
     alloc: Global,
@@ -182,11 +182,12 @@ fn make<A: Abort>(
             remove(rt, names, doc, tree, *node);
             Ok(())
         }
+        _ => panic!(rt; "an edit of an element"),
     }
 }
 
-/// Makes an edit on both, where it can be made, and answers whether it was. Where memory is wanting for the document, sees
-/// that it is as it was, and makes the edit once more.
+/// Makes an edit of children or of a text on both, where it can be made, and answers whether it was. Where memory is wanting
+/// for the document, sees that it is as it was, and makes the edit once more.
 pub fn make_edit<A: Abort>(
     rt: &A,
     alloc: Global,

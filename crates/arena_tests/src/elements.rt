@@ -1,20 +1,22 @@
 //! Elements that are given other names and attributes, each beside the plain tree.
 
-ghost use Rattle.std.specs.Prelude.{◌≡◌, ℕ, ◌<◌, length, true, OnOk, OnErr, Some};
+ghost use Rattle.std.specs.Prelude.{◌≡◌, ℕ, ◌<◌, length, true, IfOk, IfSome, OnOk, OnErr, Some};
 ghost use Rattle.tree_rows.specs.Forest.{Document};
 ghost use Rattle.tree_rows.specs.declared.row.NodeKind.TheVariants as kinds;
 ghost use Rattle.xs_names.specs.Names.{NameTable};
 ghost use Rattle.tree_changes.specs.Held.{kind_at, HasRoom};
 ghost use Rattle.tree_changes.specs.Stands.{StandsFor};
+ghost use Rattle.tree_edits.specs.Edits.{can_be_made};
 
-use crate::calls::plain_of;
-use crate::same::{is_same_but, is_same_tree};
-use crate::spelled::{Gift, Spaces};
+use crate::calls::{compare, is_made, plain_of};
+use crate::same::is_same_tree;
+use crate::spelled::Spaces;
 use doc_tree::{DocTree, NodeKind};
-use plain_tree::Tree;
+use plain_tree::{Edit, Tree};
 use std::alloc::{AllocError, Global};
 use std::process::Abort;
-use xs_names::{NameId, Names, Text};
+use tag_names::Prefixes;
+use xs_names::{NameId, Names, Text, TextPool};
 
 /// Whether an element has far fewer attributes and bindings than it may have.
 fn has_room(doc: &DocTree, node: u32) -> bool
@@ -71,90 +73,116 @@ fn take_attribute(names: &Names, doc: &mut DocTree, node: u32, place: u32) -> bo
     }
 }
 
-/// Gives an element what it is to be given, and answers whether that could be done.
-fn give(
+/// The scope of an element.
+fn scope_of(alloc: Global, names: &Names, doc: &DocTree, node: u32) -> Result<Prefixes, AllocError>
+    requires element { kind_at doc.now node ≡ Some kinds.Element }
+    requires stands { (d : Document) × StandsFor names.now doc.now d }
+{
+    let scope = doc.scope_of(names, node)?;
+    Prefixes::of_scope(alloc, names, &scope)
+}
+
+/// The number of the name that a QName is as that of an element, or of an attribute.
+fn number_of(
     alloc: Global,
     names: &Names,
     spaces: &Spaces,
-    doc: &mut DocTree,
-    node: u32,
-    gift: &Gift,
-) -> Result<bool, AllocError>
-    requires element { kind_at doc.old node ≡ Some kinds.Element }
-    requires stands { (d : Document) × StandsFor names.now doc.old d }
-    ensures stands { OnOk result ((d : Document) × StandsFor names.now doc.new d) }
-    ensures err { OnErr result (doc.new ≡ doc.old) }
+    scope: &Prefixes,
+    name: &Text,
+    is_element: bool,
+) -> Result<Option<NameId>, AllocError>
+    ensures { IfOk result (λ number. IfSome number (λ n. n < length names.now.names)) }
 {
-    match gift {
-        Gift::Name(spelled) => match spaces.spelled(names, spelled) {
-            None => Ok(false),
-            Some(name) => {
-                give_name(names, doc, node, name);
-                Ok(true)
-            }
-        },
-        Gift::Attr(spelled, value) => match spaces.spelled(names, spelled) {
-            None => Ok(false),
-            Some(name) => {
-                if !has_room(doc, node) {
-                    return Ok(false);
-                }
-                let value = Text::new(alloc, value)?;
-                give_attribute(names, doc, node, name, value)?;
-                Ok(true)
-            }
-        },
-        Gift::NoAttr(place) => Ok(take_attribute(names, doc, node, *place)),
+    let mut pool = TextPool::new(alloc);
+    let resolved = if is_element {
+        scope.element_name(&mut pool, name.as_str())?
+    } else {
+        scope.attribute_name(&mut pool, name.as_str())?
+    };
+    match resolved {
+        Ok(own) => Ok(spaces.expanded(names, &own)),
+        Err(_) => Ok(None),
     }
 }
 
-/// Gives an element something. Where memory is wanting, sees that the document is as the tree, and gives it once more.
-fn give_at_last<A: Abort>(
+/// The place of the attribute of this name.
+fn attribute_place(doc: &DocTree, node: u32, name: NameId) -> u32 {
+    for place in 0..256 {
+        if matches!(doc.attr_at(node, place), Some((own, _)) if own == name) {
+            return place;
+        }
+    }
+    256
+}
+
+/// Makes an edit of an element on the document.
+fn make<A: Abort>(
     rt: &A,
     alloc: Global,
     names: &Names,
     spaces: &Spaces,
     doc: &mut DocTree,
-    tree: &Tree,
-    node: u32,
-    gift: &Gift,
-) -> Result<bool, AllocError>
-    requires element { kind_at doc.old node ≡ Some kinds.Element }
-    requires stands { (d : Document) × StandsFor names.now doc.old d }
+    edit: &Edit,
+) -> Result<(), AllocError>
+    requires { (d : Document) × StandsFor names.now doc.old d }
     ensures stands { OnOk result ((d : Document) × StandsFor names.now doc.new d) }
+    ensures err { OnErr result (doc.new ≡ doc.old) }
 {
-    if let Ok(given) = give(alloc, names, spaces, doc, node, gift) {
-        return Ok(given);
+    let (node, name) = match edit {
+        Edit::Rename { node, name } => (*node, name),
+        Edit::SetAttr { node, name, .. } => (*node, name),
+        Edit::UnsetAttr { node, name } => (*node, name),
+        _ => panic!(rt; "no edit of an element"),
+    };
+    assert!(rt; matches!(doc.live(node), Some(NodeKind::Element)));
+    let scope = scope_of(alloc, names, doc, node)?;
+    let is_element = matches!(edit, Edit::Rename { .. });
+    let Some(number) = number_of(alloc, names, spaces, &scope, name, is_element)? else {
+        panic!(rt; "no name");
+    };
+    match edit {
+        Edit::SetAttr { value, .. } => {
+            assert!(rt; has_room(doc, node));
+            let value = value.try_clone()?;
+            give_attribute(names, doc, node, number, value)
+        }
+        Edit::UnsetAttr { .. } => {
+            let place = attribute_place(doc, node, number);
+            assert!(rt; take_attribute(names, doc, node, place));
+            Ok(())
+        }
+        _ => {
+            give_name(names, doc, node, number);
+            Ok(())
+        }
     }
-    let plain = plain_of(names, doc)?;
-    assert!(rt; is_same_tree(&plain, tree));
-    give(alloc, names, spaces, doc, node, gift)
 }
 
-/// Gives an element something, sees that no more is another, and makes that the tree. Answers whether it could be given.
-pub fn change_element<A: Abort>(
+/// Makes an edit of an element on both, where it can be made, and answers whether it was. Where memory is wanting for the
+/// document, sees that it is as it was, and makes the edit once more.
+pub fn make_element_edit<A: Abort>(
     rt: &A,
     alloc: Global,
     names: &Names,
     spaces: &Spaces,
     doc: &mut DocTree,
     tree: &mut Tree,
-    node: u32,
-    gift: &Gift,
+    edit: &Edit,
 ) -> Result<bool, AllocError>
-    requires { StandsFor names.now doc.old tree.old }
+    requires can { can_be_made edit.now ≡ true }
+    requires stands { StandsFor names.now doc.old tree.old }
     ensures { OnOk result (StandsFor names.now doc.new tree.new) }
 {
-    if !matches!(doc.live(node), Some(NodeKind::Element)) {
+    let before = plain_of(names, doc)?;
+    if !is_made(alloc, tree, edit) {
         return Ok(false);
     }
-    let given = give_at_last(rt, alloc, names, spaces, doc, tree, node, gift)?;
-    let plain = plain_of(names, doc)?;
-    if given {
-        assert!(rt; is_same_but(node, gift, tree, &plain));
-    } else {
-        assert!(rt; is_same_tree(tree, &plain));
+    if make(rt, alloc, names, spaces, doc, edit).is_err() {
+        compare(rt, names, doc, &before)?;
+        make(rt, alloc, names, spaces, doc, edit)?;
     }
+    let plain = plain_of(names, doc)?;
+    assert!(rt; is_same_tree(tree, &plain));
     *tree = plain;
-    Ok(given)
+    Ok(true)
 }

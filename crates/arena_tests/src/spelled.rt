@@ -1,56 +1,14 @@
-//! Names as the tests spell them, and what they make of an element.
+//! The numbers of the names in the tests.
 
 ghost use Rattle.std.specs.Prelude.{◌<◌, length, IfSome};
 
-use plain_tree::{Attribute, Expanded};
+use plain_tree::Expanded;
 use std::alloc::AllocError;
 use xs_names::{NameId, Names, NsId, Text};
 
-/// A name by its texts; the absent namespace is the empty text.
-#[derive(Clone, Copy)]
-pub struct Spelled {
-    pub space: &'static str,
-    pub local: &'static str,
-}
+const NAMESPACES: [&str; 4] = ["", "u", "v", "w"];
 
-/// What an element is given.
-#[derive(Clone, Copy)]
-pub enum Gift {
-    /// Another name.
-    Name(Spelled),
-    /// An attribute of this name with this value.
-    Attr(Spelled, &'static str),
-    /// One attribute less, that of this place.
-    NoAttr(u32),
-}
-
-/// The names that are given.
-pub const NAMES: [Spelled; 6] = [
-    Spelled {
-        space: "",
-        local: "a",
-    },
-    Spelled {
-        space: "",
-        local: "b",
-    },
-    Spelled {
-        space: "u",
-        local: "c",
-    },
-    Spelled {
-        space: "u",
-        local: "a",
-    },
-    Spelled {
-        space: "v",
-        local: "a",
-    },
-    Spelled {
-        space: "w",
-        local: "d",
-    },
-];
+const LOCAL_PARTS: [&str; 6] = ["a", "b", "c", "d", "e", "f"];
 
 /// The numbers of the namespaces in all documents of the tests.
 #[derive(Clone, Copy)]
@@ -63,9 +21,8 @@ pub struct Spaces {
 impl Spaces {
     /// Numbers the namespaces and the names.
     pub fn number_all(names: &mut Names) -> Result<Self, AllocError> {
-        for name in &NAMES {
-            let space = names.namespace_id(name.space)?;
-            names.intern(space, name.local)?;
+        for space in &NAMESPACES {
+            number_locals(names, space)?;
         }
         let u = names.namespace_id("u")?;
         let v = names.namespace_id("v")?;
@@ -85,15 +42,10 @@ impl Spaces {
         }
     }
 
-    /// The number of a spelled name.
-    pub fn spelled(&self, names: &Names, name: &Spelled) -> Option<NameId>
+    /// The number of an expanded name.
+    pub fn expanded(&self, names: &Names, name: &Expanded) -> Option<NameId>
         ensures { IfSome result (λ n. n < length names.now.names) }
     {
-        names.lookup(self.number(name.space), name.local)
-    }
-
-    /// The number of an expanded name.
-    pub fn expanded(&self, names: &Names, name: &Expanded) -> Option<NameId> {
         names.lookup(
             self.number(space_text(&name.namespace)),
             name.local.as_str(),
@@ -101,21 +53,17 @@ impl Spaces {
     }
 }
 
+fn number_locals(names: &mut Names, space: &str) -> Result<(), AllocError> {
+    let space = names.namespace_id(space)?;
+    for local in &LOCAL_PARTS {
+        names.intern(space, local)?;
+    }
+    Ok(())
+}
+
 fn space_text(space: &Option<Text>) -> &str {
     match space {
         None => "",
         Some(name) => name.as_str(),
-    }
-}
-
-impl Spelled {
-    /// Whether a name is spelled like this.
-    pub fn is(&self, name: &Expanded) -> bool {
-        space_text(&name.namespace) == self.space && name.local.as_str() == self.local
-    }
-
-    /// Whether an attribute has the name that is spelled like this, and this value.
-    pub fn has_value(&self, value: &str, attribute: &Attribute) -> bool {
-        self.is(&attribute.name) && attribute.value.as_str() == value
     }
 }

@@ -18,8 +18,9 @@ use Rattle.type_derives.specs.Derives.{is_simple}
 use Rattle.type_faults.specs.Finals.{no_methods}
 use Rattle.xs_references.specs.Heights.{IsType, IsLower, type_height}
 use Rattle.xs_references.specs.Ranked.{IsRanked}
-use Rattle.complex_restriction.specs.Contents.{HasTextType, itself, by_extension, particle_of, IsTextDerived, IsOtherText, IsOverFilled, BreaksSimple, is_other, has_emptiable_model, may_be_empty, is_mixed, BreaksModel, BreaksForm, BreaksContent, model_code, extended, extended_by, if_simple}
+use Rattle.complex_restriction.specs.Contents.{HasTextType, itself, by_extension, IsTextDerived, IsOtherText, IsOverFilled, BreaksSimple, is_other, may_be_empty, is_mixed, BreaksModel, BreaksForm, BreaksContent, model_code, extended, extended_by, if_simple}
 use Rattle.xs_codes.specs.declared.code.Code.TheVariants.{DerivationOkRestriction5_2, DerivationOkRestriction5_3, DerivationOkRestriction5_4_1}
+use Rattle.value_faults.specs.Emptiable.{has_emptiable_model}
 use Rattle.content_types.specs.declared.ContentType.{ContentType}
 use Rattle.content_types.specs.declared.ContentType.TheVariants.{SimpleType, Empty, SimpleContent, ElementOnly, Mixed}
 use Rattle.type_faults.specs.TypeFaults.{IsFirstCode, when}
@@ -101,10 +102,6 @@ module _ (t : Tables) where
   pub derived-in : {E : Type 0} (own base of : TypeId) → ((x : TypeId) → (Some of ≡ Some x) ↔ HasTextType t base x) → (result : Result Bool E) → IfOk result (λ answer. IsTrue answer ↔ Derives t no_methods own of) → IfOk result (λ answer. IsTrue answer ↔ IsTextDerived t (Some own) base)
   derived-in own base of told (Ok answer) iff = derived-some own base of told answer iff
   derived-in own base of told (Err e) iff = tt
-
-  pub particle-there : (count : ℕ) → ((n p : ℕ) → particle_of t n ≡ Some p → p < count) → (id : ℕ) (o : Option ℕ) → slice_get t.contents id ≡ Some o → IfSome o (λ p. p < count)
-  particle-there count there id None is = tt
-  particle-there count there id (Some p) is = there id p (ap (option_and_then (λ particle. particle)) is)
 
 -- the test turned around
 pub turned-not : (P : Type 0) (b : Bool) → IsTrue b ↔ P → IsTrue (not b) ↔ (P → ⊥)

@@ -1,4 +1,3 @@
-pub mod ValueLaws
 pub mod UseLaws
 pub mod WildcardLaws
 pub mod ContentLaws

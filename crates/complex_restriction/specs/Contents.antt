@@ -13,33 +13,17 @@ use Rattle.xs_components.specs.declared.complex.ContentForm.TheVariants as forms
 use Rattle.content_types.specs.ContentTypes.{content_of}
 use Rattle.content_types.specs.declared.ContentType.{ContentType}
 use Rattle.content_types.specs.declared.ContentType.TheVariants.{SimpleType, Empty, SimpleContent, ElementOnly, Mixed}
-use Rattle.particle_forms.specs.Models.{model_of}
-use Rattle.particle_forms.specs.Ranges.{is_emptiable}
 use Rattle.type_derives.specs.Chains.{Derives}
 use Rattle.type_derives.specs.Derives.{is_simple}
 use Rattle.type_faults.specs.Finals.{no_methods}
 use Rattle.type_faults.specs.TypeFaults.{when}
+use Rattle.value_faults.specs.Emptiable.{has_emptiable_model}
 
 -- The simple type that the text of a type is of, where that is one of the schema: the type itself is simple, or by extension that of
 -- its base. A restriction of simple content makes a simple type of its own, which no other derives from (Structures 3.4.2).
 pub data HasTextType (t : Tables) : TypeId → TypeId → Type 0 where
   itself : (of : TypeId) → is_simple of ≡ true → HasTextType t of of
   by_extension : (id : ℕ) (part : ComplexType) (of : TypeId) → slice_get t.complexes.parts id ≡ Some part → part.by_extension ≡ true → HasTextType t part.base of → HasTextType t (Complex id) of
-
--- the particle of the content of a complex type
-abbrev pub particle_of : Tables → ℕ → Option ℕ
-particle_of t id = option_and_then (λ particle. particle) (slice_get t.contents id)
-
-abbrev pub is_emptiable_particle : Tables → Option ℕ → Bool
-is_emptiable_particle t None = true
-is_emptiable_particle t (Some particle) = is_emptiable (model_of t particle)
-
--- Particle Emptiable (Structures 3.9.6), of the content model of a type; that of anyType is
-abbrev pub has_emptiable_model : Tables → TypeId → Bool
-has_emptiable_model t AnyType = true
-has_emptiable_model t (Builtin kind) = false
-has_emptiable_model t (Simple id) = false
-has_emptiable_model t (Complex id) = is_emptiable_particle t (particle_of t id)
 
 -- the content is empty, or has a content model that is emptiable
 abbrev pub may_be_empty : ContentType → Bool → Bool

@@ -10,13 +10,12 @@ use Rattle.xs_components.specs.declared.simple.FacetItem.{FacetItem}
 use Rattle.xs_references.specs.Heights.{IsType}
 use Rattle.xs_references.specs.Ranked.{IsRanked}
 use Rattle.type_derives.specs.Within.{AreSimple}
-use Rattle.simple_validity.specs.Trees.{type_tree}
+use Rattle.simple_types.specs.Trees.{type_tree}
 use Rattle.simple_types.specs.SimpleTypes.{AreTypesOf, AreWhole, IsSimpleTree}
 use Rattle.simple_types.specs.declared.types.SimpleTypes.{SimpleTypes}
 use Rattle.attr_uses.specs.Tables.{AreTablesOf}
 use Rattle.content_types.specs.ContentTypes.{AreContentsOf}
 use Rattle.particle_forms.specs.Ranges.{AreRangesOf}
-use Rattle.complex_restriction.specs.Contents.{particle_of}
 use Rattle.complex_restriction.specs.declared.set.ComparedSet.{ComparedSet}
 
 -- an attribute declaration has a name of the table, and a type that is there and simple
@@ -31,7 +30,7 @@ pub record AreGiven (t : Tables) (names : NameTable) : Type 0 where
   pub simple : AreSimple t
   pub attributes : (n : ℕ) (decl : AttributeDecl) → slice_get t.attributes.parts n ≡ Some decl → IsDeclaration t names decl
   pub own : (n : ℕ) (part : ComplexType) (own : TypeId) (step : List FacetItem) → slice_get t.complexes.parts n ≡ Some part → part.content ≡ forms.Simple (Some own) step → IsType t own
-  pub contents : (n p : ℕ) → particle_of t n ≡ Some p → p < length t.particles.parts
+  pub contents : (n p : ℕ) → slice_get t.contents n ≡ Some (Some p) → n < length t.complexes.parts → p < length t.particles.parts
 
 -- these are the simple types, and none of their literals are undefined
 pub record AreTypes (t : Tables) (types : SimpleTypes) : Type 0 where

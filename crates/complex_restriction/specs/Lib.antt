@@ -1,4 +1,3 @@
-pub mod Values
 pub mod Uses
 pub mod Wildcards
 pub mod Contents

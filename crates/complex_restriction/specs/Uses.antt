@@ -16,7 +16,7 @@ use Rattle.type_derives.specs.Chains.{Derives}
 use Rattle.type_faults.specs.Finals.{no_methods}
 use Rattle.type_faults.specs.TypeFaults.{when, earlier, IsFirstCode}
 use Rattle.complex_restriction.specs.declared.uses.DeclaredUse.{DeclaredUse}
-use Rattle.complex_restriction.specs.Values.{effective, LosesFixed}
+use Rattle.value_faults.specs.Values.{effective, LosesFixed}
 
 -- an attribute use with its declaration
 pub record Declared : Type 0 where

@@ -1,6 +1,6 @@
 //! The content of a restriction against that of its base, but for its content model.
 
-ghost use Rattle.std.specs.Prelude.{◌≡◌, ◌↔◌, ◌<◌, ℕ, Some, List, IsTrue, IfOk, IfSome, length};
+ghost use Rattle.std.specs.Prelude.{◌≡◌, ◌↔◌, Some, List, IsTrue, IfOk, IfSome};
 ghost use Rattle.xs_components.specs.declared.common.TypeId.{TypeId as TypeIdValue};
 ghost use Rattle.xs_components.specs.declared.complex.ContentForm.TheVariants as forms;
 ghost use Rattle.xs_components.specs.declared.simple.FacetItem.{FacetItem};
@@ -18,8 +18,9 @@ use crate::types::derives_type;
 use content_types::ContentType;
 use std::alloc::{AllocError, Global};
 use type_faults::{when, when_not};
+use value_faults::has_emptiable_model;
 use xs_codes::Code;
-use xs_components::{ComplexType, Components, ContentForm, ParticleId, TypeId};
+use xs_components::{ComplexType, Components, ContentForm, TypeId};
 
 // The base of an extension.
 fn extended(parts: &Components, of: &TypeId) -> Option<TypeId>
@@ -106,32 +107,6 @@ fn is_text_derived(
     }
 }
 
-// Whether a particle may come without any element.
-fn is_emptiable_particle(set: &ComparedSet<'_>, particle: Option<ParticleId>) -> bool
-    requires ranges { AreRangesOf set.now.parts.now set.now.ranges.now }
-    requires there { IfSome particle (λ p. p < length set.now.parts.now.particles.parts) }
-    ensures { result ≡ spec.is_emptiable_particle set.now.parts.now particle }
-{
-    match particle {
-        None => true,
-        Some(particle) => set.ranges.emptiable(particle),
-    }
-}
-
-// Whether the content model of a type may come without any element.
-fn has_emptiable_model(set: &ComparedSet<'_>, of: &TypeId) -> bool
-    requires given { AreGiven set.now.parts.now set.now.names.now }
-    requires ranges { AreRangesOf set.now.parts.now set.now.ranges.now }
-    requires there { IsType set.now.parts.now of.now }
-    ensures { result ≡ spec.has_emptiable_model set.now.parts.now of.now }
-{
-    match of {
-        TypeId::AnyType => true,
-        TypeId::Builtin(_) | TypeId::Simple(_) => false,
-        TypeId::Complex(id) => is_emptiable_particle(set, set.parts.content(*id)),
-    }
-}
-
 // Whether content is empty, or has a content model that is emptiable.
 fn may_be_empty(content: ContentType, emptiable: bool) -> bool
     ensures { result ≡ spec.may_be_empty content emptiable }
@@ -191,7 +166,7 @@ fn simple_code(
     ensures first { IfOk result (IsFirstCode (spec.BreaksSimple set.now.parts.now base.now content own)) }
 {
     let derived = is_text_derived(alloc, set.parts, own, *base)?;
-    let emptiable = has_emptiable_model(set, base);
+    let emptiable = has_emptiable_model(set.parts, set.ranges, base);
     let other = is_other(content, derived, emptiable);
     Ok(when(other, Code::DerivationOkRestriction5_2))
 }
@@ -213,7 +188,7 @@ pub(crate) fn content_code(
     match &part.content {
         ContentForm::Simple { own, .. } => simple_code(alloc, set, content, *own, &part.base),
         ContentForm::Complex { effective, mixed } => {
-            let emptiable = has_emptiable_model(set, &part.base);
+            let emptiable = has_emptiable_model(set.parts, set.ranges, &part.base);
             Ok(model_code(content, emptiable, effective.is_some(), *mixed))
         }
     }

@@ -6,7 +6,6 @@ mod restrictions;
 mod set;
 mod types;
 mod uses;
-mod values;
 mod wildcards;
 
 pub use restrictions::first_restriction;

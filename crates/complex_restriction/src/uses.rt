@@ -12,12 +12,12 @@ ghost use Rattle.complex_restriction.specs.Uses as spec;
 
 use crate::ComparedSet;
 use crate::types::derives_type;
-use crate::values::{effective, loses_fixed};
 use attr_uses::{AttrTables, KeptTable, use_at};
 use simple_types::SimpleTypes;
 use std::alloc::{AllocError, Global};
 use type_faults::{earlier, when, when_not};
 use use_maps::UseAt;
+use value_faults::{effective, loses_fixed};
 use xs_codes::Code;
 use xs_components::{AttrUse, AttributeDecl, Components, Wildcard};
 

@@ -1,9 +1,5 @@
-//! Tests of the public calls on tables of components, and of tables filled in the order of ranks.
+//! Tests of the public calls on tables of components that the program does not make.
 #![tactic(auto)]
 
-#[cfg(test)]
-mod order;
-#[cfg(test)]
-mod parts;
 #[cfg(test)]
 mod tables;

@@ -54,7 +54,7 @@ impl DocTree {
     ghost use Rattle.xs_names.specs.Names.{NameTable};
     ghost use Rattle.tree_changes.specs.Held as held;
     ghost use Rattle.tree_changes.specs.Held.{parent_at, kind_at, attributes_at, bindings_at, has_number, set_number, unset_number, HasRoom};
-    ghost use Rattle.tree_changes.specs.Changes.{renamed, attribute_set, attribute_unset};
+    ghost use Rattle.tree_edits.specs.Edits.{renamed, attribute_set, attribute_unset};
     ghost use Rattle.tree_changes.specs.Parts.{IsOver, Prunes};
     ghost use Rattle.tree_edits.specs.Tests.{made, with_nodes};
     ghost use Rattle.tree_edits.specs.declared.edit.Edit.TheVariants as edits;

@@ -1,11 +1,5 @@
-//! Tests of the public calls from lines to trees: items, names of tags, and building.
+//! Tests of the public calls on names of tags that the program does not make.
 #![tactic(auto)]
 
-#[cfg(test)]
-mod building;
-#[cfg(test)]
-mod items;
-#[cfg(test)]
-mod names;
 #[cfg(test)]
 mod tags;

@@ -1,11 +1,8 @@
 -- What a line of a script says.
-use Rattle.std.specs.Prelude.{◌≡◌, ℕ, List, Bool, true, false, not, Option, Some, None, Result, Ok, Err, codes, if◌then◌else◌}
-use Rattle.std.specs.List.{list_any}
+use Rattle.std.specs.Prelude.{◌≡◌, ℕ, List, true, Option, Some, None, Result, Ok, Err, codes, if◌then◌else◌}
 use Rattle.std.specs.Str.{bytes_eq}
 use Rattle.item_listing.specs.Escapes.{unescaped}
 use Rattle.item_listing.specs.declared.item.Item.{Item}
-use Rattle.item_listing.specs.declared.item.Item.TheVariants as items
-use Rattle.tag_names.specs.Tags.{is_binding}
 use Rattle.tree_building.specs.Blocks.{one_element}
 use Rattle.tree_edits.specs.Edits.{can_be_made}
 use Rattle.tree_edits.specs.declared.edit.Edit.TheVariants as edits
@@ -13,7 +10,8 @@ use Rattle.edit_script.specs.Fields.{◌>>=◌, split, needed, last, number}
 use Rattle.edit_script.specs.declared.command.Command.{Command}
 use Rattle.edit_script.specs.declared.command.Command.TheVariants as commands
 use Rattle.edit_script.specs.declared.command.ScriptFault.{ScriptFault}
-use Rattle.edit_script.specs.declared.command.ScriptFault.TheVariants.{UnknownCommand, WrongFields, BadEscape, BadBlock, NotYet}
+use Rattle.edit_script.specs.declared.script.NodeAndName.{NodeAndName}
+use Rattle.edit_script.specs.declared.command.ScriptFault.TheVariants.{UnknownCommand, WrongFields, BadEscape, BadBlock}
 
 -- the first field, and what is behind its space, None where there is none
 abbrev pub word_of : List ℕ → Option (List ℕ × List ℕ) → List ℕ
@@ -29,28 +27,10 @@ abbrev pub escaped : Option (List ℕ) → Result (List ℕ) ScriptFault
 escaped None = Err BadEscape
 escaped (Some text) = Ok text
 
--- an attribute line that binds no prefix
-abbrev pub is_plain_attribute : Item → Bool
-is_plain_attribute (items.Start name) = false
-is_plain_attribute (items.Attr name value) = not (is_binding (record { name = name; value = value }))
-is_plain_attribute (items.Chars text) = false
-is_plain_attribute (items.Close name) = false
-is_plain_attribute items.Instruction = false
-is_plain_attribute (items.Schema locations) = false
-is_plain_attribute items.Document = false
-is_plain_attribute items.Edits = false
-is_plain_attribute items.End = false
-is_plain_attribute items.Dot = false
-is_plain_attribute (items.Command line) = false
-
--- attributes that are no bindings are not accepted yet
-abbrev pub accepted : List Item → Result (List Item) ScriptFault
-accepted its = if list_any is_plain_attribute its then Err NotYet else Ok its
-
 -- the items of a block, which are one element; no block is that of no items
 abbrev pub whole : Option (List Item) → Result (List Item) ScriptFault
 whole None = Err BadBlock
-whole (Some its) = if one_element its then accepted its else Err BadBlock
+whole (Some its) = if one_element its then Ok its else Err BadBlock
 
 -- a number, which is the only field
 abbrev pub only_number : Option (List ℕ) → Result ℕ ScriptFault
@@ -78,6 +58,25 @@ set_text rest =
 abbrev pub remove : Option (List ℕ) → Result Command ScriptFault
 remove rest = only_number rest >>= λ node. Ok (commands.Change (edits.Remove node))
 
+-- a number and a name, which are the only fields
+abbrev pub number_and_name : Option (List ℕ) → Result NodeAndName ScriptFault
+number_and_name rest =
+    needed rest >>= λ more. needed (split more) >>= λ parts. last parts.1 >>= λ name. number parts.0 >>= λ node. Ok (record { node = node; name = name })
+
+-- `rename N NAME`
+abbrev pub rename : Option (List ℕ) → Result Command ScriptFault
+rename rest = number_and_name rest >>= λ it. Ok (commands.Change (edits.Rename it.node it.name))
+
+-- `set N NAME TEXT`
+abbrev pub set : Option (List ℕ) → Result Command ScriptFault
+set rest =
+    needed rest >>= λ more. needed (split more) >>= λ parts. needed (split parts.1) >>= λ others.
+    number parts.0 >>= λ node. escaped (unescaped others.1) >>= λ value. Ok (commands.Change (edits.SetAttr node others.0 value))
+
+-- `unset N NAME`
+abbrev pub unset : Option (List ℕ) → Result Command ScriptFault
+unset rest = number_and_name rest >>= λ it. Ok (commands.Change (edits.UnsetAttr it.node it.name))
+
 -- `assess N`
 abbrev pub assess : Option (List ℕ) → Result Command ScriptFault
 assess rest = only_number rest >>= λ node. Ok (commands.Assess node)
@@ -93,9 +92,12 @@ by_word word rest block =
     else (if bytes_eq word (codes "addtext") then add_text rest
     else (if bytes_eq word (codes "text") then set_text rest
     else (if bytes_eq word (codes "remove") then remove rest
+    else (if bytes_eq word (codes "rename") then rename rest
+    else (if bytes_eq word (codes "set") then set rest
+    else (if bytes_eq word (codes "unset") then unset rest
     else (if bytes_eq word (codes "assess") then assess rest
     else (if bytes_eq word (codes "total") then total rest
-    else Err UnknownCommand)))))
+    else Err UnknownCommand))))))))
 
 -- the command of a line and its block, or the first fault by its number
 abbrev pub command : List ℕ → Option (List Item) → Result Command ScriptFault

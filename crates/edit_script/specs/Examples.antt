@@ -18,5 +18,14 @@ leading_zero = refl
 signed : command (codes "remove +2") None ≡ Err BadNumber
 signed = refl
 
-other_word : command (codes "rename 1 a") None ≡ Err UnknownCommand
+other_word : command (codes "renames 1 a") None ≡ Err UnknownCommand
 other_word = refl
+
+empty_name : command (codes "rename 1 ") None ≡ Ok (commands.Change (edits.Rename 1 []))
+empty_name = refl
+
+empty_value : command (codes "set 1 a ") None ≡ Ok (commands.Change (edits.SetAttr 1 (codes "a") []))
+empty_value = refl
+
+two_names : command (codes "unset 1 a b") None ≡ Err WrongFields
+two_names = refl

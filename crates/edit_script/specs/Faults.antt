@@ -11,7 +11,6 @@ number_of faults.WrongFields = 21
 number_of faults.BadNumber = 22
 number_of faults.BadEscape = 23
 number_of faults.BadBlock = 24
-number_of faults.NotYet = 25
 
 -- as it is printed
 abbrev pub name_of : ScriptFault → List ℕ
@@ -20,7 +19,6 @@ name_of faults.WrongFields = codes "WrongFields"
 name_of faults.BadNumber = codes "BadNumber"
 name_of faults.BadEscape = codes "BadEscape"
 name_of faults.BadBlock = codes "BadBlock"
-name_of faults.NotYet = codes "NotYet"
 
 -- what a function returned is what reading gives, unless memory ran out
 abbrev pub Fails : {X : Type 0} → ScriptError → Result X ScriptFault → Type 0

@@ -6,7 +6,7 @@ use tree_edits::Edit;
 /// A command of a script.
 #[derive(Debug, Drop)]
 pub enum Command {
-    /// `insert`, `addtext`, `text` or `remove`: a change of the tree.
+    /// `insert`, `addtext`, `text`, `remove`, `rename`, `set` or `unset`: a change of the tree.
     Change(Edit),
     /// `assess N`: a question for the record of an element.
     Assess(u32),
@@ -27,8 +27,6 @@ pub enum ScriptFault {
     BadEscape,
     /// The block is not one whole element.
     BadBlock,
-    /// The block has an attribute that is no binding.
-    NotYet,
 }
 
 impl ScriptFault {
@@ -42,7 +40,6 @@ impl ScriptFault {
             ScriptFault::BadNumber => 22,
             ScriptFault::BadEscape => 23,
             ScriptFault::BadBlock => 24,
-            ScriptFault::NotYet => 25,
         }
     }
 
@@ -56,7 +53,6 @@ impl ScriptFault {
             ScriptFault::BadNumber => "BadNumber",
             ScriptFault::BadEscape => "BadEscape",
             ScriptFault::BadBlock => "BadBlock",
-            ScriptFault::NotYet => "NotYet",
         }
     }
 }

@@ -3,7 +3,6 @@
 //! A command's fields are separated by one space. Numbers are decimal digits.
 #![tactic(auto)]
 
-mod block;
 mod command;
 mod fields;
 mod script;

@@ -7,7 +7,6 @@ ghost use Rattle.edit_script.specs.Fields as fields;
 ghost use Rattle.edit_script.specs.Commands as script;
 ghost use Rattle.edit_script.specs.Faults.{Gives};
 
-use crate::block::has_plain_attribute;
 use crate::fields::{has_space, number, split};
 use crate::{Command, ScriptFault};
 use item_listing::{Items, unescape};
@@ -39,6 +38,13 @@ impl From<ScriptFault> for ScriptError {
     }
 }
 
+/// A node and a name.
+#[derive(Debug, Drop)]
+pub struct NodeAndName {
+    pub node: u32,
+    pub name: Text,
+}
+
 /// A text, with its escapes replaced.
 fn read_text(alloc: Global, text: &str) -> Result<Text, ScriptError>
     ensures { Gives result (script.escaped (unescaped text.now)) }
@@ -59,9 +65,6 @@ fn read_block(alloc: Global, block: Option<Items>) -> Result<Items, ScriptError>
     };
     if !is_one_element(alloc, items.as_slice())? {
         return Err(ScriptError::Refused(ScriptFault::BadBlock));
-    }
-    if has_plain_attribute(items.as_slice()) {
-        return Err(ScriptError::Refused(ScriptFault::NotYet));
     }
     Ok(items)
 }
@@ -136,12 +139,65 @@ fn read_set_text(alloc: Global, rest: Option<&str>) -> Result<Command, ScriptErr
     let Some(rest) = rest else {
         return Err(ScriptError::Refused(ScriptFault::WrongFields));
     };
-    let Some((node, text)) = split(rest) else {
+    let Some((field, text)) = split(rest) else {
+        return Err(ScriptError::Refused(ScriptFault::WrongFields));
+    };
+    let node = number(field)?;
+    let text = read_text(alloc, text)?;
+    Ok(Command::Change(Edit::SetText { node, text }))
+}
+
+/// A number and a name behind it, which are the only fields.
+fn number_and_name(alloc: Global, rest: Option<&str>) -> Result<NodeAndName, ScriptError>
+    ensures { Gives result (script.number_and_name (option_copied rest.entry)) }
+{
+    let Some(rest) = rest else {
+        return Err(ScriptError::Refused(ScriptFault::WrongFields));
+    };
+    let Some((node, name)) = split(rest) else {
+        return Err(ScriptError::Refused(ScriptFault::WrongFields));
+    };
+    if has_space(name) {
+        return Err(ScriptError::Refused(ScriptFault::WrongFields));
+    }
+    let node = number(node)?;
+    let name = Text::new(alloc, name)?;
+    Ok(NodeAndName { node, name })
+}
+
+fn read_rename(alloc: Global, rest: Option<&str>) -> Result<Command, ScriptError>
+    ensures gives { Gives result (script.rename (option_copied rest.entry)) }
+    ensures ready { IfOk result script.IsReady }
+{
+    let NodeAndName { node, name } = number_and_name(alloc, rest)?;
+    Ok(Command::Change(Edit::Rename { node, name }))
+}
+
+fn read_set(alloc: Global, rest: Option<&str>) -> Result<Command, ScriptError>
+    ensures gives { Gives result (script.set (option_copied rest.entry)) }
+    ensures ready { IfOk result script.IsReady }
+{
+    let Some(rest) = rest else {
+        return Err(ScriptError::Refused(ScriptFault::WrongFields));
+    };
+    let Some((node, rest)) = split(rest) else {
+        return Err(ScriptError::Refused(ScriptFault::WrongFields));
+    };
+    let Some((name, value)) = split(rest) else {
         return Err(ScriptError::Refused(ScriptFault::WrongFields));
     };
     let node = number(node)?;
-    let text = read_text(alloc, text)?;
-    Ok(Command::Change(Edit::SetText { node, text }))
+    let value = read_text(alloc, value)?;
+    let name = Text::new(alloc, name)?;
+    Ok(Command::Change(Edit::SetAttr { node, name, value }))
+}
+
+fn read_unset(alloc: Global, rest: Option<&str>) -> Result<Command, ScriptError>
+    ensures gives { Gives result (script.unset (option_copied rest.entry)) }
+    ensures ready { IfOk result script.IsReady }
+{
+    let NodeAndName { node, name } = number_and_name(alloc, rest)?;
+    Ok(Command::Change(Edit::UnsetAttr { node, name }))
 }
 
 fn read_by_word(
@@ -162,6 +218,12 @@ fn read_by_word(
     } else if word == "remove" {
         let node = only_number(rest)?;
         Ok(Command::Change(Edit::Remove { node }))
+    } else if word == "rename" {
+        read_rename(alloc, rest)
+    } else if word == "set" {
+        read_set(alloc, rest)
+    } else if word == "unset" {
+        read_unset(alloc, rest)
     } else if word == "assess" {
         Ok(Command::Assess(only_number(rest)?))
     } else if word == "total" {

@@ -1,13 +1,5 @@
-//! Tests of the public calls on trees that are edited: edits of rows, trees, and the commands of a script.
+//! Tests of the public calls on trees that the program does not make.
 #![tactic(auto)]
 
-#[cfg(test)]
-mod edits;
-#[cfg(test)]
-mod fragments;
-#[cfg(test)]
-mod lines;
-#[cfg(test)]
-mod script;
 #[cfg(test)]
 mod trees;

@@ -1,15 +1,9 @@
-//! Tests of the public calls of the ground crates: bytes in and out, texts, rows, lists, codes.
+//! Tests of the public calls of the ground crates that the program does not make: rows and lists.
 #![tactic(auto)]
 
-#[cfg(test)]
-mod bytes;
-#[cfg(test)]
-mod codes;
 #[cfg(test)]
 mod held;
 #[cfg(test)]
 mod lists;
 #[cfg(test)]
 mod rows;
-#[cfg(test)]
-mod texts;

@@ -1,10 +1,10 @@
 -- Lists that are kept in slots, after a change, for the tests.
-use Rattle.std.proofs.Common.{◌≡◌, ◌≢◌, ℕ, ◌-◌, ◌<◌, ◌≤◌, true, false, List, length, get_or, set, map, Option, Some, None, sym, ap, ◌∙◌, subst, inl, inr, get_or-set_same, get_or-set_other, arith}
-use Rattle.std.specs.Prelude.{slice_get, slice_index, is_some}
+use Rattle.std.proofs.Common.{◌≡◌, ◌≢◌, ℕ, ◌-◌, ◌<◌, true, false, List, length, get_or, set, Option, Some, None, sym, ap, ◌∙◌, subst, inl, inr, get_or-set_same, get_or-set_other, arith}
+use Rattle.std.specs.Prelude.{slice_get, is_some}
 use Rattle.std.proofs.lemmas.Bool.{cases_eq, cases_lt}
 use Rattle.std.proofs.lemmas.List.{get_or_past, length-map}
-use Rattle.child_trees.specs.Lists.{Entry, Lists, get, IsLive, Updates, IsUpTo, IsAt, HasItem, items}
-use Rattle.lists_tests.specs.Folds.{AreHeld}
+use Rattle.child_trees.specs.Lists.{Entry, Lists, get, IsLive, Updates, IsUpTo, HasItem, items}
+use Rattle.lists_tests.specs.Held.{AreHeld}
 use Rattle.child_trees.proofs.Reading.{get_some, get_none}
 
 none_is_not : (x : ℕ) → None ≡ Some x → ⊥

@@ -1,3 +1,1 @@
-pub mod Folded
 pub mod Holding
-pub mod Tested

@@ -1,2 +1,2 @@
-pub mod FoldLaws
-pub mod Folds
+pub mod Held
+pub mod Nothing

@@ -1,19 +1,9 @@
-//! Tests of the public calls on counted steps, on balanced trees, and on lists with folds.
+//! Tests of the public calls on lists with folds that take memory.
 #![tactic(auto)]
 
-#[cfg(test)]
-mod both;
-#[cfg(test)]
-mod calls;
-#[cfg(test)]
-mod folds;
 #[cfg(test)]
 mod held;
 #[cfg(test)]
 mod lists;
 #[cfg(test)]
-mod plain;
-#[cfg(test)]
-mod steps;
-#[cfg(test)]
-mod trees;
+mod nothing;

@@ -56,5 +56,5 @@ module _ (documents : List SchemaInput) where
         → IfOk result (IsClosedCompiled set found) → IfOk result (IsCompilation documents)
     closed-compiled (Ok (Ok made)) found least h = ((shaped, behind None (subst (composition_phase documents) h.1 least) h.2.0), set, of, h.0, h.2)
     closed-compiled (Ok (Err (Broken fault))) found least h = inr (shaped, (set, of, h.0), refused fault found least h.1)
-    closed-compiled (Ok (Err NotYet)) found least h = (shaped, set, of, h)
+    closed-compiled (Ok (Err NotYet)) found least h = (shaped, (set, of, h))
     closed-compiled (Err e) found least h = h

@@ -1,5 +1,6 @@
 ghost use Rattle.std.specs.Prelude.{◌≡◌, IfOk, bytes_eq, codes};
 ghost use Rattle.std.specs.Option.{option_map};
+ghost use Rattle.schema_grammar.specs.declared.kinds.AttributeName.TheVariants as an;
 ghost use Rattle.schema_shape.specs.Shapes as spec;
 
 use crate::content_shapes::{content_form, required_of};
@@ -48,6 +49,12 @@ fn element_form(
 ) -> Result<ElementForm, AllocError>
     ensures { IfOk result (λ form. form ≡ spec.element_form global scope.now attributes.now) }
 {
+    let nillable = flag_of(alloc, AttributeName::Nillable, attributes)?;
+    let is_abstract = flag_of(alloc, AttributeName::Abstract, attributes)?;
+    let finals = methods_of(alloc, AttributeName::Final, attributes)?;
+    let blocks = methods_of(alloc, AttributeName::Block, attributes)?;
+    let qualified = qualified_of(alloc, AttributeName::Form, attributes)?;
+    let occurs = occurs_of(alloc, attributes)?;
     Ok(ElementForm {
         global,
         name: value_of(alloc, AttributeName::Name, attributes)?,
@@ -55,12 +62,12 @@ fn element_form(
         of: name_of(alloc, AttributeName::Type, scope, attributes)?,
         head: name_of(alloc, AttributeName::SubstitutionGroup, scope, attributes)?,
         value: value_form(attributes)?,
-        nillable: flag_of(alloc, AttributeName::Nillable, attributes)?,
-        is_abstract: flag_of(alloc, AttributeName::Abstract, attributes)?,
-        finals: methods_of(alloc, AttributeName::Final, attributes)?,
-        blocks: methods_of(alloc, AttributeName::Block, attributes)?,
-        qualified: qualified_of(alloc, AttributeName::Form, attributes)?,
-        occurs: occurs_of(alloc, attributes)?,
+        nillable,
+        is_abstract,
+        finals,
+        blocks,
+        qualified,
+        occurs,
     })
 }
 
@@ -75,6 +82,14 @@ fn use_of(text: &str) -> Use
     }
 }
 
+/// The use of an attribute.
+fn used_of(alloc: Global, attributes: &[Attribute]) -> Result<Use, AllocError>
+    ensures { IfOk result (λ used. used ≡ spec.use_of (spec.required_of an.Use attributes.now)) }
+{
+    let text = required_of(alloc, AttributeName::Use, attributes)?;
+    Ok(use_of(text.as_str()))
+}
+
 /// A declaration of an attribute, or a reference to one.
 fn attribute_form(
     alloc: Global,
@@ -84,15 +99,16 @@ fn attribute_form(
 ) -> Result<AttributeForm, AllocError>
     ensures { IfOk result (λ form. form ≡ spec.attribute_form global scope.now attributes.now) }
 {
-    let used = required_of(alloc, AttributeName::Use, attributes)?;
+    let used = used_of(alloc, attributes)?;
+    let qualified = qualified_of(alloc, AttributeName::Form, attributes)?;
     Ok(AttributeForm {
         global,
         name: value_of(alloc, AttributeName::Name, attributes)?,
         reference: name_of(alloc, AttributeName::Ref, scope, attributes)?,
         of: name_of(alloc, AttributeName::Type, scope, attributes)?,
         value: value_form(attributes)?,
-        qualified: qualified_of(alloc, AttributeName::Form, attributes)?,
-        used: use_of(used.as_str()),
+        qualified,
+        used,
     })
 }
 
@@ -100,12 +116,16 @@ fn attribute_form(
 fn complex_type_form(alloc: Global, attributes: &[Attribute]) -> Result<ComplexTypeForm, AllocError>
     ensures { IfOk result (λ form. form ≡ spec.complex_type_form attributes.now) }
 {
+    let is_abstract = flag_of(alloc, AttributeName::Abstract, attributes)?;
+    let finals = methods_of(alloc, AttributeName::Final, attributes)?;
+    let blocks = methods_of(alloc, AttributeName::Block, attributes)?;
+    let mixed = flag_of(alloc, AttributeName::Mixed, attributes)?;
     Ok(ComplexTypeForm {
         name: value_of(alloc, AttributeName::Name, attributes)?,
-        is_abstract: flag_of(alloc, AttributeName::Abstract, attributes)?,
-        finals: methods_of(alloc, AttributeName::Final, attributes)?,
-        blocks: methods_of(alloc, AttributeName::Block, attributes)?,
-        mixed: flag_of(alloc, AttributeName::Mixed, attributes)?,
+        is_abstract,
+        finals,
+        blocks,
+        mixed,
     })
 }
 

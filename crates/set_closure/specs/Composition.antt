@@ -20,7 +20,7 @@ abbrev pub named : List ℕ → Option (List ℕ)
 named [] = None
 named (b ∷ bs) = Some (b ∷ bs)
 
--- the target namespace of an included document is there, and another
+-- src-include.2.1 (Structures 4.2.1): the target namespace of an included document is there, and another; and so of a redefined one.
 abbrev pub is_other : Option (List ℕ) → Option (List ℕ) → Bool
 is_other None target = false
 is_other (Some own) target = not (same_target (Some own) target)
@@ -46,8 +46,8 @@ loaded available location = option_and_then (document_at available) location
 abbrev pub code_if : Bool → Code → List Code
 code_if broken c = if broken then c ∷ [] else []
 
--- x-location: no document has the location of an include or a redefine; and the code where the one that has it has another target
--- namespace: src-include.2.1 (Structures 4.2.1), src-redefine.3.1 (Structures 4.2.2)
+-- x-location: no document has the location of an include or a redefine. Where the one that has it has another target namespace, its
+-- code: src-include.2.1 (Structures 4.2.1), src-redefine.3.1 (Structures 4.2.2).
 abbrev pub inclusion_codes : Code → List Available → Option (List ℕ) → Option ℕ → List Code
 inclusion_codes c available target None = code.XLocation ∷ []
 inclusion_codes c available target (Some number) = code_if (is_other (own_target_of available number) target) c

@@ -4,6 +4,9 @@ use Rattle.std.proofs.lemmas.Bool.{false≢true, or_cases, eqb-true}
 use Rattle.std.proofs.lemmas.List.{length-map, ext_get_or}
 use Rattle.xs_names.specs.Names.{NameTable}
 use Rattle.tree_rows.specs.Forest.{Document}
+use Rattle.tree_edits.specs.Changes.{set_in, unset_in, with_attributes}
+use Rattle.tree_edits.specs.Edits.{attribute_set, attribute_unset}
+use Rattle.tree_edits.proofs.Attributing.{names_set, names_unset, namespaces_set, namespaces_unset}
 use Rattle.node_links.specs.Nodes.{Node, Nodes, node, IsNode, IsSound, Holds}
 use Rattle.node_links.proofs.Among.{same_or_other}
 use Rattle.node_links.specs.declared.content.Content.{Content}
@@ -11,9 +14,8 @@ use Rattle.node_links.specs.declared.content.Content.TheVariants as contents
 use Rattle.node_links.specs.declared.content.NameAttribute.{NameAttribute}
 use Rattle.tree_changes.specs.Stands.{StandsFor, HasNames, expanded_of, attribute_of, binding_of}
 use Rattle.tree_changes.specs.Held.{attributes_in, attributes_by, attributes_at, bindings_in, bindings_by, bindings_at, has_number, set_number, unset_number, HasRoom}
-use Rattle.tree_changes.specs.Changes.{set_in, unset_in, with_attributes, attribute_set, attribute_unset}
 use Rattle.tree_changes.proofs.Holding.{element_of, HoldsElement, element_stands, no_namespace}
-use Rattle.tree_changes.proofs.Attributing.{set_map, unset_map, set_all, unset_all, names_set, names_unset, namespaces_set, namespaces_unset, length_set, length_unset}
+use Rattle.tree_changes.proofs.Attributing.{set_map, unset_map, set_all, unset_all, length_set, length_unset}
 
 -- what an element of a document holds has its names in the table
 pub known_of : (t : NameTable) (ns : Nodes) (d : Document) → StandsFor t ns d → (key : ℕ) (c : HoldsElement ns key) → HasNames t c.e

@@ -1,24 +1,23 @@
 -- Attributes by the numbers of their names, and by the names.
-use Rattle.std.proofs.Common.{◌≡◌, ℕ, zero, suc, ◌+◌, ◌<◌, ◌≤◌, List, [], ◌∷◌, ◌++◌, length, map, get_or, sym, ap, ◌∙◌, subst, Bool, true, false, ◌==◌, ◌||◌, ◌&&◌, if◌then◌else◌, Option, Some, None, refl, arith, All}
-use Rattle.std.specs.Prelude.{slice_index_or, bytes_eq}
-use Rattle.std.specs.List.{list_any, position, remove}
+use Rattle.std.proofs.Common.{◌≡◌, ℕ, zero, suc, ◌+◌, ◌<◌, ◌≤◌, List, [], ◌∷◌, ◌++◌, length, map, get_or, sym, ap, ◌∙◌, subst, Bool, true, false, ◌==◌, ◌||◌, if◌then◌else◌, Option, Some, None, refl, arith, All}
+use Rattle.std.specs.Prelude.{slice_index_or}
+use Rattle.std.specs.List.{position, remove}
 use Rattle.std.proofs.Math.ListN.{set}
-use Rattle.std.proofs.lemmas.Bool.{and_parts, or_parts, or_from, or_left, eq-eqb, eqb-true, ne_eqb, false≢true, true≢false}
+use Rattle.std.proofs.lemmas.Bool.{or_parts, or_left, eq-eqb, eqb-true, ne_eqb, false≢true, true≢false}
 use Rattle.std.proofs.lemmas.Iterator.Adapters.{position_from-zero}
 use Rattle.std.proofs.lemmas.List.Elements.{All-head, All-tail}
 use Rattle.std.proofs.lemmas.Option.{slice_get-get_or}
-use Rattle.std.proofs.lemmas.Slice.Eq.{bytes_eq-Decides}
 use Rattle.xs_names.specs.Names.{NameTable, absent_space, space_of, local_of}
 use Rattle.xs_names.specs.Names.{IsSound as AreNames}
 use Rattle.xs_names.proofs.NumberingLaws.{list_any-absent}
-use Rattle.tree_rows.specs.Naming.{same_space, same_name}
-use Rattle.tree_rows.specs.Whole.{repeats_name, IsNamespace, AreNamespaces}
+use Rattle.tree_rows.specs.Naming.{same_name}
+use Rattle.tree_edits.specs.Changes.{set_in, unset_in}
+use Rattle.tree_edits.proofs.Attributing.{same_name_is, same_name_own}
 use Rattle.tree_rows.specs.declared.name.Expanded.{Expanded}
 use Rattle.tree_rows.specs.declared.row.Attribute.{Attribute}
 use Rattle.node_links.specs.declared.content.NameAttribute.{NameAttribute}
 use Rattle.tree_changes.specs.Stands.{namespace_of, expanded_of, attribute_of}
 use Rattle.tree_changes.specs.Held.{has_number, set_number, unset_number}
-use Rattle.tree_changes.specs.Changes.{set_in, unset_in}
 
 -- the place that was found
 pub set_is : (name : ℕ) (value : List ℕ) (xs : List NameAttribute) (i : ℕ) (d : NameAttribute) → i < length xs → ((get_or xs i d).name == name) ≡ true
@@ -97,26 +96,6 @@ module _ (t : NameTable) (sound : AreNames t) where
       let local = ap (λ (x : Expanded). x.local) e in
       let pair : (space_of t n, local_of t n) ≡ (space_of t m, local_of t m) = λ i. (s i, local i) in
       sound.names_once n m (space_of t n, local_of t n) (slice_get-get_or t.names n (0, []) ln) (slice_get-get_or t.names m (0, []) lm ∙ ap Some (sym pair))
-
--- the test of two names
-same_space_is : (x y : Option (List ℕ)) → same_space x y ≡ true → x ≡ y
-same_space_is None None h = refl
-same_space_is None (Some y) h = absurd (false≢true h)
-same_space_is (Some x) None h = absurd (false≢true h)
-same_space_is (Some x) (Some y) h = ap Some ((bytes_eq-Decides x y).0 h)
-
-same_space_own : (x : Option (List ℕ)) → same_space x x ≡ true
-same_space_own None = refl
-same_space_own (Some x) = (bytes_eq-Decides x x).1 refl
-
-pub same_name_is : (x y : Expanded) → same_name x y ≡ true → x ≡ y
-same_name_is x y h =
-    let z = and_parts (same_space x.namespace y.namespace) (bytes_eq x.local y.local) h in
-    let s = same_space_is x.namespace y.namespace z.0 in let l = (bytes_eq-Decides x.local y.local).0 z.1 in
-    λ i. record { namespace = s i; local = l i }
-
-pub same_name_own : (x : Expanded) → same_name x x ≡ true
-same_name_own x = ap (λ b. b && bytes_eq x.local x.local) (same_space_own x.namespace) ∙ (bytes_eq-Decides x.local x.local).1 refl
 
 pub same_names : (t : NameTable) → AreNames t → (n m : ℕ) → n < length t.names → m < length t.names → same_name (expanded_of t n) (expanded_of t m) ≡ (n == m)
 same_names t sound n m ln lm = by (same_name (expanded_of t n) (expanded_of t m)) refl
@@ -206,67 +185,3 @@ unset_all P name (a ∷ more) k = by (unset_all P name more (λ i d l. k (suc i)
         → P (get_or (if c then more else a ∷ unset_number name more) i d).name) (sym q) (λ i d l. k (suc i) d (omega (arith, l)))
     by later false q = subst (λ c. (i : ℕ) (d : NameAttribute) → i < length (if c then more else a ∷ unset_number name more)
         → P (get_or (if c then more else a ∷ unset_number name more) i d).name) (sym q) (other later)
-
--- no name comes twice
-any_set : (key name : Expanded) (value : List ℕ) (xs : List Attribute) → same_name key name ≡ false → list_any (λ a. same_name key a.name) xs ≡ false → list_any (λ a. same_name key a.name) (set_in name value xs) ≡ false
-any_set key name value [] n h = or_from (same_name key name) false n refl
-any_set key name value (a ∷ more) n h = by (any_set key name value more n) (same_name a.name name)
-  where
-    z : (same_name key a.name ≡ false) × (list_any (λ a. same_name key a.name) more ≡ false)
-    z = or_parts (same_name key a.name) (list_any (λ a. same_name key a.name) more) h
-
-    by : (list_any (λ a. same_name key a.name) more ≡ false → list_any (λ a. same_name key a.name) (set_in name value more) ≡ false) → (b : Bool) → list_any (λ a. same_name key a.name) (if b then record { name = name; value = value } ∷ more else a ∷ set_in name value more) ≡ false
-    by rest true = or_from (same_name key name) (list_any (λ a. same_name key a.name) more) n z.1
-    by rest false = or_from (same_name key a.name) (list_any (λ a. same_name key a.name) (set_in name value more)) z.0 (rest z.1)
-
-pub names_set : (name : Expanded) (value : List ℕ) (xs : List Attribute) → repeats_name xs ≡ false → repeats_name (set_in name value xs) ≡ false
-names_set name value [] h = refl
-names_set name value (a ∷ more) h = by (names_set name value more) (same_name a.name name) refl
-  where
-    z : (list_any (λ other. same_name a.name other.name) more ≡ false) × (repeats_name more ≡ false)
-    z = or_parts (list_any (λ other. same_name a.name other.name) more) (repeats_name more) h
-
-    by : (repeats_name more ≡ false → repeats_name (set_in name value more) ≡ false) → (b : Bool) → same_name a.name name ≡ b → repeats_name (if b then record { name = name; value = value } ∷ more else a ∷ set_in name value more) ≡ false
-    by rest true q =
-        let other = subst (λ n. list_any (λ other. same_name n other.name) more ≡ false) (same_name_is a.name name q) z.0 in
-        or_from (list_any (λ other. same_name name other.name) more) (repeats_name more) other z.1
-    by rest false q = or_from (list_any (λ other. same_name a.name other.name) (set_in name value more)) (repeats_name (set_in name value more)) (any_set a.name name value more q z.0) (rest z.1)
-
-any_unset : (key name : Expanded) (xs : List Attribute) → list_any (λ a. same_name key a.name) xs ≡ false → list_any (λ a. same_name key a.name) (unset_in name xs) ≡ false
-any_unset key name [] h = refl
-any_unset key name (a ∷ more) h = by (any_unset key name more) (same_name a.name name)
-  where
-    z : (same_name key a.name ≡ false) × (list_any (λ a. same_name key a.name) more ≡ false)
-    z = or_parts (same_name key a.name) (list_any (λ a. same_name key a.name) more) h
-
-    by : (list_any (λ a. same_name key a.name) more ≡ false → list_any (λ a. same_name key a.name) (unset_in name more) ≡ false) → (b : Bool) → list_any (λ a. same_name key a.name) (if b then more else a ∷ unset_in name more) ≡ false
-    by rest true = z.1
-    by rest false = or_from (same_name key a.name) (list_any (λ a. same_name key a.name) (unset_in name more)) z.0 (rest z.1)
-
-pub names_unset : (name : Expanded) (xs : List Attribute) → repeats_name xs ≡ false → repeats_name (unset_in name xs) ≡ false
-names_unset name [] h = refl
-names_unset name (a ∷ more) h = by (names_unset name more) (same_name a.name name)
-  where
-    z : (list_any (λ other. same_name a.name other.name) more ≡ false) × (repeats_name more ≡ false)
-    z = or_parts (list_any (λ other. same_name a.name other.name) more) (repeats_name more) h
-
-    by : (repeats_name more ≡ false → repeats_name (unset_in name more) ≡ false) → (b : Bool) → repeats_name (if b then more else a ∷ unset_in name more) ≡ false
-    by rest true = z.1
-    by rest false = or_from (list_any (λ other. same_name a.name other.name) (unset_in name more)) (repeats_name (unset_in name more)) (any_unset a.name name more z.0) (rest z.1)
-
--- each name has its namespace
-pub namespaces_set : (name : Expanded) (value : List ℕ) (xs : List Attribute) → IsNamespace name.namespace → AreNamespaces xs → AreNamespaces (set_in name value xs)
-namespaces_set name value [] n h = (n, tt)
-namespaces_set name value (a ∷ more) n h = by (namespaces_set name value more n h.1) (same_name a.name name)
-  where
-    by : AreNamespaces (set_in name value more) → (b : Bool) → AreNamespaces (if b then record { name = name; value = value } ∷ more else a ∷ set_in name value more)
-    by rest true = (n, h.1)
-    by rest false = (h.0, rest)
-
-pub namespaces_unset : (name : Expanded) (xs : List Attribute) → AreNamespaces xs → AreNamespaces (unset_in name xs)
-namespaces_unset name [] h = h
-namespaces_unset name (a ∷ more) h = by (namespaces_unset name more h.1) (same_name a.name name)
-  where
-    by : AreNamespaces (unset_in name more) → (b : Bool) → AreNamespaces (if b then more else a ∷ unset_in name more)
-    by rest true = h.1
-    by rest false = (h.0, rest)

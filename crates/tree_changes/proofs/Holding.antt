@@ -14,7 +14,8 @@ use Rattle.tree_rows.specs.declared.name.Expanded.{Expanded}
 use Rattle.tree_rows.specs.declared.row.Attribute.{Attribute}
 use Rattle.tree_rows.specs.declared.row.Binding.{Binding}
 use Rattle.tree_rows.specs.declared.row.NodeKind.TheVariants as kinds
-use Rattle.tree_edits.specs.Edits.{Found, found, replaced, with_chars}
+use Rattle.tree_edits.specs.Changes.{with_name}
+use Rattle.tree_edits.specs.Edits.{Found, found, replaced, renamed, with_chars}
 use Rattle.tree_edits.proofs.Lying.{lies, deepest_here}
 use Rattle.tree_edits.proofs.Keeping.{IsAlone, found_alone, changed_tree}
 use Rattle.node_links.specs.Nodes.{Node, Nodes, node, IsNode, IsSound, Holds}
@@ -24,7 +25,6 @@ use Rattle.node_links.specs.declared.content.Element.{Element}
 use Rattle.node_links.proofs.Among.{same_or_other}
 use Rattle.tree_changes.specs.Stands.{firsts, IsText, IsElement, StandFor, StandsFor, HasNames, expanded_of, attribute_of, binding_of}
 use Rattle.tree_changes.specs.Held.{kind_in, kind_at}
-use Rattle.tree_changes.specs.Changes.{with_name, renamed}
 use Rattle.tree_changes.proofs.Standing.{stand_same}
 use Rattle.tree_changes.proofs.Lain.{at, lain, stand_lies, firsts_lies, times_at}
 use Rattle.tree_changes.proofs.Changing.{stands_changed, still_there, not_key}

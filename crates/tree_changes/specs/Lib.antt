@@ -1,4 +1,3 @@
 pub mod Stands
 pub mod Held
-pub mod Changes
 pub mod Parts

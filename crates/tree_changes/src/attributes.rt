@@ -10,7 +10,7 @@ ghost use Rattle.node_links.specs.declared.content.Element.{Element};
 ghost use Rattle.node_links.specs.Nodes.{Node, IsNode, IsSound, Holds};
 ghost use Rattle.tree_changes.specs.Stands.{StandsFor, expanded_of};
 ghost use Rattle.tree_changes.specs.Held.{kind_at, attributes_at, has_number, set_number, unset_number, HasRoom};
-ghost use Rattle.tree_changes.specs.Changes.{attribute_set, attribute_unset};
+ghost use Rattle.tree_edits.specs.Edits.{attribute_set, attribute_unset};
 
 use crate::contents::take_element;
 use node_links::{Content, Element, NameAttribute, NodeLinks};

@@ -11,7 +11,7 @@ ghost use Rattle.node_links.specs.Nodes.{Node, IsNode, IsSound, Holds};
 ghost use Rattle.node_links.specs.declared.content.Element.{Element};
 ghost use Rattle.tree_changes.specs.Stands.{StandsFor, expanded_of};
 ghost use Rattle.tree_changes.specs.Held.{kind_at};
-ghost use Rattle.tree_changes.specs.Changes.{renamed};
+ghost use Rattle.tree_edits.specs.Edits.{renamed};
 
 use node_links::{Content, Element, NodeLinks};
 use std::alloc::Global;

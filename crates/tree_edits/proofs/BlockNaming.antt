@@ -1,11 +1,11 @@
 -- The elements of a block have their names, where its tags repeat nothing and have not too many attributes.
-use Rattle.std.proofs.Common.{◌≡◌, ℕ, ◌+◌, List, [], ◌∷◌, ◌++◌, Bool, true, false, ◌==◌, ◌&&◌, ◌||◌, Option, Some, None, Result, Ok, Err, length, refl, sym, ap, ◌∙◌, arith, append_assoc, append-nil, subst}
+use Rattle.std.proofs.Common.{◌≡◌, ℕ, ◌+◌, List, [], ◌∷◌, ◌++◌, Bool, true, false, ◌==◌, ◌&&◌, None, Result, Ok, Err, length, refl, sym, ap, ◌∙◌, append_assoc, append-nil, subst}
 use Rattle.std.specs.Prelude.{if◌then◌else◌}
 use Rattle.std.specs.List.{list_any}
 use Rattle.std.proofs.lemmas.Bool.{or_parts}
 use Rattle.item_listing.specs.declared.item.Item.{Item}
 use Rattle.item_listing.specs.declared.item.Item.TheVariants as items
-use Rattle.tag_names.specs.Tags.{named, scope_within}
+use Rattle.tag_names.specs.Tags.{scope_within}
 use Rattle.tag_names.specs.Faults.{name_fault}
 use Rattle.tag_names.specs.declared.lines.AttributeLine.{AttributeLine}
 use Rattle.tag_names.specs.declared.lines.Tag.{Tag}
@@ -14,8 +14,8 @@ use Rattle.tree_rows.specs.Rows.{rows_of, siblings}
 use Rattle.tree_rows.specs.Whole.{IsNamed}
 use Rattle.tree_rows.specs.declared.row.Binding.{Binding}
 use Rattle.tree_rows.specs.declared.row.Row.{Row}
-use Rattle.tree_building.specs.Building.{◌>>=◌, nothing, refused, text_row, element_row, with_row, with_element, tag_by, tag_closed_by, settled_by, counted, started, lined, text_begun, text_by, ended, passed, took, finished, ended_all, after, after_all, built, forest_of, block, is_empty, is_white}
-use Rattle.tree_building.specs.Nest.{OpenElement, scope_below, scope_in, opened, closes, closed, without_first}
+use Rattle.tree_building.specs.Building.{◌>>=◌, nothing, refused, text_row, element_row, tag_by, tag_closed_by, settled_by, counted, started, lined, text_begun, text_by, ended, passed, took, finished, ended_all, after, after_all, built, forest_of, block, is_empty, is_white}
+use Rattle.tree_building.specs.Nest.{OpenElement, scope_below, scope_in, closes, closed, without_first}
 use Rattle.tree_building.specs.Rules.{past, block_rules}
 use Rattle.tree_building.specs.declared.rules.Rules.{Rules}
 use Rattle.tree_building.specs.declared.pending.Pending.{Pending}
@@ -24,10 +24,10 @@ use Rattle.tree_building.specs.declared.building.Building.{Building}
 use Rattle.tree_building.specs.declared.build.Built.{Built}
 use Rattle.tree_building.specs.declared.fault.TreeFault.{TreeFault}
 use Rattle.tree_building.specs.declared.fault.TreeReason.TheVariants as reasons
-use Rattle.tree_building.proofs.Kept.{Settles, settles, built_whole}
+use Rattle.tree_building.proofs.Kept.{built_whole}
 use Rattle.tree_building.proofs.NamedLaws.{tag_named}
 use Rattle.tree_building.proofs.Trees.{HasNames}
-use Rattle.tree_edits.specs.Blocks.{Placed, lines_of, inner, outer, tags_in, has_too_many, has_double}
+use Rattle.tree_edits.specs.Blocks.{Placed, lines_of, tags_in, has_too_many, has_double}
 
 -- each element has its names
 abbrev pub HaveNames : Forest → Type 0

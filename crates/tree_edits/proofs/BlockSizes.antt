@@ -1,5 +1,5 @@
 -- A block has the nodes that its items begin.
-use Rattle.std.proofs.Common.{◌≡◌, ℕ, ◌+◌, ◌-◌, List, [], ◌∷◌, ◌++◌, Bool, true, false, ◌==◌, ◌&&◌, Option, Some, None, Result, Ok, Err, length, refl, sym, ap, ◌∙◌, arith, subst, max, true≢false}
+use Rattle.std.proofs.Common.{◌≡◌, ℕ, ◌+◌, ◌-◌, List, [], ◌∷◌, ◌++◌, Bool, true, false, ◌==◌, ◌&&◌, Option, Some, None, Result, Ok, Err, length, refl, sym, ap, ◌∙◌, arith, subst, max}
 use Rattle.std.specs.Prelude.{if◌then◌else◌}
 use Rattle.std.specs.Result.{is_ok}
 use Rattle.std.proofs.lemmas.Grind.{common_steps}
@@ -7,15 +7,14 @@ use Rattle.item_listing.specs.declared.item.Item.{Item}
 use Rattle.item_listing.specs.declared.item.Item.TheVariants as items
 use Rattle.tag_names.specs.declared.fault.NameReason.{NameReason}
 use Rattle.tag_names.specs.declared.lines.Tag.{Tag}
-use Rattle.tree_rows.specs.Forest.{Forest, count, deepest_of}
-use Rattle.tree_rows.specs.Rows.{siblings}
+use Rattle.tree_rows.specs.Forest.{count, deepest_of}
 use Rattle.tree_rows.specs.declared.row.Binding.{Binding}
 use Rattle.tree_rows.specs.declared.row.Row.{Row}
 use Rattle.tree_building.specs.Blocks.{one_element}
-use Rattle.tree_building.specs.Building.{◌>>=◌, nothing, refused, text_row, element_row, with_row, with_element, fault_of, tag_by, tag_closed_by, settled_by, counted, started, lined, text_begun, text_by, ended, passed, took, finished, ended_all, after, after_all, built, forest_of, block, is_empty, is_white}
+use Rattle.tree_building.specs.Building.{◌>>=◌, nothing, refused, text_row, element_row, with_element, fault_of, tag_by, tag_closed_by, settled_by, counted, started, lined, text_begun, text_by, ended, passed, took, finished, ended_all, after, after_all, built, forest_of, block, is_empty, is_white}
 use Rattle.tree_building.specs.Nest.{OpenElement, scope_in, closes, closed, without_first}
 use Rattle.tree_building.specs.Rules.{past, block_rules}
-use Rattle.tree_building.specs.Shape.{AreWhole, deepest_row}
+use Rattle.tree_building.specs.Shape.{deepest_row}
 use Rattle.tree_building.specs.declared.pending.Pending.{Pending}
 use Rattle.tree_building.specs.declared.pending.Pending.TheVariants as pending
 use Rattle.tree_building.specs.declared.building.Building.{Building}

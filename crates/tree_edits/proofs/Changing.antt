@@ -74,7 +74,7 @@ text_at rows key k row old whole at_k within read c =
     text_is rows key k row old s.before s.after s.depth s.node s.is_node s.is_found (at_k ∙ ap (position_or_len (is_numbered key)) whole ∙ s.first)
     (whole ∙ s.rows_are) s.becomes (row_is rows key k row whole s at_k read) c
 
-set_at : (before : List Row) (x y : Row) (more : List Row) → set (before ++ (x ∷ more)) (length before) y ≡ before ++ (y ∷ more)
+pub set_at : (before : List Row) (x y : Row) (more : List Row) → set (before ++ (x ∷ more)) (length before) y ≡ before ++ (y ∷ more)
 set_at [] x y more = refl
 set_at (z ∷ zs) x y more =
     let up : length (z ∷ zs) ≡ suc (length zs) = omega arith in

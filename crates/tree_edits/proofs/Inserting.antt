@@ -1,5 +1,5 @@
 -- What a block comes to, by what stands against its names and by the limits.
-use Rattle.std.proofs.Common.{◌≡◌, ℕ, ◌+◌, List, [], Option, Some, None, Result, Ok, Err, refl, sym, ap, ◌∙◌, subst, take, reverse}
+use Rattle.std.proofs.Common.{◌≡◌, ◌≢◌, ℕ, ◌+◌, List, [], Option, Some, None, Result, Ok, Err, refl, sym, ap, ◌∙◌, subst, take, reverse}
 use Rattle.item_listing.specs.declared.item.Item.{Item}
 use Rattle.tree_rows.specs.Forest.{Forest, Document, text, none, count, deepest_of}
 use Rattle.tree_rows.specs.Rows.{siblings}
@@ -28,11 +28,29 @@ why_is end errors.BadIndex is = is
 why_is end errors.BadName is = is
 why_is end errors.UnboundPrefix is = is
 why_is end errors.ReservedName is = is
+why_is end errors.NoSuchAttribute is = is
 why_is end errors.TooManyNodes is = is
 why_is end errors.TooDeep is = is
 why_is end errors.TooManyAttributes is = is
 why_is end errors.Memory is = tt
 why_is end errors.DoubleAttribute is = is
+
+-- the same where an error is not want of memory
+pub why_but_memory : (end : Result Document EditError) (e : EditError) → (e ≢ errors.Memory → end ≡ Err e) → IsWhy end e
+why_but_memory end errors.UnknownNode f = f (λ q. cc)
+why_but_memory end errors.NotElement f = f (λ q. cc)
+why_but_memory end errors.NotText f = f (λ q. cc)
+why_but_memory end errors.RootFixed f = f (λ q. cc)
+why_but_memory end errors.BadIndex f = f (λ q. cc)
+why_but_memory end errors.BadName f = f (λ q. cc)
+why_but_memory end errors.UnboundPrefix f = f (λ q. cc)
+why_but_memory end errors.ReservedName f = f (λ q. cc)
+why_but_memory end errors.NoSuchAttribute f = f (λ q. cc)
+why_but_memory end errors.TooManyNodes f = f (λ q. cc)
+why_but_memory end errors.TooDeep f = f (λ q. cc)
+why_but_memory end errors.TooManyAttributes f = f (λ q. cc)
+why_but_memory end errors.Memory f = tt
+why_but_memory end errors.DoubleAttribute f = f (λ q. cc)
 
 pub why_same : (end other : Result Document EditError) (e : EditError) → (end ≡ Err e → other ≡ Err e) → IsWhy end e → IsWhy other e
 why_same end other errors.UnknownNode f is = f is
@@ -43,6 +61,7 @@ why_same end other errors.BadIndex f is = f is
 why_same end other errors.BadName f is = f is
 why_same end other errors.UnboundPrefix f is = f is
 why_same end other errors.ReservedName f is = f is
+why_same end other errors.NoSuchAttribute f is = f is
 why_same end other errors.TooManyNodes f is = f is
 why_same end other errors.TooDeep f is = f is
 why_same end other errors.TooManyAttributes f is = f is

@@ -1,25 +1,33 @@
 -- Edits keep trees.
-use Rattle.std.proofs.Common.{◌≡◌, ◌⊎◌, inl, inr, ℕ, ◌+◌, ◌-◌, ◌≤◌, ◌<◌, List, [], Bool, true, false, ◌==◌, ◌||◌, nat_lt, Option, Some, None, Result, Ok, Err, refl, sym, ap, ◌∙◌, arith, max, subst}
+use Rattle.std.proofs.Common.{◌≡◌, inl, inr, ℕ, ◌+◌, ◌-◌, ◌≤◌, ◌<◌, List, [], Bool, true, false, ◌==◌, nat_lt, Option, Some, None, Result, Ok, Err, refl, sym, ap, ◌∙◌, arith, max, subst}
 use Rattle.std.specs.Prelude.{if◌then◌else◌}
 use Rattle.std.proofs.lemmas.Bool.{or_parts}
 use Rattle.std.proofs.lemmas.Bool.Decides.{nat_tests}
 use Rattle.item_listing.specs.declared.item.Item.{Item}
 use Rattle.tree_rows.specs.Forest.{Forest, none, text, element, Document, count, deepest_of, numbered}
-use Rattle.tree_rows.specs.Whole.{IsNamed, AreNodes, times, HasRoot, IsTree}
+use Rattle.tree_rows.specs.Whole.{IsNamed, IsNamespace, AreNodes, times, HasRoot, IsTree}
 use Rattle.tree_rows.specs.declared.name.Expanded.{Expanded}
 use Rattle.tree_rows.specs.declared.row.Attribute.{Attribute}
 use Rattle.tree_rows.specs.declared.row.Binding.{Binding}
 use Rattle.tree_building.proofs.Numbers.{IsOnce, times_in}
-use Rattle.tag_names.specs.Scopes.{first_scope}
+use Rattle.tree_building.proofs.NamedLaws.{tag_named}
+use Rattle.tag_names.specs.Faults.{is_no_qname, is_unbound, is_xmlns}
+use Rattle.tag_names.specs.Resolving.{binds, element_resolved, attribute_resolved}
+use Rattle.tag_names.specs.Scopes.{first_scope, element_space, attribute_space}
+use Rattle.tag_names.specs.Tags.{prefix_of, element_name, attribute_name}
+use Rattle.tag_names.specs.declared.fault.NameReason.{NameReason}
+use Rattle.tag_names.specs.declared.fault.NameReason.TheVariants as reasons
 use Rattle.tree_building.specs.Building.{block}
 use Rattle.tree_edits.specs.Blocks.{tags_in, judged, early, late}
-use Rattle.tree_edits.specs.Edits.{append, Found, found, replaced, is_root, renumbered, insert_at, with_children, width, with_chars, too_many_more, put_within, put_into, put_at, put, unless, then_unless, insert_within, scope_in, reword, reword_at, remove, after}
+use Rattle.tree_edits.specs.Edits.{append, Found, found, replaced, is_root, renumbered, insert_at, with_children, width, with_chars, too_many_more, put_within, put_into, put_at, put, unless, then_unless, insert_within, scope_in, reword, reword_at, remove, renamed, attribute_set, attribute_unset, names_scope, change_at, change_element, by_name, rename, set_attribute, unset_attribute, after}
+use Rattle.tree_edits.specs.Changes.{with_name, has_name, set_in, unset_in, has_no_room, with_attributes}
 use Rattle.tree_edits.specs.Keeping.{GivesNew, KeepsTree}
 use Rattle.tree_edits.specs.declared.edit.Edit.{Edit}
 use Rattle.tree_edits.specs.declared.edit.Edit.TheVariants as edits
 use Rattle.tree_edits.specs.declared.names.BlockNames.{BlockNames}
 use Rattle.tree_edits.specs.declared.edit.EditError.{EditError}
-use Rattle.tree_edits.specs.declared.edit.EditError.TheVariants.{TooManyNodes, TooDeep, BadIndex, RootFixed, TooManyAttributes, DoubleAttribute}
+use Rattle.tree_edits.specs.declared.edit.EditError.TheVariants.{TooManyNodes, TooDeep, BadIndex, RootFixed, NoSuchAttribute, TooManyAttributes, DoubleAttribute}
+use Rattle.tree_edits.proofs.Attributing.{set_named, unset_named}
 use Rattle.tree_edits.proofs.BlockNaming.{HaveNames, block_names}
 use Rattle.tree_edits.proofs.Lying.{Lies, lies, count-append, times-append, deepest_append, nodes_append, nodes_parts, times_changed, count_changed, deepest_changed, deepest_here, nodes_changed, root_changed}
 
@@ -374,6 +382,123 @@ inserted d parent place scope its e t end =
     (record { depth = p.depth; number = p.number; name = p.name; bindings = p.bindings; attributes = p.attributes; children = p.children; is_found = p.is_found; ends = both.0 })
     (block_names scope its fine.0 fine.1) t
 
+-- the element that is changed, and what the change of it ends with
+record IsChanged (f : Forest) (key : ℕ) (change : List Binding → List Attribute → Result Document EditError) (e : Document) : Type 0 where
+  pub depth : ℕ
+  pub number : ℕ
+  pub name : Expanded
+  pub bindings : List Binding
+  pub attributes : List Attribute
+  pub children : Forest
+  pub is_found : found key 1 f ≡ Some (record { depth = depth; node = element number name bindings attributes children none })
+  pub ends : change bindings attributes ≡ Ok e
+
+changed_in : (f : Forest) (key : ℕ) (change : List Binding → List Attribute → Result Document EditError) (e : Document) (depth : ℕ) (node : Forest)
+    → found key 1 f ≡ Some (record { depth = depth; node = node }) → IsAlone node → change_at change node ≡ Ok e → IsChanged f key change e
+changed_in f key change e depth none is alone end = absurd alone
+changed_in f key change e depth (text n chars next) is alone end = absurd (cc end)
+changed_in f key change e depth (element n name bindings attributes children next) is alone end = record {
+  depth = depth;
+  number = n;
+  name = name;
+  bindings = bindings;
+  attributes = attributes;
+  children = children;
+  is_found = is ∙ ap (λ g. Some (record { depth = depth; node = element n name bindings attributes children g })) alone;
+  ends = end;
+}
+
+changed_by : (f : Forest) (key : ℕ) (change : List Binding → List Attribute → Result Document EditError) (e : Document) (o : Option Found) → found key 1 f ≡ o
+    → change_element change o ≡ Ok e → IsChanged f key change e
+changed_by f key change e None is end = absurd (cc end)
+changed_by f key change e (Some it) is end = changed_in f key change e it.depth it.node is (found_alone key f it is) end
+
+-- a change by a name, which is an expanded one
+record IsNamedBy (change : Expanded → Result Document EditError) (r : Result Expanded NameReason) (e : Document) : Type 0 where
+  pub own : Expanded
+  pub is : r ≡ Ok own
+  pub ends : change own ≡ Ok e
+
+named_by : (change : Expanded → Result Document EditError) (r : Result Expanded NameReason) (e : Document) → by_name change r ≡ Ok e → IsNamedBy change r e
+named_by change (Ok own) e end = record { own = own; is = refl; ends = end }
+named_by change (Err reason) e end = absurd (cc end)
+
+-- the namespace of a name is one: it is that of a tag with no lines
+element_spaced : (scope : List Binding) (name : List ℕ) → IsNamespace (element_name scope name).namespace
+element_spaced scope name = (tag_named scope (record { name = name; attributes = [] }) refl refl).namespace
+
+attribute_spaced : (scope : List Binding) (name : List ℕ) → IsNamespace (attribute_name scope name).namespace
+attribute_spaced scope name = by (prefix_of name) (element_spaced scope name)
+  where
+    by : (prefix : Option (List ℕ)) → IsNamespace (element_space scope prefix) → IsNamespace (attribute_space scope prefix)
+    by None h = tt
+    by (Some prefix) h = h
+
+resolved_if : (bad unbound reserved : Bool) (name own : Expanded)
+    → (if bad then Err reasons.BadName else (if unbound then Err reasons.UnboundPrefix else (if reserved then Err reasons.ReservedName else Ok name))) ≡ Ok own → name ≡ own
+resolved_if true unbound reserved name own is = absurd (cc is)
+resolved_if false true reserved name own is = absurd (cc is)
+resolved_if false false true name own is = absurd (cc is)
+resolved_if false false false name own is = cc is
+
+element_known : (scope : List Binding) (name : List ℕ) (own : Expanded) → element_resolved scope name ≡ Ok own → IsNamespace own.namespace
+element_known scope name own is =
+    subst (λ (n : Expanded). IsNamespace n.namespace) (resolved_if (is_no_qname name) (is_unbound scope (prefix_of name)) (is_xmlns (prefix_of name)) (element_name scope name) own is)
+    (element_spaced scope name)
+
+attribute_known : (scope : List Binding) (name : List ℕ) (own : Expanded) → attribute_resolved scope name ≡ Ok own → IsNamespace own.namespace
+attribute_known scope name own is =
+    subst (λ (n : Expanded). IsNamespace n.namespace) (resolved_if (is_no_qname name) (is_unbound scope (prefix_of name)) (binds name) (attribute_name scope name) own is)
+    (attribute_spaced scope name)
+
+-- an element that has its names again
+element_kept : (d : Document) (key depth n : ℕ) (name fresh : Expanded) (bindings : List Binding) (attributes more : List Attribute) (children : Forest) (change : Forest → Forest) (e : Document)
+    → IsTree d → found key 1 d.forest ≡ Some (record { depth = depth; node = element n name bindings attributes children none })
+    → change (element n name bindings attributes children none) ≡ element n fresh bindings more children none
+    → (IsNamed name bindings attributes → IsNamed fresh bindings more) → record d { forest = replaced key change d.forest } ≡ e → KeepsTree d e
+element_kept d key depth n name fresh bindings attributes more children change e t is gives names end =
+    let it : Found = record { depth = depth; node = element n name bindings attributes children none } in
+    let old = deepest_here key 1 d.forest it (lies key 1 d.forest it is) in
+    subst (KeepsTree d) end
+    (record {
+      tree = changed_tree d key d.next_free change none it t is (omega arith) (λ _ r. subst HasRoot (sym gives) r)
+          (λ a. subst (AreNodes d.next_free) (sym gives) (a.0, names a.1, a.2, tt))
+          (λ j. let g = ap (times j) gives in omega (arith, g)) (λ j. omega (arith, t.differ j))
+          (let g = ap count gives in omega (arith, g)) (omega (arith, t.few)) (let g = ap (deepest_of depth) gives in omega (arith, g, old, t.shallow));
+      numbers = changed_numbers d key d.next_free change it is (omega arith) (λ j low. let g = ap (times j) gives in omega (arith, g));
+    })
+
+rename_keeps : (d : Document) (key : ℕ) (name : List ℕ) (e : Document) → IsTree d → after d (edits.Rename key name) ≡ Ok e → KeepsTree d e
+rename_keeps d key name e t end =
+    let p = changed_by d.forest key (rename d key name) e (found key 1 d.forest) refl end in
+    let q = named_by (λ own. Ok (renamed key own d)) (element_resolved (names_scope d key) name) e p.ends in
+    element_kept d key p.depth p.number p.name q.own p.bindings p.attributes p.attributes p.children (with_name q.own) e t p.is_found refl
+    (λ n. record { namespace = element_known (names_scope d key) name q.own q.is; namespaces = n.namespaces; prefixes = n.prefixes; names = n.names; few = n.few })
+    (one_end (renamed key q.own d) e (Ok (renamed key q.own d)) refl q.ends)
+
+set_if : (full : Bool) (x e : Document) → (if full then Err TooManyAttributes else Ok x) ≡ Ok e → (full ≡ false) × (x ≡ e)
+set_if true x e is = absurd (cc is)
+set_if false x e is = (refl, one_end x e (Ok x) refl is)
+
+set_keeps : (d : Document) (key : ℕ) (name value : List ℕ) (e : Document) → IsTree d → after d (edits.SetAttr key name value) ≡ Ok e → KeepsTree d e
+set_keeps d key name value e t end =
+    let p = changed_by d.forest key (set_attribute d key name value) e (found key 1 d.forest) refl end in
+    let q = named_by _ (attribute_resolved (names_scope d key) name) e p.ends in
+    let z = set_if (has_no_room q.own p.bindings p.attributes) (attribute_set key q.own value d) e q.ends in
+    element_kept d key p.depth p.number p.name p.name p.bindings p.attributes (set_in q.own value p.attributes) p.children (with_attributes (set_in q.own value)) e t p.is_found refl
+    (set_named p.name q.own value p.bindings p.attributes (attribute_known (names_scope d key) name q.own q.is) z.0) z.1
+
+unset_if : (has : Bool) (x e : Document) → (if has then Ok x else Err NoSuchAttribute) ≡ Ok e → x ≡ e
+unset_if true x e is = one_end x e (Ok x) refl is
+unset_if false x e is = absurd (cc is)
+
+unset_keeps : (d : Document) (key : ℕ) (name : List ℕ) (e : Document) → IsTree d → after d (edits.UnsetAttr key name) ≡ Ok e → KeepsTree d e
+unset_keeps d key name e t end =
+    let p = changed_by d.forest key (unset_attribute d key name) e (found key 1 d.forest) refl end in
+    let q = named_by _ (attribute_resolved (names_scope d key) name) e p.ends in
+    element_kept d key p.depth p.number p.name p.name p.bindings p.attributes (unset_in q.own p.attributes) p.children (with_attributes (unset_in q.own)) e t p.is_found refl
+    (unset_named p.name q.own p.bindings p.attributes) (unset_if (has_name q.own p.attributes) (attribute_unset key q.own d) e q.ends)
+
 -- an edit keeps a tree, and gives no number again
 pub edit_keeps : (d : Document) (edit : Edit) (e : Document) → IsTree d → after d edit ≡ Ok e → KeepsTree d e
 edit_keeps d (edits.Insert parent place its) e t end = inserted d parent place (scope_in parent first_scope d.forest) its e t end
@@ -381,3 +506,6 @@ edit_keeps d (edits.AddText parent place chars) e t end =
     put_kept d parent place (text 0 chars none) e (place_of d.forest parent place (put_within d parent place (text 0 chars none)) e end) tt t
 edit_keeps d (edits.SetText key chars) e t end = reworded_by d key chars e (found key 1 d.forest) t refl end
 edit_keeps d (edits.Remove key) e t end = removed_by d key e (found key 1 d.forest) t refl end
+edit_keeps d (edits.Rename key name) e t end = rename_keeps d key name e t end
+edit_keeps d (edits.SetAttr key name value) e t end = set_keeps d key name value e t end
+edit_keeps d (edits.UnsetAttr key name) e t end = unset_keeps d key name e t end

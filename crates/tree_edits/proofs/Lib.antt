@@ -8,6 +8,8 @@ pub mod Inserting
 pub mod NodeScopes
 pub mod Scoping
 pub mod Changing
+pub mod Attributing
+pub mod ElementChanges
 pub mod Lying
 pub mod BlockNaming
 pub mod Keeping

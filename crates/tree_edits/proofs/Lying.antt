@@ -1,6 +1,5 @@
 -- Where the node of a number lies in a forest, and what a forest is once the node is changed.
-use Rattle.std.proofs.Common.{◌≡◌, ◌⊎◌, inl, inr, ℕ, ◌+◌, ◌≤◌, List, Bool, true, false, ◌==◌, Option, Some, None, refl, sym, ap, ◌∙◌, arith, max, subst}
-use Rattle.std.specs.Prelude.{if◌then◌else◌}
+use Rattle.std.proofs.Common.{◌≡◌, ◌⊎◌, inl, inr, ℕ, ◌+◌, ◌≤◌, List, Bool, true, false, ◌==◌, Some, None, refl, sym, ap, ◌∙◌, arith, max, subst}
 use Rattle.std.proofs.lemmas.Option.{same_Some}
 use Rattle.tree_rows.specs.Forest.{Forest, none, text, element, count, deepest_of}
 use Rattle.tree_rows.specs.Whole.{AreNodes, times, HasRoot}

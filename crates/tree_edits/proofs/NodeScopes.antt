@@ -1,5 +1,5 @@
 -- The scope of a node, from the rows before its own.
-use Rattle.std.proofs.Common.{◌≡◌, ℕ, ◌+◌, ◌≤◌, ◌<◌, List, [], ◌∷◌, ◌++◌, Bool, true, false, ◌==◌, ◌||◌, length, take, get_or, refl, sym, ap, ◌∙◌, arith, append-nil, reverse}
+use Rattle.std.proofs.Common.{◌≡◌, ℕ, ◌≤◌, ◌<◌, List, [], ◌++◌, Bool, true, false, ◌==◌, ◌||◌, length, take, get_or, refl, sym, ap, ◌∙◌, arith, append-nil, reverse}
 use Rattle.std.specs.List.{position_or_len}
 use Rattle.std.proofs.lemmas.Grind.{common_steps}
 use Rattle.std.proofs.Math.Seq.{take-append-add}
@@ -11,7 +11,7 @@ use Rattle.tree_building.specs.Shape.{AreWhole}
 use Rattle.tree_edits.specs.Edits.{has, scope_in}
 use Rattle.tree_edits.specs.EditRows.{is_numbered}
 use Rattle.tree_edits.specs.Places.{scope_above}
-use Rattle.tree_edits.proofs.Standing.{own, IsNode, Stands, stands, rows-node}
+use Rattle.tree_edits.proofs.Standing.{own, IsNode, stands, rows-node}
 use Rattle.tree_edits.proofs.Spotting.{standing, top, row_is}
 
 or_first : (a b : Bool) → (a || b) ≡ false → a ≡ false

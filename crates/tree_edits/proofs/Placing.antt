@@ -6,7 +6,7 @@ use Rattle.std.proofs.lemmas.Grind.{common_steps}
 use Rattle.tree_rows.specs.Forest.{Forest, none, text, element, count}
 use Rattle.tree_rows.specs.Rows.{rows_of}
 use Rattle.tree_rows.specs.RowLaws.{Ends}
-use Rattle.tree_edits.specs.Edits.{width, deepest_of, insert_at, renumbered}
+use Rattle.tree_edits.specs.Edits.{width, insert_at, renumbered}
 use Rattle.tree_building.specs.Shape.{deepest_with, deepest_row}
 pub use Rattle.tree_building.proofs.RowCounts.{deepest-append, deepest-rows, count-rows}
 use Rattle.tree_edits.specs.EditRows.{rows_width, put_rows, ends_at, raised}
@@ -14,8 +14,6 @@ use Rattle.tree_rows.specs.declared.name.Expanded.{Expanded}
 use Rattle.tree_rows.specs.declared.row.Attribute.{Attribute}
 use Rattle.tree_rows.specs.declared.row.Binding.{Binding}
 use Rattle.tree_rows.specs.declared.row.Row.{Row}
-use Rattle.tree_rows.specs.declared.row.Content.{Content}
-use Rattle.tree_rows.specs.declared.row.Content.TheVariants as contents
 use Rattle.tree_edits.proofs.Standing.{text_row, element_row, rows-append}
 
 not_less : (d : ℕ) → nat_lt d d ≡ false

@@ -1,5 +1,5 @@
 -- What is put at a spot, on the rows and on the tree.
-use Rattle.std.proofs.Common.{◌≡◌, ℕ, ◌+◌, ◌≤◌, ◌<◌, List, [], ◌∷◌, ◌++◌, true, false, ◌||◌, Ok, Err, length, take, drop, refl, sym, ap, ◌∙◌, arith, nat_lt, max, subst}
+use Rattle.std.proofs.Common.{◌≡◌, ℕ, ◌+◌, ◌≤◌, ◌<◌, List, [], ◌∷◌, ◌++◌, true, false, ◌||◌, Ok, length, take, drop, refl, sym, ap, ◌∙◌, arith, nat_lt, max, subst}
 use Rattle.std.proofs.lemmas.Bool.Decides.{nat_tests}
 use Rattle.tree_rows.specs.Forest.{Forest, none, text, element, count, Document}
 use Rattle.tree_rows.specs.Rows.{rows_of, siblings}

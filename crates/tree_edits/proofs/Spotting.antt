@@ -105,9 +105,15 @@ pub record ElementAt (rows : List Row) (key k : ℕ) (row : Row) : Type 0 where
   pub rows_are : rows ≡ before ++ (row ∷ (rows_of (row.depth + 1) children ++ after))
   pub ends : Ends (row.depth + 1) after
   pub has_content : row.content ≡ contents.Element name
+  pub has_bindings : row.bindings ≡ bindings
+  pub has_attributes : row.attributes ≡ attributes
   pub scoped : (scope : List Binding) → scope_in key scope (siblings rows 1) ≡ row.bindings ++ scope_above row.depth scope (reverse before)
   pub becomes : (place : ℕ) (new : Forest) → rows_of 1 (replaced key (with_children place new) (siblings rows 1))
       ≡ before ++ (row ∷ (rows_of (row.depth + 1) (insert_at place new children) ++ after))
+  pub stays : (change : Forest → Forest) (fresh : Expanded) (more : List Attribute)
+      → change (element number name bindings attributes children none) ≡ element number fresh bindings more children none
+      → rows_of 1 (replaced key change (siblings rows 1))
+      ≡ before ++ (record row { content = contents.Element fresh; attributes = more } ∷ (rows_of (row.depth + 1) children ++ after))
 
 element_is : (rows : List Row) (key k : ℕ) (row : Row) (name : Expanded) (whole : AreWhole rows) (before after : List Row) (depth : ℕ) (node : Forest) → IsNode key node
     → found key 1 (siblings rows 1) ≡ Some (record { depth = depth; node = node }) → k ≡ length before → rows ≡ before ++ (rows_of depth node ++ after)
@@ -137,6 +143,8 @@ element_is rows key k row name whole before after depth (element n other binding
           ∙ ap (λ r. before ++ (r ∷ (rows_of (row.depth + 1) children ++ after))) (sym is);
       ends = rw deep ends;
       has_content = ap (λ (r : Row). r.content) is;
+      has_bindings = ap (λ (r : Row). r.bindings) is;
+      has_attributes = ap (λ (r : Row). r.attributes) is;
       scoped = λ scope. sc scope [] ∙ ap (λ l. bindings ++ scope_above depth scope l) (append-nil (reverse before))
           ∙ ap (λ l. l ++ scope_above depth scope (reverse before)) (sym (ap (λ (r : Row). r.bindings) is))
           ∙ ap (λ j. row.bindings ++ scope_above j scope (reverse before)) (sym deep);
@@ -145,6 +153,12 @@ element_is rows key k row name whole before after depth (element n other binding
           ∙ ap (λ l. before ++ (element_row n depth other bindings attributes ∷ (l ++ after))) (append-nil (rows_of (depth + 1) (insert_at place new children)))
           ∙ ap (λ j. before ++ (element_row n depth other bindings attributes ∷ (rows_of (j + 1) (insert_at place new children) ++ after))) (sym deep)
           ∙ ap (λ r. before ++ (r ∷ (rows_of (row.depth + 1) (insert_at place new children) ++ after))) (sym is);
+      stays = λ change fresh more g. b change
+          ∙ ap (λ h. before ++ (rows_of depth (change (element n other bindings attributes children h)) ++ after)) i.1
+          ∙ ap (λ f. before ++ (rows_of depth f ++ after)) g
+          ∙ ap (λ l. before ++ (element_row n depth fresh bindings more ∷ (l ++ after))) (append-nil (rows_of (depth + 1) children))
+          ∙ ap (λ j. before ++ (element_row n depth fresh bindings more ∷ (rows_of (j + 1) children ++ after))) (sym deep)
+          ∙ ap (λ (r : Row). before ++ (record r { content = contents.Element fresh; attributes = more } ∷ (rows_of (row.depth + 1) children ++ after))) (sym is);
     }
 
 pub element_at : (rows : List Row) (key k : ℕ) (row : Row) (name : Expanded) → AreWhole rows → k ≡ position_or_len (is_numbered key) rows → k < length rows
@@ -189,8 +203,8 @@ module _ (rows : List Row) (key k : ℕ) (row : Row) (e : ElementAt rows key k r
       rw e.has_content refl in
       omega (arith, all, own, shallow)
 
-  -- the scope of what the element holds
-  scope_is : (scope : List Binding) → scope_in key scope (siblings rows 1) ≡ scope_above (row.depth + 1) scope (reverse (take (k + 1) rows))
+  -- the scope of what the element holds, and of its names
+  pub scope_is : (scope : List Binding) → scope_in key scope (siblings rows 1) ≡ scope_above (row.depth + 1) scope (reverse (take (k + 1) rows))
   scope_is scope =
       let yes : nat_lt row.depth (row.depth + 1) ≡ true = grind (arith, nat_tests) in
       let front : reverse (take (k + 1) rows) ≡ row ∷ reverse e.before =

@@ -1,22 +1,29 @@
 -- An edit is refused by the first of its tests that stands.
-use Rattle.std.proofs.Common.{◌≡◌, ℕ, ◌+◌, List, [], ◌∷◌, Bool, true, false, Option, Some, None, Result, Ok, Err, if◌then◌else◌, ◌==◌, nat_lt, refl, sym, ap, ◌∙◌}
+use Rattle.std.proofs.Common.{◌≡◌, ℕ, ◌+◌, List, [], Bool, true, false, Option, Some, None, Result, Ok, Err, if◌then◌else◌, ◌==◌, nat_lt, refl, sym, ◌∙◌}
+use Rattle.std.specs.Prelude.{not}
 use Rattle.std.specs.List.{list_any}
 use Rattle.tree_rows.specs.declared.limits.TheConstants.{MAX_DEPTH}
 use Rattle.tree_rows.specs.Forest.{Forest, none, text, element, Document, count, deepest_of}
+use Rattle.tree_rows.specs.declared.name.Expanded.{Expanded}
+use Rattle.tree_rows.specs.declared.row.Attribute.{Attribute}
 use Rattle.tree_rows.specs.declared.row.Binding.{Binding}
 use Rattle.item_listing.specs.declared.item.Item.{Item}
+use Rattle.tag_names.specs.Faults.{is_no_qname, is_unbound, is_xmlns}
+use Rattle.tag_names.specs.Resolving.{binds}
 use Rattle.tag_names.specs.Scopes.{first_scope}
+use Rattle.tag_names.specs.Tags.{prefix_of}
+use Rattle.tag_names.specs.declared.fault.NameReason.TheVariants as reasons
 use Rattle.tree_building.specs.Building.{block}
-use Rattle.tree_edits.specs.Blocks.{Placed, tags_in, judged, early, late, has_bad_name, has_unbound, uses_reserved, has_too_many, has_double}
-use Rattle.tree_edits.specs.Edits.{Found, found, has, width, scope_in, put_into, put_at, put_within, insert_within, unless, then_unless, reword, reword_at, remove, after, too_many_more, is_root}
-use Rattle.tree_edits.specs.Tests.{Test, first_refusal, is_missing, is_text, is_element, width_of, depth_of, put_tests, name_tests, size_tests, attribute_tests, with_nodes, made, unless_refused, tests_of, edited}
+use Rattle.tree_edits.specs.Blocks.{Placed, tags_in, judged, late, has_bad_name, has_unbound, uses_reserved, has_too_many, has_double}
+use Rattle.tree_edits.specs.Edits.{Found, found, has, width, scope_in, put_into, put_at, put_within, insert_within, unless, then_unless, reword, reword_at, remove, change_element, by_name, rename, set_attribute, unset_attribute, names_scope, after, too_many_more, is_root}
+use Rattle.tree_edits.specs.Tests.{Test, first_refusal, is_missing, is_text, is_element, width_of, depth_of, name_tests, size_tests, attribute_tests, with_nodes, made, attributes_of, bindings_of, new_name, attribute_named, is_full, has_attribute, unless_refused, edited}
 use Rattle.tree_rows.specs.Whole.{IsTree}
 use Rattle.tree_edits.specs.Keeping.{KeepsTree}
 use Rattle.tree_edits.proofs.Keeping.{edit_keeps}
 use Rattle.tree_edits.specs.declared.edit.Edit.{Edit}
 use Rattle.tree_edits.specs.declared.edit.Edit.TheVariants as edits
 use Rattle.tree_edits.specs.declared.edit.EditError.{EditError}
-use Rattle.tree_edits.specs.declared.edit.EditError.TheVariants.{UnknownNode, NotElement, NotText, RootFixed, BadIndex, BadName, UnboundPrefix, ReservedName, TooManyNodes, TooDeep, TooManyAttributes, DoubleAttribute}
+use Rattle.tree_edits.specs.declared.edit.EditError.TheVariants.{UnknownNode, NotElement, NotText, RootFixed, BadIndex, BadName, UnboundPrefix, ReservedName, NoSuchAttribute, TooManyNodes, TooDeep, TooManyAttributes, DoubleAttribute}
 
 -- what tests answer, where the edit makes this document
 abbrev Answer : List Test → Document → Result Document EditError
@@ -137,11 +144,63 @@ remove_tested d key (Some it) there = by it.depth it.node there
     by depth (text number old next) there = first_tested (made d (edits.Remove key)) RootFixed None (Ok (made d (edits.Remove key))) refl (is_root key d.forest)
     by depth (element number name bindings attributes children next) there = first_tested (made d (edits.Remove key)) RootFixed None (Ok (made d (edits.Remove key))) refl (is_root key d.forest)
 
+-- the tests of an element's, before some more
+element_tested : (d : Document) (more : Option EditError) (change : List Binding → List Attribute → Result Document EditError) (f : Option Found)
+    → unless_refused more d ≡ change (bindings_of f) (attributes_of f)
+    → unless_refused (if is_missing f then Some UnknownNode else (if is_text f then Some NotElement else more)) d ≡ change_element change f
+element_tested d more change None later = refl
+element_tested d more change (Some it) later = by it.depth it.node later
+  where
+    by : (depth : ℕ) (node : Forest)
+        → (let f : Option Found = Some (record { depth = depth; node = node }) in
+        unless_refused more d ≡ change (bindings_of f) (attributes_of f)
+        → unless_refused (if is_missing f then Some UnknownNode else (if is_text f then Some NotElement else more)) d ≡ change_element change f)
+    by depth none later = refl
+    by depth (text number chars next) later = refl
+    by depth (element number name bindings attributes children next) later = later
+
+-- those of a name, before some more
+name_tested : (d : Document) (more : Option EditError) (change : Expanded → Result Document EditError) (own : Expanded) → unless_refused more d ≡ change own
+    → (bad unbound reserved : Bool)
+    → unless_refused (if bad then Some BadName else (if unbound then Some UnboundPrefix else (if reserved then Some ReservedName else more))) d
+    ≡ by_name change (if bad then Err reasons.BadName else (if unbound then Err reasons.UnboundPrefix else (if reserved then Err reasons.ReservedName else Ok own)))
+name_tested d more change own later true unbound reserved = refl
+name_tested d more change own later false true reserved = refl
+name_tested d more change own later false false true = refl
+name_tested d more change own later false false false = later
+
+rename_tested : (d : Document) (key : ℕ) (name : List ℕ) → edited d (edits.Rename key name) ≡ after d (edits.Rename key name)
+rename_tested d key name =
+    element_tested (made d (edits.Rename key name)) _ (rename d key name) (found key 1 d.forest)
+    (name_tested (made d (edits.Rename key name)) None _ (new_name d key name) refl
+    (is_no_qname name) (is_unbound (names_scope d key) (prefix_of name)) (is_xmlns (prefix_of name)))
+
+set_tested : (d : Document) (key : ℕ) (name value : List ℕ) → edited d (edits.SetAttr key name value) ≡ after d (edits.SetAttr key name value)
+set_tested d key name value =
+    let own = attribute_named d key name in let e = made d (edits.SetAttr key name value) in
+    element_tested e _ (set_attribute d key name value) (found key 1 d.forest)
+    (name_tested e (if is_full d key own then Some TooManyAttributes else None) _ own (first_tested e TooManyAttributes None (Ok e) refl (is_full d key own))
+    (is_no_qname name) (is_unbound (names_scope d key) (prefix_of name)) (binds name))
+
+unset_if : (d : Document) (has : Bool) → unless_refused (if not has then Some NoSuchAttribute else None) d ≡ (if has then Ok d else Err NoSuchAttribute)
+unset_if d true = refl
+unset_if d false = refl
+
+unset_tested : (d : Document) (key : ℕ) (name : List ℕ) → edited d (edits.UnsetAttr key name) ≡ after d (edits.UnsetAttr key name)
+unset_tested d key name =
+    let own = attribute_named d key name in let e = made d (edits.UnsetAttr key name) in
+    element_tested e _ (unset_attribute d key name) (found key 1 d.forest)
+    (name_tested e (if not (has_attribute d key own) then Some NoSuchAttribute else None) _ own (unset_if e (has_attribute d key own))
+    (is_no_qname name) (is_unbound (names_scope d key) (prefix_of name)) (binds name))
+
 pub edit_tested : (d : Document) (edit : Edit) → after d edit ≡ edited d edit
 edit_tested d (edits.Insert parent place its) = sym (insert_tested d parent place its)
 edit_tested d (edits.AddText parent place chars) = sym (text_tested d parent place chars)
 edit_tested d (edits.SetText key chars) = sym (reword_tested d key chars (found key 1 d.forest))
 edit_tested d (edits.Remove key) = sym (remove_tested d key (found key 1 d.forest) (found_there key 1 d.forest))
+edit_tested d (edits.Rename key name) = sym (rename_tested d key name)
+edit_tested d (edits.SetAttr key name value) = sym (set_tested d key name value)
+edit_tested d (edits.UnsetAttr key name) = sym (unset_tested d key name)
 
 -- an edit that is made keeps a tree
 pub edited_keeps : (d : Document) (edit : Edit) (e : Document) → IsTree d → edited d edit ≡ Ok e → KeepsTree d e

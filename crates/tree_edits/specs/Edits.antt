@@ -3,16 +3,22 @@ use Rattle.std.specs.Prelude.{ℕ, ◌+◌, ◌-◌, List, [], ◌++◌, Bool, t
 use Rattle.tree_rows.specs.declared.limits.TheConstants.{MAX_DEPTH, MAX_NODES}
 use Rattle.tree_rows.specs.Forest.{Forest, none, text, element, Document, count}
 pub use Rattle.tree_rows.specs.Forest.{deepest_of}
+use Rattle.tree_rows.specs.declared.name.Expanded.{Expanded}
+use Rattle.tree_rows.specs.declared.row.Attribute.{Attribute}
 use Rattle.tree_rows.specs.declared.row.Binding.{Binding}
 use Rattle.item_listing.specs.declared.item.Item.{Item}
+use Rattle.tag_names.specs.Resolving.{element_resolved, attribute_resolved}
 use Rattle.tag_names.specs.Scopes.{first_scope}
+use Rattle.tag_names.specs.declared.fault.NameReason.{NameReason}
 use Rattle.tree_building.specs.Blocks.{one_element}
 use Rattle.tree_building.specs.Building.{block}
 use Rattle.tree_edits.specs.Blocks.{tags_in, judged, early, late}
+use Rattle.tree_edits.specs.Changes.{with_name, has_name, set_in, unset_in, has_no_room, with_attributes}
+use Rattle.tree_edits.specs.Refusals.{refusal_of}
 use Rattle.tree_edits.specs.declared.edit.Edit.{Edit}
 use Rattle.tree_edits.specs.declared.edit.Edit.TheVariants as edits
 use Rattle.tree_edits.specs.declared.edit.EditError.{EditError}
-use Rattle.tree_edits.specs.declared.edit.EditError.TheVariants.{UnknownNode, NotElement, NotText, RootFixed, BadIndex, TooManyNodes, TooDeep}
+use Rattle.tree_edits.specs.declared.edit.EditError.TheVariants.{UnknownNode, NotElement, NotText, RootFixed, BadIndex, NoSuchAttribute, TooManyNodes, TooDeep, TooManyAttributes}
 
 -- how many siblings there are
 abbrev pub width : Forest → ℕ
@@ -93,6 +99,22 @@ with_chars new none = none
 with_chars new (text number chars next) = text number new next
 with_chars new (element number name bindings attributes children next) = element number name bindings attributes children next
 
+-- the element of this number has another name
+abbrev pub renamed : ℕ → Expanded → Document → Document
+renamed key name d = record d { forest = replaced key (with_name name) d.forest }
+
+-- its attribute of the name has this value, in its place; where there is none, there is one more, the last
+abbrev pub attribute_set : ℕ → Expanded → List ℕ → Document → Document
+attribute_set key name value d = record d { forest = replaced key (with_attributes (set_in name value)) d.forest }
+
+-- its attribute of the name is gone
+abbrev pub attribute_unset : ℕ → Expanded → Document → Document
+attribute_unset key name d = record d { forest = replaced key (with_attributes (unset_in name)) d.forest }
+
+-- the scope in which the names of an element stand that is in the tree: its own bindings come first
+abbrev pub names_scope : Document → ℕ → List Binding
+names_scope d key = scope_in key first_scope d.forest
+
 -- the first node has the number
 abbrev pub is_root : ℕ → Forest → Bool
 is_root key none = false
@@ -161,6 +183,36 @@ remove d key None = Err UnknownNode
 remove d key (Some it) =
     if is_root key d.forest then Err RootFixed else Ok (record d { forest = replaced key (λ node. none) d.forest })
 
+-- a change of an element, by its bindings and attributes
+abbrev pub change_at : (List Binding → List Attribute → Result Document EditError) → Forest → Result Document EditError
+change_at change none = Err UnknownNode
+change_at change (text number chars next) = Err NotElement
+change_at change (element number name bindings attributes children next) = change bindings attributes
+
+abbrev pub change_element : (List Binding → List Attribute → Result Document EditError) → Option Found → Result Document EditError
+change_element change None = Err UnknownNode
+change_element change (Some it) = change_at change it.node
+
+-- a change by an expanded name, or what stands against the name
+abbrev pub by_name : (Expanded → Result Document EditError) → Result Expanded NameReason → Result Document EditError
+by_name change (Ok name) = change name
+by_name change (Err reason) = Err (refusal_of reason)
+
+-- the element of this number gets another name
+abbrev pub rename : Document → ℕ → List ℕ → List Binding → List Attribute → Result Document EditError
+rename d key name bindings attributes = by_name (λ own. Ok (renamed key own d)) (element_resolved (names_scope d key) name)
+
+-- its attribute of the name gets a value
+abbrev pub set_attribute : Document → ℕ → List ℕ → List ℕ → List Binding → List Attribute → Result Document EditError
+set_attribute d key name value bindings attributes =
+    by_name (λ own. if has_no_room own bindings attributes then Err TooManyAttributes else Ok (attribute_set key own value d))
+    (attribute_resolved (names_scope d key) name)
+
+-- its attribute of the name goes
+abbrev pub unset_attribute : Document → ℕ → List ℕ → List Binding → List Attribute → Result Document EditError
+unset_attribute d key name bindings attributes =
+    by_name (λ own. if has_name own attributes then Ok (attribute_unset key own d) else Err NoSuchAttribute) (attribute_resolved (names_scope d key) name)
+
 -- the document after an edit, or the least refusal by its number, step by step: the same as what the edit's tests say
 abbrev pub after : Document → Edit → Result Document EditError
 after d (edits.Insert parent place its) =
@@ -168,6 +220,9 @@ after d (edits.Insert parent place its) =
 after d (edits.AddText parent place chars) = put d.forest parent place (put_within d parent place (text 0 chars none))
 after d (edits.SetText key chars) = reword d key chars (found key 1 d.forest)
 after d (edits.Remove key) = remove d key (found key 1 d.forest)
+after d (edits.Rename key name) = change_element (rename d key name) (found key 1 d.forest)
+after d (edits.SetAttr key name value) = change_element (set_attribute d key name value) (found key 1 d.forest)
+after d (edits.UnsetAttr key name) = change_element (unset_attribute d key name) (found key 1 d.forest)
 
 -- a block is one element
 abbrev pub can_be_made : Edit → Bool
@@ -175,3 +230,6 @@ can_be_made (edits.Insert parent place its) = one_element its
 can_be_made (edits.AddText parent place chars) = true
 can_be_made (edits.SetText key chars) = true
 can_be_made (edits.Remove key) = true
+can_be_made (edits.Rename key name) = true
+can_be_made (edits.SetAttr key name value) = true
+can_be_made (edits.UnsetAttr key name) = true

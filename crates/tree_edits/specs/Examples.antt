@@ -6,7 +6,7 @@ use Rattle.item_listing.specs.declared.item.Item.TheVariants as items
 use Rattle.tree_rows.specs.Forest.{Forest, Document, none, text, element}
 use Rattle.tree_edits.specs.Tests.{edited}
 use Rattle.tree_edits.specs.declared.edit.Edit.TheVariants as edits
-use Rattle.tree_edits.specs.declared.edit.EditError.TheVariants.{RootFixed, BadIndex, NotText, UnknownNode, UnboundPrefix}
+use Rattle.tree_edits.specs.declared.edit.EditError.TheVariants.{RootFixed, BadIndex, NotText, UnknownNode, UnboundPrefix, ReservedName, NoSuchAttribute}
 
 -- <r xmlns:p="u">x</r>, where node 3 was taken away
 abbrev with_text : Forest → Document
@@ -42,3 +42,32 @@ fixed_root = refl
 taken_away : edited (with_text none) (edits.Remove 3) ≡ Err UnknownNode
 unfolding chars
 taken_away = refl
+
+-- an element's name is looked up in its own scope
+given_name : edited (with_text none) (edits.Rename 1 (codes "p:s"))
+    ≡ Ok (record {
+      forest =
+          element 1 (record { namespace = Some (codes "u"); local = codes "s" }) (record { prefix = codes "p"; namespace = codes "u" } ∷ []) []
+          (text 2 (codes "x") none) none;
+      next_free = 4;
+    })
+unfolding chars
+given_name = refl
+
+given_attribute : edited (with_text none) (edits.SetAttr 1 (codes "a") (codes "1"))
+    ≡ Ok (record {
+      forest =
+          element 1 (record { namespace = None; local = codes "r" }) (record { prefix = codes "p"; namespace = codes "u" } ∷ [])
+          (record { name = record { namespace = None; local = codes "a" }; value = codes "1" } ∷ []) (text 2 (codes "x") none) none;
+      next_free = 4;
+    })
+unfolding chars
+given_attribute = refl
+
+no_binding : edited (with_text none) (edits.SetAttr 1 (codes "xmlns:q") (codes "v")) ≡ Err ReservedName
+unfolding chars
+no_binding = refl
+
+no_attribute : edited (with_text none) (edits.UnsetAttr 1 (codes "p:a")) ≡ Err NoSuchAttribute
+unfolding chars
+no_attribute = refl

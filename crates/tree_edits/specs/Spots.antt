@@ -4,16 +4,20 @@ use Rattle.tree_rows.specs.declared.limits.TheConstants.{MAX_DEPTH, MAX_NODES}
 use Rattle.tree_rows.specs.Forest.{Forest, Document, count, deepest_of}
 use Rattle.tree_rows.specs.Rows.{rows_of, siblings}
 use Rattle.tag_names.specs.Scopes.{first_scope}
-use Rattle.tree_edits.specs.Edits.{put, put_within, insert_within, scope_in, reword, remove, found, replaced, with_children}
+use Rattle.tree_edits.specs.Changes.{with_attributes}
+use Rattle.tree_edits.specs.Edits.{put, put_within, insert_within, scope_in, reword, remove, found, replaced, with_children, renamed, change_element, after}
 use Rattle.tree_edits.specs.Places.{scope_above}
 use Rattle.tree_edits.specs.Refusals.{IsWhy}
 use Rattle.tree_building.specs.Shape.{AreSound, deepest_row}
 use Rattle.item_listing.specs.declared.item.Item.{Item}
+use Rattle.tree_rows.specs.declared.name.Expanded.{Expanded}
+use Rattle.tree_rows.specs.declared.row.Attribute.{Attribute}
 use Rattle.tree_rows.specs.declared.row.Binding.{Binding}
 use Rattle.tree_rows.specs.declared.row.Row.{Row}
 use Rattle.tree_rows.specs.declared.row.Content.TheVariants as contents
 use Rattle.tree_edits.specs.declared.places.Spot.{Spot}
 use Rattle.tree_edits.specs.declared.places.Span.{Span}
+use Rattle.tree_edits.specs.declared.edit.Edit.{Edit}
 use Rattle.tree_edits.specs.declared.edit.EditError.{EditError}
 
 -- the document of these rows
@@ -81,6 +85,38 @@ pub record IsTextPlace (rows : List Row) (key place : ℕ) : Type 0 where
 
 abbrev pub CannotReword : List Row → ℕ → EditError → Type 0
 CannotReword rows key error = (chars : List ℕ) (next : ℕ) → IsWhy (reword (tree_of rows next) key chars (found key 1 (siblings rows 1))) error
+
+-- the rows are sound, and those of the tree where its element of this number has another name, or other attributes
+pub record Renames (rows changed : List Row) (key : ℕ) (name : Expanded) : Type 0 where
+  pub sound : AreSound changed
+  pub gives : (next : ℕ) → renamed key name (tree_of rows next) ≡ tree_of changed next
+
+pub record Reattributes (rows changed : List Row) (key : ℕ) (change : List Attribute → List Attribute) : Type 0 where
+  pub sound : AreSound changed
+  pub gives : (next : ℕ) → record (tree_of rows next) { forest = replaced key (with_attributes change) (siblings rows 1) } ≡ tree_of changed next
+
+-- the row of this place is that of the element
+pub record IsElementPlace (rows : List Row) (key place : ℕ) : Type 0 where
+  pub within : place < length rows
+  pub row : Row
+  pub reads : row ≡ slice_index_or rows place row
+  pub shallow : row.depth ≤ MAX_DEPTH
+  pub scoped : (scope : List Binding) → scope_in key scope (siblings rows 1) ≡ scope_above (row.depth + 1) scope (reverse (take (place + 1) rows))
+  pub changes : (change : List Binding → List Attribute → Result Document EditError) → change_element change (found key 1 (siblings rows 1)) ≡ change row.bindings row.attributes
+  pub renames : (changed : List Row) (name : Expanded) → changed ≡ slice_set rows place (record row { content = contents.Element name }) → Renames rows changed key name
+  pub reattributes : (changed : List Row) (change : List Attribute → List Attribute) → changed ≡ slice_set rows place (record row { attributes = change row.attributes })
+      → Reattributes rows changed key change
+
+abbrev pub CannotChange : List Row → ℕ → EditError → Type 0
+CannotChange rows key error = (change : List Binding → List Attribute → Result Document EditError) → IsWhy (change_element change (found key 1 (siblings rows 1))) error
+
+-- the rows are sound, and those of the tree after the edit
+pub record Makes (rows changed : List Row) (edit : Edit) : Type 0 where
+  pub sound : AreSound changed
+  pub gives : (next : ℕ) → after (tree_of rows next) edit ≡ Ok (tree_of changed next)
+
+abbrev pub CannotMake : List Row → Edit → EditError → Type 0
+CannotMake rows edit error = (next : ℕ) → IsWhy (after (tree_of rows next) edit) error
 
 -- the rows are sound, and those of the tree without the node
 pub record Removes (rows changed : List Row) (key : ℕ) : Type 0 where

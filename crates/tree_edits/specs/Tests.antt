@@ -1,17 +1,24 @@
 -- The tests that an edit must pass, in the order of the numbers of their refusals.
-use Rattle.std.specs.Prelude.{ℕ, ◌+◌, List, [], ◌∷◌, Bool, true, false, nat_lt, Option, Some, None, Result, Ok, Err, if◌then◌else◌}
+use Rattle.std.specs.Prelude.{ℕ, ◌+◌, List, [], ◌∷◌, Bool, true, false, not, nat_lt, Option, Some, None, Result, Ok, Err, if◌then◌else◌}
 use Rattle.std.specs.List.{list_any}
 use Rattle.tree_rows.specs.declared.limits.TheConstants.{MAX_DEPTH}
 use Rattle.tree_rows.specs.Forest.{Forest, none, text, element, Document, count, deepest_of}
+use Rattle.tree_rows.specs.declared.row.Attribute.{Attribute}
+use Rattle.tree_rows.specs.declared.row.Binding.{Binding}
 use Rattle.item_listing.specs.declared.item.Item.{Item}
+use Rattle.tag_names.specs.Faults.{is_no_qname, is_unbound, is_xmlns}
+use Rattle.tag_names.specs.Resolving.{binds}
 use Rattle.tag_names.specs.Scopes.{first_scope}
+use Rattle.tag_names.specs.Tags.{prefix_of, element_name, attribute_name}
 use Rattle.tree_building.specs.Building.{block}
+use Rattle.tree_rows.specs.declared.name.Expanded.{Expanded}
 use Rattle.tree_edits.specs.Blocks.{Placed, tags_in, has_bad_name, has_unbound, uses_reserved, has_too_many, has_double}
-use Rattle.tree_edits.specs.Edits.{Found, found, width, scope_in, replaced, with_children, with_chars, renumbered, too_many_more, is_root}
+use Rattle.tree_edits.specs.Changes.{has_name, has_no_room}
+use Rattle.tree_edits.specs.Edits.{Found, found, width, scope_in, replaced, with_children, with_chars, renumbered, renamed, attribute_set, attribute_unset, names_scope, too_many_more, is_root}
 use Rattle.tree_edits.specs.declared.edit.Edit.{Edit}
 use Rattle.tree_edits.specs.declared.edit.Edit.TheVariants as edits
 use Rattle.tree_edits.specs.declared.edit.EditError.{EditError}
-use Rattle.tree_edits.specs.declared.edit.EditError.TheVariants.{UnknownNode, NotElement, NotText, RootFixed, BadIndex, BadName, UnboundPrefix, ReservedName, TooManyNodes, TooDeep, TooManyAttributes, DoubleAttribute}
+use Rattle.tree_edits.specs.declared.edit.EditError.TheVariants.{UnknownNode, NotElement, NotText, RootFixed, BadIndex, BadName, UnboundPrefix, ReservedName, NoSuchAttribute, TooManyNodes, TooDeep, TooManyAttributes, DoubleAttribute}
 
 -- a test, and the refusal where it stands
 pub record Test : Type 0 where
@@ -67,6 +74,25 @@ abbrev pub depth_of : Option Found → ℕ
 depth_of None = 0
 depth_of (Some it) = it.depth
 
+-- its attributes and bindings
+abbrev pub node_attributes : Forest → List Attribute
+node_attributes none = []
+node_attributes (text number chars next) = []
+node_attributes (element number name bindings attributes children next) = attributes
+
+abbrev pub attributes_of : Option Found → List Attribute
+attributes_of None = []
+attributes_of (Some it) = node_attributes it.node
+
+abbrev pub node_bindings : Forest → List Binding
+node_bindings none = []
+node_bindings (text number chars next) = []
+node_bindings (element number name bindings attributes children next) = bindings
+
+abbrev pub bindings_of : Option Found → List Binding
+bindings_of None = []
+bindings_of (Some it) = node_bindings it.node
+
 -- new nodes are put among the children of a node
 abbrev pub put_tests : Document → ℕ → ℕ → List Test → List Test
 put_tests d parent place more =
@@ -97,6 +123,29 @@ attribute_tests tags = test (list_any has_too_many tags) TooManyAttributes ∷ t
 abbrev pub tags_below : Document → ℕ → List Item → List Placed
 tags_below d parent its = tags_in (scope_in parent first_scope d.forest) [] its
 
+-- an element is changed
+abbrev pub element_tests : Document → ℕ → List Test → List Test
+element_tests d key more = test (is_missing (found key 1 d.forest)) UnknownNode ∷ test (is_text (found key 1 d.forest)) NotElement ∷ more
+
+-- of the name of an element, or of an attribute, in a scope
+abbrev pub qname_tests : List Binding → List ℕ → Bool → List Test → List Test
+qname_tests scope name reserved more =
+    test (is_no_qname name) BadName ∷ test (is_unbound scope (prefix_of name)) UnboundPrefix ∷ test reserved ReservedName ∷ more
+
+-- the names that an edit of an element gives
+abbrev pub new_name : Document → ℕ → List ℕ → Expanded
+new_name d key name = element_name (names_scope d key) name
+
+abbrev pub attribute_named : Document → ℕ → List ℕ → Expanded
+attribute_named d key name = attribute_name (names_scope d key) name
+
+-- the element has no room for the attribute, or has it
+abbrev pub is_full : Document → ℕ → Expanded → Bool
+is_full d key name = has_no_room name (bindings_of (found key 1 d.forest)) (attributes_of (found key 1 d.forest))
+
+abbrev pub has_attribute : Document → ℕ → Expanded → Bool
+has_attribute d key name = has_name name (attributes_of (found key 1 d.forest))
+
 abbrev pub tests_of : Document → Edit → List Test
 tests_of d (edits.Insert parent place its) =
     put_tests d parent place (name_tests (tags_below d parent its)
@@ -106,6 +155,13 @@ tests_of d (edits.SetText key chars) =
     test (is_missing (found key 1 d.forest)) UnknownNode ∷ test (is_element (found key 1 d.forest)) NotText ∷ []
 tests_of d (edits.Remove key) =
     test (is_missing (found key 1 d.forest)) UnknownNode ∷ test (is_root key d.forest) RootFixed ∷ []
+tests_of d (edits.Rename key name) = element_tests d key (qname_tests (names_scope d key) name (is_xmlns (prefix_of name)) [])
+tests_of d (edits.SetAttr key name value) =
+    element_tests d key (qname_tests (names_scope d key) name (binds name)
+    (test (is_full d key (attribute_named d key name)) TooManyAttributes ∷ []))
+tests_of d (edits.UnsetAttr key name) =
+    element_tests d key (qname_tests (names_scope d key) name (binds name)
+    (test (not (has_attribute d key (attribute_named d key name))) NoSuchAttribute ∷ []))
 
 -- with new nodes before the child of this place; they get the numbers from the next free one on, in document order
 abbrev pub with_nodes : Document → ℕ → ℕ → Forest → Document
@@ -120,6 +176,9 @@ made d (edits.Insert parent place its) = with_nodes d parent place (block (scope
 made d (edits.AddText parent place chars) = with_nodes d parent place (text 0 chars none)
 made d (edits.SetText key chars) = record d { forest = replaced key (with_chars chars) d.forest }
 made d (edits.Remove key) = record d { forest = replaced key (λ node. none) d.forest }
+made d (edits.Rename key name) = renamed key (new_name d key name) d
+made d (edits.SetAttr key name value) = attribute_set key (attribute_named d key name) value d
+made d (edits.UnsetAttr key name) = attribute_unset key (attribute_named d key name) d
 
 abbrev pub unless_refused : Option EditError → Document → Result Document EditError
 unless_refused None d = Ok d

@@ -10,6 +10,7 @@ ghost use Rattle.tree_building.specs.Shape.{AreSound, AreWhole, AreUnder, deepes
 ghost use Rattle.tree_edits.specs.Refusals.{IsWhy};
 ghost use Rattle.tree_edits.specs.Spots.{tree_of, inserting, IsSpot, Puts, Inserts, IsText, Fits, HasRoom, HasNoRoom, Rewords, Removes, CannotRemove};
 
+use crate::elements::{rename_element, set_attribute, unset_attribute};
 use crate::names::judge_block;
 use crate::places::{Spot, span_of, spot_of, text_place};
 use crate::scope::scope_at;
@@ -229,6 +230,18 @@ fn change_rows(
         }
         Edit::Remove { node } => {
             remove_node(rows, *node)?;
+            Ok(next_free)
+        }
+        Edit::Rename { node, name } => {
+            rename_element(alloc, rows, *node, name)?;
+            Ok(next_free)
+        }
+        Edit::SetAttr { node, name, value } => {
+            set_attribute(alloc, rows, *node, name, value)?;
+            Ok(next_free)
+        }
+        Edit::UnsetAttr { node, name } => {
+            unset_attribute(alloc, rows, *node, name)?;
             Ok(next_free)
         }
     }

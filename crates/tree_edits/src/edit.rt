@@ -1,9 +1,10 @@
 ghost use Rattle.std.specs.Prelude.{◌≡◌};
 ghost use Rattle.tree_edits.specs.declared.edit.EditError.TheVariants.{Memory};
-ghost use Rattle.tree_edits.specs.Refusals.{number_of, name_of};
+ghost use Rattle.tree_edits.specs.Refusals.{number_of, name_of, refusal_of};
 
 use item_listing::Items;
 use std::alloc::{AllocError, AllocFailed};
+use tag_names::NameReason;
 use xs_names::Text;
 
 /// A change of a tree. Nodes are named by their numbers, and a place among the children of an element
@@ -32,6 +33,23 @@ pub enum Edit {
     Remove {
         node: u32,
     },
+    /// Gives an element another name. The QName resolves in the element's scope.
+    Rename {
+        node: u32,
+        name: Text,
+    },
+    /// Gives an attribute of an element a value; it keeps its place. Where there is none of this expanded name, it is put
+    /// behind the others. The QName resolves in the element's scope.
+    SetAttr {
+        node: u32,
+        name: Text,
+        value: Text,
+    },
+    /// Takes an attribute of an element away. The QName resolves in the element's scope.
+    UnsetAttr {
+        node: u32,
+        name: Text,
+    },
 }
 
 /// Why a tree was not changed.
@@ -47,18 +65,20 @@ pub enum EditError {
     RootFixed,
     /// The place is greater than the number of children.
     BadIndex,
-    /// A name of the block is no QName (Namespaces in XML 1.0, 4).
+    /// A name, also one of the block, is no QName (Namespaces in XML 1.0, 4).
     BadName,
     /// A prefix other than `xmlns` is not bound (Namespaces in XML 1.0, 5).
     UnboundPrefix,
     /// A prefix or a namespace is used or bound that is reserved, or a prefix is bound to no namespace (Namespaces in
-    /// XML 1.0, 3 and 5).
+    /// XML 1.0, 3 and 5); or the name of an attribute is that of a binding.
     ReservedName,
+    /// The element has no attribute of the name.
+    NoSuchAttribute,
     /// There would be more than 131,072 nodes, or a new node would get the number 4,294,967,295.
     TooManyNodes,
     /// An element would have a depth of more than 128.
     TooDeep,
-    /// An element of the block has more than 256 attributes and bindings.
+    /// An element would have more than 256 attributes and bindings.
     TooManyAttributes,
     /// Memory was wanting.
     Memory,
@@ -81,6 +101,7 @@ impl EditError {
             EditError::BadName => 6,
             EditError::UnboundPrefix => 7,
             EditError::ReservedName => 8,
+            EditError::NoSuchAttribute => 9,
             EditError::TooManyNodes => 10,
             EditError::TooDeep => 11,
             EditError::TooManyAttributes => 12,
@@ -102,6 +123,7 @@ impl EditError {
             EditError::BadName => "BadName",
             EditError::UnboundPrefix => "UnboundPrefix",
             EditError::ReservedName => "ReservedName",
+            EditError::NoSuchAttribute => "NoSuchAttribute",
             EditError::TooManyNodes => "TooManyNodes",
             EditError::TooDeep => "TooDeep",
             EditError::TooManyAttributes => "TooManyAttributes",
@@ -124,5 +146,19 @@ impl<T: Drop> From<AllocFailed<T>> for EditError {
 
     fn from(_: AllocFailed<T>) -> Self {
         EditError::Memory
+    }
+}
+
+impl From<NameReason> for EditError {
+    ghost from_gives = { λ reason e. e ≡ refusal_of reason };
+
+    fn from(reason: NameReason) -> Self {
+        match reason {
+            NameReason::BadName => EditError::BadName,
+            NameReason::ReservedName => EditError::ReservedName,
+            NameReason::UnboundPrefix => EditError::UnboundPrefix,
+            NameReason::DoubleAttribute => EditError::DoubleAttribute,
+            NameReason::TooManyAttributes => EditError::TooManyAttributes,
+        }
     }
 }

@@ -1,8 +1,10 @@
-//! Edits of the rows of a tree: blocks that are put, texts that are put and changed, nodes that are removed.
+//! Edits of the rows of a tree: blocks that are put, texts that are put and changed, nodes that are removed, elements that get
+//! another name or other attributes.
 #![tactic(auto)]
 
 mod apply;
 mod edit;
+mod elements;
 mod laws;
 mod names;
 mod places;

@@ -3,7 +3,7 @@ ghost use Rattle.std.specs.List.{position_or_len};
 ghost use Rattle.tree_rows.specs.declared.row.Row.{Row};
 ghost use Rattle.tree_building.specs.Shape.{AreSound};
 ghost use Rattle.tree_edits.specs.EditRows.{is_numbered, rows_width, put_rows, ends_at};
-ghost use Rattle.tree_edits.specs.Spots.{CannotPut, IsSpot, CannotReword, IsTextPlace, CannotRemove, IsSpan};
+ghost use Rattle.tree_edits.specs.Spots.{CannotPut, IsSpot, CannotReword, IsTextPlace, CannotChange, IsElementPlace, CannotRemove, IsSpan};
 
 use crate::EditError;
 use tree_rows::{Content, Row};
@@ -131,6 +131,22 @@ pub fn text_place(rows: &[Row], node: u32) -> Result<usize, EditError>
     match &row.content {
         Content::Element(_) => Err(EditError::NotText),
         Content::Chars(_) => Ok(place),
+    }
+}
+
+/// The place of an element.
+pub fn element_place(rows: &[Row], node: u32) -> Result<usize, EditError>
+    requires { AreSound rows.now }
+    ensures ok { IfOk result (IsElementPlace rows.now node) }
+    ensures err { IfErr result (CannotChange rows.now node) }
+{
+    let place = place_of(rows, node);
+    let Some(row) = rows.get(place) else {
+        return Err(EditError::UnknownNode);
+    };
+    match &row.content {
+        Content::Chars(_) => Err(EditError::NotElement),
+        Content::Element(_) => Ok(place),
     }
 }
 

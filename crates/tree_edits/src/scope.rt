@@ -1,6 +1,7 @@
-ghost use Rattle.std.specs.Prelude.{◌≡◌, ◌+◌, ◌<◌, ◌≤◌, List, IfOk, IfSome, MatchOption, length, reverse, take};
+ghost use Rattle.std.specs.Prelude.{◌≡◌, ◌+◌, ◌<◌, ◌≤◌, List, IfOk, IfSome, MatchOption, length, reverse, take, slice_index_or};
 ghost use Rattle.tree_rows.specs.Rows.{siblings};
 ghost use Rattle.tree_rows.specs.declared.row.Binding.{Binding};
+ghost use Rattle.tree_rows.specs.declared.row.Row.{Row};
 ghost use Rattle.tree_rows.specs.declared.limits.TheConstants.{MAX_DEPTH};
 ghost use Rattle.tag_names.specs.Scopes.{first_scope};
 ghost use Rattle.tree_building.specs.Shape.{AreSound};
@@ -50,6 +51,16 @@ pub fn scope_at(alloc: Global, rows: &[Row], spot: Spot) -> Result<Prefixes, All
     ensures { IfOk result (λ scope. scope ≡ scope_above (spot.depth + 1) first_scope (reverse (take (spot.parent + 1) rows.now))) }
 {
     scope_of(alloc, &rows[..spot.parent + 1], spot.depth + 1)
+}
+
+/// The scope of the names of the element whose row has this place, its own bindings among them.
+pub fn scope_inside(alloc: Global, rows: &[Row], place: usize) -> Result<Prefixes, AllocError>
+    requires within { place < length rows.now }
+    requires shallow { (row : Row) → row ≡ slice_index_or rows.now place row → row.depth ≤ MAX_DEPTH }
+    ensures { (row : Row) → row ≡ slice_index_or rows.now place row → IfOk result (λ scope. scope ≡ scope_above (row.depth + 1) first_scope (reverse (take (place + 1) rows.now))) }
+{
+    let below = rows[place].depth + 1;
+    scope_of(alloc, &rows[..place + 1], below)
 }
 
 /// The scope in which the row of a place stands, if it has this depth.

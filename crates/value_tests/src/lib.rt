@@ -1,7 +1,5 @@
-//! Tests of the public calls of the crates of values.
+//! Tests of the public calls on values that the program does not make.
 #![tactic(auto)]
 
-#[cfg(test)]
-mod strings;
 #[cfg(test)]
 mod values;

@@ -1,13 +1,8 @@
-//! Values, keys and the built-in types.
-use dec_value::Dec;
-use simple_values::{
-    BUILTINS, Key, Value, base_of, bounds_of, builtin_named, item_type, key_of, length, less,
-    name_of, primitive_of, read_builtin, read_normalized, same, same_key, white_space_of,
-};
+//! Values and keys.
+use simple_values::{Key, Value, key_of, read_builtin, same, same_key};
 use std::alloc::{AllocError, Global};
 use std::collections::HashMap;
 use std::test::Fail;
-use white_space::WhiteSpace;
 use xs_codes::Builtin;
 use xs_names::{Names, Scope};
 
@@ -84,29 +79,6 @@ fn values_are_read_and_cloned(rt: HostRuntime) -> Result<(), Fail> {
     Ok(())
 }
 
-// The value of a text whose white space is treated, in a copy of the scope.
-fn normalized_value(alloc: Global) -> Result<Option<Value>, AllocError> {
-    let scope = scope_with_p(alloc)?.try_clone()?;
-    Ok(read_normalized(alloc, Builtin::String, "a b", &scope)?.ok())
-}
-
-// Whether a value is that of the token.
-fn is_token(alloc: Global, value: &Value) -> Result<bool, AllocError> {
-    match value_at(alloc, Builtin::Token, " a  b ")? {
-        Some(token) => Ok(
-            same(value, &token) && less(value, &token).is_none() && length(&token) == Some(3),
-        ),
-        None => Ok(false),
-    }
-}
-
-#[test]
-fn white_space_is_collapsed(rt: HostRuntime) -> Result<(), Fail> {
-    let normalized = normalized_value(rt.alloc())?.ok_or("no value")?;
-    assert!(rt; is_token(rt.alloc(), &normalized)?);
-    Ok(())
-}
-
 // Whether the second literal's key is found in a map with the first one's. Both keys are compared, too.
 fn is_found(alloc: Global, kept: (Builtin, &str), asked: (Builtin, &str)) -> Result<bool, Fail> {
     match key_at(alloc, asked.0, asked.1)? {
@@ -137,28 +109,4 @@ fn keys_serve_in_a_map(rt: HostRuntime) -> Result<(), Fail> {
     assert!(rt; !is_found(rt.alloc(), one, (Builtin::String, "1"))?);
     assert!(rt; !is_found(rt.alloc(), one, (Builtin::NmTokens, "1"))?);
     Ok(())
-}
-
-// Whether each type is found by its name, and its primitive type is primitive.
-fn are_named(kinds: &[Builtin]) -> bool {
-    kinds.iter().all(|kind| {
-        builtin_named(name_of(*kind)) == Some(*kind)
-            && match primitive_of(*kind) {
-                Some(primitive) => base_of(primitive) == Some(Builtin::AnySimpleType),
-                None => *kind == Builtin::AnySimpleType || item_type(*kind).is_some(),
-            }
-    })
-}
-
-#[test]
-fn types_have_names_bases_and_bounds(rt: HostRuntime) {
-    assert!(rt; are_named(BUILTINS.as_slice()));
-    assert!(rt; builtin_named("anyType").is_none() && builtin_named("nmtoken").is_none());
-    assert!(rt; base_of(Builtin::UnsignedByte) == Some(Builtin::UnsignedShort));
-    assert!(rt; primitive_of(Builtin::UnsignedByte) == Some(Builtin::Decimal));
-    assert!(rt; white_space_of(Builtin::NormalizedString) == WhiteSpace::Replace);
-    let bounds = bounds_of(Builtin::Byte);
-    assert!(rt; bounds.least == Some(Dec::from_integer(-128)));
-    assert!(rt; bounds.greatest == Some(Dec::from_integer(127)));
-    assert!(rt; bounds_of(Builtin::Integer).least.is_none());
 }

@@ -1,7 +1,7 @@
 use Rattle.std.proofs.Common.{◌↔◌, None, subst}
 use Rattle.std.specs.Prelude.{IsTrue}
 use Rattle.std.specs.Option.{option_copied}
-use Rattle.complex_restriction.specs.Values.{effective, LosesFixed}
+use Rattle.value_faults.specs.Values.{effective, LosesFixed}
 use Rattle.complex_restriction.specs.Uses.{declared}
 use Rattle.complex_restriction.proofs.UseLaws.{three-first}
 use Rattle.complex_restriction.proofs.uses.both_code.Goals as goal

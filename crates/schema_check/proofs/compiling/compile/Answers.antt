@@ -30,8 +30,8 @@ returns-in-Some c =
     (subst (λ (l : List SetDocument). IsSet documents l) (sym c.as_slice-set.ensures) set) in
     shape-refused documents c.in-Some.fault (shape-phase documents (Some c.in-Some.fault) (subst (λ (o : Option Fault). IsLeast (IsShapeFault documents) o) c.in-Some.is least))
 
-pub returns-in-None : goal.returns-in-None
-returns-in-None c =
+pub returns : goal.returns
+returns c =
     let documents = c.args.documents.now in
     let closed = c.in_ok-closed.closed in
     let same = c.as_slice-available.ensures ∙ c.in_ok-read.ensures.available in

@@ -1,4 +1,3 @@
-use Rattle.std.proofs.Common.{◌≡◌, ℕ, ◌<◌, List, Some, None, length, ap, sym, ◌∙◌, arith}
 use Rattle.lists_tests.proofs.Holding.{AreHeld_changed}
 use Rattle.lists_tests.proofs.held.Held.remove.Goals as goal
 
