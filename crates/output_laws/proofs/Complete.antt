@@ -1,6 +1,6 @@
 -- Streams of which no line is refused.
 use Rattle.std.proofs.Common.{◌≡◌, ◌⊎◌, inl, inr, ℕ, List, [], ◌∷◌, ◌++◌, true, Option, Some, refl, sym, ap, ◌∙◌, subst, append_assoc, append-nil, ◌+◌, arith}
-use Rattle.item_listing.specs.Listed.{listed, Listed}
+use Rattle.item_listing.specs.Listed.{listed}
 use Rattle.item_listing.specs.State.{unread}
 use Rattle.item_listing.specs.declared.item.Item.{Item}
 use Rattle.tree_rows.specs.Forest.{Document}
@@ -14,7 +14,6 @@ use Rattle.xsv_run.specs.Answers.{next_of, verdict}
 use Rattle.xsv_run.specs.Compiled.{Compiled}
 use Rattle.xsv_run.specs.Outcome.{Outcome}
 use Rattle.xsv_run.specs.Outcome.TheVariants.{Accepted, Broken, NotYet}
-use Rattle.xsv_run.specs.Outcomes.{IsOutcome}
 use Rattle.xsv_run.specs.State.{OpenState}
 use Rattle.xsv_run.specs.Told.{Last, Told, over, asks, Leads, free, before, answered, schema_ok, ending_of, not_yet, inputs, sections_told, stream_told, compiled_told, check_told, opened_told, opening, commands_told}
 use Rattle.xsv_run.specs.Output.{Output, asked, refused_words, output_of, ComesTo, IsOutput, IsOutputBy, told_of}

@@ -10,7 +10,7 @@ use Rattle.open_document.specs.State.{OpenState, WorkState, empty, ready, workin
 use Rattle.open_document.specs.Tells.{Wrote}
 use Rattle.stream_sections.specs.declared.commands.CommandReader.{CommandReader}
 use Rattle.stream_answers.specs.Output.{Said}
-use Rattle.stream_answers.specs.inside.Turns.{Spot, commands, Turned, goes, LeadsTo, silent, no_block}
+use Rattle.stream_answers.specs.inside.Turns.{Spot, commands, Turned, goes, LeadsTo, no_block}
 use Rattle.stream_answers.specs.inside.Turning.{spot_of, said_of, MovesTo, GoesTo, Takes}
 use Rattle.stream_answers.specs.declared.place.Place.{Place}
 use Rattle.stream_answers.specs.declared.place.Place.TheVariants as places

@@ -18,8 +18,8 @@ use Rattle.stream_sections.specs.declared.commands.CommandReader.{CommandReader}
 use Rattle.stream_sections.specs.declared.document.DocumentReader.{DocumentReader}
 use Rattle.stream_sections.specs.declared.schemas.SchemaReader.{SchemaReader}
 use Rattle.stream_sections.specs.declared.schemas.SchemaSection.{SchemaSection}
-use Rattle.stream_answers.specs.Output.{Told, over, asks, free, before, closing_told, commands_told, opening, opened_told, schema_ok, inputs, compiled_told, stream_told, check_told, sections_told, answered}
-use Rattle.stream_answers.specs.inside.Turns.{Spot, schemas, document, commands, ended, Turned, goes, stops, silent, unbegun, no_block, document_ended, spot_behind, compiled, schemas_turned, document_turned, commands_turned, command_at, end_last, turn_then, told}
+use Rattle.stream_answers.specs.Output.{Told, asks, free, before, closing_told, commands_told, opening, opened_told, schema_ok, inputs, compiled_told, stream_told, check_told, sections_told, answered}
+use Rattle.stream_answers.specs.inside.Turns.{schemas, document, commands, ended, Turned, goes, stops, unbegun, no_block, document_ended, spot_behind, compiled, schemas_turned, document_turned, commands_turned, command_at, end_last, turn_then, told}
 use Rattle.stream_answers.proofs.Leading.{before_silent}
 
 module _ (p : RightAssessor) where
