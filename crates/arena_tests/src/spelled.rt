@@ -54,8 +54,8 @@ impl Spaces {
 }
 
 fn number_locals(names: &mut Names, space: &str) -> Result<(), AllocError> {
-    let space = names.namespace_id(space)?;
     for local in &LOCAL_PARTS {
+        let space = names.namespace_id(space)?;
         names.intern(space, local)?;
     }
     Ok(())
