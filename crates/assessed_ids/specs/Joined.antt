@@ -1,4 +1,4 @@
--- The assessment of a document with the codes of its IDs at the root: Structures 3.15.4, 5.2.
+-- The assessment of a document with the codes of its IDs at the root: Structures 3.3.4, 5.2.
 use Rattle.std.specs.Prelude.{ℕ, ◌==◌, Bool, false, List, [], if◌then◌else◌}
 use Rattle.xs_codes.specs.declared.fault.Found.{Found}
 use Rattle.tree_rows.specs.Forest.{Forest, none, text, element}
@@ -13,7 +13,7 @@ is_root none n = false
 is_root (text number chars next) n = is_root next n
 is_root (element number name bindings attributes children next) n = number == n
 
--- cvc-id.1 and cvc-id.2 (Structures 3.15.4) stand at the root, by the values in the document; there are no identity constraints
+-- cvc-id.1 and cvc-id.2 (Structures 3.3.4) stand at the root, by the values in the document; there are no identity constraints
 abbrev pub beside_of : Forest → Assessed → Beside
 beside_of f found = record { identity = λ number. []; ids = λ number. if is_root f number then id_codes (borne_values found) else [] }
 

@@ -1,4 +1,4 @@
-//! The IDs of an assessed document, and its assessment with their codes at the root (Structures 3.15.4, 3.15.5, 5.2).
+//! The IDs of an assessed document, and its assessment with their codes at the root (Structures 3.3.4, 3.15.5, 5.2).
 #![tactic(auto)]
 
 mod laws;

@@ -1,6 +1,6 @@
 -- The simple type that the text of a type is of, and codes of contents.
 use Rattle.std.proofs.Common.{◌≡◌, ◌↔◌, ◌⊎◌, inl, inr, ℕ, Bool, true, false, List, Option, None, Some, slice_get, refl, sym, ap, ◌∙◌, subst}
-use Rattle.std.specs.Prelude.{IsTrue, IfOk, IfSome, ◌<◌, Result, Ok, Err, not, ◌&&◌, is_some, if◌then◌else◌}
+use Rattle.std.specs.Prelude.{IsTrue, IfOk, IfSome, Result, Ok, Err, not, ◌&&◌, is_some, if◌then◌else◌}
 use Rattle.std.specs.Option.{option_and_then}
 use Rattle.std.proofs.lemmas.Bool.{false≢true}
 use Rattle.std.proofs.lemmas.Option.{same_Some, none-some}

@@ -1,5 +1,5 @@
--- The IDs of a document, the references to them, and what its root is judged by: Structures 3.15.4 and 3.15.5.
-use Rattle.std.specs.Prelude.{ℕ, ◌==◌, Bool, not, List, [], ◌∷◌, ◌++◌, map, length, filter, bytes_eq, Option, None, Some, if◌then◌else◌}
+-- The IDs of a document, the references to them, and what its root is judged by: Structures 3.3.4 and 3.15.5.
+use Rattle.std.specs.Prelude.{◌≡◌, ℕ, ◌==◌, Bool, true, false, not, List, [], ◌∷◌, ◌++◌, map, length, filter, bytes_eq, codes, refl, Option, None, Some, if◌then◌else◌}
 use Rattle.std.specs.List.{list_any, flat_map}
 use Rattle.xs_codes.specs.declared.builtin.Builtin.{Builtin}
 use Rattle.xs_codes.specs.declared.builtin.Builtin.TheVariants as types
@@ -87,13 +87,13 @@ references all = flat_map references_in all
 abbrev pub binding : List BorneId → List ℕ → List ℕ
 binding all id = map (λ (b : BorneId). b.bearer) (filter (λ (b : BorneId). bytes_eq b.id id) all)
 
--- ---- Validation Root Valid (ID/IDREF) (Structures 3.15.4)
+-- ---- Validation Root Valid (ID/IDREF) (Structures 3.3.4)
 
--- cvc-id.1 (Structures 3.15.4): the binding of some reference is empty.
+-- cvc-id.1 (Structures 3.3.4): the binding of some reference is empty.
 abbrev pub has_unbound : List BorneId → List (List ℕ) → Bool
 has_unbound all refs = list_any (λ id. length (binding all id) == 0) refs
 
--- cvc-id.2 (Structures 3.15.4): the binding of some ID has more than one member.
+-- cvc-id.2 (Structures 3.3.4): the binding of some ID has more than one member.
 abbrev pub has_shared : List BorneId → Bool
 has_shared all = list_any (λ (b : BorneId). list_any (λ other. not (other == b.bearer)) (binding all b.id)) all
 
@@ -102,6 +102,12 @@ found code = record { code = code; place = 0 }
 
 abbrev pub code_if : Bool → Code → List Found
 code_if broken code = if broken then found code ∷ [] else []
+
+one_bearer_twice : has_shared (record { id = codes "x"; bearer = 1 } ∷ record { id = codes "x"; bearer = 1 } ∷ []) ≡ false
+one_bearer_twice = refl
+
+two_bearers : has_shared (record { id = codes "x"; bearer = 1 } ∷ record { id = codes "y"; bearer = 1 } ∷ record { id = codes "x"; bearer = 2 } ∷ []) ≡ true
+two_bearers = refl
 
 -- the codes of IDs of the root of a document with these atoms
 unfoldable pub id_codes : List BorneAtom → List Found

@@ -1,4 +1,4 @@
-//! The IDs of a document and the references to them, and what the validation root is judged by (Structures 3.15.4, 3.15.5).
+//! The IDs of a document and the references to them, and what the validation root is judged by (Structures 3.3.4, 3.15.5).
 #![tactic(auto)]
 
 mod role;

@@ -72,7 +72,7 @@ impl DocumentIds {
     }
 
     /// The codes of the validation root: cvc-id.1 where a reference has no ID, then cvc-id.2 where an ID has two bearers
-    /// (Structures 3.15.4).
+    /// (Structures 3.3.4).
     ///
     /// # Errors
     ///

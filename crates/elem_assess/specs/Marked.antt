@@ -1,4 +1,4 @@
--- Codes of IDs of the validation root, behind the others of its record: Structures 3.15.4, 3.3.5.
+-- Codes of IDs of the validation root, behind the others of its record: Structures 3.3.4, 3.3.5.
 use Rattle.std.specs.Prelude.{List, [], ◌∷◌, ◌++◌}
 use Rattle.xs_codes.specs.declared.fault.Found.{Found}
 use Rattle.assess_records.specs.declared.outcome.Validity.{Validity}

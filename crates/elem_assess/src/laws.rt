@@ -12,7 +12,7 @@ ghost use Rattle.elem_assess.specs.Marked.{with_ids, marked_record, marked_judge
 ghost use Rattle.elem_assess.specs.declared.records.Judged.{Judged as JudgedData};
 
 /// Codes of IDs stand behind the others of an element, which is invalid with them; nothing else of what is found out about it
-/// goes by them (Structures 3.15.4, 3.3.5).
+/// goes by them (Structures 3.3.4, 3.3.5).
 pub fn codes_of_ids_stand_last()
     ensures behind { (names : NameTable) (t : Tables) (g : Governing) (shape : ElementShape) (codes : List Found) → shape.ids ≡ [] → (judged : JudgedData) →
         IsLocal names t g shape judged → IsLocal names t g (with_ids codes shape) (marked_judged codes judged) }

@@ -4,6 +4,7 @@ use Rattle.std.proofs.Common.{arith, inl, inr}
 use Rattle.edit_replies.specs.Compiled.{Compiled}
 use Rattle.edit_replies.specs.Usable.{IsUsable}
 use Rattle.schema_compile.specs.Outcomes.{IsOutcome}
+use Rattle.schema_compile.specs.Refusal.TheVariants as refusals
 use Rattle.schema_compile.specs.SchemaInput.{SchemaInput}
 use Rattle.schema_compile.specs.declared.outcome.Outcome.{Outcome}
 use Rattle.schema_compile.specs.declared.outcome.Outcome.TheVariants.{Accepted}
@@ -14,10 +15,9 @@ use Rattle.open_document.specs.declared.verdict.SetVerdict.{SetVerdict}
 module _ (documents : List SchemaInput) where
   -- documents may be assessed by a set that is accepted
   pub accepted_usable : (c : Compiled) → IsOutcome documents (Accepted c) → IsUsable c
-  accepted_usable c (inl (fault, shaped, other)) = grind arith
-  accepted_usable c (inr (first, shaped, inl (unassessed, other))) = grind arith
-  accepted_usable c (inr (first, shaped, inr (assessed, inl (fault, broken, other)))) = grind arith
-  accepted_usable c (inr (first, shaped, inr (assessed, inr (made, compiled, (unbroken, of, usable))))) = usable
+  accepted_usable c (inl (refusals.Broken fault, is, other)) = grind arith
+  accepted_usable c (inl (refusals.NotYet, is, other)) = grind arith
+  accepted_usable c (inr (made, compiled, (unbroken, of, usable, uses))) = usable
 
   -- one of their outcomes is told and worked by
   pub told_and_worked : {E : Type 0} (r : Result SetVerdict E) (old new : WorkState) (o : Outcome) → IsOutcome documents o

@@ -34,6 +34,11 @@ module _ (s : Inside) (v : State) (is : state_of s ≡ v) (up : IsUpToDate s) (o
   present : IsPresent s
   present = up (ap (λ (x : State). x.closed) is ∙ open_now)
 
+  pub named_now : (es : List ElementEntry) → es ≡ s.stock.entries.items → All (IsEntryNamed v.set) (map entry_of es)
+  named_now es e =
+      subst (λ (set : Compiled). All (IsEntryNamed set) (map entry_of es)) (ap (λ (x : State). x.set) is)
+      (subst (λ (xs : List ElementEntry). All (IsEntryNamed s.set.value) (map entry_of xs)) (sym e) present.stock.named)
+
   module _ (p : RightAssessor) where
     known_now : map entry_of s.stock.entries.items ≡ known p v
     known_now = are_known s.set.value s.tree s.stock.entries.items present.stock.entries_are present.ready present.stock.tree p ∙ ap (known p) is

@@ -10,3 +10,4 @@ pub mod PhaseLaws
 pub mod UsableLaws
 pub mod OutcomeLaws
 pub mod ValueLaws
+pub mod SameLaws

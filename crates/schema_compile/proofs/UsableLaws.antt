@@ -1,5 +1,5 @@
 -- A set without a fault, with what was found of it, is usable.
-use Rattle.std.proofs.Common.{◌≡◌, ℕ, ◌<◌, Bool, List, Option, None, Some, Result, Ok, Err, length, refl, sym, ap, subst, ◌∙◌}
+use Rattle.std.proofs.Common.{◌≡◌, inl, ℕ, ◌<◌, Bool, List, Option, None, Some, Result, Ok, Err, length, refl, sym, ap, subst, ◌∙◌}
 use Rattle.std.specs.Prelude.{slice_get, slice_index_or}
 use Rattle.std.proofs.lemmas.Option.{slice_get_within, get_or_from_slice_get}
 use Rattle.xs_codes.specs.declared.code.Code.TheVariants.{CosNonambig}
@@ -74,4 +74,4 @@ pub accepted : ((t : Tables) (ids : List Bool) → IsLeast (IsAttrFault t ids) N
 accepted uses made found automata c fit same judged =
     let attrs = judged.0.0 in
     subst (λ (x : Compiled). IsSetOutcome made (Accepted x)) (sym same)
-    (judged.0, record { names = refl; parts = refl; types = refl }, usable made found automata fit judged.1 judged.3 judged.2, uses made.parts attrs.0 attrs.2)
+    (judged.0, record { names = refl; parts = refl; types = refl }, usable made found automata fit judged.1 judged.3 judged.2, uses made.parts attrs.0 (λ fault x. attrs.2 fault (inl x)))

@@ -1,7 +1,7 @@
 -- What the constraints on value constraints ask of compiled components.
-use Rattle.std.proofs.Common.{◌≡◌, ◌⊎◌, inl, inr, true, refl, ap, subst}
+use Rattle.std.proofs.Common.{inl, inr, ◌≡◌, sym, ap, subst}
 use Rattle.xs_codes.specs.declared.fault.Fault.{Fault}
-use Rattle.std.specs.Prelude.{List, Bool, Option, None, Some}
+use Rattle.std.specs.Prelude.{List, Bool, Option}
 use Rattle.xs_components.specs.Tables.{Tables}
 use Rattle.xs_faults.specs.Least.{IsLeast, sooner}
 use Rattle.xs_faults.proofs.LeastLaws.{least-sum}

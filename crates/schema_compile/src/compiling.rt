@@ -82,7 +82,8 @@ pub fn compile(alloc: Global, documents: &[SchemaInput]) -> Result<Outcome, Allo
     ensures outcome { IfOk result (spec.IsOutcome documents.now) }
 {
     compiled_parts_are_fit();
-    match schema_check::compile(alloc, documents)? {
+    let compiled = schema_check::compile(alloc, documents)?;
+    match compiled {
         Ok(set) => complete(alloc, set),
         Err(refusal) => Ok(outcome_of_refusal(refusal)),
     }

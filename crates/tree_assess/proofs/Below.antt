@@ -1,21 +1,19 @@
 -- An element with what is below it.
-use Rattle.std.proofs.Common.{◌≡◌, ℕ, ◌+◌, ◌<◌, List, [], ◌∷◌, ◌++◌, length, map, refl, sym, ap, subst, ◌∙◌, arith, append_assoc, append-nil}
-use Rattle.std.specs.Prelude.{slice_set, Option, Result, IfOk}
+use Rattle.std.proofs.Common.{◌≡◌, ℕ, ◌<◌, List, [], ◌∷◌, ◌++◌, length, map, refl, sym, ap, subst, ◌∙◌, arith, append_assoc, append-nil}
+use Rattle.std.specs.Prelude.{slice_set, Result, IfOk}
 use Rattle.std.proofs.lemmas.Result.{IfOk-weaker}
 use Rattle.std.proofs.lemmas.List.{map-set, length-map, length-append, map-append}
 use Rattle.std.proofs.Math.Seq.{set-append_seam}
 use Rattle.xs_names.specs.Scope.{first_scope}
-use Rattle.tree_rows.specs.Forest.{Forest, none}
+use Rattle.tree_rows.specs.Forest.{Forest}
 use Rattle.tree_rows.specs.declared.name.Expanded.{Expanded}
 use Rattle.tree_rows.specs.declared.row.Row.{Row}
 use Rattle.assess_records.specs.Counts.{counts_of}
 use Rattle.assess_records.specs.declared.counts.ChildCounts.{ChildCounts}
 use Rattle.assess_records.specs.declared.shape.ElementShape.{ElementShape}
-use Rattle.assess_records.specs.declared.shape.NamedText.{NamedText}
 use Rattle.elem_governing.specs.declared.pairs.Governing.{Governing}
 use Rattle.compiled_schema.specs.Usable.{set_of}
 use Rattle.compiled_schema.specs.declared.compiled.Compiled.{Compiled}
-use Rattle.element_heads.specs.Heads.{head_by}
 use Rattle.compiled_schema.specs.Numbered.{Scope, Head, head_of, heads, names_of, named_texts, characters, scope_in, shape_of}
 use Rattle.compiled_schema.specs.Attribution.{SchemaSet, content_particle, AreTerms}
 use Rattle.compiled_schema.specs.Assessment.{nothing, entry, governed, sibling_records, AreAssessed, AreJudged, IsEntry}

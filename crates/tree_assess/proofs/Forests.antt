@@ -1,10 +1,9 @@
 -- The first of some siblings, and the next ones.
-use Rattle.std.proofs.Common.{◌≡◌, ℕ, ◌+◌, ◌<◌, ◌≤◌, ◌^◌, List, ◌∷◌, length, map, refl, sym, ap, subst, ◌∙◌, arith}
+use Rattle.std.proofs.Common.{◌≡◌, ℕ, ◌+◌, ◌≤◌, List, ◌∷◌, length, ap, subst, ◌∙◌, arith}
 use Rattle.std.proofs.lemmas.List.{length-map}
 use Rattle.tree_rows.specs.Forest.{Forest, none, text, element, count}
 use Rattle.tree_rows.specs.Rows.{node}
 use Rattle.tree_rows.specs.declared.name.Expanded.{Expanded}
-use Rattle.tree_rows.specs.declared.row.Content.{Content}
 use Rattle.tree_rows.specs.declared.row.Content.TheVariants as contents
 use Rattle.tree_rows.specs.declared.row.Row.{Row}
 use Rattle.xs_names.specs.Names.{NameTable}

@@ -1,5 +1,5 @@
 -- What governs child elements.
-use Rattle.std.proofs.Common.{◌≡◌, ℕ, ◌+◌, ◌<◌, suc, List, [], ◌∷◌, ◌++◌, Option, Some, None, length, map, drop, get_or, refl, sym, ap, subst, ◌∙◌, arith, append_assoc, append-nil}
+use Rattle.std.proofs.Common.{◌≡◌, ℕ, ◌+◌, ◌<◌, suc, List, [], ◌∷◌, ◌++◌, Option, Some, None, length, drop, get_or, refl, sym, ap, subst, ◌∙◌, arith, append_assoc, append-nil}
 use Rattle.std.specs.Prelude.{All, MatchOption}
 use Rattle.std.specs.Option.{option_copied}
 use Rattle.std.specs.Borrow.{Bor}
@@ -20,7 +20,7 @@ use Rattle.governed_types.proofs.There.{child-there}
 use Rattle.content_models.specs.declared.automaton.ContentAutomaton.{ContentAutomaton}
 use Rattle.compiled_schema.specs.Usable.{IsUsable, AreModels, IsModelOver, set_of}
 use Rattle.compiled_schema.specs.declared.compiled.Compiled.{Compiled}
-use Rattle.compiled_schema.specs.Fitting.{IsAutomatonFor, Fits}
+use Rattle.compiled_schema.specs.Fitting.{Fits}
 use Rattle.element_heads.proofs.RowLaws.{drop_next}
 use Rattle.compiled_schema.specs.Numbered.{Scope, Head, head_of, heads, names_of}
 use Rattle.compiled_schema.specs.Attribution.{SchemaSet, content_particle, AreTerms}

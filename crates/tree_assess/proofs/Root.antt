@@ -1,6 +1,5 @@
 -- The root of a document.
-use Rattle.std.proofs.Common.{◌≡◌, ℕ, ◌+◌, ◌<◌, ◌≤◌, List, [], ◌∷◌, length, refl, sym, ap, subst, ◌∙◌, arith}
-use Rattle.std.specs.Prelude.{All}
+use Rattle.std.proofs.Common.{◌≡◌, ℕ, ◌<◌, List, [], length, ap, subst, ◌∙◌, arith}
 use Rattle.std.proofs.lemmas.List.Elements.{All-nil, All-cons}
 use Rattle.xs_names.specs.Names.{NameTable, IsSound}
 use Rattle.xs_names.specs.Scope.{first_scope}
@@ -8,7 +7,6 @@ use Rattle.xs_names.proofs.GrownLaws.{two_spaces}
 use Rattle.tree_rows.specs.Forest.{Forest, Document, none, element, count}
 use Rattle.tree_rows.specs.Rows.{node}
 use Rattle.tree_rows.specs.Whole.{HasRoot, IsTree}
-use Rattle.tree_rows.specs.declared.limits.TheConstants.{MAX_NODES}
 use Rattle.tree_rows.specs.declared.name.Expanded.{Expanded}
 use Rattle.tree_rows.specs.declared.row.Content.TheVariants as contents
 use Rattle.tree_rows.specs.declared.row.Row.{Row}

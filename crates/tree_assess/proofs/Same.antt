@@ -1,5 +1,5 @@
 -- A set whose table of names is as it was.
-use Rattle.std.proofs.Common.{◌≡◌, ℕ, ◌<◌, List, length, sym, ap, subst}
+use Rattle.std.proofs.Common.{◌≡◌, ◌<◌, List, length, sym, ap, subst}
 use Rattle.std.specs.Prelude.{All}
 use Rattle.xs_names.specs.Names.{NameTable}
 use Rattle.assess_records.specs.declared.shape.NamedText.{NamedText}

@@ -2,12 +2,12 @@
 use Rattle.std.proofs.Common.{◌≡◌, ℕ, zero, suc, ◌+◌, ◌<◌, List, [], ◌∷◌, ◌++◌, length, map, drop, get_or, refl, sym, ap, subst, ◌∙◌, append_assoc, append-nil, arith}
 use Rattle.std.specs.Prelude.{All}
 use Rattle.xs_components.specs.Tables.{Tables}
-use Rattle.tree_rows.specs.Forest.{Forest, none, text, element}
+use Rattle.tree_rows.specs.Forest.{Forest, none, element}
 use Rattle.tree_rows.specs.Rows.{node}
 use Rattle.tree_rows.specs.declared.name.Expanded.{Expanded}
 use Rattle.tree_rows.specs.declared.row.Content.TheVariants as contents
 use Rattle.tree_rows.specs.declared.row.Row.{Row}
-use Rattle.assess_records.specs.Counts.{no_children, with_child, counts_of}
+use Rattle.assess_records.specs.Counts.{no_children, with_child}
 use Rattle.assess_records.specs.declared.counts.ChildCounts.{ChildCounts}
 use Rattle.elem_governing.specs.declared.pairs.Governing.{Governing}
 use Rattle.element_heads.proofs.RowLaws.{drop_next}

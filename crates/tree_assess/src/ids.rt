@@ -9,7 +9,7 @@ use std::alloc::{AllocError, Global};
 use xs_codes::Found;
 use xs_lists::Listed;
 
-// The codes of the IDs in the texts of these elements (Structures 3.15.4).
+// The codes of the IDs in the texts of these elements (Structures 3.3.4).
 fn id_codes(alloc: Global, entries: &[ElementEntry]) -> Result<Listed<Found>, AllocError>
     ensures { IfOk result (λ codes. codes ≡ codes_in entries.now) }
 {

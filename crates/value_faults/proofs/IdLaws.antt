@@ -14,7 +14,7 @@ use Rattle.xs_components.specs.declared.simple.FacetItem.{FacetItem}
 use Rattle.xs_references.specs.Heights.{IsType, IsLower, type_height, first_height}
 use Rattle.type_derives.specs.Derives.{is_simple}
 use Rattle.value_faults.specs.Given.{AreGiven}
-use Rattle.value_faults.specs.Ids.{IsIdType, HasIdContent, of_id, of_source, restricted, form_source, content_source, source_of, content_height}
+use Rattle.value_faults.specs.Ids.{IsSimpleId, HasIdContent, of_simple, of_source, restricted, form_source, content_source, source_of, content_height}
 
 module _ (t : Tables) where
   -- a complex type that has a source
@@ -34,20 +34,26 @@ module _ (t : Tables) where
   source-by : (id : ℕ) (part : ComplexType) (source : TypeId) → slice_get t.complexes.parts id ≡ Some part → content_source part ≡ Some source → source_of t (Complex id) ≡ Some source
   source-by id part source is e = ap (option_and_then content_source) is ∙ e
 
+  no-source : (of : TypeId) → is_simple of ≡ true → (source : TypeId) → source_of t of ≡ Some source → ⊥
+  no-source AnyType simple source e = none-some source e
+  no-source (Builtin kind) simple source e = none-some source e
+  no-source (Simple id) simple source e = none-some source e
+  no-source (Complex id) simple source e = false≢true simple
+
   -- what such a type is
-  parted : (a : TypeId) → HasIdContent t a → IsIdType t a ⊎ ((source : TypeId) × (source_of t a ≡ Some source) × HasIdContent t source)
-  parted _ (of_id of h) = inl h
+  parted : (a : TypeId) → HasIdContent t a → IsSimpleId t a ⊎ ((source : TypeId) × (source_of t a ≡ Some source) × HasIdContent t source)
+  parted _ (of_simple of h) = inl h
   parted _ (of_source id part source is e h) = inr (source, source-by id part source is e, h)
 
-  -- a type that is none itself, and has no source
-  pub id-ends : (at : TypeId) → (IsIdType t at → ⊥) → source_of t at ≡ None → HasIdContent t at → ⊥
-  id-ends at never e h = elim (parted at h) [ inl x ↦ never x | inr x ↦ none-some x.0 (sym e ∙ x.1) ]
+  -- a type that has no source
+  pub id-ends : (at : TypeId) → source_of t at ≡ None → IsSimpleId t at ↔ HasIdContent t at
+  id-ends at e = ((λ h. of_simple at h), (λ h. elim (parted at h) [ inl x ↦ x | inr x ↦ absurd (none-some x.0 (sym e ∙ x.1)) ]))
 
-  -- and has one
-  pub id-goes : (at source : TypeId) → (IsIdType t at → ⊥) → source_of t at ≡ Some source → HasIdContent t source ↔ HasIdContent t at
-  id-goes at source never e = (
+  -- and one that has
+  pub id-goes : (at source : TypeId) → source_of t at ≡ Some source → HasIdContent t source ↔ HasIdContent t at
+  id-goes at source e = (
     (λ h. let w = source-is at source e in subst (HasIdContent t) (sym w.2) (of_source w.0 w.1 source w.3 w.4 h)),
-    (λ h. elim (parted at h) [ inl x ↦ absurd (never x) | inr x ↦ subst (HasIdContent t) (same_Some x.0 source (sym x.1 ∙ e)) x.2 ]),
+    (λ h. elim (parted at h) [ inl x ↦ absurd (no-source at x.0 source e) | inr x ↦ subst (HasIdContent t) (same_Some x.0 source (sym x.1 ∙ e)) x.2 ]),
   )
 
   -- the source of a content is its base, or the simple type that stands in it

@@ -12,7 +12,7 @@ use Rattle.content_types.specs.declared.ContentType.{ContentType}
 use Rattle.content_types.specs.declared.ContentType.TheVariants.{SimpleType, Empty, SimpleContent, ElementOnly, Mixed}
 use Rattle.element_types.specs.Types.{type_of}
 use Rattle.value_faults.specs.Emptiable.{has_emptiable_model}
-use Rattle.value_faults.specs.Ids.{HasIdContent}
+use Rattle.value_faults.specs.Ids.{IsIdType, HasIdContent}
 use Rattle.value_faults.specs.Texts.{IsRefused, IsCoded}
 
 module _ (t : Tables) where
@@ -30,7 +30,7 @@ module _ (t : Tables) where
 
   -- e-props-correct.5 (Structures 3.3.6): the type or that of its content is or derives from ID.
   abbrev pub IsOnId : TypeId → Code → Type 0
-  IsOnId of code = HasIdContent t of × (code ≡ codes.EPropsCorrect5)
+  IsOnId of code = (IsIdType t of ⊎ HasIdContent t of) × (code ≡ codes.EPropsCorrect5)
 
   -- by what the type contains
   abbrev pub BreaksContent : TypeId → ValueConstraint → ContentType → Code → Type 0

@@ -10,6 +10,7 @@ use Rattle.xs_components.specs.declared.complex.ContentForm.{ContentForm}
 use Rattle.xs_components.specs.declared.complex.ContentForm.TheVariants as forms
 use Rattle.xs_references.specs.Heights.{type_height}
 use Rattle.type_derives.specs.Chains.{Derives}
+use Rattle.type_derives.specs.Derives.{is_simple}
 use Rattle.type_faults.specs.Finals.{no_methods}
 
 -- the type is or derives from ID
@@ -34,9 +35,13 @@ module _ (base : TypeId) where
 abbrev pub content_source : ComplexType → Option TypeId
 content_source part = form_source part.base part.by_extension part.content
 
--- the content of a type is of a type that is or derives from ID
+-- the type is simple, and is or derives from ID
+abbrev pub IsSimpleId : Tables → TypeId → Type 0
+IsSimpleId t of = (is_simple of ≡ true) × IsIdType t of
+
+-- the simple type that the content of a type is of is or derives from ID
 pub data HasIdContent (t : Tables) : TypeId → Type 0 where
-  of_id : (of : TypeId) → IsIdType t of → HasIdContent t of
+  of_simple : (of : TypeId) → IsSimpleId t of → HasIdContent t of
   of_source : (id : ℕ) (part : ComplexType) (source : TypeId) → slice_get t.complexes.parts id ≡ Some part → content_source part ≡ Some source → HasIdContent t source → HasIdContent t (Complex id)
 
 -- ---- for proofs

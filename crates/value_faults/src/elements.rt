@@ -11,7 +11,7 @@ ghost use Rattle.value_faults.specs.ValueFaults as faults;
 
 use crate::emptiable::has_emptiable_model;
 use crate::faults::PHASE;
-use crate::ids::has_id_content;
+use crate::ids::{has_id_content, is_id_type};
 use crate::set::ValueSet;
 use crate::texts::text_code;
 use content_types::ContentType;
@@ -30,6 +30,16 @@ fn filled_code(set: &ValueSet<'_>, of: &TypeId) -> Option<Code>
 {
     let emptiable = has_emptiable_model(set.parts, set.ranges, of);
     when(!emptiable, Code::CosValidDefault2_2_2)
+}
+
+// The code of a type that is or derives from ID, or has content of such a type.
+fn id_code(set: &ValueSet<'_>, of: &TypeId) -> Option<Code>
+    requires found { IsFound set.now }
+    requires there { IsType set.now.parts.now of.now }
+    ensures first { IsFirstCode (spec.IsOnId set.now.parts.now of.now) result }
+{
+    let of_id = is_id_type(set, of) || has_id_content(set, *of);
+    when(of_id, Code::EPropsCorrect5)
 }
 
 // The first code of a constraint, by what the type of the element contains.
@@ -73,8 +83,7 @@ fn value_code(
 {
     let content = set.contents.content_of(*of);
     let broken = content_code(alloc, set, types, of, content, constraint)?;
-    let of_id = has_id_content(set, *of);
-    Ok(earlier(broken, when(of_id, Code::EPropsCorrect5)))
+    Ok(earlier(broken, id_code(set, of)))
 }
 
 // The first code of an element declaration, by its type.

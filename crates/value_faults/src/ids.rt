@@ -61,7 +61,19 @@ fn source_of(parts: &Components, of: &TypeId) -> Option<TypeId>
     }
 }
 
-/// Whether a type, or that of its content, is or derives from ID.
+// Whether a type is simple, and is or derives from ID.
+fn is_simple_id(set: &ValueSet<'_>, of: &TypeId) -> bool
+    requires found { IsFound set.now }
+    requires there { IsType set.now.parts.now of.now }
+    ensures id { IsTrue result ↔ spec.IsSimpleId set.now.parts.now of.now }
+{
+    match of {
+        TypeId::AnyType | TypeId::Complex(_) => false,
+        TypeId::Builtin(_) | TypeId::Simple(_) => is_id_type(set, of),
+    }
+}
+
+/// Whether the simple type that the content of a type is of is or derives from ID.
 pub(crate) fn has_id_content(set: &ValueSet<'_>, of: TypeId) -> bool
     requires found { IsFound set.now }
     requires there { IsType set.now.parts.now of }
@@ -69,11 +81,8 @@ pub(crate) fn has_id_content(set: &ValueSet<'_>, of: TypeId) -> bool
 {
     let mut at = of;
     'up: loop {
-        if is_id_type(set, &at) {
-            return true;
-        }
         match source_of(set.parts, &at) {
-            None => return false,
+            None => return is_simple_id(set, &at),
             Some(source) => at = source,
         }
     }

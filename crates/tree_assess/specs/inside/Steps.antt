@@ -1,5 +1,5 @@
 -- What is assessed so far.
-use Rattle.std.specs.Prelude.{◌≡◌, ℕ, ◌+◌, ◌<◌, ◌^◌, List, [], ◌∷◌, ◌++◌, All, IfSome, Option, length, map, drop}
+use Rattle.std.specs.Prelude.{◌≡◌, ℕ, ◌<◌, ◌^◌, List, [], ◌∷◌, ◌++◌, All, IfSome, Option, length, map, drop}
 use Rattle.xs_components.specs.Tables.{Tables}
 use Rattle.xs_references.specs.Heights.{IsType}
 use Rattle.tree_rows.specs.Forest.{Forest, none, element, count}

@@ -4,10 +4,14 @@ use Rattle.schema_compile.proofs.OutcomeLaws.{set-outcome}
 use Rattle.schema_compile.proofs.compiling.compile.Goals as goal
 
 pub complete-requires : goal.complete-requires
-complete-requires c = record { fit = c.compiled_parts_are_fit.ensures.fit c.args.documents.now c.in-Ok.set c.requires.trees c.in-Ok.ensures }
+complete-requires c =
+    let documents = c.args.documents.now in
+    record { fit = c.compiled_parts_are_fit.ensures.fit documents c.in-Ok.set c.requires.trees (subst (IsCompilation documents) c.in-Ok.is c.in_ok-compiled.ensures) }
 
 pub returns-in-Ok : goal.returns-in-Ok
-returns-in-Ok c = record { outcome = set-outcome c.args.documents.now c.complete.result c.in-Ok.set c.in-Ok.ensures c.complete.ensures }
+returns-in-Ok c =
+    let documents = c.args.documents.now in
+    record { outcome = set-outcome documents c.complete.result c.in-Ok.set (subst (IsCompilation documents) c.in-Ok.is c.in_ok-compiled.ensures) c.complete.ensures }
 
 pub returns-in-Err : goal.returns-in-Err
-returns-in-Err c = record { outcome = inl (c.in-Err.refusal, c.in-Err.ensures, c.outcome_of_refusal.ensures) }
+returns-in-Err c = record { outcome = inl (c.in-Err.refusal, subst (IsCompilation c.args.documents.now) c.in-Err.is c.in_ok-compiled.ensures, c.outcome_of_refusal.ensures) }

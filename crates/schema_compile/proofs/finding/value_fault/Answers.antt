@@ -1,4 +1,4 @@
-use Rattle.schema_compile.proofs.ValueLaws.{given, read, same-set}
+use Rattle.schema_compile.proofs.ValueLaws.{given, read}
 use Rattle.schema_compile.proofs.finding.value_fault.Goals as goal
 
 pub first_value_fault-requires : goal.first_value_fault-requires

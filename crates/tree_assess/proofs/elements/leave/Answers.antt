@@ -1,5 +1,5 @@
 use Rattle.std.proofs.Common.{length, ◌<◌, subst, sym}
-use Rattle.std.specs.Prelude.{All, IfOk}
+use Rattle.std.specs.Prelude.{All}
 use Rattle.std.proofs.lemmas.Result.{IfOk-weaker}
 use Rattle.assess_records.specs.declared.shape.ElementShape.{ElementShape}
 use Rattle.assess_records.specs.declared.shape.NamedText.{NamedText}

@@ -1,4 +1,4 @@
-use Rattle.std.proofs.Common.{length, ap, subst, sym, ◌≡◌, ◌∙◌}
+use Rattle.std.proofs.Common.{length, ap, subst, sym, ◌∙◌}
 use Rattle.compiled_schema.specs.declared.compiled.Compiled.{Compiled}
 use Rattle.compiled_schema.specs.Usable.{set_of}
 use Rattle.compiled_schema.specs.Numbered.{heads}

@@ -1,7 +1,5 @@
 use Rattle.compiled_schema.specs.Table.{IsTableOf}
-use Rattle.std.proofs.Common.{◌≡◌, ◌++◌, ◌∙◌, sym, subst, ap, take, length}
-use Rattle.std.specs.List.{flat_map}
-use Rattle.compiled_schema.specs.Bearings.{borne_of}
+use Rattle.std.proofs.Common.{◌++◌, ◌∙◌, subst, ap, take}
 use Rattle.compiled_schema.specs.Ids.{borne_in, borne_in_all}
 use Rattle.tree_assess.proofs.Joining.{atoms_in, atoms_next}
 use Rattle.tree_assess.proofs.ids.id_codes.Goals as goal

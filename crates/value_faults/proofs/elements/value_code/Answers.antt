@@ -1,10 +1,8 @@
-use Rattle.std.proofs.Common.{sym, subst}
-use Rattle.xs_codes.specs.declared.code.Code.TheVariants.{EPropsCorrect5}
+use Rattle.std.proofs.Common.{subst}
 use Rattle.content_types.specs.ContentTypes.{content_of}
 use Rattle.content_types.specs.declared.ContentType.{ContentType}
 use Rattle.type_faults.specs.TypeFaults.{IsFirstCode}
-use Rattle.type_faults.proofs.FaultLaws.{when-first, both-first}
-use Rattle.value_faults.specs.Ids.{HasIdContent}
+use Rattle.type_faults.proofs.FaultLaws.{both-first}
 use Rattle.value_faults.specs.Elements.{BreaksContent, IsOnId}
 use Rattle.value_faults.proofs.elements.value_code.Goals as goal
 
@@ -14,6 +12,6 @@ returns-clause-first c =
     let of = c.args.of.now in
     let constraint = c.args.constraint.now in
     let content = c.content_of-content.ensures.content t c.requires.found.contents in
-    both-first (BreaksContent t of constraint (content_of t of)) (IsOnId t of) c.in_ok-broken.broken c.when.result c.earlier.result c.earlier.ensures
+    both-first (BreaksContent t of constraint (content_of t of)) (IsOnId t of) c.in_ok-broken.broken c.id_code.result c.earlier.result c.earlier.ensures
     (subst (λ (k : ContentType). IsFirstCode (BreaksContent t of constraint k) c.in_ok-broken.broken) content c.in_ok-broken.ensures.first)
-    (subst (IsFirstCode (IsOnId t of)) (sym c.when.ensures) (when-first (HasIdContent t of) c.has_id_content-of_id.result EPropsCorrect5 c.has_id_content-of_id.ensures.id))
+    c.id_code.ensures.first

@@ -2,7 +2,7 @@ use Rattle.std.proofs.Common.{List, ap, ◌∙◌}
 use Rattle.std.specs.Option.{option_map}
 use Rattle.entry_reports.specs.Asking.{entry_at}
 use Rattle.entry_reports.specs.Assessment.{Entry}
-use Rattle.plain_session.proofs.Known.{entries_now}
+use Rattle.plain_session.proofs.Known.{entries_now, named_now}
 use Rattle.plain_session.proofs.session.PlainSessionSession.records.Goals as goal
 
 pub returns-clause-element : goal.returns-clause-element
@@ -14,3 +14,13 @@ pub returns-clause-attrs : goal.returns-clause-attrs
 returns-clause-attrs c = λ p open_now.
     c.find_records.ensures.attrs ∙ ap (λ (es : List Entry). option_map (λ (e : Entry). e.attrs) (entry_at c.args.node es))
     (entries_now c.self.inside c.args.self.now c.self.view_is c.self.invariant open_now p c.deref.result.now c.deref.ensures.value)
+
+pub returns-clause-element_named : goal.returns-clause-element_named
+returns-clause-element_named c = λ open_now.
+    c.find_records.ensures.element_named c.args.self.now.set
+    (named_now c.self.inside c.args.self.now c.self.view_is c.self.invariant open_now c.deref.result.now c.deref.ensures.value)
+
+pub returns-clause-attrs_named : goal.returns-clause-attrs_named
+returns-clause-attrs_named c = λ open_now.
+    c.find_records.ensures.attrs_named c.args.self.now.set
+    (named_now c.self.inside c.args.self.now c.self.view_is c.self.invariant open_now c.deref.result.now c.deref.ensures.value)
