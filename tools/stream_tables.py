@@ -7,12 +7,12 @@ goes by steps otherwise, and `#METHOD`, its final. Behind ` => ` stands `ok`, or
 type itself), as `3.1 CODE`; or else there are literals below, `?LITERAL` each, and behind a tab `kept` or the code of the value. The
 prefix `p` is bound. Texts have the escapes of the stream, and `%HEX;` for a character.
 
-In models.txt a line is a content model, ` => ` and the code by which it is refused or `ok`, or behind ` / ` words of child names:
-`seq(`, `or(` and `all(` open a group that `)` closes, with bounds behind it as behind each particle: `?`, `*`, `+`, `{2}`, `{2,5}` or
-`{2,*}`. An element is its name, with `t:` if it is in the target namespace; behind `#` may stand its type, string or decimal, or
-`nillable`; `a+b` is a reference to `a` with the member `b` in its substitution group. A wildcard is `##any`, `##other`, or a list of
-`target`, `local`, `p` and `q`, as `##target+local`, or `##none`; `##qualified` is what is other than absent, in a schema without a target; behind `!` stands `lax` or `skip`. Before the model may stand
-groups, as `G = seq( a b );`, to which it refers by name.
+In models.txt a line is a content model, ` => ` and the code by which it is refused or `ok`, or behind ` / ` words of child names: `seq(`,
+`or(` and `all(` open a group that `)` closes, with bounds behind it as behind each particle: `?`, `*`, `+`, `{2}`, `{2,5}` or `{2,*}`. An
+element is its name, with `t:` if it is in the target namespace; behind `#` may stand its type, string or decimal, or `nillable`; `a+b` is a
+reference to `a` with the member `b` in its substitution group. A wildcard is `##any`, `##other`, or a list of `target`, `local`, `p` and
+`q`, as `##target+local`, or `##none`; `##qualified` is what is other than absent, in a schema without a target; behind `!` stands `lax` or
+`skip`. Before the model may stand groups, as `G = seq( a b );`, to which it refers by name.
 A word is of child names, `a*5` for five; behind a name stands `!` where the child has to be declared and is not, `~` where nothing is
 asked of it and nothing known, `-` where it is skipped. At its end stands `@N`, the place where the children get stuck; `@empty` where
 the content is empty and there are some."""
