@@ -17,6 +17,9 @@ returns-clause-least c =
     let found = c.args.found.now in
     let uses = c.requires.found.attr_uses in
     let same = c.value_fault.ensures.same in
-    let are = subst (λ (s : CompiledSet). AreTablesOf s.parts uses.ids found.attr_uses) (sym same) uses.are in
-    (uses.ids, uses.marks, least-properties c.args.set.now.parts uses.ids c.first_attr_fault-uses.result c.in_ok-values.values c.sooner.result c.sooner.ensures.sooner
-    (subst (λ (s : CompiledSet). IsLeast (IsAttrFault s.parts uses.ids) c.first_attr_fault-uses.result) same (c.first_attr_fault-uses.ensures.least uses.ids are)) c.in_ok-values.ensures.least)
+    let are = subst (λ (s : CompiledSet). AreTablesOf s.parts uses.ids found.attr_uses) (sym same) uses.are in (
+      uses.ids,
+      uses.marks,
+      least-properties c.args.set.now.parts uses.ids c.first_attr_fault-uses.result c.in_ok-values.values c.sooner.result c.sooner.ensures.sooner
+          (subst (λ (s : CompiledSet). IsLeast (IsAttrFault s.parts uses.ids) c.first_attr_fault-uses.result) same (c.first_attr_fault-uses.ensures.least uses.ids are)) c.in_ok-values.ensures.least,
+    )
