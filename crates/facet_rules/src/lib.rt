@@ -12,3 +12,4 @@ mod step;
 pub use first::{noted, sooner};
 pub use merge::{Judged, judge, restricted};
 pub use step::{ReadFacet, ReadFacets, ReadStep, Reading};
+pub use facet_checks::{Alternatives, Bound, FacetList, Handling, PatternText, ValueList};

@@ -8,3 +8,4 @@ mod texts;
 pub use applicable::{Family, family_of, fits};
 pub use read::{FacetRead, push_read};
 pub use texts::read_text;
+pub use facet_rules::{Alternatives, Bound, FacetList, Handling, ReadFacets, ReadStep, Reading, ValueList, judge, noted, restricted, sooner};

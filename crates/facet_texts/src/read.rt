@@ -2,7 +2,7 @@
 ghost use Rattle.std.specs.Prelude.{◌≡◌, OnOk};
 ghost use Rattle.facet_texts.specs.Read.{with_read};
 
-use facet_checks::PatternText;
+use facet_rules::PatternText;
 use facet_rules::{ReadFacet, ReadStep, Reading};
 use simple_values::Value;
 use std::alloc::AllocError;

@@ -15,3 +15,4 @@ pub use atomic::Accepted;
 pub use facets::Facets;
 pub use known::{Judged, Known};
 pub use members::Members;
+pub use facet_texts::{noted, sooner};

@@ -15,3 +15,4 @@ mod reader;
 pub use building::Term;
 pub use fault::PatternFault;
 pub use read::read_pattern;
+pub use pattern_terms::{ExprId, Terms};

@@ -12,7 +12,7 @@ use crate::JudgedType;
 use crate::building::first_of;
 use crate::content::judged_contents;
 use crate::filling::judged_simples;
-use facets::{Accepted, Facets};
+use simple_validity::{Accepted, Facets};
 use simple_validity::validated;
 use simple_values::Value;
 use std::alloc::{AllocError, Global};

@@ -4,3 +4,4 @@
 mod validity;
 
 pub use validity::validated;
+pub use facets::{Accepted, Facets, Judged, Known, Members, noted, sooner};
