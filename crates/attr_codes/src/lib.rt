@@ -8,3 +8,4 @@ mod values;
 pub use judged::{AttrItem, JudgedAttr, judge};
 pub use simple_types::SimpleTypes;
 pub use values::{AttrText, read_text};
+pub use attr_governing::{AttrGoverning, AttrSchema};

@@ -5,3 +5,4 @@ mod complexes;
 mod putting;
 
 pub use complexes::{ComplexNumbers, build_complexes};
+pub use build_particles::build_particles;

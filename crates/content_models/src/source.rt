@@ -3,7 +3,7 @@
 use element_types::Declarations;
 use particle_forms::Inhabited;
 use xs_components::Components;
-use xs_members::Members;
+use particle_forms::Members;
 use xs_names::Names;
 
 /// What content models are read off: the components of a schema set with what was found of them, and the classes of its

@@ -8,5 +8,5 @@ mod scope_list;
 mod set;
 
 pub use schema_set::{Available, EffectiveSet};
-pub use schema_shape::{Form, Shape, ShapedSchema, shape};
+pub use form_representations::{Form, Shape, ShapedSchema, shape};
 pub use set::{RepresentedSet, represent};

@@ -6,3 +6,4 @@ pub use Rattle.elem_governing.specs.declared.pairs.Governing
 pub use Rattle.elem_governing.specs.declared.local_types.XsiType
 pub use Rattle.elem_governing.specs.Governing as ElemGoverningGoverning
 pub use Rattle.elem_governing.specs.LocalType
+pub use Rattle.elem_governing.specs.View

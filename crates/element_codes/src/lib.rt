@@ -13,3 +13,4 @@ pub use element::{ElementFacts, element_record, facts_of};
 pub use facts::{ElementInput, ElementSource, has_elements, is_taken};
 pub use outcome::TextOutcome;
 pub use used::{fixed_value, scope_used, text_used};
+pub use elem_governing::{Governing, SchemaView, XsiType, xsi_type};

@@ -7,3 +7,4 @@ mod texts;
 
 pub use judged::{JudgedElement, judge_element};
 pub use simple_types::SimpleTypes;
+pub use element_codes::{ElementInput, ElementSource, Governing, SchemaView, XsiType, xsi_type};

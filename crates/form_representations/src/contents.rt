@@ -12,7 +12,7 @@ use crate::Reading;
 use crate::types::{type_name_if, type_names};
 use representations::Represented;
 use schema_names::number_space;
-use schema_shape::WildcardForm;
+use schema_names::WildcardForm;
 use std::alloc::{AllocError, Global};
 use tree_rows::Expanded;
 use xs_names::{Names, Text};

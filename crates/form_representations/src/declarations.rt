@@ -15,7 +15,7 @@ use representations::{
     Represented,
 };
 use schema_names::is_in_target;
-use schema_shape::{AttributeForm, ComplexTypeForm, ElementForm, IdentityKind, Use, ValueForm};
+use schema_names::{AttributeForm, ComplexTypeForm, ElementForm, IdentityKind, Use, ValueForm};
 use std::alloc::AllocError;
 use tree_rows::Expanded;
 use xs_components::Methods;

@@ -6,3 +6,4 @@ mod fault;
 
 pub use checks::{check, judge};
 pub use fault::ModelFault;
+pub use content_models::{ContentAutomaton, ModelError, ModelSource};

@@ -10,3 +10,4 @@ mod whole;
 
 pub use models::Models;
 pub use whole::build_models;
+pub use model_checks::ContentAutomaton;

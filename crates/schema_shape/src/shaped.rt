@@ -8,7 +8,7 @@ use crate::content_shapes::required_of;
 use crate::forms::{Form, SchemaForm, Shape};
 use schema_faults::Element;
 use schema_grammar::{AttributeName, Class, Kind, is_in, tag_of};
-use schema_values::{methods_of, value_of};
+use schema_faults::{methods_of, value_of};
 use std::alloc::{AllocError, Global};
 use tag_names::Prefixes;
 use tree_rows::{Attribute, Binding, Content};
