@@ -11,8 +11,7 @@ ghost use Rattle.attr_assess.specs.inside.Lists.{Holds, HoldsEach, HoldsLacking,
 
 use assess_records::{AttrRecords, NamedText, ValueSource};
 use attr_added::{AddedUse, Lacking, lacking_attrs};
-use attr_codes::{AttrItem, JudgedAttr, SimpleTypes, judge};
-use attr_codes::{AttrGoverning, AttrSchema};
+use attr_codes::{AttrGoverning, AttrItem, AttrSchema, JudgedAttr, SimpleTypes, judge};
 use simple_values::Value;
 use std::alloc::{AllocError, Global};
 use xs_components::{Components, NameIdList, TypeId};

@@ -2,10 +2,10 @@ pub mod Built
 pub mod inside
 pub use Rattle.build_complex.specs.Complexes
 pub use Rattle.build_complex.specs.Contents
-pub use Rattle.build_complex.specs.Terms
-pub use Rattle.build_complex.specs.Particles
 pub use Rattle.build_complex.specs.Groups
-pub use Rattle.build_elements.specs.Elements
-pub use Rattle.build_elements.specs.declared.constraints.ConstraintNumbers
-pub use Rattle.build_elements.specs.Paths
+pub use Rattle.build_complex.specs.Particles
+pub use Rattle.build_complex.specs.Terms
 pub use Rattle.build_elements.specs.Constraints
+pub use Rattle.build_elements.specs.Elements
+pub use Rattle.build_elements.specs.Paths
+pub use Rattle.build_elements.specs.declared.constraints.ConstraintNumbers

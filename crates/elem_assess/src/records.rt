@@ -12,9 +12,10 @@ ghost use Rattle.elem_assess.specs.Set.{IsWithin};
 use assess_records::{AttrRecords, ElementRecord, ElementShape};
 use attr_assess::{AttrSchema, AttrTables, AttrValues, assess_attrs};
 use content_types::ContentTypes;
-use element_judging::{Governing, SchemaView, XsiType, xsi_type};
-use element_judging::{ElementInput, ElementSource};
-use element_judging::{SimpleTypes, judge_element};
+use element_judging::{
+    ElementInput, ElementSource, Governing, SchemaView, SimpleTypes, XsiType, judge_element,
+    xsi_type,
+};
 use instance_names::{InstanceAttribute, instance_text};
 use simple_values::Value;
 use std::alloc::{AllocError, Global};

@@ -9,8 +9,8 @@ mod outcome;
 mod records;
 mod used;
 
+pub use elem_governing::{Governing, SchemaView, XsiType, xsi_type};
 pub use element::{ElementFacts, element_record, facts_of};
 pub use facts::{ElementInput, ElementSource, has_elements, is_taken};
 pub use outcome::TextOutcome;
 pub use used::{fixed_value, scope_used, text_used};
-pub use elem_governing::{Governing, SchemaView, XsiType, xsi_type};

@@ -4,8 +4,7 @@ ghost use Rattle.facet_texts.specs.Rules.{judged_of};
 ghost use Rattle.facets.specs.Facets as spec;
 
 use crate::Facets;
-use facet_texts::FacetList;
-use facet_texts::{ReadStep, judge};
+use facet_texts::{FacetList, ReadStep, judge};
 use std::alloc::{AllocError, Global};
 use xs_codes::Fault;
 

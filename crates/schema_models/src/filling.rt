@@ -10,8 +10,7 @@ ghost use Rattle.schema_models.specs.inside.Steps.{AreNone, IsFilled, IsNext, Is
 use crate::models::Models;
 use crate::order::in_order;
 use crate::places::{is_elsewhere, type_fault};
-use model_checks::{ContentAutomaton, ModelError, ModelSource};
-use model_checks::ModelFault;
+use model_checks::{ContentAutomaton, ModelError, ModelFault, ModelSource};
 use std::alloc::{AllocError, Global};
 use xs_codes::Fault;
 use xs_components::{ComplexId, ParticleId};

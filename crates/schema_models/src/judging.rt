@@ -8,8 +8,7 @@ ghost use Rattle.schema_models.specs.inside.Steps.{AreMade, IsMisjudged, IsMisju
 
 use crate::models::Models;
 use crate::places::type_fault;
-use model_checks::{ContentAutomaton, ModelSource};
-use model_checks::judge;
+use model_checks::{ContentAutomaton, ModelSource, judge};
 use std::alloc::{AllocError, Global};
 use xs_codes::Fault;
 use xs_components::{ComplexId, ParticleId};
