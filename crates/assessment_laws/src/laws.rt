@@ -23,7 +23,7 @@ pub fn the_assessment_is_the_only_one()
     ensures only { (s : SchemaSet) (b : Beside) (f : Forest) (x y : Assessed) → IsSound s.names → AreNamed s.names s.parts → IsAssessment s b f x → IsAssessment s b f y → x ≡ y }
 {}
 
-/// So is the one with the codes of the document's IDs at its root (Structures 3.15.4).
+/// So is the one with the codes of the document's IDs at its root (Structures 3.3.4).
 pub fn the_assessment_with_ids_is_the_only_one()
     ensures only { (s : SchemaSet) (d : Document) (x y : Assessed) → IsSound s.names → AreNamed s.names s.parts → IsTree d → IsAssessment s (beside_of d.forest x) d.forest x → IsAssessment s (beside_of d.forest y) d.forest y → x ≡ y }
 {

@@ -9,7 +9,7 @@ use Rattle.compiled_schema.specs.Joined.{beside_of}
 use Rattle.compiled_schema.specs.Usable.{AreNamed}
 
 -- It answers of each document that has an assessment by a schema set (Structures 5.2) that assessment, with the codes of its IDs
--- (3.15.4), of which there is only one: the set's table has each name once, and those of its components.
+-- (3.3.4), of which there is only one: the set's table has each name once, and those of its components.
 abbrev pub IsAssessor : (SchemaSet → Forest → Assessed) → Type 0
 IsAssessor assess =
     (s : SchemaSet) (d : Document) (found : Assessed) → IsSound s.names → AreNamed s.names s.parts → IsTree d
