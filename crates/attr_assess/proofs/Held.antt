@@ -12,7 +12,7 @@ use Rattle.use_maps.specs.declared.entry.UseAt.{UseAt}
 use Rattle.attr_uses.specs.Written.{use_at}
 use Rattle.attr_uses.specs.Uses.{use_named}
 use Rattle.assess_records.specs.declared.outcome.ValueSource.TheVariants.{Schema}
-use Rattle.attr_governing.specs.declared.governing.AttrGoverning.TheVariants.{Declared}
+use Rattle.attr_codes.specs.AttrGoverning.TheVariants.{Declared}
 use Rattle.attr_added.specs.Lacking.{effective_constraint}
 use Rattle.attr_added.specs.Added.{IsAddedUse}
 use Rattle.attr_added.specs.declared.added.AddedUse.{AddedUse}

@@ -6,7 +6,7 @@ use Rattle.xs_components.specs.declared.common.TypeId.{TypeId}
 use Rattle.use_maps.specs.declared.entry.UseAt.{UseAt}
 use Rattle.attr_codes.specs.Trying.{Scope}
 use Rattle.assess_records.specs.declared.shape.NamedText.{NamedText}
-use Rattle.attr_governing.specs.Governing.{uses_for}
+use Rattle.attr_codes.specs.Governing.{uses_for}
 use Rattle.attr_added.specs.Lacking.{is_missing, AreThose}
 use Rattle.attr_added.specs.Added.{AreLacking}
 use Rattle.attr_added.specs.declared.added.AddedUse.{AddedUse}

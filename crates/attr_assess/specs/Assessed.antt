@@ -13,8 +13,8 @@ use Rattle.attr_uses.specs.Uses.{use_named}
 use Rattle.assess_records.specs.declared.outcome.ValueSource.TheVariants.{Given, Schema}
 use Rattle.assess_records.specs.declared.record.AttrRecord.{AttrRecord}
 use Rattle.assess_records.specs.declared.shape.NamedText.{NamedText}
-use Rattle.attr_governing.specs.Governing.{uses_for, attr_governing}
-use Rattle.attr_governing.specs.declared.governing.AttrGoverning.TheVariants.{Declared}
+use Rattle.attr_codes.specs.Governing.{uses_for, attr_governing}
+use Rattle.attr_codes.specs.AttrGoverning.TheVariants.{Declared}
 use Rattle.attr_added.specs.Lacking.{effective_constraint, is_missing, AreThose}
 use Rattle.attr_added.specs.Added.{AreAddedNames}
 use Rattle.attr_codes.specs.Records.{IsAttrJudged}

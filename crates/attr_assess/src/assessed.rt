@@ -2,8 +2,8 @@
 
 ghost use Rattle.std.specs.Prelude.{◌≡◌, ◌<◌, ◌∷◌, List, [], Bool, All, length, IfOk, IfSome, OnOk};
 ghost use Rattle.xs_references.specs.Heights.{IsType};
-ghost use Rattle.attr_governing.specs.Governing.{uses_for};
-ghost use Rattle.attr_governing.specs.Schema.{IsAttrSet};
+ghost use Rattle.attr_codes.specs.Governing.{uses_for};
+ghost use Rattle.attr_codes.specs.Schema.{IsAttrSet};
 ghost use Rattle.attr_added.specs.Added.{AreNamed};
 ghost use Rattle.attr_codes.specs.Types.{IsTypeSet};
 ghost use Rattle.attr_assess.specs.Assessed.{AreAttrsAssessed, IsGivenJudged};
@@ -11,8 +11,7 @@ ghost use Rattle.attr_assess.specs.inside.Lists.{Holds, HoldsEach, HoldsLacking,
 
 use assess_records::{AttrRecords, NamedText, ValueSource};
 use attr_added::{AddedUse, Lacking, lacking_attrs};
-use attr_codes::{AttrItem, JudgedAttr, SimpleTypes, judge};
-use attr_governing::{AttrGoverning, AttrSchema};
+use attr_codes::{AttrGoverning, AttrItem, AttrSchema, JudgedAttr, SimpleTypes, judge};
 use simple_values::Value;
 use std::alloc::{AllocError, Global};
 use xs_components::{Components, NameIdList, TypeId};

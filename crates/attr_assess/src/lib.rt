@@ -4,5 +4,5 @@
 mod assessed;
 
 pub use assessed::{AssessedAttrs, AttrValues, assess_attrs};
-pub use attr_governing::AttrSchema;
+pub use attr_codes::AttrSchema;
 pub use attr_uses::AttrTables;

@@ -5,6 +5,7 @@ mod judged;
 mod records;
 mod values;
 
+pub use attr_governing::{AttrGoverning, AttrSchema};
 pub use judged::{AttrItem, JudgedAttr, judge};
 pub use simple_types::SimpleTypes;
 pub use values::{AttrText, read_text};

@@ -29,10 +29,10 @@ use Rattle.attr_governing.specs.Governing.{attr_governing}
 use Rattle.attr_governing.specs.declared.governing.AttrGoverning.{AttrGoverning}
 use Rattle.attr_governing.specs.declared.governing.AttrGoverning.TheVariants.{Instance, Declared, Unassessed, Refused}
 use Rattle.attr_added.specs.Lacking.{effective_constraint, AreThose}
-use Rattle.attr_codes.specs.Records.{codes_if, unless, text_codes, undeclared, IsDeclaredJudged, IsByDeclaration, IsAttrJudged}
-use Rattle.attr_codes.specs.declared.judged.JudgedAttr.{JudgedAttr}
-use Rattle.attr_codes.specs.declared.values.AttrText.{AttrText}
-use Rattle.attr_codes.specs.declared.values.AttrText.TheVariants.{Invalid, Valid}
+use Rattle.attr_assess.specs.Records.{codes_if, unless, text_codes, undeclared, IsDeclaredJudged, IsByDeclaration, IsAttrJudged}
+use Rattle.attr_assess.specs.JudgedAttr.{JudgedAttr}
+use Rattle.attr_assess.specs.AttrText.{AttrText}
+use Rattle.attr_assess.specs.AttrText.TheVariants.{Invalid, Valid}
 use Rattle.attr_assess.specs.Assessed.{record_of, element_uses, IsGivenJudged, IsAddedJudged, AreAttrsAssessed}
 use Rattle.attr_assess.specs.declared.assessed.AssessedAttrs.{AssessedAttrs}
 use Rattle.attr_laws.specs.Few.{AreFew}

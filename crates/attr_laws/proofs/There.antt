@@ -36,8 +36,8 @@ use Rattle.attr_governing.specs.declared.governing.AttrGoverning.TheVariants.{In
 use Rattle.attr_added.specs.Lacking.{effective_constraint, gives_one, is_lacking, part_named, is_added}
 use Rattle.attr_added.specs.Added.{AreNamed}
 use Rattle.attr_added.proofs.Needs.{use-name-is, name-there}
-use Rattle.attr_codes.specs.Records.{codes_if, undeclared, IsDeclaredJudged, IsByDeclaration, IsAttrJudged}
-use Rattle.attr_codes.specs.declared.judged.JudgedAttr.{JudgedAttr}
+use Rattle.attr_assess.specs.Records.{codes_if, undeclared, IsDeclaredJudged, IsByDeclaration, IsAttrJudged}
+use Rattle.attr_assess.specs.JudgedAttr.{JudgedAttr}
 use Rattle.attr_assess.specs.Assessed.{record_of, element_uses, IsGivenJudged, IsAddedJudged, AreAttrsAssessed}
 use Rattle.attr_assess.specs.declared.assessed.AssessedAttrs.{AssessedAttrs}
 use Rattle.attr_laws.specs.There.{IsThere}

@@ -1,0 +1,1 @@
+pub use Rattle.build_particles.proofs.GroupLaws

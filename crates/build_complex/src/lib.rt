@@ -4,4 +4,5 @@
 mod complexes;
 mod putting;
 
+pub use build_particles::build_particles;
 pub use complexes::{ComplexNumbers, build_complexes};

@@ -26,7 +26,7 @@ use Rattle.build_types.specs.SimpleTypes as simple
 use Rattle.build_types.specs.inside.Places.{with_places}
 use Rattle.build_elements.specs.Constraints as constraints
 use Rattle.build_elements.specs.Elements as elements
-use Rattle.build_particles.specs.Groups as models
+use Rattle.build_complex.specs.Groups as models
 use Rattle.build_complex.specs.Complexes as complex
 use Rattle.build_components.specs.Built as built
 use Rattle.build_components.specs.inside.Steps as steps

@@ -16,7 +16,7 @@ use Rattle.build_attributes.specs.Groups as attr
 use Rattle.build_elements.specs.Constraints as constraints
 use Rattle.build_elements.specs.Elements as elements
 use Rattle.build_elements.specs.declared.constraints.ConstraintNumbers.{ConstraintNumbers}
-use Rattle.build_particles.specs.Models.{particles_for, with_models}
+use Rattle.build_complex.specs.Models.{particles_for, with_models}
 use Rattle.build_components.specs.inside.Steps as steps
 use Rattle.build_components.specs.declared.steps.AttributeNumbers.{AttributeNumbers}
 

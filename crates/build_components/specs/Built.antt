@@ -17,8 +17,8 @@ use Rattle.build_attributes.specs.Declarations.{attributes_of}
 use Rattle.build_attributes.specs.Groups as attr
 use Rattle.build_elements.specs.Constraints as constraints
 use Rattle.build_elements.specs.Elements as elements
-use Rattle.build_particles.specs.Groups as models
-use Rattle.build_particles.specs.Particles as terms
+use Rattle.build_complex.specs.Groups as models
+use Rattle.build_complex.specs.Particles as terms
 use Rattle.build_complex.specs.Complexes as complex
 use Rattle.build_elements.specs.declared.constraints.ConstraintNumbers.{ConstraintNumbers}
 

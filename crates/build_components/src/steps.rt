@@ -5,9 +5,8 @@ ghost use Rattle.build_complex.specs.Complexes.{complex_types};
 ghost use Rattle.build_components.specs.inside.Steps as spec;
 
 use build_attributes::{add_attributes, build_attr_groups, number_attr_groups};
-use build_complex::{ComplexNumbers, build_complexes};
+use build_complex::{ComplexNumbers, build_complexes, build_particles};
 use build_elements::{add_constraints, build_elements};
-use build_particles::build_particles;
 use build_types::build_simples;
 use representations::Source;
 use std::alloc::{AllocError, Global};

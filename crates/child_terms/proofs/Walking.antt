@@ -17,12 +17,12 @@ use Rattle.all_states.specs.States as alls
 use Rattle.all_states.specs.declared.machine.AllMachine.{AllMachine}
 use Rattle.all_states.specs.declared.state.AllState.{AllState}
 use Rattle.all_models.specs.Modelled.{AllModel, IsMemberFor, IsFirstMember, letter_of}
-use Rattle.content_models.specs.Terms.{terms_of, model_terms}
-use Rattle.content_models.specs.Built.{IsBuilt, IsFirstIn, symbols_of}
-use Rattle.content_models.specs.declared.automaton.ContentAutomaton.{ContentAutomaton}
-use Rattle.content_models.specs.declared.automaton.ContentAutomaton.TheVariants.{States, All}
-use Rattle.content_models.proofs.Building.{first-of-states, first-of-all}
-use Rattle.content_models.proofs.TermLaws.{named-in}
+use Rattle.grown_models.specs.Terms.{terms_of, model_terms}
+use Rattle.grown_models.specs.Built.{IsBuilt, IsFirstIn, symbols_of}
+use Rattle.grown_models.specs.ContentAutomaton.{ContentAutomaton}
+use Rattle.grown_models.specs.ContentAutomaton.TheVariants.{States, All}
+use Rattle.grown_models.proofs.Building.{first-of-states, first-of-all}
+use Rattle.grown_models.proofs.TermLaws.{named-in}
 use Rattle.grown_models.proofs.Accepting.{same-accepts}
 use Rattle.grown_models.proofs.Growing.{built-kept}
 use Rattle.child_terms.specs.Attribution.{SchemaSet, expanded, IsWord, Begins, AreTermsBy, AreTerms}

@@ -12,8 +12,8 @@ use Rattle.particle_forms.specs.Accepted.{accepts}
 use Rattle.model_symbols.specs.Terms.{ExpandedName, name_at}
 use Rattle.model_symbols.specs.Attribution.{IsAmbivalent}
 use Rattle.content_automaton.specs.Modelled.{IsTermAt}
-use Rattle.content_models.specs.Terms.{model_terms}
-use Rattle.content_models.specs.Built.{IsFirstIn}
+use Rattle.grown_models.specs.Terms.{model_terms}
+use Rattle.grown_models.specs.Built.{IsFirstIn}
 
 -- What a schema set has for content models: its names and components, the names of the members of each substitution group by the
 -- number of its head, and the classes of its element declarations: those with the same properties have one.

@@ -4,8 +4,8 @@ use Rattle.xs_names.specs.Names.{NameTable, Grown}
 use Rattle.particle_forms.specs.Models.{model_of}
 use Rattle.particle_forms.specs.Accepted.{accepts}
 use Rattle.content_automaton.specs.Recognized.{IsUnambiguous}
-use Rattle.content_models.specs.Built.{IsBuilt}
-use Rattle.content_models.specs.declared.automaton.ContentAutomaton.{ContentAutomaton}
+use Rattle.grown_models.specs.Built.{IsBuilt}
+use Rattle.grown_models.specs.ContentAutomaton.{ContentAutomaton}
 use Rattle.grown_models.specs.Named.{AreNamed}
 use Rattle.child_terms.specs.Attribution.{SchemaSet}
 

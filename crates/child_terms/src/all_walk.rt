@@ -5,7 +5,7 @@ ghost use Rattle.model_symbols.specs.Terms.{ExpandedName, name_at};
 ghost use Rattle.model_symbols.specs.Symbols.{AreNamesOf, symbol_of};
 ghost use Rattle.all_states.specs.States.{next_of};
 ghost use Rattle.all_models.specs.Modelled.{letter_of};
-ghost use Rattle.content_models.specs.declared.automaton.ContentAutomaton.TheVariants.{All as AllModel};
+ghost use Rattle.grown_models.specs.ContentAutomaton.TheVariants.{All as AllModel};
 ghost use Rattle.child_terms.specs.Attribution.{SchemaSet, AreTermsBy};
 ghost use Rattle.child_terms.specs.inside.Found.{all_state_in, IsKept, BeginsBy, IsNextTerm, AreFound};
 

@@ -3,7 +3,7 @@
 ghost use Rattle.std.specs.Prelude.{◌≡◌, ◌<◌, ◌^◌, ℕ, Option, None, length, map, replicate, IfOk};
 ghost use Rattle.std.specs.Option.{option_copied};
 ghost use Rattle.model_symbols.specs.Symbols.{AreNamesOf};
-ghost use Rattle.content_models.specs.Built.{symbols_of};
+ghost use Rattle.grown_models.specs.Built.{symbols_of};
 ghost use Rattle.child_terms.specs.Attribution.{SchemaSet, AreTerms, AreTermsBy};
 ghost use Rattle.child_terms.specs.Fitting.{Fits};
 ghost use Rattle.child_terms.specs.inside.Found.{IsKept};
@@ -11,7 +11,7 @@ ghost use Rattle.child_terms.specs.inside.Found.{IsKept};
 use crate::ChildTerms;
 use crate::all_walk::terms_by_all;
 use crate::state_walk::terms_by_states;
-use content_models::ContentAutomaton;
+use grown_models::ContentAutomaton;
 use std::alloc::{AllocError, Global};
 use xs_components::TermId;
 use xs_names::{NameId, Names};

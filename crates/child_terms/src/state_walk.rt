@@ -4,7 +4,7 @@ ghost use Rattle.std.specs.Prelude.{◌≡◌, ◌↔◌, ◌<◌, ◌≤◌, �
 ghost use Rattle.model_symbols.specs.Terms.{ExpandedName, name_at};
 ghost use Rattle.model_symbols.specs.Symbols.{AreNamesOf, symbol_of, count_of};
 ghost use Rattle.content_states.specs.Automaton.{state_of, step_of, dead_of};
-ghost use Rattle.content_models.specs.declared.automaton.ContentAutomaton.TheVariants.{States};
+ghost use Rattle.grown_models.specs.ContentAutomaton.TheVariants.{States};
 ghost use Rattle.child_terms.specs.Attribution.{SchemaSet, AreTermsBy};
 ghost use Rattle.child_terms.specs.inside.Found.{symbols_in, IsKept, BeginsBy, IsNextTerm, AreFound};
 

@@ -14,8 +14,8 @@ use Rattle.assessed_ids.specs.Schema.{IsAttrSet}
 use Rattle.assessed_ids.specs.Types.{IsTypeSet}
 use Rattle.assessed_ids.specs.Added.{AreNamed as AreAttrsNamed}
 use Rattle.element_classes.specs.Classes.{AreClassesOf}
-use Rattle.content_models.specs.Built.{IsBuilt}
-use Rattle.content_models.specs.declared.automaton.ContentAutomaton.{ContentAutomaton}
+use Rattle.schema_models.specs.Built.{IsBuilt}
+use Rattle.schema_models.specs.ContentAutomaton.{ContentAutomaton}
 use Rattle.schema_models.specs.Checks.{IsAmbiguousModel}
 use Rattle.schema_models.specs.SetModels.{content_of}
 use Rattle.assessed_ids.specs.Attribution.{SchemaSet}

@@ -7,7 +7,7 @@ ghost use Rattle.assessed_ids.specs.Attribution.{content_particle};
 ghost use Rattle.compiled_schema.specs.Usable as spec;
 
 use crate::Compiled;
-use content_models::ContentAutomaton;
+use schema_models::ContentAutomaton;
 use xs_components::{ComplexId, TypeId};
 
 impl Compiled {

@@ -11,7 +11,7 @@ use Rattle.xs_components.specs.Terms.{term_of}
 use Rattle.xs_components.specs.declared.particle.Particle.{Particle as Part}
 use Rattle.xs_components.specs.declared.particle.Term.{Term}
 use Rattle.xs_components.specs.declared.particle.Term.TheVariants.{Element, Any, Group, Sequence, Choice, All}
-use Rattle.xs_references.specs.Ranked.{IsRanked}
+use Rattle.particle_forms.specs.Ranked.{IsRanked}
 use Rattle.particle_models.specs.Particles.{Particle, Particles, term, choice, all_of, occurs, none}
 use Rattle.particle_models.specs.Nodes.{members_of}
 use Rattle.particle_models.specs.Unrolled.{is_never, HasNoAll, positions_of}

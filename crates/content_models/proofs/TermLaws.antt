@@ -5,13 +5,13 @@ use Rattle.std.specs.List.{list_any}
 use Rattle.std.proofs.lemmas.List.{get_or-map, map-append}
 use Rattle.std.proofs.lemmas.List.Elements.{All-nil, All-cons, All-head, All-tail, All-append}
 use Rattle.xs_names.specs.Names.{NameTable, same_name}
-use Rattle.xs_members.specs.Heads.{names_of as members_named}
+use Rattle.particle_forms.specs.Heads.{names_of as members_named}
 use Rattle.xs_components.specs.Tables.{Tables}
 use Rattle.xs_components.specs.Terms.{term_of}
 use Rattle.xs_components.specs.declared.particle.Particle.{Particle as Part}
 use Rattle.xs_components.specs.declared.particle.Term.{Term}
 use Rattle.xs_components.specs.declared.particle.Term.TheVariants.{Element, Any, Group, Sequence, Choice, All}
-use Rattle.xs_references.specs.Ranked.{held_particles, named_group, IsBelow, IsRanked}
+use Rattle.particle_forms.specs.Ranked.{held_particles, named_group, IsBelow, IsRanked}
 use Rattle.particle_models.specs.Particles.{Particle, Particles, Place, Path, term, sequence, choice, all_of, occurs, none, member}
 use Rattle.particle_models.specs.Nodes.{members_of}
 use Rattle.particle_models.specs.Unrolled.{is_never, places, places_in, HasNoAll, HaveNoAll}

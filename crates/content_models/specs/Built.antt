@@ -3,8 +3,8 @@ use Rattle.std.specs.Prelude.{◌≡◌, ℕ, ◌*◌, ◌<◌, ◌≤◌, ◌�
 use Rattle.xs_names.specs.Names.{NameTable}
 use Rattle.xs_names.specs.Numbering.{HasNoRepeats}
 use Rattle.xs_components.specs.Tables.{Tables}
-use Rattle.xs_members.specs.Heads.{names_of}
-use Rattle.xs_references.specs.Ranked.{IsRanked}
+use Rattle.particle_forms.specs.Heads.{names_of}
+use Rattle.particle_forms.specs.Ranked.{IsRanked}
 use Rattle.particle_models.specs.Particles.{Particle}
 use Rattle.particle_models.specs.Unrolled.{HasNoAll, positions_of}
 use Rattle.particle_models.specs.Model.{UnrolledModel, IsUnrolled}

@@ -7,7 +7,7 @@ use Rattle.xs_components.specs.declared.common.Process.TheVariants.{Strict, Lax,
 use Rattle.xs_components.specs.declared.particle.Particle.{Particle as Part}
 use Rattle.xs_components.specs.declared.particle.Term.{Term}
 use Rattle.xs_components.specs.declared.particle.Term.TheVariants.{Element, Any, Group, Sequence, Choice, All}
-use Rattle.xs_members.specs.Heads.{names_of}
+use Rattle.particle_forms.specs.Heads.{names_of}
 use Rattle.particle_models.specs.Particles.{Particle, Particles, term, sequence, choice, all_of, occurs, none, member}
 use Rattle.particle_models.specs.Unrolled.{is_never}
 use Rattle.particle_forms.specs.Models.{model_of}

@@ -1,7 +1,7 @@
 //! The terms of a content model, with what they accept.
 
 ghost use Rattle.std.specs.Prelude.{◌≡◌, ◌<◌, All, Some, map, length, slice_index_or, IfOk};
-ghost use Rattle.xs_members.specs.Heads.{names_of};
+ghost use Rattle.particle_forms.specs.Heads.{names_of};
 ghost use Rattle.element_types.specs.Types.{AreDeclarationsOf};
 ghost use Rattle.content_models.specs.Terms.{given_by, process_class, accepts_of, term_number};
 

@@ -1,9 +1,8 @@
 //! What content models are read off.
 
 use element_types::Declarations;
-use particle_forms::Inhabited;
+use particle_forms::{Inhabited, Members};
 use xs_components::Components;
-use xs_members::Members;
 use xs_names::Names;
 
 /// What content models are read off: the components of a schema set with what was found of them, and the classes of its

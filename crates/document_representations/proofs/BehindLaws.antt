@@ -6,10 +6,10 @@ use Rattle.std.proofs.Common.{length-append}
 use Rattle.std.proofs.lemmas.List.Elements.{All-nil, All-cons, All-weaker}
 use Rattle.std.proofs.lemmas.Option.{slice_get_within}
 use Rattle.xs_names.specs.Names.{NameTable}
-use Rattle.schema_shape.specs.declared.forms.Shape.{Shape}
+use Rattle.form_representations.specs.Shape.{Shape}
 use Rattle.schema_set.specs.declared.documents.SetDocument.{SetDocument}
-use Rattle.schema_names.specs.declared.naming.Naming.{Naming}
-use Rattle.schema_names.specs.Naming.{naming_of}
+use Rattle.form_representations.specs.SchemaNamesNaming.{Naming}
+use Rattle.form_representations.specs.Naming.{naming_of}
 use Rattle.representations.specs.declared.parts.Representation.{Representation}
 use Rattle.representations.specs.Behind.{IsBetween, AreBehind}
 use Rattle.form_representations.specs.declared.defaults.Defaults.{Defaults}

@@ -3,7 +3,7 @@ use Rattle.std.proofs.Common.{◌≡◌, ℕ, suc, ◌+◌, ◌<◌, ◌==◌, B
 use Rattle.std.specs.Prelude.{reverse, filter_map}
 use Rattle.std.specs.List.{position_from}
 use Rattle.std.proofs.lemmas.List.{reverse-append, reverse-reverse, drop_more}
-use Rattle.schema_shape.specs.declared.forms.Shape.{Shape}
+use Rattle.form_representations.specs.Shape.{Shape}
 use Rattle.document_representations.specs.Members.{place_from, places_of, all_members}
 
 -- places by two look-ups that find the same

@@ -6,7 +6,7 @@ use Rattle.tree_rows.specs.declared.row.Binding.{Binding}
 use Rattle.xs_names.specs.Names.{NameTable, Grown}
 use Rattle.xs_names.proofs.GrownLaws.{Grown-refl, Grown-trans}
 use Rattle.schema_faults.specs.Constructs.{nearest}
-use Rattle.schema_shape.specs.declared.forms.Shape.{Shape}
+use Rattle.form_representations.specs.Shape.{Shape}
 use Rattle.form_representations.specs.Lasting.{IsLasting}
 use Rattle.document_representations.specs.Scopes.{has_some, opens, is_opener, bound, scope_of, openings, scope_place, scopes_in}
 use Rattle.document_representations.specs.declared.item_places.ItemPlaces.{ItemPlaces}

@@ -8,11 +8,11 @@ use Rattle.std.proofs.lemmas.List.Elements.{All-push, All-weaker}
 use Rattle.xs_names.specs.Names.{NameTable, Grown}
 use Rattle.xs_names.proofs.GrownLaws.{Grown-trans}
 use Rattle.xs_names.specs.Scope.{first_scope}
-use Rattle.schema_shape.specs.declared.forms.Form.{Form}
-use Rattle.schema_shape.specs.declared.forms.Form.TheVariants as shapes
-use Rattle.schema_shape.specs.declared.forms.Shape.{Shape}
+use Rattle.form_representations.specs.Form.{Form}
+use Rattle.form_representations.specs.Form.TheVariants as shapes
+use Rattle.form_representations.specs.Shape.{Shape}
 use Rattle.schema_set.specs.declared.documents.SetDocument.{SetDocument}
-use Rattle.schema_names.specs.Naming.{naming_of}
+use Rattle.form_representations.specs.Naming.{naming_of}
 use Rattle.representations.specs.declared.parts.Representation.{Representation}
 use Rattle.representations.specs.Named.{names_of, AreIn, AreNamed}
 use Rattle.form_representations.specs.Lasting.{IsLasting}

@@ -7,7 +7,7 @@ use Rattle.std.proofs.Common.{length-append}
 use Rattle.std.proofs.lemmas.Option.{get_or_from_slice_get, slice_get_within}
 use Rattle.xs_names.specs.Names.{NameTable}
 use Rattle.xs_names.specs.Scope.{first_scope}
-use Rattle.schema_shape.specs.declared.forms.Shape.{Shape}
+use Rattle.form_representations.specs.Shape.{Shape}
 use Rattle.document_representations.specs.Scopes.{opens, is_opener, bound, scope_of, openings, scope_place, scopes_in}
 use Rattle.document_representations.specs.inside.Building.{scope_at}
 

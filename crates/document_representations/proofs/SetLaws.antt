@@ -6,7 +6,7 @@ use Rattle.std.proofs.Math.Seq.{append_snoc}
 use Rattle.std.proofs.lemmas.List.{append_assoc}
 use Rattle.xs_names.specs.Names.{NameTable}
 use Rattle.schema_set.specs.declared.documents.SetDocument.{SetDocument}
-use Rattle.schema_names.specs.Naming.{naming_of}
+use Rattle.form_representations.specs.Naming.{naming_of}
 use Rattle.representations.specs.declared.parts.Representation.{Representation}
 use Rattle.representations.specs.declared.origins.Origin.{Origin}
 use Rattle.form_representations.specs.Methods.{defaults_of}

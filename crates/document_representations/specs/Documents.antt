@@ -4,13 +4,13 @@ use Rattle.std.specs.List.{flat_map}
 use Rattle.xs_names.specs.Names.{NameTable}
 use Rattle.xs_names.specs.Scope.{first_scope}
 use Rattle.schema_faults.specs.Constructs.{nearest}
-use Rattle.schema_shape.specs.declared.forms.Form.{Form}
-use Rattle.schema_shape.specs.declared.forms.Form.TheVariants as shapes
-use Rattle.schema_shape.specs.declared.forms.Shape.{Shape}
+use Rattle.form_representations.specs.Form.{Form}
+use Rattle.form_representations.specs.Form.TheVariants as shapes
+use Rattle.form_representations.specs.Shape.{Shape}
 use Rattle.schema_set.specs.declared.documents.SetDocument.{SetDocument}
-use Rattle.schema_names.specs.declared.naming.Naming.{Naming}
-use Rattle.schema_names.specs.Naming.{space_in, naming_of}
-use Rattle.schema_names.specs.Documents.{document_table}
+use Rattle.form_representations.specs.SchemaNamesNaming.{Naming}
+use Rattle.form_representations.specs.Naming.{space_in, naming_of}
+use Rattle.form_representations.specs.Documents.{document_table}
 use Rattle.representations.specs.declared.parts.Representation.{Representation}
 use Rattle.representations.specs.declared.origins.Origin.{Origin}
 use Rattle.form_representations.specs.declared.defaults.Defaults.{Defaults}

@@ -2,7 +2,7 @@
 -- behind it.
 use Rattle.std.specs.Prelude.{ℕ, ◌+◌, ◌==◌, List, [], ◌∷◌, Option, filter_map}
 use Rattle.std.specs.List.{position_from}
-use Rattle.schema_shape.specs.declared.forms.Shape.{Shape}
+use Rattle.form_representations.specs.Shape.{Shape}
 
 -- the place of the first of these elements that has the number, where their places begin here
 abbrev pub place_from : ℕ → List Shape → ℕ → Option ℕ

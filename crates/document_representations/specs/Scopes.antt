@@ -4,8 +4,8 @@ use Rattle.std.specs.Prelude.{ℕ, suc, ◌+◌, ◌==◌, ◌&&◌, Bool, true,
 use Rattle.tree_rows.specs.declared.row.Binding.{Binding}
 use Rattle.xs_names.specs.Names.{NameTable}
 use Rattle.xs_names.specs.Scope.{first_scope}
-use Rattle.schema_shape.specs.declared.forms.Shape.{Shape}
-use Rattle.schema_names.specs.Naming.{space_in}
+use Rattle.form_representations.specs.Shape.{Shape}
+use Rattle.form_representations.specs.Naming.{space_in}
 
 abbrev pub has_some : List Binding → Bool
 has_some [] = false

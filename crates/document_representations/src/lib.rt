@@ -7,6 +7,6 @@ mod reader;
 mod scope_list;
 mod set;
 
+pub use form_representations::{Form, Shape, ShapedSchema, shape};
 pub use schema_set::{Available, EffectiveSet};
-pub use schema_shape::{Form, Shape, ShapedSchema, shape};
 pub use set::{RepresentedSet, represent};

@@ -3,7 +3,7 @@ ghost use Rattle.document_representations.specs.Members as spec;
 ghost use Rattle.document_representations.specs.inside.Building.{found};
 
 use crate::item_places::ItemPlaces;
-use schema_shape::Shape;
+use form_representations::Shape;
 use std::alloc::{AllocError, Global};
 use xs_lists::Listed;
 

@@ -1,14 +1,14 @@
 ghost use Rattle.std.specs.Prelude.{◌≡◌, ◌∷◌, ℕ, List, length, OnOk, IfOk};
 ghost use Rattle.xs_names.specs.Names.{Grown};
 ghost use Rattle.schema_faults.specs.Constructs.{nearest};
-ghost use Rattle.schema_shape.specs.declared.forms.Shape.{Shape};
-ghost use Rattle.schema_names.specs.Documents.{bindings_table};
+ghost use Rattle.form_representations.specs.Shape.{Shape};
+ghost use Rattle.form_representations.specs.Documents.{bindings_table};
 ghost use Rattle.form_representations.specs.Lasting.{IsLasting};
 ghost use Rattle.document_representations.specs.Scopes as spec;
 ghost use Rattle.document_representations.specs.inside.Building.{opened_place, scope_at, IsOpened};
 
 use crate::item_places::ItemPlaces;
-use schema_shape::Shape;
+use form_representations::Shape;
 use std::alloc::{AllocError, Global};
 use tree_rows::Binding;
 use xs_lists::Listed;

@@ -1,7 +1,7 @@
 ghost use Rattle.std.specs.Prelude.{◌≡◌, [], ◌∷◌, ◌++◌, Some, length, slice_get, IfOk, OnOk};
 ghost use Rattle.xs_names.specs.Names.{Grown};
 ghost use Rattle.xs_names.specs.Scope.{first_scope};
-ghost use Rattle.schema_names.specs.Documents.{document_table};
+ghost use Rattle.form_representations.specs.Documents.{document_table};
 ghost use Rattle.representations.specs.Behind.{AreBehind};
 ghost use Rattle.representations.specs.Named.{AreNamed};
 ghost use Rattle.form_representations.specs.Lasting.{IsLasting};

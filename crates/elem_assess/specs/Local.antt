@@ -7,9 +7,9 @@ use Rattle.instance_names.specs.Instance.{instance_text}
 use Rattle.instance_names.specs.declared.InstanceAttribute.TheVariants.{TypeName}
 use Rattle.attr_assess.specs.Assessed.{AreAttrsAssessed}
 use Rattle.attr_assess.specs.declared.assessed.AssessedAttrs.{AssessedAttrs}
-use Rattle.elem_governing.specs.LocalType.{xsi_type}
-use Rattle.elem_governing.specs.declared.pairs.Governing.{Governing}
-use Rattle.elem_governing.specs.declared.local_types.XsiType.{XsiType}
+use Rattle.element_judging.specs.LocalType.{xsi_type}
+use Rattle.element_judging.specs.Governing.{Governing}
+use Rattle.element_judging.specs.XsiType.{XsiType}
 use Rattle.element_judging.specs.Judged.{IsElementJudged}
 use Rattle.elem_assess.specs.declared.records.Judged.{Judged}
 

@@ -9,6 +9,7 @@ mod outcome;
 mod records;
 mod used;
 
+pub use elem_governing::{Governing, SchemaView, XsiType, xsi_type};
 pub use element::{ElementFacts, element_record, facts_of};
 pub use facts::{ElementInput, ElementSource, has_elements, is_taken};
 pub use outcome::TextOutcome;

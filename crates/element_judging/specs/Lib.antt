@@ -1,6 +1,13 @@
 pub mod Texts
 pub mod Source
 pub mod Judged
-pub use Rattle.element_codes.specs.Governing
+pub use Rattle.element_codes.specs.Codes
 pub use Rattle.element_codes.specs.ElemGoverningGoverning
+pub use Rattle.element_codes.specs.Facts
+pub use Rattle.element_codes.specs.Governing
 pub use Rattle.element_codes.specs.LocalType
+pub use Rattle.element_codes.specs.Records
+pub use Rattle.element_codes.specs.Used
+pub use Rattle.element_codes.specs.View
+pub use Rattle.element_codes.specs.XsiType
+pub use Rattle.element_codes.specs.declared.outcome.TextOutcome

@@ -5,5 +5,6 @@ mod judged;
 mod outcomes;
 mod texts;
 
+pub use element_codes::{ElementInput, ElementSource, Governing, SchemaView, XsiType, xsi_type};
 pub use judged::{JudgedElement, judge_element};
 pub use simple_types::SimpleTypes;

@@ -9,6 +9,7 @@ mod first;
 mod merge;
 mod step;
 
+pub use facet_checks::{Alternatives, Bound, FacetList, Handling, PatternText, ValueList};
 pub use first::{noted, sooner};
 pub use merge::{Judged, judge, restricted};
 pub use step::{ReadFacet, ReadFacets, ReadStep, Reading};

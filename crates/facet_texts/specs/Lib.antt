@@ -1,3 +1,17 @@
 pub mod Applicable
 pub mod Read
 pub mod Texts
+pub use Rattle.facet_rules.specs.Bound
+pub use Rattle.facet_rules.specs.BoundRules
+pub use Rattle.facet_rules.specs.Check
+pub use Rattle.facet_rules.specs.CountRules
+pub use Rattle.facet_rules.specs.Defects
+pub use Rattle.facet_rules.specs.FacetList
+pub use Rattle.facet_rules.specs.First
+pub use Rattle.facet_rules.specs.Handling
+pub use Rattle.facet_rules.specs.List
+pub use Rattle.facet_rules.specs.Merge
+pub use Rattle.facet_rules.specs.Rules
+pub use Rattle.facet_rules.specs.declared.step.ReadFacet
+pub use Rattle.facet_rules.specs.declared.step.ReadStep
+pub use Rattle.facet_rules.specs.declared.step.Reading

@@ -13,8 +13,8 @@ use Rattle.simple_values.specs.declared.fault.ValueFault.{ValueFault}
 use Rattle.simple_values.specs.declared.fault.ValueFault.TheVariants.{NotLexical, Limit}
 use Rattle.simple_values.specs.declared.value.Value.{Value}
 use Rattle.simple_values.specs.Reading.{literal_value, value_of}
-use Rattle.facet_checks.specs.Check.{number_of}
-use Rattle.facet_checks.specs.Patterns.{IsRefusedPattern}
+use Rattle.facet_rules.specs.Check.{number_of}
+use Rattle.facet_rules.specs.Patterns.{IsRefusedPattern}
 use Rattle.facet_rules.specs.declared.step.Reading.{Reading}
 use Rattle.facet_rules.specs.declared.step.Reading.TheVariants as readings
 use Rattle.facet_texts.specs.declared.read.FacetRead.{FacetRead}

@@ -6,5 +6,9 @@ mod read;
 mod texts;
 
 pub use applicable::{Family, family_of, fits};
+pub use facet_rules::{
+    Alternatives, Bound, FacetList, Handling, ReadFacets, ReadStep, Reading, ValueList, judge,
+    noted, restricted, sooner,
+};
 pub use read::{FacetRead, push_read};
 pub use texts::read_text;

@@ -2,8 +2,7 @@
 ghost use Rattle.std.specs.Prelude.{◌≡◌, OnOk};
 ghost use Rattle.facet_texts.specs.Read.{with_read};
 
-use facet_checks::PatternText;
-use facet_rules::{ReadFacet, ReadStep, Reading};
+use facet_rules::{PatternText, ReadFacet, ReadStep, Reading};
 use simple_values::Value;
 use std::alloc::AllocError;
 use xs_components::FacetItem;

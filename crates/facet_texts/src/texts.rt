@@ -3,8 +3,7 @@ ghost use Rattle.std.specs.Prelude.{◌≡◌, IfOk};
 ghost use Rattle.facet_texts.specs.Texts as spec;
 
 use crate::FacetRead;
-use facet_checks::PatternText;
-use facet_rules::Reading;
+use facet_rules::{PatternText, Reading};
 use simple_values::{Atom, Value, ValueFault, read_builtin, read_normalized};
 use std::alloc::{AllocError, Global};
 use white_space::WhiteSpace;

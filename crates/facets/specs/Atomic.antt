@@ -11,9 +11,9 @@ use Rattle.simple_values.specs.declared.fault.ValueFault.TheVariants.{NotLexical
 use Rattle.simple_values.specs.declared.value.Value.{Value}
 use Rattle.simple_values.specs.Reading.{literal_value}
 use Rattle.simple_values.specs.Grammar.{item_type}
-use Rattle.facet_checks.specs.declared.list.Handling.{Handling}
-use Rattle.facet_checks.specs.declared.list.FacetList.{FacetList}
-use Rattle.facet_checks.specs.Check.{IsChecked}
+use Rattle.facet_texts.specs.Handling.{Handling}
+use Rattle.facet_texts.specs.FacetList.{FacetList}
+use Rattle.facet_texts.specs.Check.{IsChecked}
 use Rattle.facets.specs.declared.atomic.Accepted.{Accepted}
 
 abbrev pub way_in : Option Handling → WhiteSpace

@@ -3,8 +3,8 @@ use Rattle.std.specs.Prelude.{ℕ, false, List, [], ◌∷◌, ◌++◌, length,
 use Rattle.white_space.specs.declared.handling.WhiteSpace.TheVariants.{Collapse}
 use Rattle.xs_codes.specs.declared.builtin.Builtin.{Builtin}
 use Rattle.simple_values.specs.Grammar.{item_type}
-use Rattle.facet_checks.specs.declared.list.FacetList.{FacetList}
-use Rattle.facet_checks.specs.List.{no_facets}
+use Rattle.facet_texts.specs.FacetList.{FacetList}
+use Rattle.facet_texts.specs.List.{no_facets}
 use Rattle.facets.specs.declared.members.Plain.{Plain}
 use Rattle.facets.specs.declared.members.Gate.{Gate}
 use Rattle.facets.specs.declared.members.Choices.{Choices}

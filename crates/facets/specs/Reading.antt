@@ -5,8 +5,8 @@ use Rattle.xs_codes.specs.declared.code.Code.TheVariants.{XLimitValue, Enumerati
 use Rattle.xs_components.specs.declared.simple.FacetItem.{FacetItem}
 use Rattle.xs_components.specs.declared.simple.FacetKind.{FacetKind}
 use Rattle.xs_components.specs.declared.simple.FacetKind.TheVariants as kinds
-use Rattle.facet_rules.specs.declared.step.Reading.TheVariants as readings
-use Rattle.facet_rules.specs.declared.step.ReadStep.{ReadStep}
+use Rattle.facet_texts.specs.Reading.TheVariants as readings
+use Rattle.facet_texts.specs.ReadStep.{ReadStep}
 use Rattle.facet_texts.specs.declared.read.FacetRead.{FacetRead}
 use Rattle.facet_texts.specs.declared.read.FacetRead.TheVariants as reads
 use Rattle.facet_texts.specs.Applicable.{fits}

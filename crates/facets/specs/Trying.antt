@@ -6,8 +6,8 @@ use Rattle.xs_codes.specs.declared.code.Code.TheVariants.{CvcDatatypeValid1, XLi
 use Rattle.simple_values.specs.declared.atoms.TypedAtom.{TypedAtom}
 use Rattle.simple_values.specs.declared.value.Value.{Value}
 use Rattle.simple_values.specs.declared.value.Value.TheVariants as values
-use Rattle.facet_checks.specs.declared.list.FacetList.{FacetList}
-use Rattle.facet_checks.specs.Check.{IsChecked}
+use Rattle.facet_texts.specs.FacetList.{FacetList}
+use Rattle.facet_texts.specs.Check.{IsChecked}
 use Rattle.facets.specs.declared.atomic.Accepted.{Accepted}
 use Rattle.facets.specs.declared.members.Plain.{Plain}
 use Rattle.facets.specs.declared.members.Gate.{Gate}

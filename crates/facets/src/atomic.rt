@@ -1,10 +1,10 @@
 //! Literals of the types that are derived from a built-in one by restriction.
 ghost use Rattle.std.specs.Prelude.{◌≡◌, IfOk, Option};
 ghost use Rattle.xs_codes.specs.declared.code.Code.{Code as AnyCode};
-ghost use Rattle.facet_checks.specs.Check.{IsChecked};
+ghost use Rattle.facet_texts.specs.Check.{IsChecked};
 ghost use Rattle.facets.specs.Atomic as spec;
 
-use facet_checks::FacetList;
+use facet_texts::FacetList;
 use simple_values::{Value, ValueFault, item_type, read_normalized};
 use std::alloc::{AllocError, Global};
 use white_space::{WhiteSpace, count_items, normalized};

@@ -7,7 +7,7 @@ use crate::members::{
     Choices, Gate, Literals, Member, Members, Plain, Source, copied_gates, copied_literals,
     copied_members,
 };
-use facet_checks::{FacetList, Handling};
+use facet_texts::{FacetList, Handling};
 use simple_values::item_type;
 use std::alloc::{AllocError, Global};
 use white_space::WhiteSpace;

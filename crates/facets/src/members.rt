@@ -2,8 +2,7 @@
 ghost use Rattle.std.specs.Prelude.{◌≡◌, ◌++◌, IfOk};
 ghost use Rattle.facets.specs.Members as spec;
 
-use facet_checks::FacetList;
-use facet_texts::{Family, family_of};
+use facet_texts::{FacetList, Family, family_of};
 use std::alloc::{AllocError, Global};
 use xs_codes::Builtin;
 use xs_lists::Listed;

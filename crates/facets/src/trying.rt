@@ -5,7 +5,7 @@ ghost use Rattle.facets.specs.Trying as spec;
 use crate::Accepted;
 use crate::atomic::{MOST_ITEMS, judged_value, read_atomic, way_of};
 use crate::members::{Choices, Gate, Literals, Member, Members, Plain};
-use facet_checks::FacetList;
+use facet_texts::FacetList;
 use simple_values::{Atoms, TypedAtom, Value};
 use std::alloc::{AllocError, Global};
 use white_space::{count_items, items, normalized};

@@ -4,13 +4,13 @@ use Rattle.tree_rows.specs.declared.name.Expanded.{Expanded}
 use Rattle.xs_names.specs.Names.{NameTable}
 use Rattle.xs_components.specs.declared.common.Methods.{Methods}
 use Rattle.schema_values.specs.declared.occurs.Occurs.{Occurs}
-use Rattle.schema_shape.specs.declared.forms.AttributeForm.{AttributeForm}
-use Rattle.schema_shape.specs.declared.forms.ComplexTypeForm.{ComplexTypeForm}
-use Rattle.schema_shape.specs.declared.forms.ElementForm.{ElementForm}
-use Rattle.schema_shape.specs.declared.forms.Form.{Form}
-use Rattle.schema_shape.specs.declared.forms.Form.TheVariants as shapes
-use Rattle.schema_shape.specs.declared.forms.IdentityKind.{IdentityKind}
-use Rattle.schema_shape.specs.declared.forms.WildcardForm.{WildcardForm}
+use Rattle.schema_names.specs.AttributeForm.{AttributeForm}
+use Rattle.schema_names.specs.ComplexTypeForm.{ComplexTypeForm}
+use Rattle.schema_names.specs.ElementForm.{ElementForm}
+use Rattle.schema_names.specs.Form.{Form}
+use Rattle.schema_names.specs.Form.TheVariants as shapes
+use Rattle.schema_names.specs.IdentityKind.{IdentityKind}
+use Rattle.schema_names.specs.WildcardForm.{WildcardForm}
 use Rattle.schema_names.specs.declared.naming.Naming.{Naming}
 use Rattle.schema_names.specs.Forms.{form_table}
 use Rattle.form_representations.specs.declared.defaults.Defaults.{Defaults}

@@ -5,18 +5,18 @@ use Rattle.tree_rows.specs.declared.name.Expanded.{Expanded}
 use Rattle.xs_names.specs.Names.{NameTable}
 use Rattle.xs_components.specs.declared.common.Methods.{Methods}
 use Rattle.schema_values.specs.declared.occurs.Occurs.{Occurs}
-use Rattle.schema_shape.specs.declared.forms.AttributeForm.{AttributeForm}
-use Rattle.schema_shape.specs.declared.forms.ComplexTypeForm.{ComplexTypeForm}
-use Rattle.schema_shape.specs.declared.forms.Compositor.{Compositor}
-use Rattle.schema_shape.specs.declared.forms.Compositor.TheVariants as compositors
-use Rattle.schema_shape.specs.declared.forms.ElementForm.{ElementForm}
-use Rattle.schema_shape.specs.declared.forms.Form.{Form}
-use Rattle.schema_shape.specs.declared.forms.Form.TheVariants as shapes
-use Rattle.schema_shape.specs.declared.forms.IdentityKind.{IdentityKind}
-use Rattle.schema_shape.specs.declared.forms.IdentityKind.TheVariants as identities
-use Rattle.schema_shape.specs.declared.forms.Use.{Use}
-use Rattle.schema_shape.specs.declared.forms.Use.TheVariants as uses
-use Rattle.schema_shape.specs.declared.forms.ValueForm.{ValueForm}
+use Rattle.schema_names.specs.AttributeForm.{AttributeForm}
+use Rattle.schema_names.specs.ComplexTypeForm.{ComplexTypeForm}
+use Rattle.schema_names.specs.Compositor.{Compositor}
+use Rattle.schema_names.specs.Compositor.TheVariants as compositors
+use Rattle.schema_names.specs.ElementForm.{ElementForm}
+use Rattle.schema_names.specs.Form.{Form}
+use Rattle.schema_names.specs.Form.TheVariants as shapes
+use Rattle.schema_names.specs.IdentityKind.{IdentityKind}
+use Rattle.schema_names.specs.IdentityKind.TheVariants as identities
+use Rattle.schema_names.specs.Use.{Use}
+use Rattle.schema_names.specs.Use.TheVariants as uses
+use Rattle.schema_names.specs.ValueForm.{ValueForm}
 use Rattle.schema_names.specs.declared.naming.Naming.{Naming}
 use Rattle.schema_names.specs.Naming.{declared_number, reference_number_if, name_in}
 use Rattle.representations.specs.declared.parts.AttributeRepresentation.{AttributeRepresentation}

@@ -3,9 +3,9 @@
 use Rattle.std.specs.Prelude.{false, List, [], ◌∷◌, Option}
 use Rattle.std.specs.Option.{unwrap_or}
 use Rattle.xs_components.specs.declared.common.Methods.{Methods}
-use Rattle.schema_shape.specs.declared.forms.Form.{Form}
-use Rattle.schema_shape.specs.declared.forms.Form.TheVariants as shapes
-use Rattle.schema_shape.specs.declared.forms.Shape.{Shape}
+use Rattle.schema_names.specs.Form.{Form}
+use Rattle.schema_names.specs.Form.TheVariants as shapes
+use Rattle.schema_names.specs.Shape.{Shape}
 use Rattle.form_representations.specs.declared.defaults.Defaults.{Defaults}
 
 abbrev pub no_methods : Methods

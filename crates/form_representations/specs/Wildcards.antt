@@ -8,7 +8,7 @@ use Rattle.schema_values.specs.declared.spaces.SpaceToken.{SpaceToken}
 use Rattle.schema_values.specs.declared.spaces.SpaceToken.TheVariants as tokens
 use Rattle.schema_values.specs.declared.spaces.Spaces.{Spaces}
 use Rattle.schema_values.specs.declared.spaces.Spaces.TheVariants as spaces
-use Rattle.schema_shape.specs.declared.forms.WildcardForm.{WildcardForm}
+use Rattle.schema_names.specs.WildcardForm.{WildcardForm}
 use Rattle.schema_names.specs.declared.naming.Naming.{Naming}
 use Rattle.schema_names.specs.Naming.{space_in, IsSpaceNumber}
 use Rattle.form_representations.specs.declared.reading.Reading.{Reading}

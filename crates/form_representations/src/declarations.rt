@@ -14,8 +14,9 @@ use representations::{
     AttributeRepresentation, ComplexTypeRepresentation, ElementRepresentation, GivenValue,
     Represented,
 };
-use schema_names::is_in_target;
-use schema_shape::{AttributeForm, ComplexTypeForm, ElementForm, IdentityKind, Use, ValueForm};
+use schema_names::{
+    AttributeForm, ComplexTypeForm, ElementForm, IdentityKind, Use, ValueForm, is_in_target,
+};
 use std::alloc::AllocError;
 use tree_rows::Expanded;
 use xs_components::Methods;

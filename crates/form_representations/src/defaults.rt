@@ -1,7 +1,7 @@
 ghost use Rattle.std.specs.Prelude.{◌≡◌};
 ghost use Rattle.form_representations.specs.Methods as spec;
 
-use schema_shape::{Form, Shape};
+use schema_names::{Form, Shape};
 use xs_components::Methods;
 
 /// The methods that a document's elements have where they say none: finalDefault and blockDefault of its schema element

@@ -8,7 +8,7 @@ ghost use Rattle.form_representations.specs.Forms as spec;
 
 use crate::Reading;
 use representations::Represented;
-use schema_shape::{Compositor, Form, Occurs};
+use schema_names::{Compositor, Form, Occurs};
 use std::alloc::{AllocError, Global};
 use xs_names::Names;
 

@@ -12,3 +12,4 @@ mod wildcards;
 pub use defaults::Defaults;
 pub use forms::occurs_in;
 pub use reading::Reading;
+pub use schema_names::{Form, Shape, ShapedSchema, number_space, shape};

@@ -5,8 +5,7 @@ ghost use Rattle.form_representations.specs.Methods.{defaults_of};
 ghost use Rattle.form_representations.specs.Wildcards.{KnowsTarget};
 
 use crate::Defaults;
-use schema_names::{Naming, naming_of, number_space};
-use schema_shape::Shape;
+use schema_names::{Naming, Shape, naming_of, number_space};
 use std::alloc::AllocError;
 use xs_names::{Names, NsId, Text};
 

@@ -6,7 +6,7 @@ ghost use Rattle.form_representations.specs.Wildcards.{KnowsTarget};
 ghost use Rattle.form_representations.specs.Wildcards as spec;
 
 use crate::Reading;
-use schema_shape::{SpaceToken, Spaces, WildcardForm};
+use schema_names::{SpaceToken, Spaces, WildcardForm};
 use std::alloc::{AllocError, Global};
 use xs_components::Wildcard;
 use xs_lists::Listed;

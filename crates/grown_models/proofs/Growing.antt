@@ -24,11 +24,11 @@ use Rattle.all_states.specs.declared.member.AllMember.{AllMember}
 use Rattle.all_states.specs.States.{Recognizes as RecognizesAll}
 use Rattle.all_models.specs.Ambiguity.{IsAmbiguousBy}
 use Rattle.all_models.specs.Modelled.{AllModel, IsAllAutomatonOf, IsMemberFor, letter_of, pair_of, terms_at}
-use Rattle.content_models.specs.Terms.{terms_of, model_terms}
-use Rattle.content_models.specs.Built.{IsLimitedAll, IsBuilt, IsFirstIn}
-use Rattle.content_models.specs.declared.automaton.ContentAutomaton.{ContentAutomaton}
-use Rattle.content_models.specs.declared.automaton.ContentAutomaton.TheVariants.{States, All}
-use Rattle.content_models.proofs.TermLaws.{named-in}
+use Rattle.model_checks.specs.Terms.{terms_of, model_terms}
+use Rattle.model_checks.specs.Built.{IsLimitedAll, IsBuilt, IsFirstIn}
+use Rattle.model_checks.specs.ContentAutomaton.{ContentAutomaton}
+use Rattle.model_checks.specs.ContentAutomaton.TheVariants.{States, All}
+use Rattle.model_checks.proofs.TermLaws.{named-in}
 use Rattle.model_checks.specs.Checks.{KeepsLimits, IsChecked}
 use Rattle.grown_models.specs.Named.{AreNamed}
 use Rattle.grown_models.proofs.Accepting.{same-accepts}

@@ -8,9 +8,9 @@ ghost use Rattle.particle_forms.specs.Models.{model_of};
 ghost use Rattle.particle_forms.specs.Accepted.{accepts};
 ghost use Rattle.model_symbols.specs.Terms.{ExpandedName};
 ghost use Rattle.model_symbols.specs.Attribution.{IsAmbivalent};
-ghost use Rattle.content_models.specs.Terms.{model_terms};
-ghost use Rattle.content_models.specs.Built.{IsBuilt, IsFirstIn};
-ghost use Rattle.content_models.specs.declared.automaton.ContentAutomaton.{ContentAutomaton};
+ghost use Rattle.model_checks.specs.Terms.{model_terms};
+ghost use Rattle.model_checks.specs.Built.{IsBuilt, IsFirstIn};
+ghost use Rattle.model_checks.specs.ContentAutomaton.{ContentAutomaton};
 ghost use Rattle.model_checks.specs.Checks.{IsChecked};
 ghost use Rattle.grown_models.specs.Named.{AreNamed};
 

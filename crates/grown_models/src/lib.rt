@@ -4,3 +4,4 @@
 mod laws;
 
 pub use laws::models_keep_as_names_are_added;
+pub use model_checks::ContentAutomaton;

@@ -1,6 +1,6 @@
 ghost use Rattle.std.specs.Prelude.{◌<◌, length, IfOk, IfErr, IfSome, MatchOption};
 ghost use Rattle.content_models.specs.Built.{IsSource, IsLimited, IsBuilt, HasRoom, IsRefused};
-ghost use Rattle.particle_forms.specs.Models.{model_of};
+ghost use Rattle.content_models.specs.Models.{model_of};
 ghost use Rattle.element_consistency.specs.Consistency.{IsConsistent};
 ghost use Rattle.model_checks.specs.Checks.{IsChecked, IsFirstFault, IsJudged};
 ghost use Rattle.model_checks.specs.inside.Found.{IsFaultOf};

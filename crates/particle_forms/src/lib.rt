@@ -12,3 +12,4 @@ pub use inhabited::Inhabited;
 pub use particle_models::{PositionsError, Unrolled};
 pub use ranges::Ranges;
 pub use unrolling::{unroll, unroll_by};
+pub use xs_members::Members;

@@ -13,3 +13,7 @@ pub mod ReaderViews
 pub mod Reading
 pub mod Stages
 pub mod Views
+pub use Rattle.pattern_terms.specs.Classes
+pub use Rattle.pattern_terms.specs.Regex
+pub use Rattle.pattern_terms.specs.Terms
+pub use Rattle.pattern_terms.specs.Trees

@@ -14,4 +14,5 @@ mod reader;
 
 pub use building::Term;
 pub use fault::PatternFault;
+pub use pattern_terms::{ExprId, Terms};
 pub use read::read_pattern;

@@ -35,7 +35,7 @@ impl Model for Tree {
 
 impl Tree {
     ghost use Rattle.tree_rows.specs.Rows.{rows_of, siblings};
-    ghost use Rattle.tree_building.specs.Shape.{AreSound};
+    ghost use Rattle.tree_edits.specs.Shape.{AreSound};
     ghost use Rattle.tree_edits.specs.Edits.{can_be_made};
     ghost use Rattle.tree_edits.specs.Tests.{edited};
     ghost use Rattle.tree_edits.specs.Refusals.{IsWhy};

@@ -18,10 +18,10 @@ use Rattle.xs_components.specs.Tables.{Tables}
 use Rattle.particle_models.specs.Unrolled.{positions_of}
 use Rattle.particle_forms.specs.Models.{model_of}
 use Rattle.model_symbols.specs.Symbols.{count_of}
-use Rattle.content_models.specs.Built.{IsStateTotal, IsBuilt, HasRoom, IsRefused, states_of, cells_of}
-use Rattle.content_models.specs.declared.automaton.ContentAutomaton.{ContentAutomaton}
-use Rattle.content_models.specs.declared.refused.ModelError.{ModelError}
-use Rattle.content_models.specs.declared.refused.ModelError.TheVariants as errors
+use Rattle.model_checks.specs.Built.{IsStateTotal, IsBuilt, HasRoom, IsRefused, states_of, cells_of}
+use Rattle.model_checks.specs.ContentAutomaton.{ContentAutomaton}
+use Rattle.model_checks.specs.ModelError.{ModelError}
+use Rattle.model_checks.specs.ModelError.TheVariants as errors
 use Rattle.model_checks.specs.declared.fault.ModelFault.{ModelFault}
 use Rattle.model_checks.specs.declared.fault.ModelFault.TheVariants.{TooManyPositions, TooManyStates, TableTooLarge, Inconsistent, Ambiguous}
 use Rattle.schema_models.specs.SetModels.{place_of, by_place, content_of, type_fault, code_of, most_cells, IsCellCount, IsPastCells, IsBrokenOf, IsBrokenAt}

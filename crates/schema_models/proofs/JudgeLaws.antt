@@ -11,8 +11,8 @@ use Rattle.xs_faults.specs.Least.{IsLeast, sooner, is_before}
 use Rattle.xs_faults.proofs.LeastLaws.{least-sum, least-same}
 use Rattle.xs_names.specs.Names.{NameTable}
 use Rattle.xs_components.specs.Tables.{Tables}
-use Rattle.content_models.specs.Built.{IsBuilt}
-use Rattle.content_models.specs.declared.automaton.ContentAutomaton.{ContentAutomaton}
+use Rattle.model_checks.specs.Built.{IsBuilt}
+use Rattle.model_checks.specs.ContentAutomaton.{ContentAutomaton}
 use Rattle.model_checks.specs.Checks.{IsJudged}
 use Rattle.model_checks.specs.declared.fault.ModelFault.{ModelFault}
 use Rattle.model_checks.specs.declared.fault.ModelFault.TheVariants.{TooManyPositions, TooManyStates, TableTooLarge, Inconsistent, Ambiguous}

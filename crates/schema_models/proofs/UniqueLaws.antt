@@ -21,9 +21,9 @@ use Rattle.all_states.specs.declared.member.AllMember.{AllMember}
 use Rattle.all_states.specs.Shape.{all_within}
 use Rattle.content_states.proofs.Counting.{no_more_than}
 use Rattle.content_automaton.specs.Counted.{IsStateCountOf}
-use Rattle.content_models.specs.Terms.{model_terms}
-use Rattle.content_models.specs.Built.{IsLimitedAll, IsStateTotal}
-use Rattle.content_models.proofs.StateLaws.{count-moved}
+use Rattle.model_checks.specs.Terms.{model_terms}
+use Rattle.model_checks.specs.Built.{IsLimitedAll, IsStateTotal}
+use Rattle.model_checks.proofs.StateLaws.{count-moved}
 use Rattle.schema_models.specs.SetModels.{IsTableSize}
 
 -- ---- lists of numbers, none twice

@@ -1,7 +1,7 @@
 //! Automata one after another, as far as there are cells for them.
 
 ghost use Rattle.std.specs.Prelude.{◌≡◌, ◌<◌, ℕ, length, Some, IfOk, IfSome, OnOk};
-ghost use Rattle.content_models.specs.Built.{IsSource, IsLimited};
+ghost use Rattle.model_checks.specs.Built.{IsSource, IsLimited};
 ghost use Rattle.particle_forms.specs.Models.{model_of};
 ghost use Rattle.xs_faults.specs.Least.{IsLeast};
 ghost use Rattle.schema_models.specs.SetModels.{AreContentsLimited};
@@ -10,8 +10,7 @@ ghost use Rattle.schema_models.specs.inside.Steps.{AreNone, IsFilled, IsNext, Is
 use crate::models::Models;
 use crate::order::in_order;
 use crate::places::{is_elsewhere, type_fault};
-use content_models::{ContentAutomaton, ModelError, ModelSource};
-use model_checks::ModelFault;
+use model_checks::{ContentAutomaton, ModelError, ModelFault, ModelSource};
 use std::alloc::{AllocError, Global};
 use xs_codes::Fault;
 use xs_components::{ComplexId, ParticleId};

@@ -8,5 +8,6 @@ mod order;
 mod places;
 mod whole;
 
+pub use model_checks::ContentAutomaton;
 pub use models::Models;
 pub use whole::build_models;

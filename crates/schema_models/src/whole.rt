@@ -1,7 +1,7 @@
 //! The automata of a schema set.
 
 ghost use Rattle.std.specs.Prelude.{◌≡◌, Some, None, length, IfOk, IfErr};
-ghost use Rattle.content_models.specs.Built.{IsSource};
+ghost use Rattle.model_checks.specs.Built.{IsSource};
 ghost use Rattle.xs_faults.specs.Least.{IsLeast};
 ghost use Rattle.schema_models.specs.SetModels.{AreContentsLimited, AreModels, IsBroken};
 ghost use Rattle.schema_models.specs.inside.Steps.{AreNone, AreModelsIfNone};
@@ -9,7 +9,7 @@ ghost use Rattle.schema_models.specs.inside.Steps.{AreNone, AreModelsIfNone};
 use crate::filling::fill;
 use crate::judging::judge_all;
 use crate::models::Models;
-use content_models::ModelSource;
+use model_checks::ModelSource;
 use std::alloc::{AllocError, Global};
 use xs_codes::Fault;
 use xs_faults::sooner;

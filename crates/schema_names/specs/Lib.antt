@@ -1,3 +1,16 @@
 pub mod Naming
 pub mod Forms
 pub mod Documents
+pub use Rattle.schema_shape.specs.Shaped
+pub use Rattle.schema_shape.specs.Shapes
+pub use Rattle.schema_shape.specs.declared.forms.AttributeForm
+pub use Rattle.schema_shape.specs.declared.forms.ComplexTypeForm
+pub use Rattle.schema_shape.specs.declared.forms.Compositor
+pub use Rattle.schema_shape.specs.declared.forms.ElementForm
+pub use Rattle.schema_shape.specs.declared.forms.Form
+pub use Rattle.schema_shape.specs.declared.forms.IdentityKind
+pub use Rattle.schema_shape.specs.declared.forms.Shape
+pub use Rattle.schema_shape.specs.declared.forms.ShapedSchema
+pub use Rattle.schema_shape.specs.declared.forms.Use
+pub use Rattle.schema_shape.specs.declared.forms.ValueForm
+pub use Rattle.schema_shape.specs.declared.forms.WildcardForm

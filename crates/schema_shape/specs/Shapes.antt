@@ -18,11 +18,11 @@ use Rattle.schema_grammar.specs.declared.kinds.AttributeName.TheVariants as an
 use Rattle.schema_grammar.specs.declared.kinds.Class.TheVariants as c
 use Rattle.schema_grammar.specs.declared.kinds.Kind.{Kind}
 use Rattle.schema_grammar.specs.declared.kinds.Kind.TheVariants as k
-use Rattle.schema_values.specs.Attributes.{raw_of, value_of, name_of, names_of, flag_of, methods_of}
-use Rattle.schema_values.specs.Occurrences.{occurs_of}
-use Rattle.schema_values.specs.Spaces.{spaces_of}
-use Rattle.schema_values.specs.declared.spaces.Spaces.{Spaces}
-use Rattle.schema_values.specs.declared.spaces.Spaces.TheVariants as spaces
+use Rattle.schema_faults.specs.Attributes.{raw_of, value_of, name_of, names_of, flag_of, methods_of}
+use Rattle.schema_faults.specs.Occurrences.{occurs_of}
+use Rattle.schema_faults.specs.SchemaValuesSpaces.{spaces_of}
+use Rattle.schema_faults.specs.Spaces.{Spaces}
+use Rattle.schema_faults.specs.Spaces.TheVariants as spaces
 use Rattle.schema_faults.specs.Constructs.{Construct}
 use Rattle.schema_shape.specs.declared.forms.AttributeForm.{AttributeForm}
 use Rattle.schema_shape.specs.declared.forms.ComplexTypeForm.{ComplexTypeForm}

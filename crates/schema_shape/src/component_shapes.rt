@@ -7,8 +7,8 @@ use crate::content_shapes::{content_form, required_of};
 use crate::forms::{
     AttributeForm, ComplexTypeForm, ElementForm, Form, IdentityKind, Use, ValueForm,
 };
+use schema_faults::{flag_of, methods_of, name_of, occurs_of, raw_of, value_of};
 use schema_grammar::{AttributeName, Kind};
-use schema_values::{flag_of, methods_of, name_of, occurs_of, raw_of, value_of};
 use std::alloc::{AllocError, Global};
 use tag_names::Prefixes;
 use tree_rows::Attribute;

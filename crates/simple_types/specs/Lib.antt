@@ -6,4 +6,4 @@ pub mod SimpleTypes
 pub mod TypeRules
 pub mod inside
 pub use Rattle.simple_validity.specs.Trees
-pub use Rattle.facets.specs.Trying
+pub use Rattle.simple_validity.specs.Trying

@@ -6,8 +6,8 @@ use Rattle.xs_codes.specs.declared.code.Code.TheVariants.{CvcLengthValid, CvcMin
 use Rattle.dec_value.specs.Decimal.{total_digits_of}
 use Rattle.simple_values.specs.declared.value.Value.{Value}
 use Rattle.simple_values.specs.Same.{length_of}
-use Rattle.facet_checks.specs.declared.list.FacetList.{FacetList}
-use Rattle.facet_checks.specs.Check.{unless, or_else, is_exactly, is_from, is_up_to, length_code, is_listed, values_code, is_up_to_value, is_before_value, is_from_value, is_past_value, bounds_code, number_of, digits_code, unmet_code, check_code}
+use Rattle.facets.specs.FacetList.{FacetList}
+use Rattle.facets.specs.Check.{unless, or_else, is_exactly, is_from, is_up_to, length_code, is_listed, values_code, is_up_to_value, is_before_value, is_from_value, is_past_value, bounds_code, number_of, digits_code, unmet_code, check_code}
 use Rattle.facets.specs.Trying.{is_limit}
 
 abbrev pub IsNoLimit : Option Code → Type 0

@@ -11,8 +11,8 @@ use Rattle.xs_components.specs.declared.simple.FacetItem.{FacetItem}
 use Rattle.simple_values.specs.Grammar.{item_type}
 use Rattle.simple_values.specs.declared.atoms.TypedAtom.{TypedAtom}
 use Rattle.simple_values.specs.declared.value.Value.{Value}
-use Rattle.facet_checks.specs.declared.list.FacetList.{FacetList}
-use Rattle.facet_checks.specs.Check.{IsChecked, check_code}
+use Rattle.facets.specs.FacetList.{FacetList}
+use Rattle.facets.specs.Check.{IsChecked, check_code}
 use Rattle.facets.specs.declared.atomic.Accepted.{Accepted}
 use Rattle.facets.specs.declared.facets.Facets.{Facets}
 use Rattle.facets.specs.declared.known.Judged.{Judged}
@@ -31,8 +31,8 @@ use Rattle.facets.specs.declared.trying.Turn.{Turn}
 use Rattle.facets.specs.declared.trying.Turn.TheVariants.{Ends, From}
 use Rattle.facets.specs.Members.{moved_gate, moved_on}
 use Rattle.facets.specs.Atomic.{way_of}
-use Rattle.facet_rules.specs.declared.step.ReadStep.{ReadStep}
-use Rattle.facet_rules.specs.Rules.{judged_of}
+use Rattle.facets.specs.ReadStep.{ReadStep}
+use Rattle.facets.specs.Rules.{judged_of}
 use Rattle.facets.specs.Making.{list_facets, no_members, with_member, with_source, choices_of, gate}
 use Rattle.facets.specs.Source.{of_builtin, list_of, list_by, union_of}
 use Rattle.facets.specs.Facets.{IsStepJudged, judged_by, facets_by}

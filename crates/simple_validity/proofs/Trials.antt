@@ -12,8 +12,8 @@ use Rattle.xs_components.specs.declared.simple.FacetItem.{FacetItem}
 use Rattle.simple_values.specs.Grammar.{item_type}
 use Rattle.simple_values.specs.declared.atoms.TypedAtom.{TypedAtom}
 use Rattle.simple_values.specs.declared.value.Value.{Value}
-use Rattle.facet_checks.specs.declared.list.FacetList.{FacetList}
-use Rattle.facet_checks.specs.Check.{IsChecked, check_code}
+use Rattle.facets.specs.FacetList.{FacetList}
+use Rattle.facets.specs.Check.{IsChecked, check_code}
 use Rattle.facets.specs.declared.atomic.Accepted.{Accepted}
 use Rattle.facets.specs.declared.facets.Facets.{Facets}
 use Rattle.facets.specs.declared.known.Judged.{Judged}

@@ -6,7 +6,7 @@ use Rattle.xs_codes.specs.declared.builtin.Builtin.TheVariants.{AnySimpleType}
 use Rattle.xs_codes.specs.declared.code.Code.{Code}
 use Rattle.xs_codes.specs.declared.code.Code.TheVariants.{CvcDatatypeValid1, XLimitItems}
 use Rattle.simple_values.specs.declared.atoms.TypedAtom.{TypedAtom}
-use Rattle.facet_checks.specs.declared.list.FacetList.{FacetList}
+use Rattle.facets.specs.FacetList.{FacetList}
 use Rattle.facets.specs.declared.atomic.Accepted.{Accepted}
 use Rattle.facets.specs.declared.facets.Facets.{Facets}
 use Rattle.facets.specs.declared.known.Judged.{Judged}

@@ -3,4 +3,5 @@
 
 mod validity;
 
+pub use facets::{Accepted, Facets, Judged, Known, Members, noted, sooner};
 pub use validity::validated;

@@ -18,3 +18,7 @@ pub use laws::edits_keep_trees;
 pub use names::{BlockNames, JudgedBlock, judge_block};
 pub use places::{below_count, place_of};
 pub use scope::scope_of_node;
+pub use tree_building::{
+    Builder, Built, Rules, TreeFault, TreeReason, build_document, build_fragment,
+    documents_are_sound, is_one_element,
+};

@@ -4,3 +4,5 @@
 mod constraint;
 
 pub use constraint::{NsConstraint, NsIdList};
+pub use xs_lists::Listed;
+pub use xs_names::{NameId, Scope, Text};

@@ -4,9 +4,9 @@ use Rattle.std.specs.Prelude.{Result, IsErr}
 use Rattle.xs_words.specs.Expressions.{renamed}
 use Rattle.xs_positions.specs.Tree.{Tree, one, empty, chain, nothing, either, repeat, copies, size}
 use Rattle.xs_positions.specs.Nodes.{tree_at}
-use Rattle.pattern_terms.specs.Classes.{Class}
-use Rattle.pattern_terms.specs.Regex.{regex_at}
-use Rattle.pattern_terms.specs.Trees.{class_at, regex_of}
+use Rattle.pattern_syntax.specs.Classes.{Class}
+use Rattle.pattern_syntax.specs.Regex.{regex_at}
+use Rattle.pattern_syntax.specs.Trees.{class_at, regex_of}
 
 size-renamed : (name : ℕ → Class) (tree : Tree) → size (renamed name tree) ≡ size tree
 size-renamed name (one number) = refl

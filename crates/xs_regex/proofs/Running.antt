@@ -6,9 +6,9 @@ use Rattle.xs_positions.specs.Tree.{Tree, size}
 use Rattle.xs_positions.specs.Words.{IsWord, Begins}
 use Rattle.xs_positions.specs.Sets.{row}
 use Rattle.xs_positions.specs.Positions.{Table, ArePositionsOf}
-use Rattle.pattern_terms.specs.Classes.{Class}
-use Rattle.pattern_terms.specs.Regex.{Matches}
-use Rattle.pattern_terms.specs.Trees.{regex_of}
+use Rattle.pattern_syntax.specs.Classes.{Class}
+use Rattle.pattern_syntax.specs.Regex.{Matches}
+use Rattle.pattern_syntax.specs.Trees.{regex_of}
 use Rattle.xs_regex.specs.Sets.{Has}
 use Rattle.xs_regex.specs.Program.{takes_by}
 use Rattle.xs_regex.proofs.SetLaws.{has_within}

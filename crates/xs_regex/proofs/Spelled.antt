@@ -3,9 +3,9 @@ use Rattle.std.proofs.Common.{◌≡◌, ℕ, zero, suc, Bool, List, [], ◌∷�
 use Rattle.std.specs.Prelude.{IsTrue}
 use Rattle.xs_positions.specs.Tree.{Tree, one, empty, chain, nothing, either, repeat}
 use Rattle.xs_positions.specs.Words.{Spells, Rounds}
-use Rattle.pattern_terms.specs.Classes.{Class, has}
-use Rattle.pattern_terms.specs.Regex.{Matches}
-use Rattle.pattern_terms.specs.Trees.{class_at, regex_of}
+use Rattle.pattern_syntax.specs.Classes.{Class, has}
+use Rattle.pattern_syntax.specs.Regex.{Matches}
+use Rattle.pattern_syntax.specs.Trees.{class_at, regex_of}
 use Rattle.xs_regex.specs.Words.{Reads}
 
 reads_append : (takes : ℕ → ℕ → Bool) (a b cs ds : List ℕ) → Reads takes a cs → Reads takes b ds → Reads takes (a ++ b) (cs ++ ds)

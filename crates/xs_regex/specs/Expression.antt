@@ -1,9 +1,9 @@
 -- What a pattern stands for.
 use Rattle.std.specs.Prelude.{List}
 use Rattle.xs_positions.specs.Tree.{Tree}
-use Rattle.pattern_terms.specs.Classes.{Class}
-use Rattle.pattern_terms.specs.Regex.{Regex}
-use Rattle.pattern_terms.specs.Trees.{regex_of}
+use Rattle.pattern_syntax.specs.Classes.{Class}
+use Rattle.pattern_syntax.specs.Regex.{Regex}
+use Rattle.pattern_syntax.specs.Trees.{regex_of}
 
 -- an expression over the numbers of classes, and the classes
 pub record Expression : Type 0 where

@@ -1,6 +1,6 @@
 -- The texts that match the pattern that a text is (Datatypes, 4.3.4 and appendix F).
 use Rattle.std.specs.Prelude.{ℕ, List}
-use Rattle.pattern_terms.specs.Regex.{Matches}
+use Rattle.pattern_syntax.specs.Regex.{Matches}
 use Rattle.pattern_syntax.specs.Grammar.{RegExp, meaning}
 use Rattle.pattern_syntax.specs.Reading.{IsWritten}
 

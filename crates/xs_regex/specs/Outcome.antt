@@ -1,6 +1,6 @@
 -- What reading a pattern answers.
 use Rattle.std.specs.Prelude.{nat_lt, if◌then◌else◌, Result, Ok, Err}
-use Rattle.pattern_terms.specs.Regex.{Regex}
+use Rattle.pattern_syntax.specs.Regex.{Regex}
 use Rattle.pattern_syntax.specs.declared.fault.PatternFault.{PatternFault}
 use Rattle.pattern_syntax.specs.declared.fault.PatternFault.TheVariants.{TooLarge}
 use Rattle.xs_words.specs.Expressions.{size}

@@ -2,9 +2,9 @@
 use Rattle.std.specs.Prelude.{◌≡◌, ℕ, ◌↔◌, Bool, IsTrue, List, length, slice_index, Contains}
 use Rattle.xs_positions.specs.Nodes.{tree_at}
 use Rattle.xs_positions.specs.Positions.{Table, ArePositionsOf}
-use Rattle.pattern_terms.specs.Classes.{Class, has}
-use Rattle.pattern_terms.specs.Trees.{class_at}
-use Rattle.pattern_terms.specs.Terms.{classes_of, trees_of}
+use Rattle.pattern_syntax.specs.Classes.{Class, has}
+use Rattle.pattern_syntax.specs.Trees.{class_at}
+use Rattle.pattern_syntax.specs.Terms.{classes_of, trees_of}
 use Rattle.xs_regex.specs.Sets.{Has}
 use Rattle.xs_regex.specs.Expression.{Expression}
 use Rattle.xs_regex.specs.declared.program.Program.{Program}

@@ -2,7 +2,7 @@
 
 ghost use Rattle.std.specs.Prelude.{◌≡◌, ◌↔◌, ℕ, List, Result, Ok, IfOk, IsTrue};
 ghost use Rattle.std.specs.Str.{chars};
-ghost use Rattle.pattern_terms.specs.Regex.{Regex, Matches};
+ghost use Rattle.pattern_syntax.specs.Regex.{Regex, Matches};
 ghost use Rattle.pattern_syntax.specs.Grammar.{RegExp};
 ghost use Rattle.pattern_syntax.specs.Reading.{Reads, IsWritten, answer_of};
 ghost use Rattle.pattern_syntax.specs.Outcome.{regex_of};

@@ -6,7 +6,7 @@ use Rattle.xs_components.specs.Tables.{Tables}
 use Rattle.use_maps.specs.declared.entry.UseAt.{UseAt}
 use Rattle.assess_records.specs.declared.shape.NamedText.{NamedText}
 use Rattle.assess_records.specs.declared.outcome.ValueSource.TheVariants.{Schema}
-use Rattle.attr_governing.specs.declared.governing.AttrGoverning.TheVariants.{Declared}
+use Rattle.attr_codes.specs.AttrGoverning.TheVariants.{Declared}
 use Rattle.attr_added.specs.Lacking.{is_missing, AreThose}
 use Rattle.attr_added.specs.Added.{AreAddedNames}
 use Rattle.attr_added.specs.declared.added.AddedUse.{AddedUse}

@@ -11,7 +11,7 @@ use Rattle.build_attributes.specs.Declarations.{attributes_of}
 use Rattle.build_attributes.specs.Groups.{empty_groups, attr_groups}
 use Rattle.build_elements.specs.Constraints.{constraints, constraint_numbers}
 use Rattle.build_elements.specs.Elements.{elements, element_numbers}
-use Rattle.build_particles.specs.Models.{particles_for, with_models}
+use Rattle.build_complex.specs.Models.{particles_for, with_models}
 use Rattle.build_complex.specs.Complexes.{complex_types}
 use Rattle.build_components.specs.declared.steps.AttributeNumbers.{AttributeNumbers}
 

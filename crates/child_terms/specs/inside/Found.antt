@@ -11,9 +11,9 @@ use Rattle.content_automaton.specs.Modelled.{IsTermAt}
 use Rattle.all_states.specs.declared.state.AllState.{AllState}
 use Rattle.all_states.specs.States.{state_of}
 use Rattle.all_models.specs.Modelled.{AllModel, letter_of}
-use Rattle.content_models.specs.Terms.{model_terms}
-use Rattle.content_models.specs.Built.{IsBuilt, IsFirstIn}
-use Rattle.content_models.specs.declared.automaton.ContentAutomaton.{ContentAutomaton}
+use Rattle.grown_models.specs.Terms.{model_terms}
+use Rattle.grown_models.specs.Built.{IsBuilt, IsFirstIn}
+use Rattle.grown_models.specs.ContentAutomaton.{ContentAutomaton}
 use Rattle.model_symbols.specs.Attribution.{IsAmbivalent}
 use Rattle.child_terms.specs.Attribution.{SchemaSet, expanded, Begins, BeginUpTo}
 

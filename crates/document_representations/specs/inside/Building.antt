@@ -4,7 +4,7 @@ use Rattle.std.specs.Option.{unwrap_or}
 use Rattle.indexmap.specs.IndexMap.{get}
 use Rattle.xs_names.specs.Names.{NameTable, Grown}
 use Rattle.xs_names.specs.Scope.{first_scope}
-use Rattle.schema_shape.specs.declared.forms.Shape.{Shape}
+use Rattle.form_representations.specs.Shape.{Shape}
 use Rattle.representations.specs.declared.parts.Representation.{Representation}
 use Rattle.representations.specs.Named.{AreNamed}
 use Rattle.form_representations.specs.Lasting.{IsLasting}

@@ -7,11 +7,11 @@ use Rattle.xs_faults.specs.Least.{is_before, sooner}
 use Rattle.xs_names.specs.Names.{NameTable}
 use Rattle.xs_components.specs.Tables.{Tables}
 use Rattle.xs_components.specs.declared.common.Place.{Place}
-use Rattle.content_models.specs.Built.{IsStateTotal, IsBuilt, HasRoom, IsRefused, states_of, cells_of}
-use Rattle.content_models.specs.declared.automaton.ContentAutomaton.{ContentAutomaton}
-use Rattle.content_models.specs.declared.refused.ModelError.{ModelError}
-use Rattle.content_models.specs.declared.refused.ModelError.TheVariants as errors
-use Rattle.element_consistency.specs.Consistency.{IsConsistent}
+use Rattle.model_checks.specs.Built.{IsStateTotal, IsBuilt, HasRoom, IsRefused, states_of, cells_of}
+use Rattle.model_checks.specs.ContentAutomaton.{ContentAutomaton}
+use Rattle.model_checks.specs.ModelError.{ModelError}
+use Rattle.model_checks.specs.ModelError.TheVariants as errors
+use Rattle.model_checks.specs.Consistency.{IsConsistent}
 use Rattle.model_checks.specs.Checks.{IsAmbiguousModel}
 use Rattle.model_checks.specs.declared.fault.ModelFault.{ModelFault}
 use Rattle.model_checks.specs.declared.fault.ModelFault.TheVariants.{TooManyPositions, TooManyStates, TableTooLarge, Inconsistent, Ambiguous}

@@ -1,7 +1,7 @@
 use Rattle.particle_forms.specs.Models.{model_of}
 use Rattle.particle_forms.specs.Accepted.{accepts}
-use Rattle.content_models.specs.Terms.{model_terms}
-use Rattle.content_models.specs.declared.automaton.ContentAutomaton.TheVariants.{All}
+use Rattle.grown_models.specs.Terms.{model_terms}
+use Rattle.grown_models.specs.ContentAutomaton.TheVariants.{All}
 use Rattle.child_terms.proofs.Walking.{next-at, next-first, next-stuck, all-first, member-at}
 use Rattle.child_terms.proofs.all_walk.next_term.Goals as goal
 use Rattle.child_terms.proofs.all_walk.next_term.Goals.{else-begins-via-then-begins+else-ambivalent, else-begins-via-else-begins}

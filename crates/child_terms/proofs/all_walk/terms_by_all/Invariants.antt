@@ -1,5 +1,5 @@
 use Rattle.std.proofs.Common.{◌≡◌, ℕ, take, length}
-use Rattle.content_models.specs.declared.automaton.ContentAutomaton.TheVariants.{All}
+use Rattle.grown_models.specs.ContentAutomaton.TheVariants.{All}
 use Rattle.child_terms.specs.Attribution.{SchemaSet}
 use Rattle.child_terms.specs.inside.Found.{all_state_in, IsKept, AreFound}
 use Rattle.child_terms.proofs.all_walk.terms_by_all.Given as goal

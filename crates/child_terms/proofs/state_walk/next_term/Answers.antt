@@ -1,6 +1,6 @@
 use Rattle.particle_forms.specs.Models.{model_of}
 use Rattle.particle_forms.specs.Accepted.{accepts}
-use Rattle.content_models.specs.Terms.{model_terms}
+use Rattle.grown_models.specs.Terms.{model_terms}
 use Rattle.child_terms.proofs.Walking.{next-first, next-stuck, states-first}
 use Rattle.child_terms.proofs.state_walk.next_term.Goals as goal
 use Rattle.child_terms.proofs.state_walk.next_term.Goals.{else-begins-via-then-begins+else-ambivalent, else-begins-via-else-begins}

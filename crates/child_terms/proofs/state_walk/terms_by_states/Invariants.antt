@@ -1,6 +1,6 @@
 use Rattle.std.proofs.Common.{◌≡◌, ℕ, take, length}
 use Rattle.content_states.specs.Automaton.{state_of}
-use Rattle.content_models.specs.declared.automaton.ContentAutomaton.TheVariants.{States}
+use Rattle.grown_models.specs.ContentAutomaton.TheVariants.{States}
 use Rattle.child_terms.specs.Attribution.{SchemaSet}
 use Rattle.child_terms.specs.inside.Found.{symbols_in, IsKept, AreFound}
 use Rattle.child_terms.proofs.state_walk.terms_by_states.Given as goal

@@ -1,9 +1,9 @@
 use Rattle.std.proofs.Common.{rules, ◌≡◌, ◌∷◌, Some, refl, ap, ◌∙◌}
 use Rattle.xs_names.specs.Names.{with_space}
 use Rattle.xs_names.proofs.GrownLaws.{Grown-trans}
-use Rattle.schema_names.specs.Documents.{bindings_table}
-use Rattle.schema_names.specs.Naming.{space_in}
-use Rattle.schema_names.proofs.LaterLaws.{space-later}
+use Rattle.form_representations.specs.Documents.{bindings_table}
+use Rattle.form_representations.specs.Naming.{space_in}
+use Rattle.form_representations.proofs.LaterLaws.{space-later}
 use Rattle.form_representations.proofs.LastingLaws.{table-more}
 use Rattle.document_representations.specs.Scopes.{bound}
 use Rattle.document_representations.proofs.scope_list.bind_all.Goals as goal

@@ -1,6 +1,6 @@
 use Rattle.std.proofs.Common.{◌≡◌, drop}
 use Rattle.xs_names.specs.Names.{NameTable, Grown}
-use Rattle.schema_names.specs.Documents.{bindings_table}
+use Rattle.form_representations.specs.Documents.{bindings_table}
 use Rattle.document_representations.specs.Scopes.{bound}
 use Rattle.document_representations.proofs.scope_list.bind_all.Given as goal
 

@@ -5,7 +5,7 @@ use Rattle.representations.specs.Behind.{AreBehind}
 use Rattle.std.specs.List.{flat_map}
 use Rattle.xs_names.specs.Scope.{first_scope}
 use Rattle.xs_names.proofs.GrownLaws.{Grown-refl, Grown-trans}
-use Rattle.schema_names.specs.Documents.{document_table}
+use Rattle.form_representations.specs.Documents.{document_table}
 use Rattle.form_representations.proofs.LastingLaws.{table-more}
 use Rattle.document_representations.specs.Documents.{set_table, shapes_of, document_scopes, representations_of, origins_of, representations, scopes, origins}
 use Rattle.document_representations.proofs.ReadLaws.{left-one}

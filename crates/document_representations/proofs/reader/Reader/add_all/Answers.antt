@@ -1,7 +1,7 @@
 use Rattle.std.proofs.Common.{◌≡◌, ◌+◌, [], ◌∷◌, take, drop, refl, sym, ap, subst, ◌∙◌}
 use Rattle.std.specs.Prelude.{reverse}
 use Rattle.xs_names.proofs.GrownLaws.{Grown-trans}
-use Rattle.schema_names.specs.Documents.{shape_table, shapes_table}
+use Rattle.form_representations.specs.Documents.{shape_table, shapes_table}
 use Rattle.form_representations.specs.Wildcards.{KnowsTarget}
 use Rattle.form_representations.proofs.LastingLaws.{table-more}
 use Rattle.document_representations.specs.inside.Building.{IsRead}

@@ -1,7 +1,7 @@
 use Rattle.std.proofs.Common.{◌≡◌, ℕ, List, [], take, drop}
 use Rattle.std.specs.Prelude.{reverse}
 use Rattle.xs_names.specs.Names.{NameTable, Grown}
-use Rattle.schema_names.specs.Documents.{shapes_table}
+use Rattle.form_representations.specs.Documents.{shapes_table}
 use Rattle.representations.specs.declared.parts.Representation.{Representation}
 use Rattle.form_representations.specs.Wildcards.{KnowsTarget}
 use Rattle.document_representations.specs.inside.Building.{IsRead}

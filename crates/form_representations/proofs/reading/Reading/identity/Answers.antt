@@ -1,7 +1,7 @@
 use Rattle.std.proofs.Common.{sym, ap, ◌∙◌}
 use Rattle.xs_names.proofs.GrownLaws.{Grown-trans}
 use Rattle.representations.specs.declared.parts.Represented.TheVariants as made
-use Rattle.schema_shape.specs.declared.forms.IdentityKind.{IdentityKind}
+use Rattle.schema_names.specs.IdentityKind.{IdentityKind}
 use Rattle.form_representations.specs.Forms.{identity_of}
 use Rattle.form_representations.proofs.reading.Reading.identity.Goals as goal
 use Rattle.form_representations.proofs.reading.Reading.identity.Goals.{in-Unique, in-Key, in-Keyref}

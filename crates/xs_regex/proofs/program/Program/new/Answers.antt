@@ -1,6 +1,6 @@
 use Rattle.xs_positions.specs.Nodes.{tree_at}
 use Rattle.xs_positions.specs.Positions.{ArePositionsOf}
-use Rattle.pattern_terms.specs.Terms.{classes_of, trees_of}
+use Rattle.pattern_syntax.specs.Terms.{classes_of, trees_of}
 use Rattle.xs_regex.specs.declared.program.TheConstants.{MOST_POSITIONS}
 use Rattle.xs_regex.proofs.Counting.{too_many}
 use Rattle.xs_regex.proofs.ProgramLaws.{last_within}
