@@ -12,7 +12,8 @@ use Rattle.xs_references.specs.Ranked.{IsRanked}
 use Rattle.xs_references.proofs.DescentLaws.{along-is}
 use Rattle.type_derives.specs.Derives.{above, members_of, is_simple}
 use Rattle.type_derives.specs.Chains.{Derives, same, by_base, by_member}
-use Rattle.type_derives.proofs.BaseLaws.{above-lower, members-lower}
+use Rattle.type_derives.proofs.BaseLaws.{above-lower}
+use Rattle.type_derives.proofs.MemberLaws.{members-lower}
 use Rattle.elem_governing.specs.Derived.{same_type, base_derives, member_derives, derives_step, pair_height, derives}
 use Rattle.elem_governing.proofs.SameLaws.{same-is, same-self, any-passes, passes-any, any-same}
 

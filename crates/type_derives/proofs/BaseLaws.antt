@@ -1,9 +1,9 @@
 -- Steps of derivation go lower; what is simple is derived from what is simple, or from anyType.
-use Rattle.std.proofs.Common.{◌≡◌, ℕ, ◌+◌, ◌<◌, ◌⊎◌, inl, inr, List, [], ◌∷◌, Bool, true, false, Option, None, Some, slice_get, slice_index, refl, sym, arith}
-use Rattle.std.specs.Prelude.{All, Contains, IfSome, if◌then◌else◌}
+use Rattle.std.proofs.Common.{◌≡◌, ℕ, ◌<◌, ◌⊎◌, inl, inr, [], Bool, true, false, Option, None, Some, slice_get, refl, sym, arith}
+use Rattle.std.specs.Prelude.{All, IfSome, if◌then◌else◌}
 use Rattle.std.specs.Option.{option_and_then}
 use Rattle.std.proofs.lemmas.Bool.{true≢false}
-use Rattle.std.proofs.lemmas.List.Elements.{All-nil, All-head, All-contains}
+use Rattle.std.proofs.lemmas.List.Elements.{All-head}
 use Rattle.xs_codes.specs.declared.builtin.Builtin.{Builtin as Built}
 use Rattle.xs_codes.specs.declared.builtin.Builtin.TheVariants as built
 use Rattle.xs_components.specs.Tables.{Tables}
@@ -14,9 +14,9 @@ use Rattle.xs_components.specs.declared.complex.ComplexType.{ComplexType}
 use Rattle.xs_components.specs.declared.simple.SimpleForm.{SimpleForm}
 use Rattle.xs_components.specs.declared.simple.SimpleForm.TheVariants.{Restrict, ListOf, UnionOf}
 use Rattle.xs_components.specs.declared.simple.SimpleType.{SimpleType}
-use Rattle.xs_references.specs.Heights.{builtin_height, first_height, type_height, IsType, IsLower}
+use Rattle.xs_references.specs.Heights.{builtin_height, type_height, IsLower}
 use Rattle.xs_references.specs.Ranked.{named_types, IsRanked}
-use Rattle.type_derives.specs.Derives.{above, above_complex, unless, builtin_base, simple_base, members_of, members_in, union_members, is_simple}
+use Rattle.type_derives.specs.Derives.{above, above_complex, unless, builtin_base, simple_base, is_simple}
 use Rattle.type_derives.specs.Within.{AreSimple}
 
 module _ (t : Tables) where
@@ -68,11 +68,6 @@ module _ (t : Tables) where
   form-lower height (ListOf item) h all = record { there = tt; lower = h }
   form-lower height (UnionOf members) h all = record { there = tt; lower = h }
 
-  members-form : (height : ℕ) (form : SimpleForm) → All (IsLower t height) (named_types form) → All (IsLower t height) (union_members form)
-  members-form height (Restrict base step) all = All-nil (IsLower t height)
-  members-form height (ListOf item) all = All-nil (IsLower t height)
-  members-form height (UnionOf members) all = all
-
   unless-lower : (excluded : Bool) (height : ℕ) (x : TypeId) → IsLower t height x → IfSome (unless excluded x) (IsLower t height)
   unless-lower true height x low = tt
   unless-lower false height x low = low
@@ -98,17 +93,6 @@ module _ (t : Tables) where
       of : (o : Option ComplexType) → slice_get t.complexes.parts id ≡ o → IfSome (option_and_then (above_complex excluded) o) (IsLower t (type_height t (Complex id)))
       of None e = tt
       of (Some part) e = complex-lower excluded (type_height t (Complex id)) part (ranked.complexes id part e)
-
-  -- a member is lower
-  pub members-lower : IsRanked t → (x : TypeId) → All (IsLower t (type_height t x)) (members_of t x)
-  members-lower ranked AnyType = All-nil (IsLower t 0)
-  members-lower ranked (Builtin b) = All-nil (IsLower t (type_height t (Builtin b)))
-  members-lower ranked (Simple id) = of (slice_get t.simples.parts id) refl
-    where
-      of : (o : Option SimpleType) → slice_get t.simples.parts id ≡ o → All (IsLower t (type_height t (Simple id))) (members_in o)
-      of None e = All-nil (IsLower t (type_height t (Simple id)))
-      of (Some part) e = members-form (type_height t (Simple id)) part.form (ranked.simples id part e)
-  members-lower ranked (Complex id) = All-nil (IsLower t (type_height t (Complex id)))
 
   -- a type is simple, or anyType
   abbrev pub Plain : TypeId → Type 0
@@ -175,22 +159,3 @@ module _ (t : Tables) where
       of : (o : Option SimpleType) → slice_get t.simples.parts id ≡ o → IfSome (option_and_then (λ part. unless excluded.restriction (simple_base part.form)) o) Plain
       of None e = tt
       of (Some part) e = unless-simple excluded.restriction (simple_base part.form) (form-simple part.form (simple.named id part e))
-
-  union-simple : (form : SimpleForm) → All (λ x. is_simple x ≡ true) (named_types form) → All (λ x. is_simple x ≡ true) (union_members form)
-  union-simple (Restrict base step) h = All-nil (λ x. is_simple x ≡ true)
-  union-simple (ListOf item) h = All-nil (λ x. is_simple x ≡ true)
-  union-simple (UnionOf members) h = h
-
-  all-simple : AreSimple t → (x : TypeId) → All (λ x. is_simple x ≡ true) (members_of t x)
-  all-simple simple AnyType = All-nil (λ x. is_simple x ≡ true)
-  all-simple simple (Builtin b) = All-nil (λ x. is_simple x ≡ true)
-  all-simple simple (Complex id) = All-nil (λ x. is_simple x ≡ true)
-  all-simple simple (Simple id) = of (slice_get t.simples.parts id) refl
-    where
-      of : (o : Option SimpleType) → slice_get t.simples.parts id ≡ o → All (λ x. is_simple x ≡ true) (members_in o)
-      of None e = All-nil (λ x. is_simple x ≡ true)
-      of (Some part) e = union-simple part.form (simple.named id part e)
-
-  -- a member is simple
-  pub member-simple : AreSimple t → (x member : TypeId) → Contains (members_of t x) member → is_simple member ≡ true
-  member-simple simple x member c = All-contains (λ x. is_simple x ≡ true) (members_of t x) member (all-simple simple x) c

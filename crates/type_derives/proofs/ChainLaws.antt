@@ -1,6 +1,6 @@
 -- Derivation, where what is within the base is known.
-use Rattle.std.proofs.Common.{◌≡◌, ◌⊎◌, inl, inr, ◌↔◌, Bool, true, false, Option, None, Some, refl, sym, ◌∙◌, subst}
-use Rattle.std.specs.Prelude.{Contains, IfSome, IsTrue}
+use Rattle.std.proofs.Common.{◌≡◌, ◌⊎◌, inl, inr, ◌↔◌, Bool, true, false, None, Some, refl, sym, ◌∙◌, subst}
+use Rattle.std.specs.Prelude.{Contains, IsTrue}
 use Rattle.std.proofs.lemmas.Bool.{true≢false}
 use Rattle.xs_components.specs.Tables.{Tables}
 use Rattle.xs_components.specs.declared.common.Methods.{Methods}
@@ -10,7 +10,8 @@ use Rattle.xs_references.specs.Heights.{IsType}
 use Rattle.type_derives.specs.Derives.{above, members_of, is_simple}
 use Rattle.type_derives.specs.Chains.{Derives, same, by_base, by_member}
 use Rattle.type_derives.specs.Within.{IsWithin, itself, inside, AreSimple, Marks, IsMarked, AreWithin}
-use Rattle.type_derives.proofs.BaseLaws.{Plain, above-simple, member-simple}
+use Rattle.type_derives.proofs.BaseLaws.{Plain, above-simple}
+use Rattle.type_derives.proofs.MemberLaws.{member-simple}
 
 -- what is marked is simple
 pub marked-simple : (marks : Marks) (x : TypeId) → IsMarked marks x → is_simple x ≡ true

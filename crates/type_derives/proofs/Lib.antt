@@ -1,3 +1,4 @@
 pub mod BaseLaws
+pub mod MemberLaws
 pub mod ChainLaws
 pub mod SpreadLaws

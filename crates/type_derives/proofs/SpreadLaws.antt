@@ -1,6 +1,6 @@
 -- Marks spread from a type to its members.
-use Rattle.std.proofs.Common.{◌≡◌, ◌≢◌, ℕ, zero, suc, ◌+◌, ◌*◌, ◌<◌, ◌≤◌, max, ◌⊎◌, inl, inr, ◌↔◌, List, [], ◌∷◌, ◌++◌, Bool, true, false, Option, None, Some, length, length-append, replicate, set, get_or, slice_get, slice_set, refl, sym, ap, ◌∙◌, subst, arith, length-set}
-use Rattle.std.specs.Prelude.{All, Contains, sum_by, slice_index_or}
+use Rattle.std.proofs.Common.{◌≡◌, ℕ, zero, ◌+◌, ◌*◌, ◌<◌, ◌⊎◌, inl, inr, List, [], ◌∷◌, ◌++◌, Bool, true, false, Some, length, length-append, set, get_or, refl, sym, ap, ◌∙◌, subst, arith, length-set}
+use Rattle.std.specs.Prelude.{All, Contains, sum_by}
 use Rattle.std.proofs.lemmas.Bool.{cases_eq, true≢false}
 use Rattle.std.proofs.lemmas.List.{get_or-set_same, get_or-set_other}
 use Rattle.std.proofs.lemmas.List.Sums.{sum_by-set}
@@ -9,12 +9,11 @@ use Rattle.xs_codes.specs.declared.builtin.Builtin.{Builtin as Built}
 use Rattle.xs_components.specs.Tables.{Tables}
 use Rattle.xs_components.specs.declared.common.TypeId.{TypeId}
 use Rattle.xs_components.specs.declared.common.TypeId.TheVariants.{AnyType, Builtin, Simple, Complex}
-use Rattle.xs_components.specs.declared.simple.SimpleType.{SimpleType}
 use Rattle.xs_references.specs.Heights.{type_height, IsType, IsLower}
 use Rattle.xs_references.specs.Ranked.{IsRanked}
-use Rattle.type_derives.specs.Derives.{members_of, members_in, union_members, is_simple}
+use Rattle.type_derives.specs.Derives.{members_of, is_simple}
 use Rattle.type_derives.specs.Within.{IsWithin, itself, inside, Marks, IsMarked, AreWithin, IsNothing, IsPut, simples_with, BuiltinsWith, fresh_members}
-use Rattle.type_derives.proofs.BaseLaws.{members-lower}
+use Rattle.type_derives.proofs.MemberLaws.{most_members, most-is, members-lower}
 
 -- a type that is within the base
 pub record Waits (t : Tables) (base x : TypeId) : Type 0 where
@@ -33,18 +32,9 @@ abbrev one_if_not : Bool → ℕ
 one_if_not true = 0
 one_if_not false = 1
 
-abbrev most_members : List SimpleType → ℕ
-most_members [] = 0
-most_members (p ∷ ps) = max (length (union_members p.form)) (most_members ps)
-
 -- how much is left to do
 abbrev pub left : Tables → Marks → List TypeId → ℕ
 left t marks todo = sum_by one_if_not marks.simples * (most_members t.simples.parts + 1) + length todo
-
-most-is : (ps : List SimpleType) (n : ℕ) → length (members_in (slice_get ps n)) ≤ most_members ps
-most-is [] n = omega arith
-most-is (p ∷ ps) zero = omega arith
-most-is (p ∷ ps) (suc n) = omega (arith, most-is ps n)
 
 -- a member of what is within is within
 within-more : (t : Tables) (base x m : TypeId) → IsWithin t base x → Contains (members_of t x) m → IsWithin t base m
@@ -220,7 +210,7 @@ module _ (t : Tables) (ranked : IsRanked t) (base : TypeId) (marks : Marks) (tod
         fewer =
             let law = sum_by-set one_if_not marks.simples id true false id-there in
             let less : sum_by one_if_not marks.simples ≡ sum_by one_if_not new.simples + 1 = omega (arith, law, ap one_if_not e) in
-            omega (arith, ap (λ k. k * (most_members t.simples.parts + 1)) less, length-append todo (members_of t x), length-append todo (x ∷ []), most-is t.simples.parts id)
+            omega (arith, ap (λ k. k * (most_members t.simples.parts + 1)) less, length-append todo (members_of t x), length-append todo (x ∷ []), most-is t id)
 
   abbrev fresh_if : Bool → ℕ → List TypeId
   fresh_if true id = []

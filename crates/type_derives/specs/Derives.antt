@@ -1,5 +1,5 @@
 -- Steps of derivation: the type that a type is derived from, and by which method; the members of a union.
-use Rattle.std.specs.Prelude.{ℕ, List, [], Bool, true, false, Option, None, Some, slice_get, if◌then◌else◌}
+use Rattle.std.specs.Prelude.{ℕ, List, [], Bool, true, false, Option, None, Some, slice_get, slice_index, if◌then◌else◌}
 use Rattle.std.specs.Option.{option_and_then}
 use Rattle.simple_values.specs.Builtins as builtins
 use Rattle.xs_codes.specs.declared.builtin.Builtin.{Builtin as Built}
@@ -12,6 +12,7 @@ use Rattle.xs_components.specs.declared.complex.ComplexType.{ComplexType}
 use Rattle.xs_components.specs.declared.simple.SimpleForm.{SimpleForm}
 use Rattle.xs_components.specs.declared.simple.SimpleForm.TheVariants.{Restrict, ListOf, UnionOf}
 use Rattle.xs_components.specs.declared.simple.SimpleType.{SimpleType}
+use Rattle.xs_references.specs.Descent.{along}
 
 -- the type is a simple one
 abbrev pub is_simple : TypeId → Bool
@@ -34,21 +35,29 @@ simple_base (Restrict base step) = base
 simple_base (ListOf item) = Builtin AnySimpleType
 simple_base (UnionOf members) = Builtin AnySimpleType
 
-abbrev pub union_members : SimpleForm → List TypeId
-union_members (Restrict base step) = []
-union_members (ListOf item) = []
-union_members (UnionOf members) = members
+module _ (simple : ℕ → List TypeId) where
+  abbrev pub type_members : TypeId → List TypeId
+  type_members AnyType = []
+  type_members (Builtin b) = []
+  type_members (Simple id) = simple id
+  type_members (Complex id) = []
 
-abbrev pub members_in : Option SimpleType → List TypeId
-members_in None = []
-members_in (Some part) = union_members part.form
+  -- a restriction of a union is a union, of the same members
+  abbrev pub form_members : SimpleForm → List TypeId
+  form_members (Restrict base step) = type_members base
+  form_members (ListOf item) = []
+  form_members (UnionOf members) = members
+
+  abbrev pub members_in : Option SimpleType → List TypeId
+  members_in None = []
+  members_in (Some part) = form_members part.form
+
+unfoldable pub simple_members : Tables → ℕ → List TypeId
+simple_members t n = along (slice_index t.simples.ranks) [] (λ simple n. members_in simple (slice_get t.simples.parts n)) n
 
 -- the {member type definitions} of a union (Structures 3.14.1)
 abbrev pub members_of : Tables → TypeId → List TypeId
-members_of t AnyType = []
-members_of t (Builtin b) = []
-members_of t (Simple id) = members_in (slice_get t.simples.parts id)
-members_of t (Complex id) = []
+members_of t of = type_members (simple_members t) of
 
 -- a type, unless the method is excluded
 abbrev pub unless : Bool → TypeId → Option TypeId

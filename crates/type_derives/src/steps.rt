@@ -1,5 +1,6 @@
 ghost use Rattle.std.specs.Prelude.{◌≡◌};
 ghost use Rattle.xs_references.specs.Heights.{IsType};
+ghost use Rattle.xs_references.specs.Ranked.{IsRanked};
 ghost use Rattle.type_derives.specs.Derives as spec;
 
 use xs_components::{Builtin, ComplexType, Components, Methods, SimpleForm, TypeId};
@@ -25,14 +26,18 @@ fn simple_base(form: &SimpleForm) -> TypeId
     }
 }
 
-/// The member types of a union; none of other types.
+/// The member types of a union, or of the union that a type restricts; none of other types.
 pub(crate) fn members_of(parts: &Components, of: TypeId) -> &[TypeId]
-    requires { IsType parts.now of }
+    requires ranked { IsRanked parts.now }
+    requires there { IsType parts.now of }
     ensures { result.now ≡ spec.members_of parts.now of }
 {
-    if let TypeId::Simple(id) = of {
-        if let SimpleForm::UnionOf { members } = &parts.simple(id).form {
-            return members.as_slice();
+    let mut at = of;
+    'up: while let TypeId::Simple(id) = at {
+        match &parts.simple(id).form {
+            SimpleForm::Restrict { base, .. } => at = *base,
+            SimpleForm::ListOf { .. } => return &[],
+            SimpleForm::UnionOf { members } => return members.as_slice(),
         }
     }
     &[]

@@ -97,6 +97,7 @@ impl Within {
         of: TypeId,
         todo: &mut Vec<TypeId>,
     ) -> Result<(), AllocError>
+        requires ranked { IsRanked parts.now }
         requires there { IsType parts.now of }
         requires len { length self.old.simples ≡ length parts.now.simples.parts }
         ensures base { self.new.base ≡ self.old.base }

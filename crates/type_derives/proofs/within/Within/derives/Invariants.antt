@@ -1,4 +1,4 @@
-use Rattle.std.proofs.Common.{◌≡◌, ◌↔◌}
+use Rattle.std.proofs.Common.{◌↔◌}
 use Rattle.xs_references.specs.Heights.{IsType, type_height}
 use Rattle.type_derives.specs.Chains.{Derives}
 use Rattle.type_derives.proofs.within.Within.derives.Given as goal

@@ -1,5 +1,5 @@
-use Rattle.std.proofs.Common.{◌≡◌, ◌∷◌, ◌++◌, [], ap, ◌∙◌, subst, sym, arith}
-use Rattle.type_derives.proofs.SpreadLaws.{IsSpread, Steps, left, spread-begins, steps, spread-ends, empty}
+use Rattle.std.proofs.Common.{◌≡◌, ◌∷◌, ◌++◌, [], ap, ◌∙◌, subst, arith}
+use Rattle.type_derives.proofs.SpreadLaws.{IsSpread, left, spread-begins, steps, spread-ends, empty}
 use Rattle.type_derives.proofs.within.Within.of.Goals as goal
 
 pub loop-of-init : goal.loop-of-init
