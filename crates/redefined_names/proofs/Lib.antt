@@ -1,0 +1,4 @@
+pub mod NamedLaws
+pub mod AroundLaws
+pub mod StayLaws
+pub mod RenamedLaws

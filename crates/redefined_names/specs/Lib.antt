@@ -1,0 +1,5 @@
+pub mod Components
+pub mod VersionNames
+pub mod Redirections
+pub mod Renamed
+pub mod inside

@@ -1,0 +1,13 @@
+//! The versions of redefined components, told apart by names.
+#![tactic(auto)]
+
+mod declared;
+mod names;
+mod redirections;
+mod references;
+mod renaming;
+mod tables;
+
+pub use declared::{Declared, VersionKind};
+pub use redirections::Redirection;
+pub use renaming::name_versions;
