@@ -2,3 +2,4 @@ pub mod NamedLaws
 pub mod AroundLaws
 pub mod StayLaws
 pub mod RenamedLaws
+pub mod UnnamedLaws

@@ -2,6 +2,7 @@
 #![tactic(auto)]
 
 mod declared;
+mod laws;
 mod names;
 mod redirections;
 mod references;
@@ -9,5 +10,6 @@ mod renaming;
 mod tables;
 
 pub use declared::{Declared, VersionKind};
+pub use laws::names_alone_change;
 pub use redirections::Redirection;
 pub use renaming::name_versions;
