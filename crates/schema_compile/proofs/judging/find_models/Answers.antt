@@ -1,5 +1,5 @@
 use Rattle.schema_compile.proofs.PhaseLaws.{source-of, models-of}
-use Rattle.schema_compile.proofs.finding.find_models.Goals as goal
+use Rattle.schema_compile.proofs.judging.find_models.Goals as goal
 
 pub build_models-requires-clause-source : goal.build_models-requires-clause-source
 build_models-requires-clause-source c = source-of c.args.set.now c.args.found.now c.requires.found c.in_ok-inhabited.inhabited c.requires.fit c.in_ok-inhabited.ensures.flags

@@ -1,5 +1,5 @@
 use Rattle.schema_compile.proofs.ValueLaws.{given, read}
-use Rattle.schema_compile.proofs.finding.value_fault.Goals as goal
+use Rattle.schema_compile.proofs.faults.value_fault.Goals as goal
 
 pub first_value_fault-requires : goal.first_value_fault-requires
 first_value_fault-requires c =
