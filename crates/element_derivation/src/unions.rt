@@ -1,6 +1,6 @@
 //! What is within the unions that are types of elements.
 
-ghost use Rattle.std.specs.Prelude.{◌≡◌, ◌<◌, ◌==◌, ℕ, true, false, not, length, slice_get, slice_index_or, ◌++◌, ◌∷◌, [], IfOk, IfSome, OnOk, Option};
+ghost use Rattle.std.specs.Prelude.{◌≡◌, ◌<◌, ◌==◌, ℕ, true, false, not, length, slice_get, ◌++◌, ◌∷◌, [], IfOk, IfSome, OnOk, Option};
 ghost use Rattle.xs_components.specs.declared.common.TypeId.TheVariants as types;
 ghost use Rattle.xs_components.specs.declared.element.ElementDecl.{ElementDecl as ElementData};
 ghost use Rattle.xs_references.specs.Heights.{IsType};
@@ -8,7 +8,6 @@ ghost use Rattle.xs_references.specs.Ranked.{IsRanked};
 ghost use Rattle.element_types.specs.Types.{AreDeclarationsOf};
 ghost use Rattle.type_derives.specs.Derives.{members_of};
 ghost use Rattle.type_derives.specs.Within.{Marks, simples_with};
-ghost use Rattle.element_derivation.specs.Derivation.{AreUnions};
 ghost use Rattle.element_derivation.specs.inside.Asked.{AreAsked, IsUnionAt, AreLooked};
 
 use element_types::Declarations;
