@@ -17,13 +17,13 @@ shapes_of d = d.shaped.now.shapes
 abbrev pub elements : List SetDocument → List (SetDocument × Shape)
 elements set = flat_map (λ d. map (λ s. (d, s)) (shapes_of d)) set
 
--- The place of a version: in the document of its number that has this target namespace in the set, by the number of its element. Places
--- of these documents begin here.
-abbrev pub version_place : ℕ → List SetDocument → Option (List ℕ) → Version → Option ℕ
-version_place place [] target version = None
-version_place place (d ∷ ds) target version =
-    if d.number == version.document && same_target d.target target then position_from (λ s. s.item == version.shape.item) place (shapes_of d)
-    else version_place (place + length (shapes_of d)) ds target version
+-- The place of the element of a number in the document of a number that has this target namespace in the set. Places of these documents
+-- begin here.
+abbrev pub version_place : ℕ → List SetDocument → Option (List ℕ) → ℕ → ℕ → Option ℕ
+version_place place [] target document item = None
+version_place place (d ∷ ds) target document item =
+    if d.number == document && same_target d.target target then position_from (λ s. s.item == item) place (shapes_of d)
+    else version_place (place + length (shapes_of d)) ds target document item
 
 -- an element of this number that stands in a redefine of a document
 abbrev pub child_of : List Shape → ℕ → Option Child
@@ -35,7 +35,7 @@ module _ (available : List Available) (set : List SetDocument) (target : Option 
   abbrev pub IsPlaceOf : List ℕ → Option (Redefinable × List ℕ) → Option ℕ → Type 0
   IsPlaceOf location None place = place ≡ None
   IsPlaceOf location (Some declared) place =
-      (found : Option Version) × IsOriginal available location declared.0 declared.1 found × (place ≡ option_and_then (version_place 0 set target) found)
+      (found : Option Version) × IsOriginal available location declared.0 declared.1 found × (place ≡ option_and_then (λ v. version_place 0 set target v.document v.shape.item) found)
 
   -- what stands in no redefine has no original
   abbrev pub IsChildPlace : Option Child → Option ℕ → Type 0
