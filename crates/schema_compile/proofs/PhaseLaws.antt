@@ -21,6 +21,9 @@ use Rattle.schema_compile.specs.Outcomes.{attr_phase, derivation_phase, late_pha
 use Rattle.schema_compile.specs.inside.Finding.{early_phases, AreAttrUses, IsFound, AreModelsOf, AreContentsThere, IsJudged}
 use Rattle.schema_compile.proofs.MemberLaws.{members-named}
 
+pub none-found : (P : Type 0) (found : Option Fault) → found ≡ None → IfNone found P → P
+none-found P found is h = subst (λ (o : Option Fault). IfNone o P) is h
+
 -- the marks of types of IDs, and the tables that are made with them
 pub attr-uses : {E : Type 0} (t : Tables) (marks ids : List Bool) → ids ≡ marks → AreIdMarks t marks → (result : Result AttrTables E) → IfOk result (AreTablesOf t ids) → IfOk result (AreAttrUses t)
 attr-uses t marks ids same are (Ok tables) h = record { ids = ids; marks = subst (AreIdMarks t) (sym same) are; are = h }
