@@ -1,4 +1,4 @@
-use Rattle.std.proofs.Common.{rules, List, Option, ℕ, subst}
+use Rattle.std.proofs.Common.{rules, List, subst}
 use Rattle.redefine_originals.specs.Versions.{Child}
 use Rattle.std.specs.List.{find}
 use Rattle.std.specs.Prelude.{◌==◌}

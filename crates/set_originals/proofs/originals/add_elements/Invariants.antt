@@ -1,4 +1,4 @@
-use Rattle.std.proofs.Common.{◌≡◌, ◌++◌, List, map, take}
+use Rattle.std.proofs.Common.{◌++◌, List, map, take}
 use Rattle.std.specs.List.{AllZip}
 use Rattle.redefine_originals.specs.SetDocument.{SetDocument}
 use Rattle.schema_shape.specs.declared.forms.Shape.{Shape}
