@@ -7,7 +7,7 @@ pub use Rattle.form_representations.specs.Forms
 pub use Rattle.form_representations.specs.Methods
 pub use Rattle.form_representations.specs.Naming as SchemaNamesNaming
 pub use Rattle.form_representations.specs.SchemaNamesForms as SchemaNamesForms
-pub use Rattle.form_representations.specs.SchemaNamesNaming
+pub use Rattle.form_representations.specs.SchemaNamesNaming as Naming
 pub use Rattle.form_representations.specs.Shape
 pub use Rattle.form_representations.specs.Shaped
 pub use Rattle.form_representations.specs.ShapedSchema
