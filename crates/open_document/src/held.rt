@@ -1,6 +1,6 @@
 //! What a workspace keeps.
 
-ghost use Rattle.std.specs.Prelude.{◌≡◌, false, OnOk};
+ghost use Rattle.std.specs.Prelude.{◌≡◌, false, IfOk, OnOk};
 ghost use Rattle.edit_replies.specs.Usable.{IsUsable};
 ghost use Rattle.open_document.specs.Answers as answers;
 ghost use Rattle.open_document.specs.Held.{work_of, IsKept};
@@ -21,6 +21,27 @@ pub(crate) enum Held {
     Working(Box<PlainSession>),
 }
 
+/// A value, boxed. For any type, so that no proof goes into what the value is made of.
+///
+/// # Errors
+///
+/// `AllocError` is want of memory.
+pub fn boxed<T: Drop>(alloc: Global, value: T) -> Result<Box<T>, AllocError>
+    ensures { IfOk result (λ boxed. boxed.value ≡ value) }
+{
+    match Box::new(alloc, value) {
+        Ok(boxed) => Ok(boxed),
+        Err(_) => Err(AllocError),
+    }
+}
+
+/// Keeps this in place of what was kept.
+pub(crate) fn keep(held: &mut Held, next: Held)
+    ensures { held.new ≡ next }
+{
+    *held = next;
+}
+
 // Keeps a session.
 fn work_on(held: &mut Held, alloc: Global, session: PlainSession) -> Result<(), AllocError>
     requires kept { IsKept held.old }
@@ -28,12 +49,12 @@ fn work_on(held: &mut Held, alloc: Global, session: PlainSession) -> Result<(), 
     ensures open { session.closed ≡ false → OnOk result (IsOpen (work_of held.new)) }
     ensures kept { IsKept held.new }
 {
-    match Box::new(alloc, session) {
+    match boxed(alloc, session) {
         Ok(session) => {
-            *held = Held::Working(session);
+            keep(held, Held::Working(session));
             Ok(())
         }
-        Err(_) => Err(AllocError),
+        Err(error) => Err(error),
     }
 }
 
