@@ -10,7 +10,7 @@ ghost use Rattle.open_document.specs.Held.{work_of, IsKept};
 ghost use Rattle.open_document.specs.State.{ready};
 
 use crate::SetVerdict;
-use crate::held::{Held, boxed, keep};
+use crate::held::{Held, make_ready};
 use schema_compile::{Compiled, Outcome, SchemaInput, compile};
 use std::alloc::{AllocError, Global};
 
@@ -31,11 +31,8 @@ fn accept(held: &mut Held, alloc: Global, set: Compiled) -> Result<SetVerdict, A
     ensures ready { OnOk result (work_of held.new ≡ ready set) }
     ensures kept { IsKept held.new }
 {
-    match boxed(alloc, set) {
-        Ok(set) => {
-            keep(held, Held::Ready(set));
-            Ok(SetVerdict::Accepted)
-        }
+    match make_ready(held, alloc, set) {
+        Ok(()) => Ok(SetVerdict::Accepted),
         Err(error) => Err(error),
     }
 }

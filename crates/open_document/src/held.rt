@@ -8,7 +8,7 @@ ghost use Rattle.open_document.specs.State.{working, ready, IsReady, IsOpen};
 ghost use Rattle.edit_replies.specs.Compiled.{Compiled as CompiledData};
 
 use edit_replies::Compiled;
-use plain_session::PlainSession;
+use plain_session::{PlainSession, let_go};
 use plain_tree::Tree;
 use std::alloc::{AllocError, Global};
 use std::mem;
@@ -35,11 +35,39 @@ pub fn boxed<T: Drop>(alloc: Global, value: T) -> Result<Box<T>, AllocError>
     }
 }
 
-/// Keeps this in place of what was kept.
-pub(crate) fn keep(held: &mut Held, next: Held)
+/// Lets go of what is kept.
+pub(crate) fn close(held: Held) {
+    match held {
+        Held::Empty => {}
+        Held::Ready(set) => let_go(Box::into_inner(set)),
+        Held::Working(session) => Box::into_inner(session).close(),
+    }
+}
+
+// Keeps this in place of what was kept.
+fn keep(held: &mut Held, next: Held)
     ensures { held.new ≡ next }
 {
-    *held = next;
+    close(mem::replace(held, next));
+}
+
+/// Keeps a set by which documents may be assessed.
+pub(crate) fn make_ready(held: &mut Held, alloc: Global, set: Compiled) -> Result<(), AllocError>
+    requires usable { IsUsable set }
+    requires kept { IsKept held.old }
+    ensures ready { OnOk result (work_of held.new ≡ ready set) }
+    ensures kept { IsKept held.new }
+{
+    match Box::new(alloc, set) {
+        Ok(set) => {
+            keep(held, Held::Ready(set));
+            Ok(())
+        }
+        Err(failed) => {
+            let_go(failed.value);
+            Err(AllocError)
+        }
+    }
 }
 
 // Keeps a session.
@@ -49,12 +77,15 @@ fn work_on(held: &mut Held, alloc: Global, session: PlainSession) -> Result<(), 
     ensures open { session.closed ≡ false → OnOk result (IsOpen (work_of held.new)) }
     ensures kept { IsKept held.new }
 {
-    match boxed(alloc, session) {
+    match Box::new(alloc, session) {
         Ok(session) => {
             keep(held, Held::Working(session));
             Ok(())
         }
-        Err(error) => Err(error),
+        Err(failed) => {
+            failed.value.close();
+            Err(AllocError)
+        }
     }
 }
 
