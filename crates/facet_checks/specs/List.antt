@@ -21,4 +21,4 @@ no_facets = record {
 
 -- the facets that have no memory of their own
 abbrev pub plain_part : FacetList → FacetList
-plain_part list = record list { patterns = []; enumeration = None; max_inclusive = None; max_exclusive = None; min_inclusive = None; min_exclusive = None }
+plain_part list = record list { patterns = []; enumeration = None; max_inclusive = None; max_exclusive = None; min_inclusive = None; min_exclusive = None; }
