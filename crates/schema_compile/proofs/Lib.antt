@@ -10,4 +10,3 @@ pub mod PhaseLaws
 pub mod UsableLaws
 pub mod OutcomeLaws
 pub mod ValueLaws
-pub mod SameLaws

@@ -5,44 +5,21 @@ use Rattle.std.specs.Option.{option_and_then}
 use Rattle.std.proofs.lemmas.Option.{none-some, slice_get_within}
 use Rattle.xs_codes.specs.declared.fault.Fault.{Fault}
 use Rattle.xs_components.specs.Tables.{Tables}
-use Rattle.xs_faults.specs.Least.{is_before, sooner, IsLeast}
-use Rattle.xs_faults.proofs.LeastLaws.{least-sum}
+use Rattle.xs_faults.specs.Least.{IsLeast}
 use Rattle.schema_check.specs.Phases.{IsFirstOfPhases}
 use Rattle.attr_faults.specs.AttrFaults.{AreIdMarks}
 use Rattle.attr_faults.specs.Tables.{AreTablesOf}
 use Rattle.attr_faults.specs.AttrTables.{AttrTables}
 use Rattle.particle_forms.specs.Accepted.{is_inhabited}
-use Rattle.complex_extension.specs.Extensions.{IsExtensionFault}
-use Rattle.head_exclusions.specs.Exclusions.{IsExcluded}
-use Rattle.all_limits.specs.AllLimits.{IsUnlimited}
 use Rattle.content_models.specs.Built.{IsSource}
 use Rattle.content_models.specs.declared.automaton.ContentAutomaton.{ContentAutomaton}
 use Rattle.all_limits.specs.SetModels.{content_of, AreModels, IsBroken}
 use Rattle.schema_check.specs.declared.documents.CompiledSet.{CompiledSet}
 use Rattle.schema_compile.specs.Fit.{IsFit}
 use Rattle.schema_compile.specs.declared.finding.Found.{Found}
-use Rattle.schema_compile.specs.Outcomes.{IsDerivationFault, attr_phase, derivation_phase, late_phases}
-use Rattle.schema_compile.specs.inside.Finding.{AreAttrUses, IsPlacingFault, IsFound, AreModelsOf, AreModelsIn, AreContentsThere, IsJudged}
+use Rattle.schema_compile.specs.Outcomes.{attr_phase, derivation_phase, late_phases}
+use Rattle.schema_compile.specs.inside.Finding.{early_phases, AreAttrUses, IsFound, AreModelsOf, AreContentsThere, IsJudged}
 use Rattle.schema_compile.proofs.MemberLaws.{members-named}
-
--- where the sooner of two is none, the second is
-if-none-either : (P : Type 0) (which : Bool) (x y : Fault) → IfNone (if which then Some x else Some y) P
-if-none-either P true x y = tt
-if-none-either P false x y = tt
-
-pub none-of-two : (P : Type 0) (a b result : Option Fault) → result ≡ sooner a b → IfNone b P → IfNone result P
-none-of-two P a b result is h = subst (λ (o : Option Fault). IfNone o P) (sym is) (by a b h)
-  where
-    by : (c d : Option Fault) → IfNone d P → IfNone (sooner c d) P
-    by None d k = k
-    by (Some x) None k = tt
-    by (Some x) (Some y) k = if-none-either P (is_before y x) y x
-
-pub least-of-two : (t : Tables) (a b result : Option Fault) → result ≡ sooner a b → IsLeast (IsExcluded t) a → IsLeast (IsUnlimited t) b → IsLeast (IsPlacingFault t) result
-least-of-two t a b result is x y = subst (λ (o : Option Fault). IsLeast (IsPlacingFault t) o) (sym is) (least-sum (IsExcluded t) (IsUnlimited t) a b x y)
-
-pub least-with-extensions : (t : Tables) (a b result : Option Fault) → result ≡ sooner a b → IsLeast (IsExtensionFault t) a → IsLeast (IsPlacingFault t) b → IsLeast (IsDerivationFault t) result
-least-with-extensions t a b result is x y = subst (λ (o : Option Fault). IsLeast (IsDerivationFault t) o) (sym is) (least-sum (IsExtensionFault t) (IsPlacingFault t) a b x y)
 
 pub none-found : (P : Type 0) (found : Option Fault) → found ≡ None → IfNone found P → P
 none-found P found is h = subst (λ (o : Option Fault). IfNone o P) is h
@@ -52,12 +29,21 @@ pub attr-uses : {E : Type 0} (t : Tables) (marks ids : List Bool) → ids ≡ ma
 attr-uses t marks ids same are (Ok tables) h = record { ids = ids; marks = subst (AreIdMarks t) (sym same) are; are = h }
 attr-uses t marks ids same are (Err error) h = tt
 
--- the first fault of phase 6, and that of phase 7 where phase 6 has none
-pub first-of-six : (made : CompiledSet) (fault : Fault) → attr_phase made (Some fault) → IsFirstOfPhases (late_phases made) (Some fault)
-first-of-six made fault h = inl h
+-- where phase 6 has none, the first fault of phase 7 is that of both
+pub behind-attrs : {E : Type 0} (old new : CompiledSet) → new ≡ old → attr_phase old None → (result : Result (Option Fault) E) → IfOk result (derivation_phase new) → IfOk result (IsFirstOfPhases (early_phases old))
+behind-attrs old new same none (Ok None) h = (none, (subst (λ (s : CompiledSet). derivation_phase s None) same h, tt))
+behind-attrs old new same none (Ok (Some f)) h = inr (none, inl (subst (λ (s : CompiledSet). derivation_phase s (Some f)) same h))
+behind-attrs old new same none (Err e) h = tt
 
-pub first-of-seven : (made : CompiledSet) (fault : Fault) → attr_phase made None → derivation_phase made (Some fault) → IsFirstOfPhases (late_phases made) (Some fault)
-first-of-seven made fault none h = inr (none, inl h)
+-- what holds of a set that is the same
+pub of-same : {E : Type 0} {X : Type 0} (P : CompiledSet → X → Type 0) (old new : CompiledSet) → new ≡ old → (result : Result X E) → IfOk result (P new) → IfOk result (P old)
+of-same P old new same result h = subst (λ (s : CompiledSet). IfOk result (P s)) same h
+
+-- the first fault of phases 6 and 7 is that of all
+pub broken-early : (made : CompiledSet) (fault : Fault) → IsFirstOfPhases (early_phases made) (Some fault) → IsFirstOfPhases (late_phases made) (Some fault)
+broken-early made fault (inl attrs) = inl attrs
+broken-early made fault (inr (none, inl derivation)) = inr (none, inl derivation)
+broken-early made fault (inr (none, inr more)) = absurd more.1
 
 flat-some : (o : Option (Option ℕ)) (p : ℕ) → option_and_then (λ content. content) o ≡ Some p → o ≡ Some (Some p)
 flat-some None p is = absurd (none-some p is)
@@ -105,17 +91,10 @@ module _ (made : CompiledSet) (found : Found) (is : IsFound made.parts found) wh
       (subst (λ (cs : List ℕ). IfOk result (λ answer. IfOk answer (λ models. IsLeast (IsBroken made.names made.parts found.members cs) None))) same none)
       (subst (λ (cs : List ℕ). IfOk result (λ answer. IfErr answer (λ fault. IsLeast (IsBroken made.names made.parts found.members cs) (Some fault)))) same fault)
 
-  pub models-in : {E : Type 0} (result : Result (Result (List (Option ContentAutomaton)) Fault) E) → attr_phase made None → derivation_phase made None → IfOk result (AreModelsOf made found) → IfOk result (AreModelsIn made found)
-  models-in (Ok (Ok models)) none behind h = ((none, (behind, ((found.members, found.classes.items, is.members, is.classes, h.0), tt))), h)
-  models-in (Ok (Err f)) none behind h = inr (none, inr (behind, inl (found.members, found.classes.items, is.members, is.classes, h)))
-  models-in (Err e) none behind h = tt
+  -- without a fault in phases 6 and 7
+  module _ (early : IsFirstOfPhases (early_phases made) None) (there : AreContentsThere made.parts) where
+    pub judged-in : (models : List (Option ContentAutomaton)) → AreModelsOf made found (Ok models) → IsJudged made (Ok (found, models))
+    judged-in models h = ((early.0, (early.1.0, ((found.members, found.classes.items, is.members, is.classes, h.0), tt))), is, h, there)
 
-  pub judged-by : (models : List (Option ContentAutomaton)) (answer : Result (List (Option ContentAutomaton)) Fault) → answer ≡ Ok models → AreContentsThere made.parts → AreModelsIn made found answer
-      → IsJudged made (Ok (found, models))
-  judged-by models answer same there h =
-      let told = subst (AreModelsIn made found) same h in
-      (told.0, is, told.1, there)
-
--- the first fault of what goes on behind a phase without one
-pub broken-by : (made : CompiledSet) (found : Found) (fault : Fault) (answer : Result (List (Option ContentAutomaton)) Fault) → answer ≡ Err fault → AreModelsIn made found answer → IsJudged made (Err fault)
-broken-by made found fault answer same h = subst (AreModelsIn made found) same h
+    pub broken-in : (fault : Fault) → AreModelsOf made found (Err fault) → IsJudged made (Err fault)
+    broken-in fault h = inr (early.0, inr (early.1.0, inl (found.members, found.classes.items, is.members, is.classes, h)))

@@ -5,10 +5,8 @@ use Rattle.xs_components.specs.Tables.{Tables}
 use Rattle.xs_faults.specs.Least.{IsLeast}
 use Rattle.subst_groups.specs.Groups.{AreGroups}
 use Rattle.attr_faults.specs.AttrFaults.{AreIdMarks, IsAttrFault, HasUses}
-use Rattle.complex_extension.specs.Extensions.{IsExtensionFault}
+use Rattle.derivation_faults.specs.DerivationFaults.{IsDerivationFault}
 use Rattle.value_faults.specs.ValueFaults.{IsValueFault}
-use Rattle.head_exclusions.specs.Exclusions.{IsExcluded}
-use Rattle.all_limits.specs.AllLimits.{IsUnlimited}
 use Rattle.element_classes.specs.Classes.{AreClassesOf}
 use Rattle.all_limits.specs.SetModels.{IsBroken}
 use Rattle.schema_check.specs.Compilation.{IsCompilation}
@@ -22,12 +20,6 @@ use Rattle.compiled_schema.specs.declared.compiled.Compiled.{Compiled}
 use Rattle.schema_compile.specs.declared.outcome.Outcome.{Outcome}
 use Rattle.schema_compile.specs.declared.outcome.Outcome.TheVariants.{Accepted, Broken, NotYet}
 
--- phase 7, of derivation: cos-ct-extends.1.1 and .1.4 (Structures 3.4.6), e-props-correct.4 (Structures 3.3.6), and x-limit.all,
--- cos-all-limited.1 and .2 (Structures 3.8.6). The other clauses of cos-ct-extends.1 have no fault: an extension has the attribute uses,
--- the wildcard and the content of its base by construction (Structures 3.4.2).
-abbrev pub IsDerivationFault : Tables → Fault → Type 0
-IsDerivationFault t fault = IsExtensionFault t fault ⊎ (IsExcluded t fault ⊎ IsUnlimited t fault)
-
 -- phase 6, of attributes and value constraints: src-attribute_group.2, src-ct.4 and src-ct.5 (Structures 3.4.3, 3.6.3),
 -- ag-props-correct.2 and .3, ct-props-correct.4 and .5 (Structures 3.4.6, 3.6.6); and of value constraints x-limit.value,
 -- a-props-correct.2 and .3, au-props-correct.2, e-props-correct.2 and .5, cos-valid-default.2.1 and .2.2.2 (Structures 3.2.6, 3.3.6, 3.5.6)
@@ -40,8 +32,9 @@ module _ (made : CompiledSet) where
   abbrev pub attr_phase : Option Fault → Type 0
   attr_phase found = (ids : List Bool) × AreIdMarks made.parts ids × IsLeast (IsPropertyFault made.parts ids) found
 
+  -- phase 7, of derivation, but for the content models of restrictions
   abbrev pub derivation_phase : Option Fault → Type 0
-  derivation_phase found = IsLeast (IsDerivationFault made.parts) found
+  derivation_phase found = IsLeast (IsDerivationFault made.parts made.names) found
 
   -- phase 8, of content models, by the members of substitution groups and the classes of declarations (Structures 3.3.6, 3.8.6)
   abbrev pub model_phase : Option Fault → Type 0

@@ -7,7 +7,8 @@ ghost use Rattle.schema_compile.specs.Outcomes as spec;
 ghost use Rattle.schema_compile.specs.inside.Finding as inside;
 
 use crate::Outcome;
-use crate::finding::{Found, judge};
+use crate::finding::Found;
+use crate::judging::judge;
 use crate::laws::compiled_parts_are_fit;
 use all_limits::Models;
 use attr_faults::faultless_types_have_uses;

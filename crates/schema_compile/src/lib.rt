@@ -2,7 +2,9 @@
 #![tactic(auto)]
 
 mod compiling;
+mod faults;
 mod finding;
+mod judging;
 mod laws;
 mod outcome;
 

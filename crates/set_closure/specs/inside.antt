@@ -1,4 +1,3 @@
-pub mod Sourced
 pub mod Following
 pub mod Marks
 pub mod Entries

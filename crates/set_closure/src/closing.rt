@@ -3,7 +3,7 @@ ghost use Rattle.xs_faults.specs.Least.{IsLeast};
 ghost use Rattle.schema_set.specs.EffectiveSet.{IsEffectiveSet};
 ghost use Rattle.set_closure.specs.Order.{IsInOrder};
 ghost use Rattle.set_closure.specs.Composition.{Broken};
-ghost use Rattle.set_closure.specs.inside.Sourced.{AreSources};
+ghost use Rattle.set_closure.specs.Sourced.{AreSources};
 
 use crate::entries::entries;
 use crate::faults::first_fault;

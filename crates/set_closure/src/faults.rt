@@ -7,7 +7,7 @@ ghost use Rattle.schema_set.specs.EffectiveSet.{document_at};
 ghost use Rattle.set_closure.specs.Order as order;
 ghost use Rattle.set_closure.specs.Composition as spec;
 ghost use Rattle.set_closure.specs.inside.Faults as inside;
-ghost use Rattle.set_closure.specs.inside.Sourced.{AreSources};
+ghost use Rattle.set_closure.specs.Sourced.{AreSources};
 
 use crate::sources::Sources;
 use crate::targets::{is_same, own_target, shaped_at};
@@ -174,8 +174,8 @@ fn code_of(
     }
 }
 
-// The target namespace of a document of the set: its own, or that with which it is included.
-fn target_within<'a>(document: &'a SetDocument<'_>) -> Option<&'a Text>
+/// The target namespace of a document of the set: its own, or that with which it is included.
+pub fn target_within<'a>(document: &'a SetDocument<'_>) -> Option<&'a Text>
     ensures { option_copied result ≡ spec.target_within document.now.shaped.now.shapes document.now.target }
 {
     match own_target(document.shaped) {

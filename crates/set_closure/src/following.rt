@@ -1,7 +1,7 @@
 ghost use Rattle.std.specs.Prelude.{◌≡◌, ◌<◌, ◌≤◌, ◌+◌, ◌-◌, ◌*◌, ◌^◌, ◌++◌, length, filter_map, option_to_list, IfOk, OnOk};
 ghost use Rattle.set_closure.specs.Order.{IsNumber, own_target_of, target_place};
 ghost use Rattle.set_closure.specs.inside.Following as spec;
-ghost use Rattle.set_closure.specs.inside.Sourced.{AreSources};
+ghost use Rattle.set_closure.specs.Sourced.{AreSources};
 
 use crate::sources::Sources;
 use crate::targets::shaped_at;

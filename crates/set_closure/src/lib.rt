@@ -10,4 +10,7 @@ mod sources;
 mod targets;
 
 pub use closing::close_set;
+pub use faults::target_within;
 pub use schema_set::{Available, ClosedSet, EffectiveSet, SetDocument};
+pub use sources::Sources;
+pub use targets::{is_same, own_target};

@@ -1,7 +1,7 @@
 ghost use Rattle.std.specs.Prelude.{◌≡◌, ◌<◌, ◌*◌, ◌^◌, ◌↔◌, ℕ, true, false, All, length, vec_len, IfOk, OnOk};
 ghost use Rattle.set_closure.specs.inside.Following.{Reaches};
 ghost use Rattle.set_closure.specs.inside.Marks.{marked, IsMarking};
-ghost use Rattle.set_closure.specs.inside.Sourced.{AreSources};
+ghost use Rattle.set_closure.specs.Sourced.{AreSources};
 
 use crate::following::following;
 use crate::sources::Sources;

@@ -7,7 +7,7 @@ ghost use Rattle.indexmap.specs.IndexMap.{get_by_text};
 ghost use Rattle.white_space.specs.WhiteSpace.{collapsed};
 ghost use Rattle.schema_set.specs.EffectiveSet.{document_at};
 ghost use Rattle.set_closure.specs.Order.{IsNumber};
-ghost use Rattle.set_closure.specs.inside.Sourced as spec;
+ghost use Rattle.set_closure.specs.Sourced as spec;
 
 use crate::targets::{own_target, target_place};
 use indexmap::IndexMap;
@@ -16,11 +16,11 @@ use std::alloc::{AllocError, Global};
 use white_space::{WhiteSpace, normalized};
 use xs_names::Text;
 
-// The documents that there are, and where a location and a target namespace lead.
+/// The documents that there are, and where a location and a target namespace lead.
 #[derive(Drop)]
-pub(crate) struct Sources<'a> {
-    pub(crate) alloc: Global,
-    pub(crate) available: &'a [Available],
+pub struct Sources<'a> {
+    pub alloc: Global,
+    pub available: &'a [Available],
     // Of each document how many stand before the first with its target namespace.
     pub(crate) places: Vec<u32>,
     // By location, with its white space collapsed, the number of the first document that has it.
@@ -129,8 +129,12 @@ fn location_numbers(
 }
 
 impl<'a> Sources<'a> {
-    // Of these documents.
-    pub(crate) fn new(alloc: Global, available: &'a [Available]) -> Result<Self, AllocError>
+    /// Of these documents.
+    ///
+    /// # Errors
+    ///
+    /// `AllocError` is want of memory.
+    pub fn new(alloc: Global, available: &'a [Available]) -> Result<Self, AllocError>
         requires some { 0 < length available.now }
         requires few { length available.now < 2 ^ 16 }
         ensures sources { IfOk result spec.AreSources }
@@ -146,8 +150,12 @@ impl<'a> Sources<'a> {
         })
     }
 
-    // The number of the document that a location names.
-    pub(crate) fn find(&self, location: &str) -> Result<Option<u32>, AllocError>
+    /// The number of the first document that has a location (Structures 4.2.1), the white space of both collapsed.
+    ///
+    /// # Errors
+    ///
+    /// `AllocError` is want of memory.
+    pub fn find(&self, location: &str) -> Result<Option<u32>, AllocError>
         requires { spec.AreSources self.now }
         ensures found { IfOk result (λ found. found ≡ document_at self.now.available.now location.now) }
         ensures number { IfOk result (λ found. IfSome found (IsNumber self.now.available.now)) }

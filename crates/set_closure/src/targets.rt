@@ -7,8 +7,8 @@ use schema_set::Available;
 use schema_shape::{Form, ShapedSchema};
 use xs_names::Text;
 
-// The target namespace that the schema element says.
-pub(crate) fn own_target(shaped: &ShapedSchema) -> Option<&Text>
+/// The target namespace that the schema element says.
+pub fn own_target(shaped: &ShapedSchema) -> Option<&Text>
     ensures { option_copied result ≡ own_target shaped.now.shapes }
 {
     match shaped.shapes.get(0) {
@@ -20,8 +20,8 @@ pub(crate) fn own_target(shaped: &ShapedSchema) -> Option<&Text>
     }
 }
 
-// Whether two target namespaces are the same.
-pub(crate) fn is_same(a: Option<&Text>, b: Option<&Text>) -> bool
+/// Whether two target namespaces are the same.
+pub fn is_same(a: Option<&Text>, b: Option<&Text>) -> bool
     ensures { result ≡ spec.same_target (option_copied a.entry) (option_copied b.entry) }
 {
     match (a, b) {

@@ -1,13 +1,11 @@
 -- What is found of the components of a set, for content models and for assessing.
-use Rattle.std.specs.Prelude.{◌≡◌, ◌⊎◌, ℕ, ◌<◌, Bool, List, Option, None, Some, Result, Ok, Err, length}
+use Rattle.std.specs.Prelude.{◌≡◌, ◌⊎◌, ℕ, ◌<◌, Bool, List, [], ◌∷◌, Option, None, Some, Result, Ok, Err, length}
 use Rattle.xs_codes.specs.declared.fault.Fault.{Fault}
 use Rattle.xs_components.specs.Tables.{Tables}
 use Rattle.xs_faults.specs.Least.{IsLeast}
 use Rattle.attr_faults.specs.AttrFaults.{AreIdMarks}
 use Rattle.attr_faults.specs.Tables.{AreTablesOf}
 use Rattle.attr_faults.specs.AttrTables.{AttrTables}
-use Rattle.head_exclusions.specs.Exclusions.{IsExcluded}
-use Rattle.all_limits.specs.AllLimits.{IsUnlimited}
 use Rattle.element_types.specs.Types.{AreDeclarationsOf}
 use Rattle.subst_groups.specs.Groups.{AreGroups}
 use Rattle.element_classes.specs.Classes.{AreClassesOf}
@@ -19,7 +17,7 @@ use Rattle.schema_check.specs.Phases.{IsFirstOfPhases}
 use Rattle.schema_check.specs.declared.documents.CompiledSet.{CompiledSet}
 use Rattle.compiled_schema.specs.declared.compiled.Compiled.{Compiled}
 use Rattle.schema_compile.specs.declared.finding.Found.{Found}
-use Rattle.schema_compile.specs.Outcomes.{late_phases}
+use Rattle.schema_compile.specs.Outcomes.{attr_phase, derivation_phase, late_phases}
 
 -- the attribute uses of all complex types and attribute groups, with the marks of types of IDs
 pub record AreAttrUses (t : Tables) (tables : AttrTables) : Type 0 where
@@ -35,20 +33,15 @@ pub record IsFound (t : Tables) (found : Found) : Type 0 where
   pub attr_uses : AreAttrUses t found.attr_uses
   pub contents : AreContentsOf t found.contents
 
--- elements whose types do not derive from those of their heads, and an `all` that is not limited
-abbrev pub IsPlacingFault : Tables → Fault → Type 0
-IsPlacingFault t fault = IsExcluded t fault ⊎ IsUnlimited t fault
+-- the phases behind simple types, but for content models
+abbrev pub early_phases : CompiledSet → List (Option Fault → Type 0)
+early_phases made = attr_phase made ∷ derivation_phase made ∷ []
 
 -- the automata of the content models, or the first fault of one
 abbrev pub AreModelsOf : CompiledSet → Found → Result (List (Option ContentAutomaton)) Fault → Type 0
 AreModelsOf made found (Ok models) =
     IsLeast (IsBroken made.names made.parts found.members found.classes.items) None × AreModels made.names made.parts found.members found.classes.items models
 AreModelsOf made found (Err fault) = IsLeast (IsBroken made.names made.parts found.members found.classes.items) (Some fault)
-
--- the same, or the first fault of the phases behind simple types
-abbrev pub AreModelsIn : CompiledSet → Found → Result (List (Option ContentAutomaton)) Fault → Type 0
-AreModelsIn made found (Ok models) = IsFirstOfPhases (late_phases made) None × AreModelsOf made found (Ok models)
-AreModelsIn made found (Err fault) = IsFirstOfPhases (late_phases made) (Some fault)
 
 -- the particle of each content is there, and no other type has one
 pub record AreContentsThere (t : Tables) : Type 0 where

@@ -1,5 +1,5 @@
 use Rattle.std.proofs.Common.{◌≡◌, take}
-use Rattle.set_closure.specs.inside.Sourced.{own_places}
+use Rattle.set_closure.specs.Sourced.{own_places}
 use Rattle.set_closure.proofs.sources.own_places.Given as goal
 
 abbrev pub invariant-loop-document : goal.invariant-loop-document

@@ -1,0 +1,3 @@
+pub mod InsideLaws
+pub mod FindsLaws
+pub mod VersionLaws

@@ -1,0 +1,12 @@
+//! Redefined components (Structures 4.2.2): their versions, and to which of them a redefining one goes back.
+#![tactic(auto)]
+
+mod children;
+mod finding;
+mod originals;
+mod versions;
+
+pub use children::{is_member, redefining};
+pub use originals::original_of;
+pub use set_closure::{Available, ClosedSet, EffectiveSet, SetDocument, Sources, close_set};
+pub use versions::{Child, Declared, Redefinable, Version, declared_as};

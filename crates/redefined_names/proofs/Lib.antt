@@ -1,0 +1,5 @@
+pub mod NamedLaws
+pub mod AroundLaws
+pub mod StayLaws
+pub mod RenamedLaws
+pub mod UnnamedLaws

@@ -1,0 +1,77 @@
+//! A set judged: what is found of it with the automata of its content models, or its first fault.
+
+ghost use Rattle.std.specs.Prelude.{◌≡◌, IfOk, None};
+ghost use Rattle.all_limits.specs.SetModels.{AreContentsLimited};
+ghost use Rattle.schema_check.specs.Phases.{IsFirstOfPhases};
+ghost use Rattle.schema_compile.specs.Fit.{IsFit};
+ghost use Rattle.schema_compile.specs.inside.Finding as spec;
+
+use crate::faults::first_fault;
+use crate::finding::{Found, contents_are_there, find};
+use all_limits::{Models, build_models};
+use content_models::ModelSource;
+use particle_forms::Inhabited;
+use schema_check::CompiledSet;
+use std::alloc::{AllocError, Global};
+use xs_codes::Fault;
+
+// The automata of content models, or the first fault of phase 8.
+fn find_models(
+    alloc: Global,
+    set: &CompiledSet,
+    found: &Found,
+) -> Result<Result<Models, Fault>, AllocError>
+    requires fit { IsFit set.now }
+    requires found { spec.IsFound set.now.parts found.now }
+    requires limited { AreContentsLimited set.now.parts }
+    ensures models { IfOk result (spec.AreModelsOf set.now found.now) }
+{
+    let inhabited = Inhabited::of(alloc, &set.parts, &found.members)?;
+    build_models(
+        alloc,
+        ModelSource {
+            names: &set.names,
+            parts: &set.parts,
+            members: &found.members,
+            declarations: &found.declarations,
+            inhabited: &inhabited,
+            classes: &found.classes,
+        },
+    )
+}
+
+// What was found, and the automata of content models; or the first fault of phase 8.
+fn with_models(
+    alloc: Global,
+    set: &CompiledSet,
+    found: Found,
+) -> Result<Result<(Found, Models), Fault>, AllocError>
+    requires fit { IsFit set.now }
+    requires found { spec.IsFound set.now.parts found }
+    requires there { spec.AreContentsThere set.now.parts }
+    requires limited { AreContentsLimited set.now.parts }
+    requires none { IsFirstOfPhases (spec.early_phases set.now) None }
+    ensures judged { IfOk result (spec.IsJudged set.now) }
+{
+    match find_models(alloc, set, &found)? {
+        Ok(models) => Ok(Ok((found, models))),
+        Err(fault) => Ok(Err(fault)),
+    }
+}
+
+/// What is found of a set, and the automata of its content models; or the first fault of phases 6 to 8.
+pub(crate) fn judge(
+    alloc: Global,
+    set: &mut CompiledSet,
+) -> Result<Result<(Found, Models), Fault>, AllocError>
+    requires fit { IsFit set.old }
+    ensures judged { IfOk result (spec.IsJudged set.old) }
+    ensures same { set.new ≡ set.old }
+{
+    contents_are_there(set);
+    let found = find(alloc, set)?;
+    match first_fault(alloc, set, &found)? {
+        Some(fault) => Ok(Err(fault)),
+        None => with_models(alloc, set, found),
+    }
+}

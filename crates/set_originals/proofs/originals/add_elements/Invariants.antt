@@ -1,0 +1,10 @@
+use Rattle.std.proofs.Common.{◌++◌, List, map, take}
+use Rattle.std.specs.List.{AllZip}
+use Rattle.redefine_originals.specs.SetDocument.{SetDocument}
+use Rattle.schema_shape.specs.declared.forms.Shape.{Shape}
+use Rattle.set_originals.specs.Originals.{IsOriginalPlace, shapes_of}
+use Rattle.set_originals.proofs.originals.add_elements.Given as goal
+
+abbrev pub invariant-loop-shape : goal.invariant-loop-shape
+invariant-loop-shape l = (before : List (SetDocument × Shape)) → AllZip (IsOriginalPlace l.sources.available.now l.set) before l.initial.originals.items
+    → AllZip (IsOriginalPlace l.sources.available.now l.set) (before ++ map (λ s. (l.document, s)) (take l.shape-index (shapes_of l.document))) l.originals.items
