@@ -1,5 +1,5 @@
 -- What the comparison of content models asks of a schema set.
-use Rattle.std.specs.Prelude.{◌≡◌, Bool, true, false, ◌&&◌, not, List, Option, None, Some, ⊤, Result, Ok, Err, All as Each}
+use Rattle.std.specs.Prelude.{Bool, true, false, ◌&&◌, not, List, Option, None, Some, Result, Ok, Err, All as Each}
 use Rattle.xs_codes.specs.declared.code.Code.{Code}
 use Rattle.xs_components.specs.Tables.{Tables}
 use Rattle.xs_components.specs.declared.common.TypeId.{TypeId}

@@ -1,4 +1,4 @@
-use Rattle.type_faults.proofs.FaultLaws.{next-one, all-below, none-below}
+use Rattle.type_faults.proofs.FaultLaws.{next-one, all-below}
 use Rattle.std.proofs.Common.{arith}
 use Rattle.model_restriction.specs.ModelRestrictions.{Breaks}
 use Rattle.model_restriction.proofs.faults.first_fault.Goals as goal
