@@ -1,4 +1,4 @@
-use Rattle.std.proofs.Common.{None, sym, subst}
+use Rattle.std.proofs.Common.{None, sym, subst, ◌∙◌}
 use Rattle.all_limits.specs.SetModels.{AreContentsLimited}
 use Rattle.schema_check.specs.Phases.{IsFirstOfPhases}
 use Rattle.schema_check.specs.declared.documents.CompiledSet.{CompiledSet}
@@ -32,5 +32,5 @@ returns-in-Some c =
 pub returns-in-None : goal.returns-in-None
 returns-in-None c = record {
   judged = of-same IsJudged c.args.set.now c.first_fault.new.set c.first_fault.ensures.same c.with_models.result c.with_models.ensures.judged;
-  same = c.first_fault.ensures.same;
+  same = c.with_models.ensures.same ∙ c.first_fault.ensures.same;
 }
