@@ -1,0 +1,4 @@
+pub mod AnyLaws
+pub mod TermLaws
+pub mod StandingLaws
+pub mod FormLaws

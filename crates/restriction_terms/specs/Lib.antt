@@ -1,0 +1,5 @@
+pub mod AnyType
+pub mod Terms
+pub mod Standing
+pub mod Forms
+pub mod Steps
