@@ -8,8 +8,9 @@ use crate::types::compile_parts;
 use not_yet::is_unassessed;
 use schema_build::build;
 use schema_documents::{
-    ClosedSet, EffectiveSet, SchemaInput, SetDocument, close_set, first_shape_fault, read_documents,
+    Available, ClosedSet, EffectiveSet, SchemaInput, SetDocument, close_set, first_shape_fault, read_documents,
 };
+use set_originals::set_originals;
 use set_types::tables_are_closed;
 use std::alloc::{AllocError, Global};
 use xs_codes::Fault;
@@ -26,12 +27,13 @@ fn are_unassessed(set: &[SetDocument<'_>]) -> bool
 fn compile_set(
     alloc: Global,
     set: &EffectiveSet<'_>,
+    originals: &[Option<u32>],
 ) -> Result<Result<CompiledSet, Fault>, AllocError>
-    ensures { IfOk result (IsSetCompiled set.now.documents) }
+    ensures { IfOk result (IsSetCompiled set.now.documents originals.now) }
 {
     tables_are_closed();
     let mut names = Names::new(alloc)?;
-    let built = build(alloc, &mut names, set)?;
+    let built = build(alloc, &mut names, set, originals)?;
     match built {
         Ok(parts) => compile_parts(alloc, names, parts),
         Err(fault) => Ok(Err(fault)),
@@ -51,20 +53,25 @@ fn as_refusal(answer: Result<CompiledSet, Fault>) -> Result<CompiledSet, Refusal
 // A set that breaks no constraint of the phases on its documents.
 fn compile_composed(
     alloc: Global,
+    available: &[Available],
     set: &EffectiveSet<'_>,
 ) -> Result<Result<CompiledSet, Refusal>, AllocError>
-    ensures { IfOk result (λ answer. inside.IsComposedCompiled set.now.documents answer) }
+    requires some { 0 < length available.now }
+    ensures { IfOk result (λ answer. inside.IsComposedCompiled available.now set.now.documents answer) }
 {
-    let answer = compile_set(alloc, set)?;
+    let originals = set_originals(alloc, available, set.documents.as_slice())?;
+    let answer = compile_set(alloc, set, originals.as_slice())?;
     Ok(as_refusal(answer))
 }
 
 // A set whose documents are of the right shape.
 fn compile_closed(
     alloc: Global,
+    available: &[Available],
     closed: &ClosedSet<'_>,
 ) -> Result<Result<CompiledSet, Refusal>, AllocError>
-    ensures { IfOk result (inside.IsClosedCompiled closed.now.set.documents closed.now.fault) }
+    requires some { 0 < length available.now }
+    ensures { IfOk result (inside.IsClosedCompiled available.now closed.now.set.documents closed.now.fault) }
 {
     let set = closed.set.documents.as_slice();
     if are_unassessed(set) {
@@ -72,7 +79,7 @@ fn compile_closed(
     }
     match closed.fault {
         Some(fault) => Ok(Err(Refusal::Broken(fault))),
-        None => compile_composed(alloc, &closed.set),
+        None => compile_composed(alloc, available, &closed.set),
     }
 }
 
@@ -98,6 +105,6 @@ pub fn compile(
     let set = closed.set.documents.as_slice();
     match first_shape_fault(faults, set) {
         Some(fault) => Ok(Err(Refusal::Broken(fault))),
-        None => compile_closed(alloc, &closed),
+        None => compile_closed(alloc, available, &closed),
     }
 }

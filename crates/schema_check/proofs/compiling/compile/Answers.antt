@@ -39,5 +39,9 @@ returns c =
     let least = c.first_shape_fault.ensures.least documents (c.as_slice-faults.ensures ∙ c.in_ok-read.ensures.faults)
     (subst (λ (l : List SetDocument). IsSet documents l) (sym c.as_slice-set.ensures) set) in
     closed-compiled documents closed.set.documents set (shape-phase documents None (subst (λ (o : Option Fault). IsLeast (IsShapeFault documents) o) c.in-None.is least))
-    c.compile_closed.result closed.fault
+    c.compile_closed.result c.as_slice-available.result.now same closed.fault
     (composition-phase documents closed.fault (subst (λ (l : List Available). IsLeast (Broken l) closed.fault) same c.in_ok-closed.ensures.fault)) c.compile_closed.ensures
+
+pub compile_closed-requires : goal.compile_closed-requires
+compile_closed-requires c =
+    record { some = some-available c.args.documents.now c.as_slice-available.result.now (c.as_slice-available.ensures ∙ c.in_ok-read.ensures.available) c.requires.some }

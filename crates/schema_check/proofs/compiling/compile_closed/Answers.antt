@@ -21,4 +21,4 @@ pub returns-in-None : goal.returns-in-None
 returns-in-None c =
     let off : are_unassessed c.args.closed.now.set.documents ≡ false =
     asked c.as_slice-set.result.now c.args.closed.now.set.documents c.are_unassessed.result c.as_slice-set.ensures c.are_unassessed.ensures ∙ c.if-are_unassessed.false in
-    composed c.compile_composed.result c.args.closed.now.set.documents off c.args.closed.now.fault c.in-None.is c.compile_composed.ensures
+    composed c.compile_composed.result c.args.available.now c.args.closed.now.set.documents off c.args.closed.now.fault c.in-None.is c.compile_composed.ensures
