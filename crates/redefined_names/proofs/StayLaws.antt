@@ -118,7 +118,7 @@ module _ (t : NameTable) where
       number-in (name_number t (space_of t declared.name) local) (within-name_number t (space_of t declared.name) local)
 
   module _ (reps : List Representation) (originals : List (Option ℕ)) where
-    name-if : (b : Bool) (place : ℕ) → IfSome (if b then version_at t reps place else None) IsIn
+    pub name-if : (b : Bool) (place : ℕ) → IfSome (if b then version_at t reps place else None) IsIn
     name-if true place = number-of-in place (declared_at reps place)
     name-if false place = tt
 

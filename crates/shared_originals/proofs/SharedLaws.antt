@@ -17,7 +17,7 @@ module _ (reps : List Representation) (originals : List (Option ℕ)) where
 
   pub all-below : (count : ℕ) (best : Option Fault) → length reps ≤ count → IsLeast (SharedBelow reps originals count) best → IsLeast (IsShared reps originals) best
   all-below count best long least =
-      least-same (λ f h. (h.0, h.1, h.3, h.4, h.5)) (λ f h. let w = slice_get_within reps h.0 h.1 h.2 in (h.0, h.1, omega (arith, w, long), h.2, h.3, h.4)) best least
+      least-same (SharedBelow reps originals count) (IsShared reps originals) (λ f h. (h.0, h.1, h.3, h.4, h.5)) (λ f h. let w = slice_get_within reps h.0 h.1 h.2 in (h.0, h.1, omega (arith, w, long), h.2, h.3, h.4)) best least
 
   -- the fault at a place
   abbrev IsHere : Bool → Representation → Fault → Type 0
@@ -48,5 +48,5 @@ module _ (reps : List Representation) (originals : List (Option ℕ)) where
     pub one-more : (best new : Option Fault) → new ≡ sooner best (if is_shared originals i then Some (shared_fault rep.at) else None) → IsLeast (SharedBelow reps originals i) best → IsLeast (SharedBelow reps originals (i + 1)) new
     one-more best new is least =
         subst (IsLeast (SharedBelow reps originals (i + 1))) (sym is)
-        (least-same forth back (sooner best (if is_shared originals i then Some (shared_fault rep.at) else None))
-        (least-sum best (if is_shared originals i then Some (shared_fault rep.at) else None) least (here (is_shared originals i) rep)))
+        (least-same (λ f. SharedBelow reps originals i f ⊎ IsHere (is_shared originals i) rep f) (SharedBelow reps originals (i + 1)) forth back (sooner best (if is_shared originals i then Some (shared_fault rep.at) else None))
+        (least-sum (SharedBelow reps originals i) (IsHere (is_shared originals i) rep) best (if is_shared originals i then Some (shared_fault rep.at) else None) least (here (is_shared originals i) rep)))
