@@ -1,21 +1,21 @@
 -- What is not assessed yet, by the forms of a document's elements.
-use Rattle.std.specs.Prelude.{Bool, true, false, not, List}
+use Rattle.std.specs.Prelude.{Bool, true, false, List}
 use Rattle.std.specs.List.{list_any}
 use Rattle.schema_shape.specs.declared.forms.Form.{Form}
 use Rattle.schema_shape.specs.declared.forms.Form.TheVariants as forms
 use Rattle.schema_shape.specs.declared.forms.Shape.{Shape}
 
--- What is not assessed yet: restrictions of complex types, and the elements redefine, unique, key and keyref. So in a set without them
--- no component is redefined, and a complex type is derived by extension alone. What else elements, attributes and types may say is
--- looked at: what documents say of others by include and import by phase 2; attributes, attribute groups and their wildcards by phase 6
--- (wildcards without a form, two uses of one name or of types of IDs), and so are value constraints (default and fixed); extensions by
--- phases 4 (circles, bases of the wrong kind), 6 (wildcards without a union, two uses of one name with those of the base) and 7 (the
--- final of the base, content of another kind), and their contents by phases 7 and 8; IDs, mixed, abstract and nillable by the
--- assessment; the methods in block and final by simple types, extensions, substitution groups and xsi:type; an `all` by its limits and
--- its automaton; a wildcard of elements by the automata and by how strictly what it admits is assessed.
+-- What is not assessed yet: the elements redefine, unique, key and keyref. So in a set without them no component is redefined. What
+-- else elements, attributes and types may say is looked at: what documents say of others by include and import by phase 2; attributes,
+-- attribute groups and their wildcards by phase 6 (wildcards without a form, two uses of one name or of types of IDs), and so are value
+-- constraints (default and fixed); extensions by phases 4 (circles, bases of the wrong kind), 6 (wildcards without a union, two uses of
+-- one name with those of the base) and 7 (the final of the base, content of another kind), and their contents by phases 7 and 8;
+-- restrictions by phases 4, 6 and 7 (the final of the base, attribute uses and wildcards, the kind of content), and their contents by
+-- phases 8 and 9; IDs, mixed, abstract and nillable by the assessment; the methods in block and final by simple types, extensions,
+-- restrictions, substitution groups and xsi:type; an `all` by its limits and its automaton; a wildcard of elements by the automata and by
+-- how strictly what it admits is assessed.
 abbrev pub is_unassessed_form : Form → Bool
 is_unassessed_form (forms.Redefine location) = true
-is_unassessed_form (forms.Derivation by_extension base) = not by_extension
 is_unassessed_form (forms.Identity kind name refer) = true
 is_unassessed_form _ = false
 

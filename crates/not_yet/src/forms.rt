@@ -9,7 +9,6 @@ fn is_unassessed_form(form: &Form) -> bool
 {
     match form {
         Form::Redefine { .. } => true,
-        Form::Derivation { by_extension, .. } => !by_extension,
         Form::Identity { .. } => true,
         _ => false,
     }

@@ -10,7 +10,7 @@ ghost use Rattle.open_document.specs.Held.{work_of, IsKept};
 ghost use Rattle.open_document.specs.State.{ready};
 
 use crate::SetVerdict;
-use crate::held::Held;
+use crate::held::{Held, make_ready};
 use schema_compile::{Compiled, Outcome, SchemaInput, compile};
 use std::alloc::{AllocError, Global};
 
@@ -31,12 +31,9 @@ fn accept(held: &mut Held, alloc: Global, set: Compiled) -> Result<SetVerdict, A
     ensures ready { OnOk result (work_of held.new ≡ ready set) }
     ensures kept { IsKept held.new }
 {
-    match Box::new(alloc, set) {
-        Ok(set) => {
-            *held = Held::Ready(set);
-            Ok(SetVerdict::Accepted)
-        }
-        Err(_) => Err(AllocError),
+    match make_ready(held, alloc, set) {
+        Ok(()) => Ok(SetVerdict::Accepted),
+        Err(error) => Err(error),
     }
 }
 

@@ -1,6 +1,6 @@
 //! What a workspace keeps.
 
-ghost use Rattle.std.specs.Prelude.{◌≡◌, false, OnOk};
+ghost use Rattle.std.specs.Prelude.{◌≡◌, false, IfOk, OnOk};
 ghost use Rattle.edit_replies.specs.Usable.{IsUsable};
 ghost use Rattle.open_document.specs.Answers as answers;
 ghost use Rattle.open_document.specs.Held.{work_of, IsKept};
@@ -8,7 +8,7 @@ ghost use Rattle.open_document.specs.State.{working, ready, IsReady, IsOpen};
 ghost use Rattle.edit_replies.specs.Compiled.{Compiled as CompiledData};
 
 use edit_replies::Compiled;
-use plain_session::PlainSession;
+use plain_session::{PlainSession, let_go};
 use plain_tree::Tree;
 use std::alloc::{AllocError, Global};
 use std::mem;
@@ -21,6 +21,55 @@ pub(crate) enum Held {
     Working(Box<PlainSession>),
 }
 
+/// A value, boxed. For any type, so that no proof goes into what the value is made of.
+///
+/// # Errors
+///
+/// `AllocError` is want of memory.
+pub fn boxed<T: Drop>(alloc: Global, value: T) -> Result<Box<T>, AllocError>
+    ensures { IfOk result (λ boxed. boxed.value ≡ value) }
+{
+    match Box::new(alloc, value) {
+        Ok(boxed) => Ok(boxed),
+        Err(_) => Err(AllocError),
+    }
+}
+
+/// Lets go of what is kept.
+pub(crate) fn close(held: Held) {
+    match held {
+        Held::Empty => {}
+        Held::Ready(set) => let_go(Box::into_inner(set)),
+        Held::Working(session) => Box::into_inner(session).close(),
+    }
+}
+
+// Keeps this in place of what was kept.
+fn keep(held: &mut Held, next: Held)
+    ensures { held.new ≡ next }
+{
+    close(mem::replace(held, next));
+}
+
+/// Keeps a set by which documents may be assessed.
+pub(crate) fn make_ready(held: &mut Held, alloc: Global, set: Compiled) -> Result<(), AllocError>
+    requires usable { IsUsable set }
+    requires kept { IsKept held.old }
+    ensures ready { OnOk result (work_of held.new ≡ ready set) }
+    ensures kept { IsKept held.new }
+{
+    match Box::new(alloc, set) {
+        Ok(set) => {
+            keep(held, Held::Ready(set));
+            Ok(())
+        }
+        Err(failed) => {
+            let_go(failed.value);
+            Err(AllocError)
+        }
+    }
+}
+
 // Keeps a session.
 fn work_on(held: &mut Held, alloc: Global, session: PlainSession) -> Result<(), AllocError>
     requires kept { IsKept held.old }
@@ -30,10 +79,13 @@ fn work_on(held: &mut Held, alloc: Global, session: PlainSession) -> Result<(), 
 {
     match Box::new(alloc, session) {
         Ok(session) => {
-            *held = Held::Working(session);
+            keep(held, Held::Working(session));
             Ok(())
         }
-        Err(_) => Err(AllocError),
+        Err(failed) => {
+            failed.value.close();
+            Err(AllocError)
+        }
     }
 }
 

@@ -8,6 +8,7 @@ mod working;
 mod workspace;
 
 pub use edit_replies::{BreakOff, Validity, validity_word, write_answer};
+pub use held::boxed;
 pub use schema_compile::SchemaInput;
 pub use verdict::{SetVerdict, Verdict};
 pub use workspace::Workspace;

@@ -8,7 +8,7 @@ ghost use Rattle.open_document.specs.Answers as answers;
 ghost use Rattle.open_document.specs.State.{OpenState, empty, ready, working, IsReady, IsOpen};
 
 use crate::compiling::compile_into;
-use crate::held::{Held, open};
+use crate::held::{Held, close, open};
 use crate::working::{answer, verdict, write_first, write_report};
 use crate::{SetVerdict, Verdict};
 use edit_replies::BreakOff;
@@ -151,5 +151,8 @@ impl Workspace {
     }
 
     /// Lets go of it.
-    pub fn close(self) {}
+    pub fn close(self) {
+        let Workspace { held } = self;
+        close(held);
+    }
 }

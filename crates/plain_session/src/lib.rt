@@ -4,4 +4,4 @@
 mod session;
 mod stock;
 
-pub use session::PlainSession;
+pub use session::{PlainSession, let_go};

@@ -67,6 +67,19 @@ impl PlainSession {
         }
     }
 
+    /// Lets go of it.
+    pub fn close(self) {
+        let PlainSession {
+            set,
+            tree,
+            stock,
+            ..
+        } = self;
+        drop(set);
+        drop(tree);
+        drop(stock);
+    }
+
     /// Writes the record line of each element, in document order.
     ///
     /// # Errors
@@ -137,4 +150,9 @@ impl Session for PlainSession {
     fn revision(&self) -> u64 {
         self.revision
     }
+}
+
+/// Lets go of a set.
+pub fn let_go(set: Compiled) {
+    drop(set);
 }

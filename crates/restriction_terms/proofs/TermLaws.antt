@@ -44,7 +44,7 @@ module _ (t : Tables) (names : NameTable) (fixed : List (Option ℕ)) where
     part-is part is = subst (λ k. slice_get t.elements.parts k ≡ Some part → d ≡ declaration_of t names fixed k part) there.0 (of part) is
 
     part-type : (part : ElementDecl) → slice_get t.elements.parts n ≡ Some part → IsElementType t d.of
-    part-type part is = (n, ap (λ (d : Declaration). d.of) (part-is part is))
+    part-type part is = (n, slice_get_within t.elements.parts n part is, ap (λ (d : Declaration). d.of) (part-is part is))
 
     typed : IsElementType t d.of
     typed = elim (slice_get_cases t.elements.parts n).1 [

@@ -14,17 +14,14 @@ use Rattle.particle_restrict.specs.declared.terms.Term.{Term}
 use Rattle.particle_restrict.specs.declared.terms.Term.TheVariants.{Element, Any}
 use Rattle.restriction_terms.specs.AnyType.{IsOfAnyType}
 
--- the number of an element's fixed value
-abbrev pub number_of : List (Option ℕ) → ℕ → Option ℕ
-number_of numbers element = slice_index_or numbers element None
-
+-- an element declaration, with the number of its fixed value
 module _ (t : Tables) (names : NameTable) (fixed : List (Option ℕ)) where
   abbrev pub declaration_of : ℕ → ElementDecl → Declaration
   declaration_of element part = record {
     name = part.name;
     space = space_of names part.name;
     nillable = part.nillable;
-    fixed = number_of fixed element;
+    fixed = slice_index_or fixed element None;
     constraints = part.constraints;
     blocks = part.blocks;
     of = type_of t element;
@@ -45,6 +42,6 @@ pub record AreTerms (t : Tables) (names : NameTable) (fixed : List (Option ℕ))
 abbrev pub AreElementsNamed : Tables → NameTable → Type 0
 AreElementsNamed t names = (n : ℕ) (part : ElementDecl) → slice_get t.elements.parts n ≡ Some part → part.name < length names.names
 
--- the type of an element declaration
+-- the type of an element declaration that is there
 abbrev pub IsElementType : Tables → TypeId → Type 0
-IsElementType t of = (element : ℕ) × (of ≡ type_of t element)
+IsElementType t of = (element : ℕ) × (element < length t.elements.parts) × (of ≡ type_of t element)

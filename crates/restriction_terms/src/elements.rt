@@ -1,6 +1,6 @@
 //! Element declarations, as the restriction of particles compares them.
 
-ghost use Rattle.std.specs.Prelude.{◌≡◌, ◌<◌, ℕ, Some, length, slice_get, IfOk};
+ghost use Rattle.std.specs.Prelude.{◌≡◌, ◌<◌, ℕ, None, Some, length, slice_get, slice_index_or, IfOk};
 ghost use Rattle.xs_components.specs.declared.element.ElementDecl.{ElementDecl as ElementValue};
 ghost use Rattle.element_types.specs.Types.{AreDeclarationsOf};
 ghost use Rattle.restriction_terms.specs.Terms as spec;
@@ -62,7 +62,7 @@ fn declaration_of(
 
 // The number of an element's fixed value.
 fn number_of(fixed: &[Option<u32>], id: ElementId) -> Option<u32>
-    ensures { result ≡ spec.number_of fixed.now id }
+    ensures { result ≡ slice_index_or fixed.now id None }
 {
     match fixed.get(id.number() as usize) {
         Some(number) => *number,

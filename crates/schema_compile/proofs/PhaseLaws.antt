@@ -11,15 +11,19 @@ use Rattle.attr_faults.specs.AttrFaults.{AreIdMarks}
 use Rattle.attr_faults.specs.Tables.{AreTablesOf}
 use Rattle.attr_faults.specs.AttrTables.{AttrTables}
 use Rattle.particle_forms.specs.Accepted.{is_inhabited}
+use Rattle.model_faults.specs.ModelFaults.{IsFirstModelFault}
 use Rattle.content_models.specs.Built.{IsSource}
 use Rattle.content_models.specs.declared.automaton.ContentAutomaton.{ContentAutomaton}
 use Rattle.all_limits.specs.SetModels.{content_of, AreModels, IsBroken}
 use Rattle.schema_check.specs.declared.documents.CompiledSet.{CompiledSet}
 use Rattle.schema_compile.specs.Fit.{IsFit}
 use Rattle.schema_compile.specs.declared.finding.Found.{Found}
-use Rattle.schema_compile.specs.Outcomes.{attr_phase, derivation_phase, late_phases}
+use Rattle.schema_compile.specs.Outcomes.{attr_phase, derivation_phase, model_phase, restriction_phase, late_phases}
 use Rattle.schema_compile.specs.inside.Finding.{early_phases, AreAttrUses, IsFound, AreModelsOf, AreContentsThere, IsJudged}
 use Rattle.schema_compile.proofs.MemberLaws.{members-named}
+
+pub none-found : (P : Type 0) (found : Option Fault) → found ≡ None → IfNone found P → P
+none-found P found is h = subst (λ (o : Option Fault). IfNone o P) is h
 
 -- the marks of types of IDs, and the tables that are made with them
 pub attr-uses : {E : Type 0} (t : Tables) (marks ids : List Bool) → ids ≡ marks → AreIdMarks t marks → (result : Result AttrTables E) → IfOk result (AreTablesOf t ids) → IfOk result (AreAttrUses t)
@@ -88,10 +92,23 @@ module _ (made : CompiledSet) (found : Found) (is : IsFound made.parts found) wh
       (subst (λ (cs : List ℕ). IfOk result (λ answer. IfOk answer (λ models. IsLeast (IsBroken made.names made.parts found.members cs) None))) same none)
       (subst (λ (cs : List ℕ). IfOk result (λ answer. IfErr answer (λ fault. IsLeast (IsBroken made.names made.parts found.members cs) (Some fault)))) same fault)
 
-  -- without a fault in phases 6 and 7
-  module _ (early : IsFirstOfPhases (early_phases made) None) (there : AreContentsThere made.parts) where
-    pub judged-in : (models : List (Option ContentAutomaton)) → AreModelsOf made found (Ok models) → IsJudged made (Ok (found, models))
-    judged-in models h = ((early.0, (early.1.0, ((found.members, found.classes.items, is.members, is.classes, h.0), tt))), is, h, there)
+  -- the first fault of phase 9 is told by the members of substitution groups
+  pub by-members : {E : Type 0} (result : Result (Option Fault) E) → IfOk result (IsFirstModelFault made.parts made.names found.members) → IfOk result (restriction_phase made)
+  by-members (Ok fault) h = (found.members, is.members, h)
+  by-members (Err e) h = tt
 
-    pub broken-in : (fault : Fault) → AreModelsOf made found (Err fault) → IsJudged made (Err fault)
-    broken-in fault h = inr (early.0, inr (early.1.0, inl (found.members, found.classes.items, is.members, is.classes, h)))
+  -- without a fault in phases 6 and 7
+  module _ (early : IsFirstOfPhases (early_phases made) None) where
+    pub broken-model : (fault : Fault) → AreModelsOf made found (Err fault) → IsJudged made (Err fault)
+    broken-model fault h = inr (early.0, inr (early.1.0, inl (found.members, found.classes.items, is.members, is.classes, h)))
+
+    -- and in phase 8
+    module _ (models : List (Option ContentAutomaton)) (are : AreModelsOf made found (Ok models)) where
+      abbrev no-broken : model_phase made None
+      no-broken = (found.members, found.classes.items, is.members, is.classes, are.0)
+
+      pub broken-restriction : (fault : Fault) → restriction_phase made (Some fault) → IsJudged made (Err fault)
+      broken-restriction fault h = inr (early.0, inr (early.1.0, inr (no-broken, inl h)))
+
+      pub judged-in : AreContentsThere made.parts → restriction_phase made None → IsJudged made (Ok (found, models))
+      judged-in there h = ((early.0, (early.1.0, (no-broken, (h, tt)))), is, are, there)

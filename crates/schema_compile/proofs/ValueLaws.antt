@@ -1,8 +1,10 @@
 -- What the constraints on value constraints and on restrictions ask of compiled components.
-use Rattle.std.proofs.Common.{inl, inr, ◌≡◌, sym, ap, subst}
+use Rattle.std.proofs.Common.{inl, inr, ◌≡◌, ℕ, ◌<◌, Some, length, sym, ap, subst}
 use Rattle.xs_codes.specs.declared.fault.Fault.{Fault}
-use Rattle.std.specs.Prelude.{List, Bool, Option}
+use Rattle.std.specs.Prelude.{List, Bool, Option, slice_get}
+use Rattle.std.proofs.lemmas.Option.{slice_get_within, get_or_from_slice_get}
 use Rattle.xs_components.specs.Tables.{Tables}
+use Rattle.xs_components.specs.declared.attribute.AttributeDecl.{AttributeDecl}
 use Rattle.xs_faults.specs.Least.{IsLeast, sooner}
 use Rattle.xs_faults.proofs.LeastLaws.{least-sum}
 use Rattle.attr_faults.specs.AttrFaults.{IsAttrFault}
@@ -36,11 +38,16 @@ pub least-properties : (t : Tables) (ids : List Bool) (uses values result : Opti
 least-properties t ids uses values result is x y = subst (IsLeast (IsPropertyFault t ids)) (sym is) (least-sum (IsAttrFault t ids) (IsValueFault t) uses values x y)
 
 -- what restrictions ask
+named : (made : CompiledSet) → IsFit made → (n : ℕ) (decl : AttributeDecl) → slice_get made.parts.attributes.parts n ≡ Some decl → decl.name < length made.names.names
+named made fit n decl at =
+    let all = made.parts.attributes.parts in
+    subst (λ (d : AttributeDecl). d.name < length made.names.names) (get_or_from_slice_get all n decl decl at) (fit.named.attributes n decl (slice_get_within all n decl at))
+
 pub compared : (made : CompiledSet) → IsFit made → restrictions.AreGiven made.parts made.names
 compared made fit = record {
   ranked = fit.ranked;
   simple = fit.simple;
-  attributes = λ n decl at. record { named = fit.named.attributes n decl at; typed = fit.attributes n decl at; simple = fit.readable n decl at };
+  attributes = λ n decl at. record { named = named made fit n decl at; typed = fit.attributes n decl at; simple = fit.readable n decl at };
   own = λ n part own step at is. (fit.own n part own step at is).there;
   contents = fit.contents;
 }

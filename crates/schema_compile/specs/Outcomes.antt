@@ -6,6 +6,7 @@ use Rattle.xs_faults.specs.Least.{IsLeast}
 use Rattle.subst_groups.specs.Groups.{AreGroups}
 use Rattle.attr_faults.specs.AttrFaults.{AreIdMarks, IsAttrFault, HasUses}
 use Rattle.derivation_faults.specs.DerivationFaults.{IsDerivationFault}
+use Rattle.model_faults.specs.ModelFaults.{IsFirstModelFault}
 use Rattle.value_faults.specs.ValueFaults.{IsValueFault}
 use Rattle.element_classes.specs.Classes.{AreClassesOf}
 use Rattle.all_limits.specs.SetModels.{IsBroken}
@@ -41,9 +42,14 @@ module _ (made : CompiledSet) where
   model_phase found =
       (members : List (List ℕ)) × (classes : List ℕ) × AreGroups made.parts members × AreClassesOf made.parts classes × IsLeast (IsBroken made.names made.parts members classes) found
 
+  -- phase 9, of the content models of restrictions, by the members of substitution groups: cos-particle-restrict.2 and the cases
+  -- that are named rcase (Structures 3.4.6, Derivation Valid (Restriction, Complex), 5.4.2; 3.9.6)
+  abbrev pub restriction_phase : Option Fault → Type 0
+  restriction_phase found = (members : List (List ℕ)) × AreGroups made.parts members × IsFirstModelFault made.parts made.names members found
+
   -- the phases behind simple types
   abbrev pub late_phases : List (Option Fault → Type 0)
-  late_phases = attr_phase ∷ derivation_phase ∷ model_phase ∷ []
+  late_phases = attr_phase ∷ derivation_phase ∷ model_phase ∷ restriction_phase ∷ []
 
 -- each complex type has attribute uses, no two of which have one name
 abbrev pub HaveUses : Tables → Type 0
@@ -67,8 +73,7 @@ of_refusal refusals.NotYet = NotYet
 
 -- What documents come to: the first fault of the first phase that has one, by document, element and the order of codes; else the
 -- compiled set, by which documents may be assessed. A set whose documents are of the right shape and have something that is not assessed
--- yet comes to neither. The phases that there are not yet have no fault where there is nothing of that: restrictions, and identity
--- constraints.
+-- yet comes to neither. The phase that there is not yet has no fault where there is nothing of that: identity constraints.
 abbrev pub IsOutcome : List SchemaInput → Outcome → Type 0
 IsOutcome documents outcome =
     ((refusal : Refusal) × IsCompilation documents (Err refusal) × (outcome ≡ of_refusal refusal)) ⊎

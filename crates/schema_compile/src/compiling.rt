@@ -70,8 +70,9 @@ fn outcome_of_refusal(refusal: Refusal) -> Outcome
 }
 
 /// Schema documents compiled, as far as documents are assessed by them: phase by phase, shapes, composition, names, bases, simple
-/// types, attributes, derivation, content models. The set is what the first document leads to. The first fault of the first phase
-/// that has one is answered, by document, element and the order of codes. What is not assessed yet is not compiled behind its shape.
+/// types, attributes, derivation, content models, their restriction. The set is what the first document leads to. The first fault of
+/// the first phase that has one is answered, by document, element and the order of codes. What is not assessed yet is not compiled
+/// behind its shape.
 ///
 /// # Errors
 ///

@@ -1,15 +1,17 @@
 //! A set judged: what is found of it with the automata of its content models, or its first fault.
 
-ghost use Rattle.std.specs.Prelude.{◌≡◌, IfOk, None};
+ghost use Rattle.std.specs.Prelude.{◌≡◌, IfOk, None, Ok};
 ghost use Rattle.all_limits.specs.SetModels.{AreContentsLimited};
 ghost use Rattle.schema_check.specs.Phases.{IsFirstOfPhases};
 ghost use Rattle.schema_compile.specs.Fit.{IsFit};
+ghost use Rattle.schema_compile.specs.Outcomes as phases;
 ghost use Rattle.schema_compile.specs.inside.Finding as spec;
 
 use crate::faults::first_fault;
 use crate::finding::{Found, contents_are_there, find};
 use all_limits::{Models, build_models};
 use content_models::ModelSource;
+use model_faults::{ModelSet, first_model_fault};
 use particle_forms::Inhabited;
 use schema_check::CompiledSet;
 use std::alloc::{AllocError, Global};
@@ -40,26 +42,69 @@ fn find_models(
     )
 }
 
-// What was found, and the automata of content models; or the first fault of phase 8.
+// The first fault of phase 9.
+fn restriction_fault(
+    alloc: Global,
+    set: &mut CompiledSet,
+    found: &Found,
+) -> Result<Option<Fault>, AllocError>
+    requires fit { IsFit set.old }
+    requires found { spec.IsFound set.old.parts found.now }
+    ensures first { IfOk result (phases.restriction_phase set.old) }
+    ensures same { set.new ≡ set.old }
+{
+    let compared = ModelSet {
+        names: &set.names,
+        parts: &set.parts,
+        members: &found.members,
+        declarations: &found.declarations,
+        contents: &found.contents,
+    };
+    first_model_fault(alloc, &compared, &mut set.types)
+}
+
+// What was found, with these automata of content models; or the first fault of phase 9.
+fn with_restrictions(
+    alloc: Global,
+    set: &mut CompiledSet,
+    found: Found,
+    models: Models,
+) -> Result<Result<(Found, Models), Fault>, AllocError>
+    requires fit { IsFit set.old }
+    requires found { spec.IsFound set.old.parts found }
+    requires there { spec.AreContentsThere set.old.parts }
+    requires none { IsFirstOfPhases (spec.early_phases set.old) None }
+    requires models { spec.AreModelsOf set.old found (Ok models) }
+    ensures judged { IfOk result (spec.IsJudged set.old) }
+    ensures same { set.new ≡ set.old }
+{
+    match restriction_fault(alloc, set, &found)? {
+        Some(fault) => Ok(Err(fault)),
+        None => Ok(Ok((found, models))),
+    }
+}
+
+// What was found, and the automata of content models; or the first fault of phases 8 and 9.
 fn with_models(
     alloc: Global,
-    set: &CompiledSet,
+    set: &mut CompiledSet,
     found: Found,
 ) -> Result<Result<(Found, Models), Fault>, AllocError>
-    requires fit { IsFit set.now }
-    requires found { spec.IsFound set.now.parts found }
-    requires there { spec.AreContentsThere set.now.parts }
-    requires limited { AreContentsLimited set.now.parts }
-    requires none { IsFirstOfPhases (spec.early_phases set.now) None }
-    ensures judged { IfOk result (spec.IsJudged set.now) }
+    requires fit { IsFit set.old }
+    requires found { spec.IsFound set.old.parts found }
+    requires there { spec.AreContentsThere set.old.parts }
+    requires limited { AreContentsLimited set.old.parts }
+    requires none { IsFirstOfPhases (spec.early_phases set.old) None }
+    ensures judged { IfOk result (spec.IsJudged set.old) }
+    ensures same { set.new ≡ set.old }
 {
     match find_models(alloc, set, &found)? {
-        Ok(models) => Ok(Ok((found, models))),
+        Ok(models) => with_restrictions(alloc, set, found, models),
         Err(fault) => Ok(Err(fault)),
     }
 }
 
-/// What is found of a set, and the automata of its content models; or the first fault of phases 6 to 8.
+/// What is found of a set, and the automata of its content models; or the first fault of phases 6 to 9.
 pub(crate) fn judge(
     alloc: Global,
     set: &mut CompiledSet,

@@ -11,10 +11,9 @@ ghost use Rattle.stream_answers.specs.inside.Turning.{spot_of, said_of, Takes, M
 ghost use Rattle.stream_answers.specs.declared.place.Place.TheVariants as places;
 
 use crate::Place;
-use crate::place::boxed;
 use crate::turn::{Turn, refuse};
 use item_listing::Item;
-use open_document::{BreakOff, Workspace};
+use open_document::{BreakOff, Workspace, boxed};
 use plain_tree::Tree;
 use std::alloc::Global;
 use stream_sections::{Asked, CommandReader, DocumentReader, DocumentTurn};

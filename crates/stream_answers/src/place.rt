@@ -1,7 +1,4 @@
-ghost use Rattle.std.specs.Prelude.{◌≡◌, IfOk};
-
 use open_document::Verdict;
-use std::alloc::{AllocError, Global};
 use stream_sections::{CommandReader, DocumentReader, SchemaReader};
 
 /// Where a stream stands between two lines. What it works on, a schema set or an open document, is held apart.
@@ -15,14 +12,4 @@ pub enum Place {
     Commands(CommandReader),
     /// Behind the word `end`, with the verdict on the document where one was asked for.
     Ended(Option<Verdict>),
-}
-
-/// A place, boxed.
-pub fn boxed(alloc: Global, place: Place) -> Result<Box<Place>, AllocError>
-    ensures { IfOk result (λ boxed. boxed.value ≡ place) }
-{
-    match Box::new(alloc, place) {
-        Ok(boxed) => Ok(boxed),
-        Err(_) => Err(AllocError),
-    }
 }

@@ -11,10 +11,9 @@ ghost use Rattle.stream_answers.specs.inside.Turning.{spot_of, Takes, MovesTo, M
 
 use crate::Place;
 use crate::fault::write_fault;
-use crate::place::boxed;
 use crate::turn::{Turn, not_yet, refuse};
 use item_listing::Item;
-use open_document::{BreakOff, SchemaInput, SetVerdict, Workspace, write_answer};
+use open_document::{BreakOff, SchemaInput, SetVerdict, Workspace, boxed, write_answer};
 use std::alloc::{AllocError, Global};
 use stream_sections::{
     Asked, DocumentReader, SchemaReader, SchemaSection, SchemaSections, SchemaTurn,

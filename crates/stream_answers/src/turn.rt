@@ -17,6 +17,7 @@ use crate::{Ending, Place};
 use item_listing::{Item, Reason};
 use open_document::{BreakOff, Verdict, Workspace, validity_word, write_answer};
 use std::alloc::Global;
+use std::mem;
 use stream_sections::{Asked, Refusal, RefusedLine};
 use text_sink::Part;
 use xsv_io::Sink;
@@ -91,7 +92,7 @@ fn settle(place: &mut Place, turn: Turn) -> Option<Ending>
     match turn {
         Turn::Stays => None,
         Turn::Goes(next) => {
-            *place = Box::into_inner(next);
+            drop(mem::replace(place, Box::into_inner(next)));
             None
         }
         Turn::Ends(ending) => Some(ending),

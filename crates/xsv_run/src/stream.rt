@@ -116,5 +116,7 @@ pub fn answer_stream<S: Source, W: Sink, L: Ledger>(
         steps,
     );
     work.close();
+    drop(place);
+    drop(listing);
     status
 }

@@ -1,26 +1,36 @@
-use Rattle.std.proofs.Common.{sym, subst}
+use Rattle.std.proofs.Common.{None, sym, subst, ◌∙◌}
+use Rattle.all_limits.specs.SetModels.{AreContentsLimited}
+use Rattle.schema_check.specs.Phases.{IsFirstOfPhases}
 use Rattle.schema_check.specs.declared.documents.CompiledSet.{CompiledSet}
 use Rattle.schema_compile.specs.Fit.{IsFit}
-use Rattle.schema_compile.specs.Outcomes.{attr_phase}
-use Rattle.schema_compile.specs.inside.Finding.{IsFound, AreContentsThere}
-use Rattle.schema_compile.proofs.SameLaws.{judged-after, broken-after}
-use Rattle.schema_compile.proofs.finding.judge.Goals as goal
+use Rattle.schema_compile.specs.inside.Finding.{early_phases, IsFound, AreContentsThere, IsJudged}
+use Rattle.schema_compile.proofs.PhaseLaws.{none-found, of-same, broken-early}
+use Rattle.schema_compile.proofs.judging.judge.Goals as goal
 
-pub models_of-requires : goal.models_of-requires
-models_of-requires c =
-    let same = sym c.attr_fault.ensures.same in
+pub with_models-requires : goal.with_models-requires
+with_models-requires c =
+    let old = c.args.set.now in
+    let same = sym c.first_fault.ensures.same in
+    let limited = none-found (AreContentsLimited old.parts) _ c.in-None.is c.in_ok-fault.ensures.limited in
+    let none = subst (IsFirstOfPhases (early_phases old)) c.in-None.is c.in_ok-fault.ensures.first in
     record {
       fit = subst IsFit same c.requires.fit;
       found = subst (λ (s : CompiledSet). IsFound s.parts c.in_ok-found.found) same c.in_ok-found.ensures.found;
       there = subst (λ (s : CompiledSet). AreContentsThere s.parts) same c.contents_are_there.ensures.there;
-      attrs = subst (λ (s : CompiledSet). attr_phase s c.in_ok-attrs.attrs) same c.in_ok-attrs.ensures.least;
+      limited = subst (λ (s : CompiledSet). AreContentsLimited s.parts) same limited;
+      none = subst (λ (s : CompiledSet). IsFirstOfPhases (early_phases s) None) same none;
     }
 
-pub returns-in-Ok-clause-judged : goal.returns-in-Ok-clause-judged
-returns-in-Ok-clause-judged c =
-    judged-after c.args.set.now c.attr_fault.new.set c.attr_fault.ensures.same c.in_ok-found.found c.in_ok-found.ensures.found c.in-Ok.models _ c.in-Ok.is c.contents_are_there.ensures.there
-    c.in_ok-models.ensures.models
+pub returns-in-Some : goal.returns-in-Some
+returns-in-Some c =
+    let old = c.args.set.now in
+    record {
+      judged = broken-early old c.in-Some.fault (subst (IsFirstOfPhases (early_phases old)) c.in-Some.is c.in_ok-fault.ensures.first);
+      same = c.first_fault.ensures.same;
+    }
 
-pub returns-in-Err-clause-judged : goal.returns-in-Err-clause-judged
-returns-in-Err-clause-judged c =
-    broken-after c.args.set.now c.attr_fault.new.set c.attr_fault.ensures.same c.in_ok-found.found c.in-Err.fault _ c.in-Err.is c.in_ok-models.ensures.models
+pub returns-in-None : goal.returns-in-None
+returns-in-None c = record {
+  judged = of-same IsJudged c.args.set.now c.first_fault.new.set c.first_fault.ensures.same c.with_models.result c.with_models.ensures.judged;
+  same = c.with_models.ensures.same ∙ c.first_fault.ensures.same;
+}

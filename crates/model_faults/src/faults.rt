@@ -1,0 +1,33 @@
+//! The first fault of phase 9.
+
+ghost use Rattle.std.specs.Prelude.{◌≡◌, IfOk};
+ghost use Rattle.model_faults.specs.ModelFaults.{AreKnown, AreRead, IsFirstModelFault};
+
+use element_derivation::Derivations;
+use fixed_values::fixed_numbers;
+use model_restriction::{ModelSet, first_model_fault as first_fault_by};
+use simple_types::SimpleTypes;
+use std::alloc::{AllocError, Global};
+use xs_codes::Fault;
+
+/// The first complex type whose content model its base does not allow (Structures 3.4.6, Derivation Valid (Restriction, Complex),
+/// 5.4.2): a restriction with complexContent, whose base is not anyType, and whose particle is no valid restriction of the base's
+/// (3.9.6). The code is that of the case of the two particles.
+///
+/// # Errors
+///
+/// `AllocError` is want of memory.
+pub fn first_model_fault(
+    alloc: Global,
+    set: &ModelSet<'_>,
+    types: &mut SimpleTypes,
+) -> Result<Option<Fault>, AllocError>
+    requires known { AreKnown set.now }
+    requires read { AreRead set.now.parts.now types.old }
+    ensures first { IfOk result (IsFirstModelFault set.now.parts.now set.now.names.now set.now.members.now) }
+    ensures same { types.new ≡ types.old }
+{
+    let fixed = fixed_numbers(alloc, set.parts, set.declarations, set.contents, types)?;
+    let derivations = Derivations::of(alloc, set.parts, set.declarations)?;
+    first_fault_by(alloc, set, &fixed, &derivations)
+}

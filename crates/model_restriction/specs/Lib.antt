@@ -1,0 +1,2 @@
+pub mod ModelRestrictions
+pub mod Compared

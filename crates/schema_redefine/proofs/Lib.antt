@@ -1,0 +1,4 @@
+pub mod BelowLaws
+pub mod ChainLaws
+pub mod OwnLaws
+pub mod FaultLaws

@@ -1,0 +1,11 @@
+use Rattle.std.proofs.Common.{subst, sym}
+use Rattle.xs_faults.specs.Least.{IsLeast}
+use Rattle.redefine_originals.specs.inside.Entries.{child_entry}
+use Rattle.schema_redefine.specs.inside.Broken.{IsChildFault}
+use Rattle.schema_redefine.proofs.FaultLaws.{child-least}
+use Rattle.schema_redefine.proofs.faults.child_fault.Goals as goal
+
+pub returns : goal.returns
+returns c =
+    subst (IsLeast (IsChildFault c.args.sources.now.available.now c.args.document.now (child_entry c.args.child))) (sym c.fault_of.ensures)
+    (child-least c.args.sources.now.available.now c.args.document.now (child_entry c.args.child) c.in_ok-code.code c.in_ok-code.ensures)

@@ -1,0 +1,173 @@
+ghost use Rattle.std.specs.Prelude.{◌≡◌, ◌<◌, ◌^◌, Contains, map, length, All, IfOk};
+ghost use Rattle.std.specs.Option.{option_map};
+ghost use Rattle.xs_faults.specs.Least.{IsLeast};
+ghost use Rattle.set_closure.specs.Sourced.{AreSources};
+ghost use Rattle.set_closure.specs.EffectiveSet.{IsEffectiveSet};
+ghost use Rattle.redefine_originals.specs.Versions as versions;
+ghost use Rattle.redefine_originals.specs.inside.Entries.{child_entry, version_entry};
+ghost use Rattle.schema_redefine.specs.Redefinitions as spec;
+ghost use Rattle.schema_redefine.specs.inside.Broken as inside;
+
+use crate::chains::comes_back;
+use crate::own::own_code;
+use redefine_originals::{Child, Declared, Version, declared_as, original_of, redefining};
+use set_closure::{Available, SetDocument, Sources};
+use std::alloc::{AllocError, Global};
+use xs_codes::{Code, Fault};
+use xs_faults::sooner;
+
+// The phase of compiling that judges how schema documents are composed.
+const PHASE: u8 = 2;
+
+// So many documents have numbers.
+const MOST: usize = 65535;
+
+// A redefining child as a version of what it redefines.
+fn version_of<'a>(document: u32, child: Child<'a>) -> Version<'a>
+    ensures { version_entry result ≡ versions.in_redefine document (child_entry child.entry) }
+{
+    Version {
+        document,
+        location: Some(child.location),
+        shape: child.shape,
+    }
+}
+
+// The first code that what redefines a component of this kind and name breaks in a document of a set.
+fn declared_code<'a>(
+    sources: &Sources<'a>,
+    document: &SetDocument<'a>,
+    child: Child<'a>,
+    declared: Declared<'a>,
+) -> Result<Option<Code>, AllocError>
+    requires sources { AreSources sources.now }
+    ensures { IfOk result (inside.IsFirstCode (spec.BreaksHere sources.now.available.now document.now.number document.now.shaped.now.shapes document.now.target
+        declared.entry.kind declared.entry.name.now (child_entry child.entry))) }
+{
+    let name = declared.name.as_str();
+    let original = original_of(sources, child.location.as_str(), declared.kind, name)?;
+    match original {
+        None => return Ok(Some(Code::SrcExpredef)),
+        Some(_) => {},
+    }
+    if comes_back(sources, version_of(document.number, child))? {
+        return Ok(Some(Code::XRedefineCircle));
+    }
+    let own = own_code(sources.alloc, document, declared.kind, name, child.shape)?;
+    Ok(own)
+}
+
+// The first code that what stands in a redefine breaks in a document of a set.
+fn child_code<'a>(
+    sources: &Sources<'a>,
+    document: &SetDocument<'a>,
+    child: Child<'a>,
+) -> Result<Option<Code>, AllocError>
+    requires sources { AreSources sources.now }
+    ensures { IfOk result (inside.IsFirstCode (inside.IsBroken sources.now.available.now document.now (child_entry child.entry))) }
+{
+    match declared_as(&child.shape.form) {
+        None => Ok(None),
+        Some(declared) => {
+            let code = declared_code(sources, document, child, declared)?;
+            Ok(code)
+        },
+    }
+}
+
+// The fault of a code, if there is one.
+fn fault_of(document: u32, item: u32, code: Option<Code>) -> Option<Fault>
+    ensures { result ≡ option_map (inside.fault_at document item) code }
+{
+    match code {
+        None => None,
+        Some(code) => Some(Fault {
+            phase: PHASE,
+            document,
+            item,
+            code,
+        }),
+    }
+}
+
+// The first fault of what stands in a redefine.
+fn child_fault<'a>(
+    sources: &Sources<'a>,
+    document: &SetDocument<'a>,
+    child: Child<'a>,
+) -> Result<Option<Fault>, AllocError>
+    requires sources { AreSources sources.now }
+    ensures { IfOk result (IsLeast (inside.IsChildFault sources.now.available.now document.now (child_entry child.entry))) }
+{
+    let code = child_code(sources, document, child)?;
+    Ok(fault_of(document.number, child.shape.item, code))
+}
+
+// The first fault of some of what stands in redefines of a document.
+fn children_fault<'a>(
+    sources: &Sources<'a>,
+    document: &SetDocument<'a>,
+    children: &[Child<'a>],
+) -> Result<Option<Fault>, AllocError>
+    requires sources { AreSources sources.now }
+    ensures { IfOk result (IsLeast (inside.IsOneOf (inside.IsChildFault sources.now.available.now document.now) (map child_entry children.now))) }
+{
+    let mut first = None;
+    for child in children {
+        let found = child_fault(sources, document, *child)?;
+        first = sooner(first, found);
+    }
+    Ok(first)
+}
+
+// The first fault of what stands in redefines of a document.
+fn document_fault<'a>(
+    sources: &Sources<'a>,
+    document: &SetDocument<'a>,
+) -> Result<Option<Fault>, AllocError>
+    requires sources { AreSources sources.now }
+    ensures { IfOk result (IsLeast (inside.IsDocumentFault sources.now.available.now document.now)) }
+{
+    let children = redefining(sources.alloc, document.shaped.shapes.as_slice())?;
+    let first = children_fault(sources, document, children.as_slice())?;
+    Ok(first)
+}
+
+// The first fault of what stands in redefines of the documents of a set.
+fn set_fault<'a>(
+    sources: &Sources<'a>,
+    set: &[SetDocument<'a>],
+) -> Result<Option<Fault>, AllocError>
+    requires sources { AreSources sources.now }
+    ensures { IfOk result (IsLeast (inside.IsSetFault sources.now.available.now set.now)) }
+{
+    let mut first = None;
+    for document in set {
+        let found = document_fault(sources, document)?;
+        first = sooner(first, found);
+    }
+    Ok(first)
+}
+
+/// The first constraint that what stands in the redefines of a set breaks (Structures 4.2.2): by document, element and the order of
+/// the codes. These are src-expredef, x-redefine.circle, src-redefine.5, src-redefine.6.1.1, src-redefine.6.1.2 and src-redefine.7.1.
+///
+/// # Errors
+///
+/// `AllocError` is want of memory, or of numbers: there are 65,535 documents at most.
+pub fn first_redefine_fault<'a>(
+    alloc: Global,
+    available: &'a [Available],
+    set: &[SetDocument<'a>],
+) -> Result<Option<Fault>, AllocError>
+    requires some { 0 < length available.now }
+    requires set { IsEffectiveSet available.now set.now }
+    ensures least { IfOk result (IsLeast (spec.IsRedefineFault available.now)) }
+{
+    if available.len() > MOST {
+        return Err(AllocError);
+    }
+    let sources = Sources::new(alloc, available)?;
+    let first = set_fault(&sources, set)?;
+    Ok(first)
+}
