@@ -8,14 +8,13 @@ use Rattle.set_originals.specs.Originals.{AreOriginals}
 use Rattle.schema_build.specs.SetDocument.{SetDocument}
 use Rattle.schema_documents.specs.declared.inputs.SchemaInput.{SchemaInput}
 use Rattle.schema_documents.specs.Documents.{available, IsSet, IsShapeFault}
-use Rattle.schema_documents.specs.Composition.{Broken as IsCompositionFault}
 use Rattle.schema_check.specs.declared.documents.CompiledSet.{CompiledSet}
 use Rattle.schema_check.specs.declared.documents.Refusal.{Refusal}
 use Rattle.schema_check.specs.declared.documents.Refusal.TheVariants.{Broken, NotYet}
 use Rattle.schema_check.specs.Phases.{IsFirstOfPhases}
 use Rattle.schema_check.specs.SetPhases.{name_phase, base_phase, type_phase, by_components, set_phases, IsSetCompiled}
-use Rattle.schema_check.specs.Compilation.{are_unassessed, by_set, shape_phase, composition_phase, later_phases, IsCompilation}
-use Rattle.schema_check.specs.inside.Typed.{as_refusal, IsComposedCompiled, IsClosedCompiled}
+use Rattle.schema_check.specs.Compilation.{are_unassessed, BreaksComposition, by_set, shape_phase, composition_phase, later_phases, IsCompilation}
+use Rattle.schema_check.specs.inside.Typed.{as_refusal, IsComposed, IsComposedCompiled, IsClosedCompiled}
 use Rattle.schema_check.proofs.PhaseLaws.{after-one, first-implied}
 
 pub as-refusal : (available : List Available) (set : List SetDocument) (originals : List (Option ℕ)) (answer : Result CompiledSet Fault) → AreOriginals available set originals → IsSetCompiled set originals answer
@@ -24,19 +23,19 @@ as-refusal available set originals (Ok made) of h = (originals, of, h)
 as-refusal available set originals (Err fault) of h = (originals, of, h)
 
 -- a set without a fault of phase 2
-pub composed : {E : Type 0} (result : Result (Result CompiledSet Refusal) E) (available : List Available) (set : List SetDocument) (assessed : are_unassessed set ≡ false) (found : Option Fault) → found ≡ None
-    → IfOk result (IsComposedCompiled available set) → IfOk result (IsClosedCompiled available set found)
-composed (Ok (Ok made)) available set assessed found none h = (assessed, none, h.0, h.1, h.2)
-composed (Ok (Err (Broken fault))) available set assessed found none h = (assessed, inr (none, h.0, h.1, h.2))
-composed (Ok (Err NotYet)) available set assessed found none h = absurd h.2
-composed (Err e) available set assessed found none h = h
+pub composed : {E : Type 0} (result : Result (Result CompiledSet Refusal) E) (available : List Available) (set : List SetDocument) (assessed : are_unassessed set ≡ false) → IsComposed available None
+    → IfOk result (IsComposedCompiled available set) → IfOk result (IsClosedCompiled available set)
+composed (Ok (Ok made)) available set assessed none h = (assessed, none, h.0, h.1, h.2)
+composed (Ok (Err (Broken fault))) available set assessed none h = (assessed, inr (none, h.0, h.1, h.2))
+composed (Ok (Err NotYet)) available set assessed none h = absurd h.2
+composed (Err e) available set assessed none h = h
 
 module _ (documents : List SchemaInput) where
   pub shape-phase : (found : Option Fault) → IsLeast (IsShapeFault documents) found → shape_phase documents found
   unfolding shape_phase
   shape-phase found least = least
 
-  pub composition-phase : (found : Option Fault) → IsLeast (IsCompositionFault (available documents)) found → composition_phase documents found
+  composition-phase : (found : Option Fault) → IsComposed (available documents) found → composition_phase documents found
   unfolding composition_phase
   composition-phase found least = least
 
@@ -51,20 +50,19 @@ module _ (documents : List SchemaInput) where
         (first-implied (set_phases set originals) (by_set documents name_phase ∷ by_set documents (λ s o. by_components s o base_phase) ∷ by_set documents (λ s o. by_components s o type_phase) ∷ []) found
         ((λ f p. (set, originals, of, are, p)), ((λ f p. (set, originals, of, are, p)), ((λ f p. (set, originals, of, are, p)), tt))) h)
 
-    refused : (fault : Fault) (found : Option Fault) → composition_phase documents found
-        → (found ≡ Some fault) ⊎ ((found ≡ None) × (originals : List (Option ℕ)) × AreOriginals (available documents) set originals × IsSetCompiled set originals (Err fault))
+    refused : (fault : Fault)
+        → IsComposed (available documents) (Some fault)
+        ⊎ (IsComposed (available documents) None × (originals : List (Option ℕ)) × AreOriginals (available documents) set originals × IsSetCompiled set originals (Err fault))
         → IsFirstOfPhases (later_phases documents) (Some fault)
-    refused fault found least (inl here) = inl (subst (composition_phase documents) here least)
-    refused fault found least (inr later) = behind later.1 (Some fault) later.2 (subst (composition_phase documents) later.0 least) later.3
+    refused fault (inl here) = inl (composition-phase (Some fault) here)
+    refused fault (inr later) = behind later.1 (Some fault) later.2 (composition-phase None later.0) later.3
 
-    pub closed-compiled : {E : Type 0} (result : Result (Result CompiledSet Refusal) E) (shown : List Available) → shown ≡ available documents → (found : Option Fault) → composition_phase documents found
-        → IfOk result (IsClosedCompiled shown set found) → IfOk result (IsCompilation documents)
-    closed-compiled result shown same found least h = by-all result found least (subst (λ (l : List Available). IfOk result (IsClosedCompiled l set found)) same h)
+    pub closed-compiled : {E : Type 0} (result : Result (Result CompiledSet Refusal) E) (shown : List Available) → shown ≡ available documents
+        → IfOk result (IsClosedCompiled shown set) → IfOk result (IsCompilation documents)
+    closed-compiled result shown same h = by-all result (subst (λ (l : List Available). IfOk result (IsClosedCompiled l set)) same h)
       where
-        by-all : {F : Type 0} (answer : Result (Result CompiledSet Refusal) F) (first : Option Fault) → composition_phase documents first
-            → IfOk answer (IsClosedCompiled (available documents) set first) → IfOk answer (IsCompilation documents)
-        by-all (Ok (Ok made)) first known k =
-            ((shaped, behind k.2 None k.3 (subst (composition_phase documents) k.1 known) k.4.0), set, k.2, of, k.3, k.0, k.4)
-        by-all (Ok (Err (Broken fault))) first known k = inr (shaped, (set, of, k.0), refused fault first known k.1)
-        by-all (Ok (Err NotYet)) first known k = (shaped, (set, of, k))
-        by-all (Err e) first known k = tt
+        by-all : {F : Type 0} (answer : Result (Result CompiledSet Refusal) F) → IfOk answer (IsClosedCompiled (available documents) set) → IfOk answer (IsCompilation documents)
+        by-all (Ok (Ok made)) k = ((shaped, behind k.2 None k.3 (composition-phase None k.1) k.4.0), set, k.2, of, k.3, k.0, k.4)
+        by-all (Ok (Err (Broken fault))) k = inr (shaped, (set, of, k.0), refused fault k.1)
+        by-all (Ok (Err NotYet)) k = (shaped, (set, of, k))
+        by-all (Err e) k = tt

@@ -4,9 +4,11 @@ use Rattle.std.specs.List.{list_any}
 use Rattle.xs_codes.specs.declared.fault.Fault.{Fault}
 use Rattle.xs_faults.specs.Least.{IsLeast}
 use Rattle.not_yet.specs.Unassessed.{is_unassessed}
+use Rattle.schema_documents.specs.Available.{Available}
 use Rattle.schema_documents.specs.declared.inputs.SchemaInput.{SchemaInput}
 use Rattle.schema_documents.specs.Documents.{available, IsSet, IsShapeFault}
 use Rattle.schema_documents.specs.Composition.{Broken as IsCompositionFault}
+use Rattle.schema_redefine.specs.Redefinitions.{IsRedefineFault}
 use Rattle.set_originals.specs.Originals.{AreOriginals}
 use Rattle.schema_build.specs.SetDocument.{SetDocument}
 use Rattle.schema_check.specs.declared.documents.CompiledSet.{CompiledSet}
@@ -19,14 +21,19 @@ use Rattle.schema_check.specs.SetPhases.{name_phase, by_components, base_phase, 
 abbrev pub are_unassessed : List SetDocument → Bool
 are_unassessed set = list_any (λ d. is_unassessed d.shaped.now.shapes) set
 
+-- what the documents of the set say of others by include, import and redefine, or what stands in a redefine, breaks a constraint
+-- (Structures 4.2)
+abbrev pub BreaksComposition : List Available → Fault → Type 0
+BreaksComposition sources f = IsCompositionFault sources f ⊎ IsRedefineFault sources f
+
 module _ (documents : List SchemaInput) where
   -- phase 1: the shapes of the documents of the set
   unfoldable pub shape_phase : Option Fault → Type 0
   shape_phase found = IsLeast (IsShapeFault documents) found
 
-  -- phase 2: what the documents of the set say of others by include, import and redefine
+  -- phase 2: how the documents of the set are composed
   unfoldable pub composition_phase : Option Fault → Type 0
-  composition_phase found = IsLeast (IsCompositionFault (available documents)) found
+  composition_phase found = IsLeast (BreaksComposition (available documents)) found
 
   -- a phase that looks at the documents of the set, and at the originals of what they redefine
   abbrev pub by_set : (List SetDocument → List (Option ℕ) → Option Fault → Type 0) → Option Fault → Type 0

@@ -1,4 +1,7 @@
 ghost use Rattle.std.specs.Prelude.{◌≡◌, ◌<◌, List, length, IfOk};
+ghost use Rattle.xs_faults.specs.Least.{IsLeast};
+ghost use Rattle.schema_documents.specs.EffectiveSet.{IsEffectiveSet};
+ghost use Rattle.schema_documents.specs.Composition.{Broken as IsCompositionFault};
 ghost use Rattle.schema_check.specs.SetPhases.{IsSetCompiled};
 ghost use Rattle.schema_check.specs.Compilation as spec;
 ghost use Rattle.schema_check.specs.inside.Typed as inside;
@@ -10,10 +13,12 @@ use schema_build::build;
 use schema_documents::{
     Available, ClosedSet, EffectiveSet, SchemaInput, SetDocument, close_set, first_shape_fault, read_documents,
 };
+use schema_redefine::first_redefine_fault;
 use set_originals::set_originals;
 use set_types::tables_are_closed;
 use std::alloc::{AllocError, Global};
 use xs_codes::Fault;
+use xs_faults::sooner;
 use xs_names::Names;
 
 // Whether something in the documents of a set is not assessed yet.
@@ -64,20 +69,38 @@ fn compile_composed(
     Ok(as_refusal(answer))
 }
 
-// A set whose documents are of the right shape.
-fn compile_closed(
+// The first fault of how the documents of a set are composed.
+fn composition_fault<'a>(
     alloc: Global,
-    available: &[Available],
-    closed: &ClosedSet<'_>,
+    available: &'a [Available],
+    closed: &ClosedSet<'a>,
+) -> Result<Option<Fault>, AllocError>
+    requires some { 0 < length available.now }
+    requires set { IsEffectiveSet available.now closed.now.set.documents }
+    requires least { IsLeast (IsCompositionFault available.now) closed.now.fault }
+    ensures { IfOk result (inside.IsComposed available.now) }
+{
+    let found = first_redefine_fault(alloc, available, closed.set.documents.as_slice())?;
+    Ok(sooner(closed.fault, found))
+}
+
+// A set whose documents are of the right shape.
+fn compile_closed<'a>(
+    alloc: Global,
+    available: &'a [Available],
+    closed: &ClosedSet<'a>,
 ) -> Result<Result<CompiledSet, Refusal>, AllocError>
     requires some { 0 < length available.now }
-    ensures { IfOk result (inside.IsClosedCompiled available.now closed.now.set.documents closed.now.fault) }
+    requires set { IsEffectiveSet available.now closed.now.set.documents }
+    requires least { IsLeast (IsCompositionFault available.now) closed.now.fault }
+    ensures { IfOk result (inside.IsClosedCompiled available.now closed.now.set.documents) }
 {
     let set = closed.set.documents.as_slice();
     if are_unassessed(set) {
         return Ok(Err(Refusal::NotYet));
     }
-    match closed.fault {
+    let found = composition_fault(alloc, available, closed)?;
+    match found {
         Some(fault) => Ok(Err(Refusal::Broken(fault))),
         None => compile_composed(alloc, available, &closed.set),
     }

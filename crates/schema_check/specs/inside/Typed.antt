@@ -2,6 +2,7 @@
 use Rattle.std.specs.Prelude.{◌≡◌, ◌⊎◌, ℕ, true, false, List, Option, None, Some, Result, Ok, Err}
 use Rattle.xs_codes.specs.declared.fault.Fault.{Fault}
 use Rattle.xs_components.specs.Tables.{Tables}
+use Rattle.xs_faults.specs.Least.{IsLeast}
 use Rattle.xs_names.specs.Names.{NameTable}
 use Rattle.simple_types.specs.declared.types.SimpleTypes.{SimpleTypes}
 use Rattle.schema_documents.specs.Available.{Available}
@@ -12,7 +13,7 @@ use Rattle.schema_check.specs.declared.documents.Refusal.{Refusal}
 use Rattle.schema_check.specs.declared.documents.Refusal.TheVariants.{Broken, NotYet}
 use Rattle.schema_check.specs.Phases.{IsFirstOfPhases}
 use Rattle.schema_check.specs.SetPhases.{part_phases, IsReady, IsSetCompiled}
-use Rattle.schema_check.specs.Compilation.{are_unassessed}
+use Rattle.schema_check.specs.Compilation.{are_unassessed, BreaksComposition}
 
 abbrev pub IsTyped : Tables → Tables → Result SimpleTypes Fault → Type 0
 IsTyped old new (Ok types) = IsFirstOfPhases (part_phases old) None × IsReady old new types
@@ -37,11 +38,15 @@ IsRefusedOr set originals (Err NotYet) = ⊥
 abbrev pub IsComposedCompiled : List Available → List SetDocument → Result CompiledSet Refusal → Type 0
 IsComposedCompiled available set answer = (originals : List (Option ℕ)) × AreOriginals available set originals × IsRefusedOr set originals answer
 
--- a set whose documents are of the right shape, with its first fault of phase 2
-abbrev pub IsClosedCompiled : List Available → List SetDocument → Option Fault → Result CompiledSet Refusal → Type 0
-IsClosedCompiled available set found (Ok made) =
-    (are_unassessed set ≡ false) × (found ≡ None) × (originals : List (Option ℕ)) × AreOriginals available set originals × IsSetCompiled set originals (Ok made)
-IsClosedCompiled available set found (Err (Broken fault)) =
+-- the first fault of how the documents are composed, if there is one
+abbrev pub IsComposed : List Available → Option Fault → Type 0
+IsComposed available found = IsLeast (BreaksComposition available) found
+
+-- a set whose documents are of the right shape
+abbrev pub IsClosedCompiled : List Available → List SetDocument → Result CompiledSet Refusal → Type 0
+IsClosedCompiled available set (Ok made) =
+    (are_unassessed set ≡ false) × IsComposed available None × (originals : List (Option ℕ)) × AreOriginals available set originals × IsSetCompiled set originals (Ok made)
+IsClosedCompiled available set (Err (Broken fault)) =
     (are_unassessed set ≡ false)
-    × ((found ≡ Some fault) ⊎ ((found ≡ None) × (originals : List (Option ℕ)) × AreOriginals available set originals × IsSetCompiled set originals (Err fault)))
-IsClosedCompiled available set found (Err NotYet) = are_unassessed set ≡ true
+    × (IsComposed available (Some fault) ⊎ (IsComposed available None × (originals : List (Option ℕ)) × AreOriginals available set originals × IsSetCompiled set originals (Err fault)))
+IsClosedCompiled available set (Err NotYet) = are_unassessed set ≡ true
