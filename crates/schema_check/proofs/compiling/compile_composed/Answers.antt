@@ -15,5 +15,5 @@ returns c =
     let originals = c.in_ok-originals.originals.items in
     subst (λ (a : Result CompiledSet Refusal). IsComposedCompiled available set a) (sym c.as_refusal.ensures)
     (as-refusal available set originals c.in_ok-answer.answer
-    (subst (λ (l : List SetDocument). AreOriginals available l originals) c.as_slice-set.ensures c.in_ok-originals.ensures.originals)
-    (subst (λ (l : List (Option ℕ)). IsSetCompiled set l c.in_ok-answer.answer) c.as_slice-originals.ensures c.in_ok-answer.ensures))
+    (subst (λ (l : List SetDocument). AreOriginals available l originals) c.as_slice.ensures c.in_ok-originals.ensures.originals)
+    (subst (λ (l : List (Option ℕ)). IsSetCompiled set l c.in_ok-answer.answer) c.as_slice-2.ensures.value c.in_ok-answer.ensures))
