@@ -13,7 +13,7 @@ use Rattle.schema_check.specs.declared.documents.Refusal.{Refusal}
 use Rattle.schema_check.specs.declared.documents.Refusal.TheVariants.{Broken, NotYet}
 use Rattle.schema_check.specs.Phases.{IsFirstOfPhases}
 use Rattle.schema_check.specs.SetPhases.{name_phase, base_phase, type_phase, by_components, set_phases, IsSetCompiled}
-use Rattle.schema_check.specs.Compilation.{are_unassessed, BreaksComposition, by_set, shape_phase, composition_phase, later_phases, IsCompilation}
+use Rattle.schema_check.specs.Compilation.{are_unassessed, by_set, shape_phase, composition_phase, later_phases, IsCompilation}
 use Rattle.schema_check.specs.inside.Typed.{as_refusal, IsComposed, IsComposedCompiled, IsClosedCompiled}
 use Rattle.schema_check.proofs.PhaseLaws.{after-one, first-implied}
 

@@ -1,5 +1,5 @@
 -- Types of a compiled set, from what is known of its phases.
-use Rattle.std.proofs.Common.{◌≡◌, ◌-◌, ℕ, inr, List, Option, None, Ok, All, get_or, subst}
+use Rattle.std.proofs.Common.{◌≡◌, ℕ, inr, List, Option, None, Ok, All, get_or, subst}
 use Rattle.std.proofs.lemmas.Option.{get_or_from_slice_get, slice_get_within}
 use Rattle.tree_rows.specs.Whole.{IsTree}
 use Rattle.xs_codes.specs.declared.fault.Fault.{Fault}

@@ -11,7 +11,8 @@ use crate::types::compile_parts;
 use not_yet::is_unassessed;
 use schema_build::build;
 use schema_documents::{
-    Available, ClosedSet, EffectiveSet, SchemaInput, SetDocument, close_set, first_shape_fault, read_documents,
+    Available, ClosedSet, EffectiveSet, SchemaInput, SetDocument, close_set, first_shape_fault,
+    read_documents,
 };
 use schema_redefine::first_redefine_fault;
 use set_originals::set_originals;
