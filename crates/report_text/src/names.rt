@@ -15,11 +15,11 @@ use xs_names::{NameId, Names};
 use xsv_io::{Failed, Sink};
 
 /// Writes a local part in the namespace of a name: `local`, or `{namespace}local`.
-fn write_local<W: Sink>(
+fn write_local<'a, W: Sink>(
     sink: &mut W,
-    names: &Names,
+    names: &'a Names,
     name: NameId,
-    local: &str,
+    local: &'a str,
 ) -> Result<(), Failed>
     requires named { IsName names.now name }
     ensures written { Written W.taken W.faults W.fault_bound sink.old sink.new result (words.space_text names.now (space_of names.now name) ++ escaped local.now) }
