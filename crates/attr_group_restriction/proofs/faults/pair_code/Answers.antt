@@ -1,0 +1,8 @@
+use Rattle.attr_group_restriction.proofs.AttrGroupLaws.{group-first}
+use Rattle.attr_group_restriction.proofs.faults.pair_code.Goals as goal
+
+pub returns : goal.returns
+returns c = record {
+  first = group-first c.args.set.now.parts.now c.args.set.now.names.now c.args.own c.args.original c.in_ok-found.found c.when.result c.when.ensures c.in_ok-found.ensures.first;
+  same = c.broken_code.ensures.same;
+}

@@ -1,0 +1,3 @@
+pub mod Redefined
+pub mod Each
+pub mod Steps

@@ -1,0 +1,10 @@
+//! Groups and attribute groups that redefine others without a reference to themselves (Structures 4.2.2).
+#![tactic(auto)]
+
+mod finding;
+mod marks;
+mod numbers;
+
+pub use finding::redefined_pairs;
+pub use redefined_pairs::RedefinedPair;
+pub use redefined_names::VersionKind;
