@@ -40,7 +40,7 @@ pub fn first_attr_group_fault(
 {
     let mut best = None;
     for pair in pairs {
-        let found = fault_of(alloc, set, types, *pair)?;
+        let found = fault_of(alloc, set, types, pair)?;
         best = sooner(best, found);
     }
     Ok(best)
@@ -51,12 +51,12 @@ fn fault_of(
     alloc: Global,
     set: &ComparedSet<'_>,
     types: &mut SimpleTypes,
-    pair: RedefinedPair,
+    pair: &RedefinedPair,
 ) -> Result<Option<Fault>, AllocError>
     requires given { AreGiven set.now.parts.now set.now.names.now }
     requires types { AreTypes set.now.parts.now types.old }
     requires tables { (ids : List Bool) × AreTablesOf set.now.parts.now ids set.now.tables.now }
-    ensures least { IfOk result (IsLeast (spec.IsPairFault set.now.parts.now set.now.names.now pair)) }
+    ensures least { IfOk result (IsLeast (spec.IsPairFault set.now.parts.now set.now.names.now pair.now)) }
     ensures same { types.new ≡ types.old }
 {
     let Some(own) = set.parts.attr_group_at(pair.own) else {

@@ -38,7 +38,7 @@ pub fn first_group_fault<T: Derivation>(
 {
     let mut best = None;
     for pair in pairs {
-        let found = fault_of(alloc, set, *pair)?;
+        let found = fault_of(alloc, set, pair)?;
         best = sooner(best, found);
     }
     Ok(best)
@@ -48,17 +48,17 @@ pub fn first_group_fault<T: Derivation>(
 fn fault_of<T: Derivation>(
     alloc: Global,
     set: &ComparedModels<'_, T>,
-    pair: RedefinedPair,
+    pair: &RedefinedPair,
 ) -> Result<Option<Fault>, AllocError>
     requires compared { IsCompared (T.is_type set.now.types.now) set.now.parts.now set.now.contents.now set.now.terms.now }
     requires valid { T.is_valid set.now.types.now }
     ensures least { (members : List (List ℕ)) → AreStanding set.now.parts.now members set.now.stands_for.now
-        → IfOk result (IsLeast (spec.IsPairFault set.now.parts.now members set.now.terms.now (T.derives set.now.types.now) pair)) }
+        → IfOk result (IsLeast (spec.IsPairFault set.now.parts.now members set.now.terms.now (T.derives set.now.types.now) pair.now)) }
 {
     match set.parts.groups().get(pair.own as usize) {
         None => Ok(None),
         Some(part) => {
-            let code = pair_code(alloc, set, pair)?;
+            let code = pair_code(alloc, set, *pair)?;
             Ok(coded(PHASE, part.at, code))
         },
     }

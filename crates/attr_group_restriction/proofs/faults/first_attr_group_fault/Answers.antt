@@ -12,8 +12,8 @@ fault_of-requires-clause-types c = subst (AreTypes c.args.set.now.parts.now) (sy
 
 pub loop-pair-preserved : goal.loop-pair-preserved
 loop-pair-preserved c = record {
-  least = least-more (IsPairFault c.args.set.now.parts.now c.args.set.now.names.now) c.args.pairs.now c.loop-pair.pair-index c.pair-item.result c.loop-pair.best c.in_ok-found.found c.sooner-best.result
-      c.loop-pair-test.true c.pair-item.is c.sooner-best.ensures.sooner c.loop-pair.invariant.least c.in_ok-found.ensures.least;
+  least = least-more (IsPairFault c.args.set.now.parts.now c.args.set.now.names.now) c.args.pairs.now c.loop-pair.pair-index _ c.loop-pair.best c.in_ok-found.found c.sooner-best.result
+      c.loop-pair-test.true c.sooner-best.ensures.sooner c.loop-pair.invariant.least c.in_ok-found.ensures.least;
   same = c.fault_of.ensures.same ∙ c.loop-pair.invariant.same;
 }
 
