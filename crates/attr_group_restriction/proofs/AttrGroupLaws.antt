@@ -1,9 +1,9 @@
 -- The code and the fault of a pair of attribute groups.
-use Rattle.std.proofs.Common.{◌≡◌, ◌⊎◌, ℕ, Bool, true, false, Option, None, Some, length, refl, sym, subst, ◌<◌, ◌≤◌, ◌∙◌, arith}
+use Rattle.std.proofs.Common.{◌≡◌, ◌⊎◌, ℕ, Bool, true, false, Option, None, Some, length, get_or, refl, sym, subst, ◌<◌, ◌≤◌, ◌∙◌, arith}
 use Rattle.std.specs.Prelude.{◌↔◌, IsTrue, Result, Ok, Err, IfOk, slice_get}
 use Rattle.std.specs.Option.{is_some, option_map}
 use Rattle.std.proofs.lemmas.Bool.{false≢true}
-use Rattle.std.proofs.lemmas.Option.{none-some, same_Some, slice_get_within}
+use Rattle.std.proofs.lemmas.Option.{same_Some, slice_get_within, slice_get-get_or}
 use Rattle.xs_codes.specs.declared.code.Code.{Code}
 use Rattle.xs_codes.specs.declared.code.Code.TheVariants.{SrcRedefine7_2_2}
 use Rattle.xs_codes.specs.declared.fault.Fault.{Fault}
@@ -66,6 +66,13 @@ module _ (t : Tables) (names : NameTable) (pair : RedefinedPair) where
       (λ f x. (part, under, x.0, is, other, x.1, x.2))
       (λ f x. subst (λ (p : AttrGroupDef). (c : Code) × BreaksGroup t names pair.own pair.original c × (f ≡ type_fault 7 p.at c)) (same_Some x.0 part (sym x.3 ∙ is)) (x.2, x.5, x.6))
       found (place-least 7 part.at (BreaksGroup t names pair.own pair.original) code found e first)
+
+  -- the same by numbers that are those of the pair
+  pub found-least : (own original : ℕ) (part : AttrGroupDef) → own ≡ pair.own → (original ≡ pair.original) × (pair.original < length t.attr_groups.parts) → slice_get t.attr_groups.parts own ≡ Some part → (code : Option Code) (found : Option Fault) →
+      found ≡ option_map (type_fault 7 part.at) code → IsFirstCode (BreaksGroup t names own original) code → IsLeast (IsPairFault t names pair) found
+  found-least own original part one other is code found e first =
+      pair-least part (get_or t.attr_groups.parts pair.original part) (subst (λ n. slice_get t.attr_groups.parts n ≡ Some part) one is) (slice_get-get_or t.attr_groups.parts pair.original part other.1) code found e
+      (subst (λ n. IsFirstCode (BreaksGroup t names pair.own n) code) other.0 (subst (λ n. IsFirstCode (BreaksGroup t names n original) code) one first))
 
   -- a number of no attribute group
   pub pair-none : length t.attr_groups.parts ≤ pair.own → IsLeast (IsPairFault t names pair) None

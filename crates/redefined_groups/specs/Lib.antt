@@ -1,3 +1,3 @@
 pub mod Redefined
-pub mod Each
-pub mod Steps
+pub mod Numbers
+pub mod inside

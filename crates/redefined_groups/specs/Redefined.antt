@@ -1,6 +1,6 @@
 -- Groups and attribute groups that redefine others without a reference to themselves (Structures 4.2.2).
 use Rattle.std.specs.Prelude.{◌≡◌, ◌↔◌, ℕ, List, Option, None, Some, Contains, slice_get}
-use Rattle.std.specs.Option.{option_map, option_and_then}
+use Rattle.std.specs.Option.{option_and_then}
 use Rattle.representations.specs.declared.parts.Represented.{Represented}
 use Rattle.representations.specs.declared.parts.Represented.TheVariants as forms
 use Rattle.representations.specs.declared.parts.Representation.{Representation}
@@ -9,13 +9,18 @@ use Rattle.redefined_names.specs.Components.{declared_at}
 use Rattle.redefined_names.specs.Redirections.{version_around}
 use Rattle.redefined_names.specs.VersionNames.{original_at}
 use Rattle.redefined_names.specs.declared.declared.Declared.{Declared}
+use Rattle.redefined_names.specs.declared.declared.VersionKind.{VersionKind}
 use Rattle.redefined_names.specs.declared.declared.VersionKind.TheVariants as kinds
 use Rattle.redefined_pairs.specs.declared.pairs.RedefinedPair.{RedefinedPair}
 
+abbrev pub of_name : VersionKind → Option ℕ → Option Declared
+of_name kind None = None
+of_name kind (Some name) = Some (record { kind = kind; name = name })
+
 -- what a reference to a group or to an attribute group refers to
 abbrev pub referred : Represented → Option Declared
-referred (forms.GroupReference to) = option_map (λ name. record { kind = kinds.Group; name = name }) to
-referred (forms.AttributeGroupReference to) = option_map (λ name. record { kind = kinds.AttributeGroup; name = name }) to
+referred (forms.GroupReference to) = of_name kinds.Group to
+referred (forms.AttributeGroupReference to) = of_name kinds.AttributeGroup to
 referred _ = None
 
 -- Of representations, by place, and the original of each: originals have names of their own, which what redefines them refers to.

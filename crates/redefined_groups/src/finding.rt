@@ -1,9 +1,11 @@
 //! The components that redefine others without a reference to themselves.
 
-ghost use Rattle.std.specs.Prelude.{◌≡◌, IfOk, length};
+ghost use Rattle.std.specs.Prelude.{◌≡◌, ◌++◌, false, IfOk, OnOk, slice_index_or};
+ghost use Rattle.std.specs.Option.{option_to_list};
 ghost use Rattle.representations.specs.Behind.{AreBehind};
 ghost use Rattle.redefined_groups.specs.Redefined as spec;
-ghost use Rattle.redefined_groups.specs.Steps as steps;
+ghost use Rattle.redefined_groups.specs.Numbers.{kind_numbers};
+ghost use Rattle.redefined_groups.specs.inside.Steps as steps;
 
 use crate::marks::self_references;
 use crate::numbers::kind_numbers;
@@ -41,6 +43,19 @@ fn pair_at(
     Some(RedefinedPair { own, original })
 }
 
+// Puts a pair behind others, if there is one.
+fn push_pair(
+    pairs: &mut Vec<RedefinedPair>,
+    pair: Option<RedefinedPair>,
+) -> Result<(), AllocError>
+    ensures { OnOk result (pairs.new.items ≡ pairs.old.items ++ option_to_list pair) }
+{
+    if let Some(pair) = pair {
+        pairs.push(pair)?;
+    }
+    Ok(())
+}
+
 // The pairs of components of a kind, by their numbers and the marks of those that have a reference to themselves.
 fn pairs_of(
     alloc: Global,
@@ -52,9 +67,7 @@ fn pairs_of(
 {
     let mut pairs = Vec::new(alloc);
     for (version, original) in originals.iter().enumerate() {
-        if let Some(pair) = pair_at(numbers, marks, version, *original) {
-            pairs.push(pair)?;
-        }
+        push_pair(&mut pairs, pair_at(numbers, marks, version, *original))?;
     }
     Ok(pairs)
 }
@@ -73,7 +86,7 @@ pub fn redefined_pairs(
     originals: &[Option<u32>],
 ) -> Result<Vec<RedefinedPair>, AllocError>
     requires behind { AreBehind reps.now }
-    ensures pairs { IfOk result (λ pairs. spec.ArePairs reps.now originals.now (steps.kind_numbers kind reps.now) pairs.items) }
+    ensures pairs { IfOk result (λ pairs. spec.ArePairs reps.now originals.now (kind_numbers kind reps.now) pairs.items) }
 {
     let marks = self_references(alloc, reps, originals)?;
     let numbers = kind_numbers(alloc, kind, reps)?;

@@ -1,10 +1,10 @@
 //! Which redefining components refer to themselves.
 
-ghost use Rattle.std.specs.Prelude.{◌≡◌, ◌<◌, ◌==◌, ◌&&◌, ℕ, Some, IfOk, length};
-ghost use Rattle.std.specs.Option.{option_and_then};
+ghost use Rattle.std.specs.Prelude.{◌≡◌, IfOk, length};
 ghost use Rattle.representations.specs.Behind.{AreBehind};
 ghost use Rattle.redefined_groups.specs.Redefined as spec;
-ghost use Rattle.redefined_groups.specs.Steps as steps;
+ghost use Rattle.redefined_names.specs.Redirections as redirections;
+ghost use Rattle.redefined_groups.specs.inside.Steps as steps;
 
 use component_numbers::number_at;
 use redefined_names::{Declared, VersionKind, declared_at, versions_around};
@@ -49,7 +49,7 @@ fn redefined_by(
 
 /// Whether two kinds are the same.
 pub(crate) fn is_same(one: VersionKind, other: VersionKind) -> bool
-    ensures { result ≡ steps.same_kind one other }
+    ensures { result ≡ redirections.same_kind one other }
 {
     match one {
         VersionKind::Type => match other {

@@ -2,7 +2,7 @@
 
 ghost use Rattle.std.specs.Prelude.{◌≡◌, ◌+◌, ◌<◌, ◌^◌, length, IfOk};
 ghost use Rattle.component_numbers.specs.Numbers.{number_of};
-ghost use Rattle.redefined_groups.specs.Steps as spec;
+ghost use Rattle.redefined_groups.specs.Numbers as spec;
 
 use crate::marks::is_same;
 use redefined_names::{VersionKind, declared_by};
