@@ -41,10 +41,10 @@ both_true : (a b : Bool) → (a && b) ≡ true → (a ≡ true) × (b ≡ true)
 both_true true b e = (refl, e)
 both_true false b e = absurd (false≢true e)
 
-made : VersionKind → ℕ → Declared
+abbrev made : VersionKind → ℕ → Declared
 made kind name = record { kind = kind; name = name }
 
-is_same : Declared → Declared → Bool
+abbrev is_same : Declared → Declared → Bool
 is_same a b = same_kind a.kind b.kind && (a.name == b.name)
 
 declared-same : (a b : Declared) → is_same a b ≡ true → a ≡ b

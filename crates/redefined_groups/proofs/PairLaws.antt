@@ -1,6 +1,6 @@
 -- The pairs of components, one after another.
 use Rattle.std.proofs.Common.{◌≡◌, ◌⊎◌, inl, inr, ℕ, zero, suc, ◌+◌, ◌<◌, Bool, true, false, List, [], ◌∷◌, Option, None, Some, length, refl, sym, ap, subst, ◌∙◌, arith}
-use Rattle.std.specs.Prelude.{◌↔◌, Contains, slice_index_or, if◌then◌else◌}
+use Rattle.std.specs.Prelude.{◌↔◌, Contains, Result, Ok, Err, IfOk, slice_index_or, if◌then◌else◌}
 use Rattle.std.specs.Option.{option_to_list}
 use Rattle.std.proofs.lemmas.Bool.{cases_lt, false≢true}
 use Rattle.std.proofs.lemmas.Option.{none-some, same_Some, slice_get_within}
@@ -100,3 +100,8 @@ module _ (reps : List Representation) (originals : List (Option ℕ)) (marks : L
       from pair x =
           let at = said (slice_index_or marks x.0 false) (number_at numbers x.0) (number_at numbers x.1) pair (unmarked x.0 (within x.0 pair.own x.3) x.2.alone) x.3 x.4 in
           subst (λ ps. Contains ps pair) (sym e) (pairs-from numbers marks 0 originals x.0 x.1 pair x.2.is (moved numbers marks x.0 (0 + x.0) x.1 pair (omega arith) at))
+
+  pub all-pairs : {V E : Type 0} (items : V → List RedefinedPair) (kind : VersionKind) (numbers : List (Option ℕ)) → numbers ≡ kind_numbers kind reps → (r : Result V E) → IfOk r (λ v. items v ≡ pairs_of numbers marks 0 originals) →
+      IfOk r (λ v. ArePairs reps originals (kind_numbers kind reps) (items v))
+  all-pairs items kind numbers same (Ok v) e = are-pairs kind numbers same (items v) e
+  all-pairs items kind numbers same (Err error) e = tt
