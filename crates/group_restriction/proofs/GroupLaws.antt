@@ -1,7 +1,7 @@
 -- The code and the fault of a pair of groups.
-use Rattle.std.proofs.Common.{◌≡◌, ℕ, ◌<◌, length, get_or, Bool, true, false, List, Option, None, Some, refl, sym, subst, ◌∙◌}
+use Rattle.std.proofs.Common.{◌≡◌, ℕ, ◌<◌, length, get_or, Bool, List, Option, None, Some, refl, sym, subst, ◌∙◌}
 use Rattle.std.specs.Prelude.{◌↔◌, IsTrue, Result, Ok, Err, IfOk, IfErr, IfSome, slice_get, slice_index}
-use Rattle.std.specs.Option.{is_some, option_map, option_and_then}
+use Rattle.std.specs.Option.{is_some, option_map}
 use Rattle.std.proofs.lemmas.Bool.{false≢true}
 use Rattle.std.proofs.lemmas.Option.{none-some, same_Some, slice_get_read}
 use Rattle.xs_codes.specs.declared.code.Code.{Code}
@@ -13,7 +13,6 @@ use Rattle.xs_components.specs.declared.group.GroupDef.{GroupDef}
 use Rattle.xs_faults.specs.Least.{IsLeast}
 use Rattle.xs_faults.proofs.LeastLaws.{least-same}
 use Rattle.xs_references.specs.Ranked.{IsBelow, IsRanked}
-use Rattle.particle_forms.specs.Models.{group_particle}
 use Rattle.pointless_groups.specs.Trees.{Tree}
 use Rattle.particle_restrict.specs.Codes.{IsFault}
 use Rattle.particle_restrict.specs.Restricts.{FormRestricts}

@@ -1,18 +1,18 @@
 -- The pairs of components, one after another.
-use Rattle.std.proofs.Common.{◌≡◌, ◌⊎◌, inl, inr, ℕ, zero, suc, ◌+◌, ◌<◌, Bool, true, false, List, [], ◌∷◌, Option, None, Some, length, refl, sym, ap, subst, ◌∙◌, arith}
-use Rattle.std.specs.Prelude.{◌↔◌, Contains, Result, Ok, Err, IfOk, slice_index_or, if◌then◌else◌}
+use Rattle.std.proofs.Common.{◌≡◌, inl, inr, ℕ, zero, suc, ◌+◌, ◌<◌, Bool, true, false, List, [], ◌∷◌, Option, None, Some, length, refl, sym, ap, subst, ◌∙◌, arith}
+use Rattle.std.specs.Prelude.{Contains, Result, Ok, Err, IfOk, slice_index_or, if◌then◌else◌}
 use Rattle.std.specs.Option.{option_to_list}
 use Rattle.std.proofs.lemmas.Bool.{cases_lt, false≢true}
 use Rattle.std.proofs.lemmas.Option.{none-some, same_Some, slice_get_within}
 use Rattle.std.proofs.lemmas.List.{get_or_past}
 use Rattle.std.proofs.lemmas.List.Elements.{Contains-push, Contains-push_cases, Contains-append_left, Contains-append_right, Contains-append_cases}
 use Rattle.representations.specs.declared.parts.Representation.{Representation}
-use Rattle.component_numbers.specs.Numbers.{number_at, numbers_of}
+use Rattle.component_numbers.specs.Numbers.{number_at, number_of, numbers_of}
 use Rattle.redefined_names.specs.declared.declared.VersionKind.{VersionKind}
 use Rattle.redefined_pairs.specs.declared.pairs.RedefinedPair.{RedefinedPair}
 use Rattle.redefined_groups.specs.Numbers.{of_kind, kind_numbers}
-use Rattle.redefined_groups.specs.Redefined.{HasSelfReference, RedefinesWhole, IsPair, ArePairs}
-use Rattle.redefined_groups.specs.inside.Steps.{AreMarks, HasSelfBelow, numbered_pair, pair_at, pairs_of}
+use Rattle.redefined_groups.specs.Redefined.{HasSelfReference, IsPair, ArePairs}
+use Rattle.redefined_groups.specs.inside.Steps.{AreMarks, numbered_pair, pair_at, pairs_of}
 
 says : (marked : Bool) (n m : Option ℕ) (pair : RedefinedPair) → (if marked then None else numbered_pair n m) ≡ Some pair → (marked ≡ false) × (n ≡ Some pair.own) × (m ≡ Some pair.original)
 says true n m pair e = absurd (none-some pair e)
@@ -105,3 +105,18 @@ module _ (reps : List Representation) (originals : List (Option ℕ)) (marks : L
       IfOk r (λ v. ArePairs reps originals (kind_numbers kind reps) (items v))
   all-pairs items kind numbers same (Ok v) e = are-pairs kind numbers same (items v) e
   all-pairs items kind numbers same (Err error) e = tt
+
+-- ---- other builders of as many components have the same numbers
+alike-number : {T U : Type 0} (xs : List T) (ys : List U) (before : ℕ) → length xs ≡ length ys → number_of xs before ≡ number_of ys before
+alike-number [] [] before e = refl
+alike-number [] (y ∷ ys) before e = absurd (omega (arith, e))
+alike-number (x ∷ xs) [] before e = absurd (omega (arith, e))
+alike-number (x ∷ xs) (y ∷ ys) before e = refl
+
+pub numbers-alike : {T U : Type 0} (one : Representation → List T) (other : Representation → List U) → ((rep : Representation) → length (one rep) ≡ length (other rep)) → (before : ℕ) (reps : List Representation) →
+    numbers_of one before reps ≡ numbers_of other before reps
+numbers-alike one other same before [] = refl
+numbers-alike one other same before (rep ∷ reps) =
+    ap (λ n. n ∷ numbers_of one (before + length (one rep)) reps) (alike-number (one rep) (other rep) before (same rep))
+    ∙ (ap (λ k. number_of (other rep) before ∷ numbers_of one (before + k) reps) (same rep)
+    ∙ ap (λ ns. number_of (other rep) before ∷ ns) (numbers-alike one other same (before + length (other rep)) reps))

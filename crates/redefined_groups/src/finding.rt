@@ -9,9 +9,9 @@ ghost use Rattle.redefined_groups.specs.inside.Steps as steps;
 
 use crate::marks::self_references;
 use crate::numbers::kind_numbers;
-use redefined_pairs::RedefinedPair;
 use component_numbers::number_at;
 use redefined_names::VersionKind;
+use redefined_pairs::RedefinedPair;
 use representations::Representation;
 use std::alloc::{AllocError, Global};
 
@@ -44,10 +44,7 @@ fn pair_at(
 }
 
 // Puts a pair behind others, if there is one.
-fn push_pair(
-    pairs: &mut Vec<RedefinedPair>,
-    pair: Option<RedefinedPair>,
-) -> Result<(), AllocError>
+fn push_pair(pairs: &mut Vec<RedefinedPair>, pair: Option<RedefinedPair>) -> Result<(), AllocError>
     ensures { OnOk result (pairs.new.items ≡ pairs.old.items ++ option_to_list pair) }
 {
     if let Some(pair) = pair {

@@ -6,5 +6,5 @@ mod marks;
 mod numbers;
 
 pub use finding::redefined_pairs;
-pub use redefined_pairs::RedefinedPair;
 pub use redefined_names::VersionKind;
+pub use redefined_pairs::RedefinedPair;

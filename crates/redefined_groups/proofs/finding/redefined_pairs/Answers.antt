@@ -1,4 +1,4 @@
-use Rattle.std.proofs.Common.{List, Bool, length, sym, subst, ◌∙◌}
+use Rattle.std.proofs.Common.{length, sym, subst, ◌∙◌}
 use Rattle.redefined_groups.specs.inside.Steps.{AreMarks}
 use Rattle.redefined_groups.proofs.PairLaws.{all-pairs}
 use Rattle.redefined_groups.proofs.finding.redefined_pairs.Goals as goal
