@@ -1,11 +1,12 @@
 -- Model groups that redefine others as these do not allow (Structures 4.2.2; 3.9.6).
-use Rattle.std.specs.Prelude.{◌≡◌, ℕ, Bool, List, Option, Some, slice_get}
+use Rattle.std.specs.Prelude.{◌≡◌, ◌⊎◌, ℕ, Bool, List, Option, Some, slice_get}
 use Rattle.xs_codes.specs.declared.code.Code.{Code}
 use Rattle.xs_codes.specs.declared.code.Code.TheVariants.{SrcRedefine6_2_2}
 use Rattle.xs_codes.specs.declared.fault.Fault.{Fault}
 use Rattle.xs_components.specs.Tables.{Tables}
 use Rattle.xs_components.specs.declared.common.TypeId.{TypeId}
 use Rattle.xs_components.specs.declared.group.GroupDef.{GroupDef}
+use Rattle.model_restriction.specs.ModelRestrictions.{IsModelFault}
 use Rattle.pointless_groups.specs.Trees.{Tree}
 use Rattle.particle_forms.specs.Models.{group_particle}
 use Rattle.particle_restrict.specs.Restricts.{FormRestricts}
@@ -33,3 +34,7 @@ module _ (t : Tables) (members : List (List ℕ)) (terms : List Term) (derives :
   -- a fault of some pair of groups in phase 9, of the restriction of content models
   abbrev pub IsGroupFault : List RedefinedPair → Fault → Type 0
   IsGroupFault pairs fault = IsOfSome IsPairFault pairs fault
+
+  -- a fault in phase 9: of the content model of some complex type, or of some pair of groups
+  abbrev pub IsRestrictionFault : List RedefinedPair → Fault → Type 0
+  IsRestrictionFault pairs fault = IsModelFault t members terms derives fault ⊎ IsGroupFault pairs fault

@@ -3,7 +3,9 @@
 
 mod faults;
 mod forms;
+mod restrictions;
 
 pub use faults::first_group_fault;
-pub use model_restriction::ComparedModels;
+pub use model_restriction::{ComparedModels, ModelSet};
 pub use redefined_pairs::RedefinedPair;
+pub use restrictions::first_restriction_fault;
