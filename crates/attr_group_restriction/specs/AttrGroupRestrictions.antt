@@ -1,5 +1,5 @@
 -- Attribute groups that redefine others as these do not allow (Structures 4.2.2; 3.4.6, Derivation Valid (Restriction, Complex), 2 to 4).
-use Rattle.std.specs.Prelude.{◌≡◌, ◌⊎◌, ℕ, false, List, Some, Result, Ok, slice_get}
+use Rattle.std.specs.Prelude.{◌≡◌, ◌⊎◌, ℕ, false, List, Some, Ok, slice_get}
 use Rattle.xs_codes.specs.declared.code.Code.{Code}
 use Rattle.xs_codes.specs.declared.code.Code.TheVariants.{SrcRedefine7_2_2}
 use Rattle.xs_codes.specs.declared.fault.Fault.{Fault}
