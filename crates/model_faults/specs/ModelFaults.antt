@@ -1,5 +1,5 @@
 -- The restriction of content models and of redefining groups in a schema set (Structures 3.4.6, 5.4.2; 3.9.6; 4.2.2).
-use Rattle.std.specs.Prelude.{◌≡◌, ◌⊎◌, ℕ, ◌<◌, List, Option, Some, IfSome, length, slice_get}
+use Rattle.std.specs.Prelude.{◌≡◌, ◌⊎◌, ℕ, List, Option, Some, IfSome, slice_get}
 use Rattle.xs_codes.specs.declared.fault.Fault.{Fault}
 use Rattle.xs_faults.specs.Least.{IsLeast}
 use Rattle.xs_names.specs.Names.{NameTable}

@@ -1,4 +1,4 @@
-use Rattle.std.proofs.Common.{List, Option, ℕ, sym, subst}
+use Rattle.std.proofs.Common.{sym, subst}
 use Rattle.fixed_values.specs.Fixed.{AreFixedNumbers}
 use Rattle.model_faults.proofs.FaultLaws.{first-read}
 use Rattle.model_faults.proofs.faults.first_model_fault.Goals as goal
