@@ -4,7 +4,7 @@ use Rattle.std.specs.Prelude.{codes, Option}
 use Rattle.std.proofs.lemmas.Bool.Decides.{nat_tests}
 use Rattle.std.proofs.lemmas.Option.{get_or_from_slice_get}
 use Rattle.text_sink.specs.Escaping.{escaped}
-use Rattle.xs_names.specs.Names.{NameTable, space_of, local_of}
+use Rattle.xs_names.specs.Names.{NameTable, space_of}
 use Rattle.xs_codes.specs.declared.fault.Found.{Found}
 use Rattle.xs_components.specs.Tables.{Tables}
 use Rattle.xs_components.specs.declared.common.TypeId.{TypeId}
@@ -12,7 +12,7 @@ use Rattle.assess_records.specs.declared.outcome.Validity.{Validity}
 use Rattle.assess_records.specs.declared.outcome.Attempted.{Attempted}
 use Rattle.assess_records.specs.declared.outcome.ValueSource.{ValueSource}
 use Rattle.report_text.specs.Lines.{record_text}
-use Rattle.report_text.specs.Words.{space_text, name_text}
+use Rattle.report_text.specs.Words.{space_text}
 
 known_parts : (validity attempted source all : List ℕ)
     → (codes " " ++ (validity ++ (codes " " ++ (attempted ++ (codes " " ++ (source ++ (codes " " ++ []))))))) ++ (all ++ 10 ∷ [])
@@ -67,8 +67,7 @@ space_is names ns space at some =
     let other : (ns == 0) ≡ false = grind (arith, nat_tests) in
     rw other (ap (λ l. codes "{" ++ escaped l ++ codes "}") (get_or_from_slice_get names.spaces ns space [] at))
 
-pub named_text : (names : NameTable) (name ns : ℕ) (space local : List ℕ) → ns ≡ space_of names name → slice_get names.spaces ns ≡ Some space → ns ≢ 0 → local ≡ local_of names name
-    → codes "{" ++ (escaped space ++ (codes "}" ++ (escaped local ++ []))) ≡ name_text names name
-named_text names name ns space local is at some own =
-    name_parts (escaped space) (escaped local) ∙ ap (λ l. codes "{" ++ escaped space ++ codes "}" ++ escaped l) own
-    ∙ ap (λ l. l ++ escaped (local_of names name)) (sym (space_is names ns space at some)) ∙ ap (λ n. space_text names n ++ escaped (local_of names name)) is
+pub named_text : (names : NameTable) (name ns : ℕ) (space local : List ℕ) → ns ≡ space_of names name → slice_get names.spaces ns ≡ Some space → ns ≢ 0
+    → codes "{" ++ (escaped space ++ (codes "}" ++ (escaped local ++ []))) ≡ space_text names (space_of names name) ++ escaped local
+named_text names name ns space local is at some =
+    name_parts (escaped space) (escaped local) ∙ ap (λ l. l ++ escaped local) (sym (space_is names ns space at some)) ∙ ap (λ n. space_text names n ++ escaped local) is

@@ -1,5 +1,6 @@
 -- The words and texts of record lines.
-use Rattle.std.specs.Prelude.{ℕ, List, [], ◌∷◌, ◌++◌, ◌==◌, Option, None, Some, slice_get, slice_index_or, if◌then◌else◌, codes}
+use Rattle.std.specs.Prelude.{◌≡◌, ℕ, Bool, List, [], ◌∷◌, ◌++◌, ◌==◌, Option, None, Some, slice_get, slice_index_or, if◌then◌else◌, codes, refl}
+use Rattle.std.specs.List.{before_first}
 use Rattle.std.specs.Fmt.{decimal}
 use Rattle.text_sink.specs.Escaping.{escaped}
 use Rattle.xs_names.specs.Names.{NameTable, absent_space, space_of, local_of}
@@ -56,6 +57,22 @@ codes_text (found ∷ more) = code_text found ++ more_codes more
 abbrev pub place_name : Place → List ℕ
 place_name at = codes "#" ++ decimal at.document ++ codes "." ++ decimal at.item
 
+abbrev pub is_space : ℕ → Bool
+is_space b = b == 32
+
+-- The local part of the name of a type as it is printed: what stands before the first space. An original that a redefined type goes
+-- back to (Structures 4.2.2) has a name of its own in a schema set, the local part with a space and a number behind it, and is printed
+-- by the name that documents give it. No other name has a space (Namespaces in XML 1.0, production 4).
+abbrev pub printed_local : List ℕ → List ℕ
+printed_local local = before_first is_space local
+
+-- for example
+pub example-original : printed_local (codes "size 12") ≡ codes "size"
+example-original = refl
+
+pub example-other : printed_local (codes "size") ≡ codes "size"
+example-other = refl
+
 module _ (names : NameTable) where
   -- the namespace of a name in braces; nothing for the absent one
   abbrev pub space_text : ℕ → List ℕ
@@ -65,10 +82,14 @@ module _ (names : NameTable) where
   abbrev pub name_text : ℕ → List ℕ
   name_text name = space_text (space_of names name) ++ escaped (local_of names name)
 
+  -- the expanded name of a type, so
+  abbrev pub type_name_text : ℕ → List ℕ
+  type_name_text name = space_text (space_of names name) ++ escaped (printed_local (local_of names name))
+
   -- a type that is defined in a schema document
   abbrev pub defined_text : Option ℕ → Place → List ℕ
   defined_text None at = place_name at
-  defined_text (Some name) at = name_text name
+  defined_text (Some name) at = type_name_text name
 
   abbrev pub simple_text : Option SimpleType → List ℕ
   simple_text None = codes "-"

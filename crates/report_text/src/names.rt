@@ -1,7 +1,9 @@
-ghost use Rattle.std.specs.Prelude.{◌++◌, Some, slice_get, IfSome, codes};
+ghost use Rattle.std.specs.Prelude.{◌≡◌, ◌++◌, Some, slice_get, IfSome, codes};
 ghost use Rattle.simple_values.specs.Builtins.{name_of as name_in};
 ghost use Rattle.xs_components.specs.declared.common.TypeId.TheVariants.{Simple, Complex};
+ghost use Rattle.text_sink.specs.Escaping.{escaped};
 ghost use Rattle.text_sink.specs.Written.{Written};
+ghost use Rattle.xs_names.specs.Names.{space_of};
 ghost use Rattle.report_text.specs.Named.{IsName, IsTypeNamed};
 ghost use Rattle.report_text.specs.Words as words;
 
@@ -12,12 +14,16 @@ use xs_components::{ComplexId, Components, Place, SimpleId, TypeId};
 use xs_names::{NameId, Names};
 use xsv_io::{Failed, Sink};
 
-/// Writes a name: `local`, or `{namespace}local`.
-pub fn write_name<W: Sink>(sink: &mut W, names: &Names, name: NameId) -> Result<(), Failed>
+/// Writes a local part in the namespace of a name: `local`, or `{namespace}local`.
+fn write_local<'a, W: Sink>(
+    sink: &mut W,
+    names: &'a Names,
+    name: NameId,
+    local: &'a str,
+) -> Result<(), Failed>
     requires named { IsName names.now name }
-    ensures written { Written W.taken W.faults W.fault_bound sink.old sink.new result (words.name_text names.now name) }
+    ensures written { Written W.taken W.faults W.fault_bound sink.old sink.new result (words.space_text names.now (space_of names.now name) ++ escaped local.now) }
 {
-    let local = names.local(name);
     match names.ns_text(names.ns(name)) {
         None => write_parts(sink, &[Part::Escaped(local)]),
         Some(space) => write_parts(
@@ -30,6 +36,33 @@ pub fn write_name<W: Sink>(sink: &mut W, names: &Names, name: NameId) -> Result<
             ],
         ),
     }
+}
+
+/// Writes a name: `local`, or `{namespace}local`.
+pub fn write_name<W: Sink>(sink: &mut W, names: &Names, name: NameId) -> Result<(), Failed>
+    requires named { IsName names.now name }
+    ensures written { Written W.taken W.faults W.fault_bound sink.old sink.new result (words.name_text names.now name) }
+{
+    write_local(sink, names, name, names.local(name))
+}
+
+/// What is printed of the local part of the name of a type: what stands before the first space.
+fn printed_local(local: &str) -> &str
+    ensures { result.now ≡ words.printed_local local.now }
+{
+    match local.split_once(' ') {
+        Some((printed, _)) => printed,
+        None => local,
+    }
+}
+
+/// Writes the name of a type: an original that a redefined one goes back to by the name that documents give it.
+fn write_type_name<W: Sink>(sink: &mut W, names: &Names, name: NameId) -> Result<(), Failed>
+    requires named { IsName names.now name }
+    ensures written { Written W.taken W.faults W.fault_bound sink.old sink.new result (words.type_name_text names.now name) }
+{
+    let printed = printed_local(names.local(name));
+    write_local(sink, names, name, printed)
 }
 
 /// Writes the place where an anonymous type is represented.
@@ -59,7 +92,7 @@ fn write_defined<W: Sink>(
 {
     match name {
         None => write_place(sink, at),
-        Some(name) => write_name(sink, names, name),
+        Some(name) => write_type_name(sink, names, name),
     }
 }
 

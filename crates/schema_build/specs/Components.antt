@@ -1,5 +1,5 @@
 -- The components of a schema set by its documents, and the faults that keep them from being built.
-use Rattle.std.specs.Prelude.{◌≡◌, ℕ, List, None, Some, Result, Ok, Err}
+use Rattle.std.specs.Prelude.{◌≡◌, ◌⊎◌, ℕ, List, Option, None, Some, Result, Ok, Err}
 use Rattle.xs_codes.specs.declared.fault.Fault.{Fault}
 use Rattle.xs_components.specs.Tables.{Tables}
 use Rattle.xs_faults.specs.Least.{IsLeast}
@@ -10,6 +10,9 @@ use Rattle.representations.specs.declared.parts.Representation.{Representation}
 use Rattle.representations.specs.declared.source.Source.{Source}
 use Rattle.representations.specs.Names.{spaces_of}
 use Rattle.document_representations.specs.Documents.{representations, scopes, origins}
+use Rattle.redefined_names.specs.VersionNames.{with_versions}
+use Rattle.redefined_names.specs.Renamed.{renamed}
+use Rattle.shared_originals.specs.Shared.{IsShared}
 use Rattle.reference_faults.specs.Faults.{IsBroken}
 use Rattle.build_components.specs.Built.{built}
 
@@ -17,20 +20,32 @@ use Rattle.build_components.specs.Built.{built}
 abbrev pub AreOf : List Representation → List (List (List ℕ × ℕ)) → Tables → Type 0
 AreOf reps scopes parts = (source : Source) × (source.reps.now ≡ reps) × (source.spaces.now ≡ spaces_of reps) × (source.scopes.now ≡ scopes) × (parts ≡ built source)
 
--- the components, where no constraint on names and references is broken, else the first that is
-abbrev pub IsMade : NameTable → List Origin → List Representation → List (List (List ℕ × ℕ)) → Result Tables Fault → Type 0
-IsMade t origins reps scopes (Ok parts) = IsLeast (IsBroken t origins reps) None × AreOf reps scopes parts
-IsMade t origins reps scopes (Err fault) = IsLeast (IsBroken t origins reps) (Some fault)
+-- a constraint on names and references, or that no two redefining components have one original
+abbrev pub IsFault : NameTable → List Origin → List Representation → List (Option ℕ) → Fault → Type 0
+IsFault t origins reps originals fault = IsShared reps originals fault ⊎ IsBroken t origins reps fault
 
--- of a set of documents, whose names are in the table
-module _ (t : NameTable) (documents : List SetDocument) where
+-- the components, where no such constraint is broken, else the first that is
+abbrev pub IsMade : NameTable → List Origin → List Representation → List (Option ℕ) → List (List (List ℕ × ℕ)) → Result Tables Fault → Type 0
+IsMade t origins reps originals scopes (Ok parts) = IsLeast (IsFault t origins reps originals) None × AreOf reps scopes parts
+IsMade t origins reps originals scopes (Err fault) = IsLeast (IsFault t origins reps originals) (Some fault)
+
+-- of a set of documents, whose names are in the table, and of the originals of what they redefine, by places
+module _ (t : NameTable) (documents : List SetDocument) (originals : List (Option ℕ)) where
+  -- the names of originals behind those of the documents
+  abbrev pub all_names : NameTable
+  all_names = with_versions t (representations t documents) originals
+
+  -- what the elements represent, the versions of redefined components apart
+  abbrev pub versions : List Representation
+  versions = renamed all_names (representations t documents) originals
+
   -- sch-props-correct.2, x-limit.components, no-xmlns, no-xsi, src-resolve and src-resolve.4
   abbrev pub IsNameFault : Fault → Type 0
-  IsNameFault fault = IsBroken t (origins t documents) (representations t documents) fault
+  IsNameFault fault = IsFault all_names (origins t documents) versions originals fault
 
   abbrev pub AreComponents : Tables → Type 0
-  AreComponents parts = AreOf (representations t documents) (scopes t documents) parts
+  AreComponents parts = AreOf versions (scopes t documents) parts
 
   -- Structures 3.15.1, 3.15.3: the components, or the first fault of names and references
   abbrev pub IsBuilt : Result Tables Fault → Type 0
-  IsBuilt answer = IsMade t (origins t documents) (representations t documents) (scopes t documents) answer
+  IsBuilt answer = IsMade all_names (origins t documents) versions originals (scopes t documents) answer

@@ -1,17 +1,41 @@
 ghost use Rattle.std.specs.Prelude.{◌≡◌, IfOk, OnOk};
 ghost use Rattle.xs_names.specs.Names.{Grown};
+ghost use Rattle.xs_faults.specs.Least.{IsLeast};
+ghost use Rattle.representations.specs.Behind.{AreBehind};
 ghost use Rattle.representations.specs.Named.{AreNamed};
 ghost use Rattle.representations.specs.Names as symbols;
 ghost use Rattle.document_representations.specs.Documents.{set_table};
+ghost use Rattle.redefined_names.specs.VersionNames.{with_versions};
+ghost use Rattle.redefined_names.specs.Renamed.{renamed};
 ghost use Rattle.schema_build.specs.Components as spec;
 
-use document_representations::{EffectiveSet, represent};
+use document_representations::{EffectiveSet, RepresentedSet, represent};
+use redefined_names::name_versions;
 use reference_faults::first_fault;
 use representations::{Origin, Representation, Source, spaces_of};
+use shared_originals::first_shared;
 use std::alloc::{AllocError, Global};
 use xs_codes::Fault;
 use xs_components::Components;
+use xs_faults::sooner;
 use xs_names::{Names, Scope};
+
+// The first fault of names and references, and of originals.
+fn first_of_both(
+    alloc: Global,
+    names: &Names,
+    origins: &[Origin],
+    source: &Source,
+    originals: &[Option<u32>],
+) -> Result<Option<Fault>, AllocError>
+    requires spaces { source.now.spaces.now ≡ symbols.spaces_of source.now.reps.now }
+    requires named { AreNamed names.now source.now.reps.now }
+    ensures least { IfOk result (IsLeast (spec.IsFault names.now origins.now source.now.reps.now originals.now)) }
+{
+    let shared = first_shared(source.reps, originals);
+    let broken = first_fault(alloc, names, source, origins)?;
+    Ok(sooner(shared, broken))
+}
 
 // The components of what is represented, or the first fault of names and references.
 fn build_source(
@@ -19,12 +43,13 @@ fn build_source(
     names: &Names,
     origins: &[Origin],
     source: &Source,
+    originals: &[Option<u32>],
 ) -> Result<Result<Components, Fault>, AllocError>
     requires spaces { source.now.spaces.now ≡ symbols.spaces_of source.now.reps.now }
     requires named { AreNamed names.now source.now.reps.now }
-    ensures made { IfOk result (spec.IsMade names.now origins.now source.now.reps.now source.now.scopes.now) }
+    ensures made { IfOk result (spec.IsMade names.now origins.now source.now.reps.now originals.now source.now.scopes.now) }
 {
-    match first_fault(alloc, names, source, origins)? {
+    match first_of_both(alloc, names, origins, source, originals)? {
         Some(fault) => Ok(Err(fault)),
         None => {
             let parts = build_components::build(alloc, source)?;
@@ -33,16 +58,17 @@ fn build_source(
     }
 }
 
-// The same of what documents are read as.
-fn build_read(
+// The same of what documents are read as, the versions of redefined components apart.
+fn build_versions(
     alloc: Global,
     names: &Names,
     origins: &[Origin],
     reps: &[Representation],
+    originals: &[Option<u32>],
     scopes: &[Scope],
 ) -> Result<Result<Components, Fault>, AllocError>
     requires named { AreNamed names.now reps.now }
-    ensures made { IfOk result (spec.IsMade names.now origins.now reps.now scopes.now) }
+    ensures made { IfOk result (spec.IsMade names.now origins.now reps.now originals.now scopes.now) }
 {
     let spaces = spaces_of(alloc, reps)?;
     let source = Source {
@@ -50,11 +76,42 @@ fn build_read(
         spaces: &spaces,
         scopes,
     };
-    build_source(alloc, names, origins, &source)
+    build_source(alloc, names, origins, &source, originals)
+}
+
+// The same of what documents are read as.
+fn build_read(
+    alloc: Global,
+    names: &mut Names,
+    read: RepresentedSet,
+    originals: &[Option<u32>],
+) -> Result<Result<Components, Fault>, AllocError>
+    requires named { AreNamed names.old read.reps }
+    requires behind { AreBehind read.reps }
+    ensures table { OnOk result (names.new ≡ with_versions names.old read.reps originals.now) }
+    ensures made { IfOk result (spec.IsMade names.new read.origins (renamed names.new read.reps originals.now) originals.now read.scopes) }
+    ensures grown { Grown names.old names.new }
+{
+    let RepresentedSet {
+        reps,
+        scopes,
+        origins,
+    } = read;
+    let versions = name_versions(alloc, names, reps, originals)?;
+    build_versions(
+        alloc,
+        names,
+        origins.as_slice(),
+        versions.as_slice(),
+        originals,
+        scopes.as_slice(),
+    )
 }
 
 /// The components of a schema set (Structures 3.15.1), or its first fault of names and references: by document, then element,
-/// then the order of the codes. The names that stand in the documents come into the table, in the order of the documents.
+/// then the order of the codes. The original of each element that redefines a component comes by its place among the elements of
+/// the set. The names that stand in the documents come into the table, in the order of the documents, and those of originals behind
+/// them.
 ///
 /// # Errors
 ///
@@ -64,14 +121,12 @@ pub fn build(
     alloc: Global,
     names: &mut Names,
     set: &EffectiveSet<'_>,
+    originals: &[Option<u32>],
 ) -> Result<Result<Components, Fault>, AllocError>
-    ensures table { OnOk result (names.new ≡ set_table names.old set.now.documents) }
-    ensures built { IfOk result (spec.IsBuilt names.new set.now.documents) }
+    ensures table { OnOk result (names.new ≡ spec.all_names (set_table names.old set.now.documents) set.now.documents originals.now) }
+    ensures built { IfOk result (spec.IsBuilt (set_table names.old set.now.documents) set.now.documents originals.now) }
     ensures grown { Grown names.old names.new }
 {
     let read = represent(alloc, names, set.documents.as_slice())?;
-    let origins = read.origins.as_slice();
-    let reps = read.reps.as_slice();
-    let scopes = read.scopes.as_slice();
-    build_read(alloc, names, origins, reps, scopes)
+    build_read(alloc, names, read, originals)
 }

@@ -1,39 +1,41 @@
 -- The phases of documents from those of the documents alone and from those of the set.
 use Rattle.std.specs.Prelude.{IfOk}
-use Rattle.std.proofs.Common.{◌≡◌, ◌⊎◌, inl, inr, false, List, ◌∷◌, [], Option, None, Some, Result, Ok, Err, subst}
+use Rattle.std.proofs.Common.{◌≡◌, ◌⊎◌, inl, inr, ℕ, false, List, ◌∷◌, [], Option, None, Some, Result, Ok, Err, subst}
 use Rattle.xs_codes.specs.declared.fault.Fault.{Fault}
 use Rattle.xs_faults.specs.Least.{IsLeast}
+use Rattle.schema_documents.specs.Available.{Available}
+use Rattle.set_originals.specs.Originals.{AreOriginals}
 use Rattle.schema_build.specs.SetDocument.{SetDocument}
 use Rattle.schema_documents.specs.declared.inputs.SchemaInput.{SchemaInput}
 use Rattle.schema_documents.specs.Documents.{available, IsSet, IsShapeFault}
-use Rattle.schema_documents.specs.Composition.{Broken as IsCompositionFault}
 use Rattle.schema_check.specs.declared.documents.CompiledSet.{CompiledSet}
 use Rattle.schema_check.specs.declared.documents.Refusal.{Refusal}
 use Rattle.schema_check.specs.declared.documents.Refusal.TheVariants.{Broken, NotYet}
 use Rattle.schema_check.specs.Phases.{IsFirstOfPhases}
 use Rattle.schema_check.specs.SetPhases.{name_phase, base_phase, type_phase, by_components, set_phases, IsSetCompiled}
 use Rattle.schema_check.specs.Compilation.{are_unassessed, by_set, shape_phase, composition_phase, later_phases, IsCompilation}
-use Rattle.schema_check.specs.inside.Typed.{as_refusal, IsComposedCompiled, IsClosedCompiled}
+use Rattle.schema_check.specs.inside.Typed.{as_refusal, IsComposed, IsComposedCompiled, IsClosedCompiled}
 use Rattle.schema_check.proofs.PhaseLaws.{after-one, first-implied}
 
-pub as-refusal : (set : List SetDocument) (answer : Result CompiledSet Fault) → IsSetCompiled set answer → IsComposedCompiled set (as_refusal answer)
-as-refusal set (Ok made) h = h
-as-refusal set (Err fault) h = h
+pub as-refusal : (available : List Available) (set : List SetDocument) (originals : List (Option ℕ)) (answer : Result CompiledSet Fault) → AreOriginals available set originals → IsSetCompiled set originals answer
+    → IsComposedCompiled available set (as_refusal answer)
+as-refusal available set originals (Ok made) of h = (originals, of, h)
+as-refusal available set originals (Err fault) of h = (originals, of, h)
 
 -- a set without a fault of phase 2
-pub composed : {E : Type 0} (result : Result (Result CompiledSet Refusal) E) (set : List SetDocument) (assessed : are_unassessed set ≡ false) (found : Option Fault) → found ≡ None
-    → IfOk result (IsComposedCompiled set) → IfOk result (IsClosedCompiled set found)
-composed (Ok (Ok made)) set assessed found none h = (assessed, none, h)
-composed (Ok (Err (Broken fault))) set assessed found none h = (assessed, inr (none, h))
-composed (Ok (Err NotYet)) set assessed found none h = absurd h
-composed (Err e) set assessed found none h = h
+pub composed : {E : Type 0} (result : Result (Result CompiledSet Refusal) E) (available : List Available) (set : List SetDocument) (assessed : are_unassessed set ≡ false) → IsComposed available None
+    → IfOk result (IsComposedCompiled available set) → IfOk result (IsClosedCompiled available set)
+composed (Ok (Ok made)) available set assessed none h = (assessed, none, h.0, h.1, h.2)
+composed (Ok (Err (Broken fault))) available set assessed none h = (assessed, inr (none, h.0, h.1, h.2))
+composed (Ok (Err NotYet)) available set assessed none h = absurd h.2
+composed (Err e) available set assessed none h = h
 
 module _ (documents : List SchemaInput) where
   pub shape-phase : (found : Option Fault) → IsLeast (IsShapeFault documents) found → shape_phase documents found
   unfolding shape_phase
   shape-phase found least = least
 
-  pub composition-phase : (found : Option Fault) → IsLeast (IsCompositionFault (available documents)) found → composition_phase documents found
+  composition-phase : (found : Option Fault) → IsComposed (available documents) found → composition_phase documents found
   unfolding composition_phase
   composition-phase found least = least
 
@@ -41,20 +43,26 @@ module _ (documents : List SchemaInput) where
   shape-refused fault is = inl is
 
   module _ (set : List SetDocument) (of : IsSet documents set) (shaped : shape_phase documents None) where
-    behind : (found : Option Fault) → composition_phase documents None → IsFirstOfPhases (set_phases set) found → IsFirstOfPhases (later_phases documents) found
-    behind found none h =
-        after-one (composition_phase documents) (by_set documents name_phase ∷ by_set documents (λ s. by_components s base_phase) ∷ by_set documents (λ s. by_components s type_phase) ∷ []) found none
-        (first-implied (set_phases set) (by_set documents name_phase ∷ by_set documents (λ s. by_components s base_phase) ∷ by_set documents (λ s. by_components s type_phase) ∷ []) found
-        ((λ f p. (set, of, p)), ((λ f p. (set, of, p)), ((λ f p. (set, of, p)), tt))) h)
+    behind : (originals : List (Option ℕ)) (found : Option Fault) → AreOriginals (available documents) set originals → composition_phase documents None → IsFirstOfPhases (set_phases set originals) found
+        → IsFirstOfPhases (later_phases documents) found
+    behind originals found are none h =
+        after-one (composition_phase documents) (by_set documents name_phase ∷ by_set documents (λ s o. by_components s o base_phase) ∷ by_set documents (λ s o. by_components s o type_phase) ∷ []) found none
+        (first-implied (set_phases set originals) (by_set documents name_phase ∷ by_set documents (λ s o. by_components s o base_phase) ∷ by_set documents (λ s o. by_components s o type_phase) ∷ []) found
+        ((λ f p. (set, originals, of, are, p)), ((λ f p. (set, originals, of, are, p)), ((λ f p. (set, originals, of, are, p)), tt))) h)
 
-    refused : (fault : Fault) (found : Option Fault) → composition_phase documents found → (found ≡ Some fault) ⊎ ((found ≡ None) × IsSetCompiled set (Err fault))
+    refused : (fault : Fault)
+        → IsComposed (available documents) (Some fault)
+        ⊎ (IsComposed (available documents) None × (originals : List (Option ℕ)) × AreOriginals (available documents) set originals × IsSetCompiled set originals (Err fault))
         → IsFirstOfPhases (later_phases documents) (Some fault)
-    refused fault found least (inl here) = inl (subst (composition_phase documents) here least)
-    refused fault found least (inr later) = behind (Some fault) (subst (composition_phase documents) later.0 least) later.1
+    refused fault (inl here) = inl (composition-phase (Some fault) here)
+    refused fault (inr later) = behind later.1 (Some fault) later.2 (composition-phase None later.0) later.3
 
-    pub closed-compiled : {E : Type 0} (result : Result (Result CompiledSet Refusal) E) (found : Option Fault) → composition_phase documents found
-        → IfOk result (IsClosedCompiled set found) → IfOk result (IsCompilation documents)
-    closed-compiled (Ok (Ok made)) found least h = ((shaped, behind None (subst (composition_phase documents) h.1 least) h.2.0), set, of, h.0, h.2)
-    closed-compiled (Ok (Err (Broken fault))) found least h = inr (shaped, (set, of, h.0), refused fault found least h.1)
-    closed-compiled (Ok (Err NotYet)) found least h = (shaped, (set, of, h))
-    closed-compiled (Err e) found least h = h
+    pub closed-compiled : {E : Type 0} (result : Result (Result CompiledSet Refusal) E) (shown : List Available) → shown ≡ available documents
+        → IfOk result (IsClosedCompiled shown set) → IfOk result (IsCompilation documents)
+    closed-compiled result shown same h = by-all result (subst (λ (l : List Available). IfOk result (IsClosedCompiled l set)) same h)
+      where
+        by-all : {F : Type 0} (answer : Result (Result CompiledSet Refusal) F) → IfOk answer (IsClosedCompiled (available documents) set) → IfOk answer (IsCompilation documents)
+        by-all (Ok (Ok made)) k = ((shaped, behind k.2 None k.3 (composition-phase None k.1) k.4.0), set, k.2, of, k.3, k.0, k.4)
+        by-all (Ok (Err (Broken fault))) k = inr (shaped, (set, of, k.0), refused fault k.1)
+        by-all (Ok (Err NotYet)) k = (shaped, (set, of, k))
+        by-all (Err e) k = tt

@@ -1,5 +1,5 @@
 -- The first fault of phases, from those of each.
-use Rattle.std.proofs.Common.{◌≡◌, ◌⊎◌, inl, inr, List, [], ◌∷◌, Option, None, Some}
+use Rattle.std.proofs.Common.{inl, inr, List, [], ◌∷◌, Option, None, Some}
 use Rattle.xs_codes.specs.declared.fault.Fault.{Fault}
 use Rattle.schema_check.specs.Phases.{IsFirstOfPhases}
 

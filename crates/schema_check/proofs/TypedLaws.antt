@@ -1,16 +1,16 @@
 -- The phases that look at components, from the answers of the two calls that judge them.
 use Rattle.std.specs.Prelude.{IfNone}
-use Rattle.std.proofs.Common.{◌≡◌, ◌⊎◌, inl, inr, List, [], ◌∷◌, Option, None, Some, Result, Ok, Err, subst}
+use Rattle.std.proofs.Common.{◌≡◌, inl, inr, Option, None, Some, Result, Ok, Err}
 use Rattle.xs_codes.specs.declared.fault.Fault.{Fault}
 use Rattle.xs_components.specs.Tables.{Tables}
 use Rattle.xs_faults.specs.Least.{IsLeast}
 use Rattle.xs_references.specs.Ranked.{IsRanked}
 use Rattle.component_circles.specs.Circles.{Ranks, with_all_ranks}
-use Rattle.type_derivation.specs.Cycles.{IsBroken, IsGrown, IsAfter}
+use Rattle.type_derivation.specs.Cycles.{IsBroken, IsAfter}
 use Rattle.type_derivation.specs.Particles.{AreContentsSet}
 use Rattle.simple_types.specs.declared.types.SimpleTypes.{SimpleTypes}
-use Rattle.simple_types.specs.SimpleTypes.{AreTypesOf, IsBuilt}
-use Rattle.schema_check.specs.SetPhases.{AreRanked, base_phase, type_phase, part_phases, IsReady}
+use Rattle.simple_types.specs.SimpleTypes.{IsBuilt}
+use Rattle.schema_check.specs.SetPhases.{AreRanked}
 use Rattle.schema_check.specs.inside.Typed.{IsTyped}
 
 module _ (old new : Tables) (same : AreRanked old new) where

@@ -1,12 +1,15 @@
 -- What becomes of schema documents: the set that the first one leads to, compiled, or the first broken constraint.
-use Rattle.std.specs.Prelude.{◌≡◌, ◌⊎◌, Bool, true, false, List, [], ◌∷◌, Option, None, Some, Result, Ok, Err}
+use Rattle.std.specs.Prelude.{◌≡◌, ◌⊎◌, ℕ, Bool, true, false, List, [], ◌∷◌, Option, None, Some, Result, Ok, Err}
 use Rattle.std.specs.List.{list_any}
 use Rattle.xs_codes.specs.declared.fault.Fault.{Fault}
 use Rattle.xs_faults.specs.Least.{IsLeast}
 use Rattle.not_yet.specs.Unassessed.{is_unassessed}
+use Rattle.schema_documents.specs.Available.{Available}
 use Rattle.schema_documents.specs.declared.inputs.SchemaInput.{SchemaInput}
 use Rattle.schema_documents.specs.Documents.{available, IsSet, IsShapeFault}
 use Rattle.schema_documents.specs.Composition.{Broken as IsCompositionFault}
+use Rattle.schema_redefine.specs.Redefinitions.{IsRedefineFault}
+use Rattle.set_originals.specs.Originals.{AreOriginals}
 use Rattle.schema_build.specs.SetDocument.{SetDocument}
 use Rattle.schema_check.specs.declared.documents.CompiledSet.{CompiledSet}
 use Rattle.schema_check.specs.declared.documents.Refusal.{Refusal}
@@ -18,22 +21,28 @@ use Rattle.schema_check.specs.SetPhases.{name_phase, by_components, base_phase, 
 abbrev pub are_unassessed : List SetDocument → Bool
 are_unassessed set = list_any (λ d. is_unassessed d.shaped.now.shapes) set
 
+-- what the documents of the set say of others by include, import and redefine, or what stands in a redefine, breaks a constraint
+-- (Structures 4.2)
+abbrev pub BreaksComposition : List Available → Fault → Type 0
+BreaksComposition sources f = IsCompositionFault sources f ⊎ IsRedefineFault sources f
+
 module _ (documents : List SchemaInput) where
   -- phase 1: the shapes of the documents of the set
   unfoldable pub shape_phase : Option Fault → Type 0
   shape_phase found = IsLeast (IsShapeFault documents) found
 
-  -- phase 2: what the documents of the set say of others by include, import and redefine
+  -- phase 2: how the documents of the set are composed
   unfoldable pub composition_phase : Option Fault → Type 0
-  composition_phase found = IsLeast (IsCompositionFault (available documents)) found
+  composition_phase found = IsLeast (BreaksComposition (available documents)) found
 
-  -- a phase that looks at the documents of the set
-  abbrev pub by_set : (List SetDocument → Option Fault → Type 0) → Option Fault → Type 0
-  by_set phase found = (set : List SetDocument) × IsSet documents set × phase set found
+  -- a phase that looks at the documents of the set, and at the originals of what they redefine
+  abbrev pub by_set : (List SetDocument → List (Option ℕ) → Option Fault → Type 0) → Option Fault → Type 0
+  by_set phase found =
+      (set : List SetDocument) × (originals : List (Option ℕ)) × IsSet documents set × AreOriginals (available documents) set originals × phase set originals found
 
   abbrev pub later_phases : List (Option Fault → Type 0)
   later_phases =
-      composition_phase ∷ by_set name_phase ∷ by_set (λ set. by_components set base_phase) ∷ by_set (λ set. by_components set type_phase) ∷ []
+      composition_phase ∷ by_set name_phase ∷ by_set (λ set originals. by_components set originals base_phase) ∷ by_set (λ set originals. by_components set originals type_phase) ∷ []
 
   -- the phases that there are: shapes, composition, names, bases, simple types
   abbrev pub phases : List (Option Fault → Type 0)
@@ -46,6 +55,8 @@ module _ (documents : List SchemaInput) where
   -- The compiled set where no phase has a fault, else the first fault of the first phase that has one. A set whose documents are of
   -- the right shape and have something that is not assessed yet is not compiled.
   abbrev pub IsCompilation : Result CompiledSet Refusal → Type 0
-  IsCompilation (Ok made) = IsFirstOfPhases phases None × (set : List SetDocument) × IsSet documents set × (are_unassessed set ≡ false) × IsSetCompiled set (Ok made)
+  IsCompilation (Ok made) =
+      IsFirstOfPhases phases None × (set : List SetDocument) × (originals : List (Option ℕ)) × IsSet documents set × AreOriginals (available documents) set originals
+      × (are_unassessed set ≡ false) × IsSetCompiled set originals (Ok made)
   IsCompilation (Err (Broken fault)) = shape_phase (Some fault) ⊎ (shape_phase None × IsAssessed false × IsFirstOfPhases later_phases (Some fault))
   IsCompilation (Err NotYet) = shape_phase None × IsAssessed true

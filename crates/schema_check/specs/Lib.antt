@@ -10,6 +10,7 @@ pub use Rattle.schema_build.specs.SetDocument
 pub use Rattle.schema_build.specs.EffectiveSet
 pub use Rattle.set_types.specs.There
 pub use Rattle.schema_build.specs.Built
+pub use Rattle.schema_build.specs.Components
 pub use Rattle.schema_build.specs.Complexes
 pub use Rattle.schema_build.specs.Documents
 pub use Rattle.schema_build.specs.Scopes

@@ -1,5 +1,5 @@
 -- The phases that look at a set of documents whose shapes are right, and what a set without a fault is compiled to.
-use Rattle.std.specs.Prelude.{◌≡◌, List, [], ◌∷◌, Option, None, Some, Result, Ok, Err}
+use Rattle.std.specs.Prelude.{◌≡◌, ℕ, List, [], ◌∷◌, Option, None, Some, Result, Ok, Err}
 use Rattle.xs_codes.specs.declared.fault.Fault.{Fault}
 use Rattle.xs_names.specs.Names.{NameTable, no_names}
 use Rattle.xs_components.specs.Tables.{Tables}
@@ -12,7 +12,7 @@ use Rattle.simple_types.specs.declared.types.SimpleTypes.{SimpleTypes}
 use Rattle.simple_types.specs.SimpleTypes.{AreTypesOf, AreWhole, first_fault_of}
 use Rattle.schema_build.specs.SetDocument.{SetDocument}
 use Rattle.schema_build.specs.Documents.{set_table}
-use Rattle.schema_build.specs.Components.{IsNameFault, AreComponents}
+use Rattle.schema_build.specs.Components.{all_names, IsNameFault, AreComponents}
 use Rattle.schema_check.specs.declared.documents.CompiledSet.{CompiledSet}
 use Rattle.schema_check.specs.Phases.{IsFirstOfPhases}
 
@@ -39,19 +39,19 @@ pub record IsReady (parts new : Tables) (types : SimpleTypes) : Type 0 where
   pub judged : AreTypesOf new types
   pub whole : AreWhole new types
 
--- of the documents of a set
-module _ (set : List SetDocument) where
-  -- the names that stand in them
+-- of the documents of a set, and of the originals of what they redefine, by the places of their elements
+module _ (set : List SetDocument) (originals : List (Option ℕ)) where
+  -- the names that stand in them, and those of originals
   unfoldable pub names : NameTable
-  names = set_table no_names set
+  names = all_names (set_table no_names set) set originals
 
   -- phase 3: names and references
   unfoldable pub name_phase : Option Fault → Type 0
-  name_phase found = IsLeast (IsNameFault names set) found
+  name_phase found = IsLeast (IsNameFault (set_table no_names set) set originals) found
 
   -- the components of the set
   unfoldable pub AreParts : Tables → Type 0
-  AreParts parts = AreComponents names set parts
+  AreParts parts = AreComponents (set_table no_names set) set originals parts
 
   -- a phase that looks at the components of the set
   abbrev pub by_components : (Tables → Option Fault → Type 0) → Option Fault → Type 0

@@ -1,4 +1,7 @@
 ghost use Rattle.std.specs.Prelude.{◌≡◌, ◌<◌, List, length, IfOk};
+ghost use Rattle.xs_faults.specs.Least.{IsLeast};
+ghost use Rattle.schema_documents.specs.EffectiveSet.{IsEffectiveSet};
+ghost use Rattle.schema_documents.specs.Composition.{Broken as IsCompositionFault};
 ghost use Rattle.schema_check.specs.SetPhases.{IsSetCompiled};
 ghost use Rattle.schema_check.specs.Compilation as spec;
 ghost use Rattle.schema_check.specs.inside.Typed as inside;
@@ -8,11 +11,15 @@ use crate::types::compile_parts;
 use not_yet::is_unassessed;
 use schema_build::build;
 use schema_documents::{
-    ClosedSet, EffectiveSet, SchemaInput, SetDocument, close_set, first_shape_fault, read_documents,
+    Available, ClosedSet, EffectiveSet, SchemaInput, SetDocument, close_set, first_shape_fault,
+    read_documents,
 };
+use schema_redefine::first_redefine_fault;
+use set_originals::set_originals;
 use set_types::tables_are_closed;
 use std::alloc::{AllocError, Global};
 use xs_codes::Fault;
+use xs_faults::sooner;
 use xs_names::Names;
 
 // Whether something in the documents of a set is not assessed yet.
@@ -26,12 +33,13 @@ fn are_unassessed(set: &[SetDocument<'_>]) -> bool
 fn compile_set(
     alloc: Global,
     set: &EffectiveSet<'_>,
+    originals: &[Option<u32>],
 ) -> Result<Result<CompiledSet, Fault>, AllocError>
-    ensures { IfOk result (IsSetCompiled set.now.documents) }
+    ensures { IfOk result (IsSetCompiled set.now.documents originals.now) }
 {
     tables_are_closed();
     let mut names = Names::new(alloc)?;
-    let built = build(alloc, &mut names, set)?;
+    let built = build(alloc, &mut names, set, originals)?;
     match built {
         Ok(parts) => compile_parts(alloc, names, parts),
         Err(fault) => Ok(Err(fault)),
@@ -51,28 +59,51 @@ fn as_refusal(answer: Result<CompiledSet, Fault>) -> Result<CompiledSet, Refusal
 // A set that breaks no constraint of the phases on its documents.
 fn compile_composed(
     alloc: Global,
+    available: &[Available],
     set: &EffectiveSet<'_>,
 ) -> Result<Result<CompiledSet, Refusal>, AllocError>
-    ensures { IfOk result (λ answer. inside.IsComposedCompiled set.now.documents answer) }
+    requires some { 0 < length available.now }
+    ensures { IfOk result (λ answer. inside.IsComposedCompiled available.now set.now.documents answer) }
 {
-    let answer = compile_set(alloc, set)?;
+    let originals = set_originals(alloc, available, set.documents.as_slice())?;
+    let answer = compile_set(alloc, set, originals.as_slice())?;
     Ok(as_refusal(answer))
 }
 
-// A set whose documents are of the right shape.
-fn compile_closed(
+// The first fault of how the documents of a set are composed.
+fn composition_fault<'a>(
     alloc: Global,
-    closed: &ClosedSet<'_>,
+    available: &'a [Available],
+    closed: &ClosedSet<'a>,
+) -> Result<Option<Fault>, AllocError>
+    requires some { 0 < length available.now }
+    requires set { IsEffectiveSet available.now closed.now.set.documents }
+    requires least { IsLeast (IsCompositionFault available.now) closed.now.fault }
+    ensures { IfOk result (inside.IsComposed available.now) }
+{
+    let found = first_redefine_fault(alloc, available, closed.set.documents.as_slice())?;
+    Ok(sooner(closed.fault, found))
+}
+
+// A set whose documents are of the right shape.
+fn compile_closed<'a>(
+    alloc: Global,
+    available: &'a [Available],
+    closed: &ClosedSet<'a>,
 ) -> Result<Result<CompiledSet, Refusal>, AllocError>
-    ensures { IfOk result (inside.IsClosedCompiled closed.now.set.documents closed.now.fault) }
+    requires some { 0 < length available.now }
+    requires set { IsEffectiveSet available.now closed.now.set.documents }
+    requires least { IsLeast (IsCompositionFault available.now) closed.now.fault }
+    ensures { IfOk result (inside.IsClosedCompiled available.now closed.now.set.documents) }
 {
     let set = closed.set.documents.as_slice();
     if are_unassessed(set) {
         return Ok(Err(Refusal::NotYet));
     }
-    match closed.fault {
+    let found = composition_fault(alloc, available, closed)?;
+    match found {
         Some(fault) => Ok(Err(Refusal::Broken(fault))),
-        None => compile_composed(alloc, &closed.set),
+        None => compile_composed(alloc, available, &closed.set),
     }
 }
 
@@ -98,6 +129,6 @@ pub fn compile(
     let set = closed.set.documents.as_slice();
     match first_shape_fault(faults, set) {
         Some(fault) => Ok(Err(Refusal::Broken(fault))),
-        None => compile_closed(alloc, &closed),
+        None => compile_closed(alloc, available, &closed),
     }
 }

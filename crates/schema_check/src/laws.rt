@@ -1,4 +1,4 @@
-ghost use Rattle.std.specs.Prelude.{List, Ok, All};
+ghost use Rattle.std.specs.Prelude.{ℕ, List, Option, Ok, All};
 ghost use Rattle.schema_build.specs.SetDocument.{SetDocument};
 ghost use Rattle.tree_rows.specs.Whole.{IsTree};
 ghost use Rattle.schema_documents.specs.declared.inputs.SchemaInput.{SchemaInput};
@@ -8,15 +8,22 @@ ghost use Rattle.schema_check.specs.declared.documents.CompiledSet.{CompiledSet}
 ghost use Rattle.set_types.specs.OfTree.{IsOfTree};
 ghost use Rattle.set_types.specs.SimpleParts.{HasSimpleTypes};
 
-use set_types::set_types_are_simple;
+use set_types::{
+    components_are_simple, names_resolve, representations_are_shaped, set_types_are_simple,
+};
+use shaped_versions::versions_are_shaped;
 
 /// What is compiled from documents' trees is a set of documents of the right shape. In the components of such a set what a simple
 /// type is made of is simple, and so are the types of attributes and those that stand in simple content.
 pub fn compiled_types_are_simple()
-    ensures set { (set : List SetDocument) (made : CompiledSet) → All IsOfTree set → IsSetCompiled set (Ok made) → HasSimpleTypes made.parts }
+    ensures set { (set : List SetDocument) (originals : List (Option ℕ)) (made : CompiledSet) → All IsOfTree set → IsSetCompiled set originals (Ok made) → HasSimpleTypes made.parts }
     ensures shaped { (documents : List SchemaInput) (made : CompiledSet) → All (λ input. IsTree input.tree) documents → IsCompilation documents (Ok made)
-        → (set : List SetDocument) × All IsOfTree set × IsSetCompiled set (Ok made) }
+        → (set : List SetDocument) × (originals : List (Option ℕ)) × All IsOfTree set × IsSetCompiled set originals (Ok made) }
     ensures compiled { (documents : List SchemaInput) (made : CompiledSet) → All (λ input. IsTree input.tree) documents → IsCompilation documents (Ok made) → HasSimpleTypes made.parts }
 {
+    names_resolve();
+    components_are_simple();
+    representations_are_shaped();
+    versions_are_shaped();
     set_types_are_simple();
 }

@@ -43,16 +43,16 @@ same-built a b reps spaces scopes =
     ∙ (ap (λ s. built (record a { reps = record a.reps { now = b.reps.now }; spaces = record a.spaces { now = s } })) spaces
     ∙ ap (λ s. built (record a { reps = record a.reps { now = b.reps.now }; spaces = record a.spaces { now = b.spaces.now }; scopes = record a.scopes { now = s } })) scopes)
 
-same-parts : (set : List SetDocument) (a b : Tables) → AreParts set a → AreParts set b → a ≡ b
+same-parts : (set : List SetDocument) (originals : List (Option ℕ)) (a b : Tables) → AreParts set originals a → AreParts set originals b → a ≡ b
 unfolding AreParts
-same-parts set a b x y =
+same-parts set originals a b x y =
     x.4 ∙ (same-built x.0 y.0 (x.1 ∙ sym y.1) (x.2 ∙ sym y.2) (x.3 ∙ sym y.3) ∙ sym y.4)
 
 -- no base is of the wrong kind
-no-wrong : (set : List SetDocument) (made : CompiledSet) (is : IsSetCompiled set (Ok made)) → (fault : Fault) → IsWrongBase is.1.1 fault → ⊥
-no-wrong set made is fault wrong =
+no-wrong : (set : List SetDocument) (originals : List (Option ℕ)) (made : CompiledSet) (is : IsSetCompiled set originals (Ok made)) → (fault : Fault) → IsWrongBase is.1.1 fault → ⊥
+no-wrong set originals made is fault wrong =
     let phase = is.0.1.0 in
-    let parts = same-parts set phase.0 is.1.1 phase.1 is.1.2 in
+    let parts = same-parts set originals phase.0 is.1.1 phase.1 is.1.2 in
     phase.2 fault (inr (subst (λ (t : Tables). IsWrongBase t fault) (sym parts) wrong))
 
 parts-more : (old new : Tables) (ranks : Ranks) → IsGrown (with_all_ranks old ranks) new → length old.particles.parts ≤ length new.particles.parts
@@ -73,46 +73,46 @@ effectives-there old new ranks grown closed n part at =
 
 module _ (closed : (source : Source) (t : Tables) → t ≡ built source → IsClosed t)
     (there : (source : Source) (t : Tables) → t ≡ built source → AreThere t)
-    (simple : (set : List SetDocument) (made : CompiledSet) → All IsOfTree set → IsSetCompiled set (Ok made) → HasSimpleTypes made.parts)
+    (simple : (set : List SetDocument) (originals : List (Option ℕ)) (made : CompiledSet) → All IsOfTree set → IsSetCompiled set originals (Ok made) → HasSimpleTypes made.parts)
     (read : (t : Tables) (types : SimpleTypes) → IsRanked t → AreSimple t → AreOwnSimple t → ((fault : Fault) → IsWrongBase t fault → ⊥) → AreWhole t types
     → (of : TypeId) → IsType t of → is_simple_content (content_of t of) ≡ true → IsWhole types of)
     (trees : (t : Tables) → IsRanked t → AreSimple t → (of : TypeId) → IsType t of → is_simple of ≡ true → IsSimpleTree (type_tree t of))
   where
-    parts-closed : (set : List SetDocument) (old : Tables) → AreParts set old → IsClosed old
+    parts-closed : (set : List SetDocument) (originals : List (Option ℕ)) (old : Tables) → AreParts set originals old → IsClosed old
     unfolding AreParts
-    parts-closed set old are = closed are.0 old are.4
+    parts-closed set originals old are = closed are.0 old are.4
 
-    parts-there : (set : List SetDocument) (old : Tables) → AreParts set old → AreThere old
+    parts-there : (set : List SetDocument) (originals : List (Option ℕ)) (old : Tables) → AreParts set originals old → AreThere old
     unfolding AreParts
-    parts-there set old are = there are.0 old are.4
+    parts-there set originals old are = there are.0 old are.4
 
-    set-fit : (set : List SetDocument) (made : CompiledSet) → All IsOfTree set → IsSetCompiled set (Ok made) → IsFit made
-    set-fit set made of_trees is =
+    set-fit : (set : List SetDocument) (originals : List (Option ℕ)) (made : CompiledSet) → All IsOfTree set → IsSetCompiled set originals (Ok made) → IsFit made
+    set-fit set originals made of_trees is =
         let old = is.1.1 in
         let ready = is.1.3 in
         let ranks = ready.same.0 in
         let grown = ready.same.1 in
         let alike = grown-alike old made.parts ranks grown in
-        let was-there = parts-there set old is.1.2 in
-        let types = simple set made of_trees is in
+        let was-there = parts-there set originals old is.1.2 in
+        let types = simple set originals made of_trees is in
         let attributes = attribute-types old made.parts alike was-there in
         let own = own-simple old made.parts alike was-there types.used in
-        let effectives = effectives-there old made.parts ranks grown (parts-closed set old is.1.2) in
+        let effectives = effectives-there old made.parts ranks grown (parts-closed set originals old is.1.2) in
         record {
           ranked = ready.ranked;
           simple = types.made;
           types = element-types old made.parts alike was-there;
           attributes = attributes;
           readable = λ n decl at. trees made.parts ready.ranked types.made decl.of (attributes n decl at) (types.used.attributes n decl at);
-          once = set-once set made is;
-          named = set-named set made is;
+          once = set-once set originals made is;
+          named = set-named set originals made is;
           judged = ready.judged;
           literals = ready.whole;
-          whole = read made.parts made.types ready.ranked types.made own (λ fault wrong. no-wrong set made is fault (wrong-was old made.parts alike fault wrong)) ready.whole;
+          whole = read made.parts made.types ready.ranked types.made own (λ fault wrong. no-wrong set originals made is fault (wrong-was old made.parts alike fault wrong)) ready.whole;
           own = own;
           contents = contents-there made.parts ready.ranked ready.contents effectives;
         }
 
-    pub compiled-fit : ((documents : List SchemaInput) (made : CompiledSet) → All (λ input. IsTree input.tree) documents → IsCompilation documents (Ok made) → (set : List SetDocument) × All IsOfTree set × IsSetCompiled set (Ok made))
+    pub compiled-fit : ((documents : List SchemaInput) (made : CompiledSet) → All (λ input. IsTree input.tree) documents → IsCompilation documents (Ok made) → (set : List SetDocument) × (originals : List (Option ℕ)) × All IsOfTree set × IsSetCompiled set originals (Ok made))
         → (documents : List SchemaInput) (made : CompiledSet) → All (λ input. IsTree input.tree) documents → IsCompilation documents (Ok made) → IsFit made
-    compiled-fit shaped documents made trees_are is = let s = shaped documents made trees_are is in set-fit s.0 made s.1 s.2
+    compiled-fit shaped documents made trees_are is = let s = shaped documents made trees_are is in set-fit s.0 s.1 made s.2 s.3

@@ -1,6 +1,7 @@
 pub mod TableLaws
 pub mod FillLaws
 pub mod FormLaws
+pub mod VersionLaws
 pub mod NamedLaws
 pub mod KeptLaws
 pub mod ContentLaws

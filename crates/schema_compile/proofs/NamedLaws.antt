@@ -30,10 +30,12 @@ use Rattle.build_elements.specs.Elements.{declared, elements_by, elements_of, he
 use Rattle.build_elements.specs.Elements as elements
 use Rattle.build_elements.specs.declared.constraints.ConstraintNumbers.{ConstraintNumbers}
 use Rattle.schema_check.specs.Built as built
+use Rattle.schema_check.specs.Components.{all_names}
 use Rattle.schema_check.specs.SetPhases.{names, AreParts, IsSetCompiled}
 use Rattle.schema_check.specs.declared.documents.CompiledSet.{CompiledSet}
 use Rattle.schema_check.proofs.ListLaws.{all-one, all-at}
 use Rattle.compiled_schema.specs.Usable.{AreNamed}
+use Rattle.schema_compile.proofs.VersionLaws.{versions-more, versions-numbered}
 use Rattle.schema_compile.proofs.TableLaws.{count, set-more}
 use Rattle.schema_compile.proofs.FillLaws.{set-fills}
 use Rattle.schema_compile.proofs.FormLaws.{HasNumber, HaveNumbers, all-numbered}
@@ -127,21 +129,28 @@ module _ (t : NameTable) where
 set-numbered : (ds : List SetDocument) → HaveNumbers (set_table no_names ds) (representations (set_table no_names ds) ds)
 set-numbered ds = all-numbered (set_table no_names ds) 0 1 ds (set-fills ds no_names)
 
-parts-named : (ds : List SetDocument) (old : Tables) → AreParts ds old → AreNamed (set_table no_names ds) old
-unfolding names AreParts
-parts-named ds old are =
-    subst (AreNamed (set_table no_names ds)) (sym are.4)
-    (built-named (set_table no_names ds) are.0 (subst (HaveNumbers (set_table no_names ds)) (sym are.1) (set-numbered ds)))
+-- the names of the documents and of originals
+module _ (ds : List SetDocument) (originals : List (Option ℕ)) where
+  own : NameTable
+  own = set_table no_names ds
 
-pub set-named : (ds : List SetDocument) (made : CompiledSet) → IsSetCompiled ds (Ok made) → AreNamed made.names made.parts
-unfolding names
-set-named ds made is =
-    let old = is.1.1 in
-    let same = is.1.3.same in
-    subst (λ (t : NameTable). AreNamed t made.parts) (sym is.1.0)
-    (grown-named (set_table no_names ds) old made.parts same.0 same.1 (parts-named ds old is.1.2))
+  parts-named : (old : Tables) → AreParts ds originals old → AreNamed (all_names own ds originals) old
+  unfolding AreParts own
+  parts-named old are =
+      subst (AreNamed (all_names own ds originals)) (sym are.4)
+      (built-named (all_names own ds originals) are.0
+      (subst (HaveNumbers (all_names own ds originals)) (sym are.1) (versions-numbered own (representations own ds) originals (set-numbered ds))))
 
-pub set-once : (ds : List SetDocument) (made : CompiledSet) → IsSetCompiled ds (Ok made) → HasNoRepeats made.names.names
-unfolding names
-set-once ds made is =
-    subst (λ (t : NameTable). HasNoRepeats t.names) (sym is.1.0) ((set-more ds no_names).once (λ i j x s t. absurd (none-some x s)))
+  pub set-named : (made : CompiledSet) → IsSetCompiled ds originals (Ok made) → AreNamed made.names made.parts
+  unfolding names own
+  set-named made is =
+      let old = is.1.1 in
+      let same = is.1.3.same in
+      subst (λ (t : NameTable). AreNamed t made.parts) (sym is.1.0)
+      (grown-named (all_names own ds originals) old made.parts same.0 same.1 (parts-named old is.1.2))
+
+  pub set-once : (made : CompiledSet) → IsSetCompiled ds originals (Ok made) → HasNoRepeats made.names.names
+  unfolding names own
+  set-once made is =
+      subst (λ (t : NameTable). HasNoRepeats t.names) (sym is.1.0)
+      ((versions-more own (representations own ds) originals).once ((set-more ds no_names).once (λ i j x s t. absurd (none-some x s))))

@@ -34,10 +34,10 @@ pub record IsMore (t u : NameTable) : Type 0 where
 at-least : (a b c : ℕ) → a ≤ b → b ≤ c → a ≤ c
 at-least a b c l m = omega (arith, l, m)
 
-then-more : (a b c : NameTable) → IsMore a b → IsMore b c → IsMore a c
+pub then-more : (a b c : NameTable) → IsMore a b → IsMore b c → IsMore a c
 then-more a b c l m = record { many = at-least (count a) (count b) (count c) l.many m.many; once = λ once. m.once (l.once once) }
 
-same : (t : NameTable) → IsMore t t
+pub same : (t : NameTable) → IsMore t t
 same t = record { many = omega arith; once = λ once. once }
 
 space-more : (t : NameTable) (name : List ℕ) → IsMore t (with_space t name)

@@ -2,12 +2,10 @@ use Rattle.std.proofs.Common.{List, Option, None, Some, ◌<◌, sym, subst, ◌
 use Rattle.std.specs.Prelude.{All}
 use Rattle.xs_codes.specs.declared.fault.Fault.{Fault}
 use Rattle.xs_faults.specs.Least.{IsLeast}
-use Rattle.schema_documents.specs.Available.{Available}
 use Rattle.schema_documents.specs.SetDocument.{SetDocument}
-use Rattle.schema_documents.specs.Composition.{Broken}
 use Rattle.schema_documents.specs.Documents.{IsSet, IsShapeFault}
 use Rattle.schema_check.proofs.ReadLaws.{some-available, numbers, read-set}
-use Rattle.schema_check.proofs.CompilationLaws.{shape-phase, composition-phase, shape-refused, closed-compiled}
+use Rattle.schema_check.proofs.CompilationLaws.{shape-phase, shape-refused, closed-compiled}
 use Rattle.schema_check.proofs.compiling.compile.Goals as goal
 
 pub close_set-requires : goal.close_set-requires
@@ -39,5 +37,11 @@ returns c =
     let least = c.first_shape_fault.ensures.least documents (c.as_slice-faults.ensures ∙ c.in_ok-read.ensures.faults)
     (subst (λ (l : List SetDocument). IsSet documents l) (sym c.as_slice-set.ensures) set) in
     closed-compiled documents closed.set.documents set (shape-phase documents None (subst (λ (o : Option Fault). IsLeast (IsShapeFault documents) o) c.in-None.is least))
-    c.compile_closed.result closed.fault
-    (composition-phase documents closed.fault (subst (λ (l : List Available). IsLeast (Broken l) closed.fault) same c.in_ok-closed.ensures.fault)) c.compile_closed.ensures
+    c.compile_closed.result c.as_slice-available.result.now same c.compile_closed.ensures
+
+pub compile_closed-requires : goal.compile_closed-requires
+compile_closed-requires c = record {
+  some = some-available c.args.documents.now c.as_slice-available.result.now (c.as_slice-available.ensures ∙ c.in_ok-read.ensures.available) c.requires.some;
+  set = c.in_ok-closed.ensures.set;
+  least = c.in_ok-closed.ensures.fault;
+}

@@ -2,10 +2,14 @@ use Rattle.schema_check.proofs.CompiledLaws.{set-simple, shaped-set, compiled-si
 use Rattle.schema_check.proofs.laws.compiled_types_are_simple.Goals as goal
 
 pub returns-clause-set : goal.returns-clause-set
-returns-clause-set c = set-simple c.set_types_are_simple.ensures.built c.set_types_are_simple.ensures.grown
+returns-clause-set c =
+    set-simple c.names_resolve.ensures.resolved c.components_are_simple.ensures.simple c.components_are_simple.ensures.types c.representations_are_shaped.ensures.shaped
+    c.versions_are_shaped.ensures.shaped c.set_types_are_simple.ensures.grown
 
 pub returns-clause-shaped : goal.returns-clause-shaped
 returns-clause-shaped c = λ documents made trees is. shaped-set documents trees made is
 
 pub returns-clause-compiled : goal.returns-clause-compiled
-returns-clause-compiled c = compiled-simple c.set_types_are_simple.ensures.built c.set_types_are_simple.ensures.grown
+returns-clause-compiled c =
+    compiled-simple c.names_resolve.ensures.resolved c.components_are_simple.ensures.simple c.components_are_simple.ensures.types c.representations_are_shaped.ensures.shaped
+    c.versions_are_shaped.ensures.shaped c.set_types_are_simple.ensures.grown

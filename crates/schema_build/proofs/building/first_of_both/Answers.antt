@@ -1,0 +1,18 @@
+use Rattle.std.proofs.Common.{Option, sym, subst}
+use Rattle.xs_codes.specs.declared.fault.Fault.{Fault}
+use Rattle.xs_faults.specs.Least.{IsLeast}
+use Rattle.xs_faults.proofs.LeastLaws.{least-sum}
+use Rattle.reference_faults.specs.Faults.{IsBroken}
+use Rattle.shared_originals.specs.Shared.{IsShared}
+use Rattle.schema_build.specs.Components.{IsFault}
+use Rattle.schema_build.proofs.building.first_of_both.Goals as goal
+
+pub returns : goal.returns
+returns c =
+    let reps = c.args.source.now.reps.now in
+    let originals = c.args.originals.now in
+    record {
+      least = subst (λ (o : Option Fault). IsLeast (IsFault c.args.names.now c.args.origins.now reps originals) o) (sym c.sooner.ensures.sooner)
+          (least-sum (IsShared reps originals) (IsBroken c.args.names.now c.args.origins.now reps) c.first_shared-shared.result c.in_ok-broken.broken
+          c.first_shared-shared.ensures.least c.in_ok-broken.ensures.least);
+    }
