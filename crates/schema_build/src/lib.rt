@@ -3,5 +3,5 @@
 
 mod building;
 
-pub use building::build;
+pub use building::{BuiltSet, build};
 pub use document_representations::{Available, EffectiveSet};
