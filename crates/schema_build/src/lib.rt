@@ -5,3 +5,4 @@ mod building;
 
 pub use building::{BuiltSet, build};
 pub use document_representations::{Available, EffectiveSet};
+pub use redefined_groups::RedefinedGroups;
