@@ -2,9 +2,11 @@
 #![tactic(auto)]
 
 mod finding;
+mod groups;
 mod marks;
 mod numbers;
 
 pub use finding::redefined_pairs;
+pub use groups::{RedefinedGroups, redefined_groups};
 pub use redefined_names::VersionKind;
 pub use redefined_pairs::RedefinedPair;
