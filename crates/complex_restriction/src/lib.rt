@@ -8,5 +8,5 @@ mod types;
 mod uses;
 mod wildcards;
 
-pub use restrictions::first_restriction;
+pub use restrictions::{first_restriction, tables_code};
 pub use set::ComparedSet;

@@ -36,8 +36,13 @@ fn is_any_type(of: &TypeId) -> bool
     *of == TypeId::AnyType
 }
 
-// The first code of the attribute uses and the wildcard of one table against another.
-fn tables_code(
+/// The first code of the attribute uses and the wildcard of one table against another, as those of a restriction against those of
+/// its base (derivation-ok-restriction.2.1.1 to .4.3); `of_any_type` tells that the base is anyType.
+///
+/// # Errors
+///
+/// `AllocError` is want of memory.
+pub fn tables_code(
     alloc: Global,
     set: &ComparedSet<'_>,
     types: &mut SimpleTypes,

@@ -1,5 +1,5 @@
 -- The least of the faults of derivation.
-use Rattle.std.proofs.Common.{◌≡◌, ◌⊎◌, Bool, true, false, Option, None, Some, if◌then◌else◌, sym, subst}
+use Rattle.std.proofs.Common.{◌≡◌, ◌⊎◌, Bool, true, false, List, Option, None, Some, if◌then◌else◌, sym, subst}
 use Rattle.std.specs.Prelude.{IfNone}
 use Rattle.xs_codes.specs.declared.fault.Fault.{Fault}
 use Rattle.xs_names.specs.Names.{NameTable}
@@ -7,10 +7,12 @@ use Rattle.xs_components.specs.Tables.{Tables}
 use Rattle.xs_faults.specs.Least.{is_before, sooner, IsLeast}
 use Rattle.xs_faults.proofs.LeastLaws.{least-sum}
 use Rattle.all_limits.specs.AllLimits.{IsUnlimited}
+use Rattle.attr_group_restriction.specs.AttrGroupRestrictions.{IsAttrGroupFault}
 use Rattle.complex_extension.specs.Extensions.{IsExtensionFault}
 use Rattle.complex_restriction.specs.Restrictions.{IsRestrictionFault}
 use Rattle.head_exclusions.specs.Exclusions.{IsExcluded}
-use Rattle.derivation_faults.specs.DerivationFaults.{IsDerivationFault, IsPlacingFault}
+use Rattle.redefined_pairs.specs.declared.pairs.RedefinedPair.{RedefinedPair}
+use Rattle.derivation_faults.specs.DerivationFaults.{IsComparisonFault, IsDerivationFault, IsPlacingFault}
 
 -- where the sooner of two is none, the second is
 if-none-either : (P : Type 0) (which : Bool) (x y : Fault) → IfNone (if which then Some x else Some y) P
@@ -28,12 +30,17 @@ none-of-two P a b result is h = subst (λ (o : Option Fault). IfNone o P) (sym i
 pub least-placing : (t : Tables) (a b result : Option Fault) → result ≡ sooner a b → IsLeast (IsExcluded t) a → IsLeast (IsUnlimited t) b → IsLeast (IsPlacingFault t) result
 least-placing t a b result is x y = subst (λ (o : Option Fault). IsLeast (IsPlacingFault t) o) (sym is) (least-sum (IsExcluded t) (IsUnlimited t) a b x y)
 
-module _ (t : Tables) (names : NameTable) where
-  abbrev IsOther : Fault → Type 0
-  IsOther f = IsRestrictionFault t names f ⊎ IsPlacingFault t f
+module _ (t : Tables) (names : NameTable) (redefined : List RedefinedPair) where
+  pub least-comparison : (restriction group result : Option Fault) → result ≡ sooner restriction group → IsLeast (IsRestrictionFault t names) restriction → IsLeast (IsAttrGroupFault t names redefined) group →
+      IsLeast (IsComparisonFault t names redefined) result
+  least-comparison restriction group result is x y =
+      subst (λ (o : Option Fault). IsLeast (IsComparisonFault t names redefined) o) (sym is) (least-sum (IsRestrictionFault t names) (IsAttrGroupFault t names redefined) restriction group x y)
 
-  pub least-derivation : (extension restriction placing behind result : Option Fault) → behind ≡ sooner restriction placing → result ≡ sooner extension behind
-      → IsLeast (IsExtensionFault t) extension → IsLeast (IsRestrictionFault t names) restriction → IsLeast (IsPlacingFault t) placing → IsLeast (IsDerivationFault t names) result
-  least-derivation extension restriction placing behind result first is x y z =
-      let late = subst (λ (o : Option Fault). IsLeast IsOther o) (sym first) (least-sum (IsRestrictionFault t names) (IsPlacingFault t) restriction placing y z) in
-      subst (λ (o : Option Fault). IsLeast (IsDerivationFault t names) o) (sym is) (least-sum (IsExtensionFault t) IsOther extension behind x late)
+  abbrev IsOther : Fault → Type 0
+  IsOther f = IsComparisonFault t names redefined f ⊎ IsPlacingFault t f
+
+  pub least-derivation : (extension comparison placing behind result : Option Fault) → behind ≡ sooner comparison placing → result ≡ sooner extension behind
+      → IsLeast (IsExtensionFault t) extension → IsLeast (IsComparisonFault t names redefined) comparison → IsLeast (IsPlacingFault t) placing → IsLeast (IsDerivationFault t names redefined) result
+  least-derivation extension comparison placing behind result first is x y z =
+      let late = subst (λ (o : Option Fault). IsLeast IsOther o) (sym first) (least-sum (IsComparisonFault t names redefined) (IsPlacingFault t) comparison placing y z) in
+      subst (λ (o : Option Fault). IsLeast (IsDerivationFault t names redefined) o) (sym is) (least-sum (IsExtensionFault t) IsOther extension behind x late)

@@ -1,31 +1,51 @@
 ghost use Rattle.std.specs.Prelude.{◌≡◌, IfOk, IfNone};
 ghost use Rattle.xs_faults.specs.Least.{IsLeast};
 ghost use Rattle.all_limits.specs.SetModels.{AreContentsLimited};
+ghost use Rattle.complex_restriction.specs.Given as compared;
 ghost use Rattle.complex_restriction.specs.Given.{AreTypes};
-ghost use Rattle.complex_restriction.specs.Restrictions.{IsRestrictionFault};
 ghost use Rattle.derivation_faults.specs.DerivationFaults as spec;
 ghost use Rattle.derivation_faults.specs.Given.{AreKnown};
 
 use crate::DerivedSet;
 use all_limits::first_unlimited;
+use attr_group_restriction::first_attr_group_fault;
 use complex_extension::first_extension;
 use complex_restriction::{ComparedSet, first_restriction};
 use head_exclusions::first_excluded;
 use particle_forms::Ranges;
+use redefined_pairs::RedefinedPair;
 use simple_types::SimpleTypes;
 use std::alloc::{AllocError, Global};
 use xs_codes::Fault;
 use xs_faults::sooner;
 
-// The first complex type that restricts its base as this does not allow, but for its content model.
-fn restriction_fault(
+// The first complex type that restricts its base as this does not allow, but for its content model, or attribute group that redefines
+// another as this does not allow.
+fn first_of_both(
+    alloc: Global,
+    set: &ComparedSet<'_>,
+    redefined: &[RedefinedPair],
+    types: &mut SimpleTypes,
+) -> Result<Option<Fault>, AllocError>
+    requires known { compared.AreKnown set.now }
+    requires types { AreTypes set.now.parts.now types.old }
+    ensures least { IfOk result (IsLeast (spec.IsComparisonFault set.now.parts.now set.now.names.now redefined.now)) }
+    ensures same { types.new ≡ types.old }
+{
+    let restriction = first_restriction(alloc, set, types)?;
+    let group = first_attr_group_fault(alloc, set, types, redefined)?;
+    Ok(sooner(restriction, group))
+}
+
+// The same of a schema set.
+fn comparison_fault(
     alloc: Global,
     set: &DerivedSet<'_>,
     types: &mut SimpleTypes,
 ) -> Result<Option<Fault>, AllocError>
     requires known { AreKnown set.now }
     requires types { AreTypes set.now.parts.now types.old }
-    ensures least { IfOk result (IsLeast (IsRestrictionFault set.now.parts.now set.now.names.now)) }
+    ensures least { IfOk result (IsLeast (spec.IsComparisonFault set.now.parts.now set.now.names.now set.now.redefined.now)) }
     ensures same { types.new ≡ types.old }
 {
     let ranges = Ranges::of(alloc, set.parts)?;
@@ -36,7 +56,7 @@ fn restriction_fault(
         contents: set.contents,
         ranges: &ranges,
     };
-    first_restriction(alloc, &compared, types)
+    first_of_both(alloc, &compared, set.redefined, types)
 }
 
 // The first element that its head excludes, or `all` that is not limited.
@@ -51,7 +71,7 @@ fn placing_fault(alloc: Global, set: &DerivedSet<'_>) -> Result<Option<Fault>, A
 }
 
 /// The first fault of derivation, by document, item and code: of extensions (cos-ct-extends.1.1, .1.4), of restrictions but for
-/// their content models (derivation-ok-restriction.1 to .5.4.1), of elements in substitution groups (e-props-correct.4), and of
+/// their content models (derivation-ok-restriction.1 to .5.4.1), of redefining attribute groups (src-redefine.7.2.2), of elements in substitution groups (e-props-correct.4), and of
 /// `all` (x-limit.all, cos-all-limited.1, .2). Where there is none, each content model that an `all` stands in is that `all`.
 ///
 /// # Errors
@@ -64,12 +84,12 @@ pub fn first_derivation_fault(
 ) -> Result<Option<Fault>, AllocError>
     requires known { AreKnown set.now }
     requires types { AreTypes set.now.parts.now types.old }
-    ensures least { IfOk result (IsLeast (spec.IsDerivationFault set.now.parts.now set.now.names.now)) }
+    ensures least { IfOk result (IsLeast (spec.IsDerivationFault set.now.parts.now set.now.names.now set.now.redefined.now)) }
     ensures limited { IfOk result (λ fault. IfNone fault (AreContentsLimited set.now.parts.now)) }
     ensures same { types.new ≡ types.old }
 {
     let extension = first_extension(set.parts, set.contents);
     let placing = placing_fault(alloc, set)?;
-    let restriction = restriction_fault(alloc, set, types)?;
-    Ok(sooner(extension, sooner(restriction, placing)))
+    let comparison = comparison_fault(alloc, set, types)?;
+    Ok(sooner(extension, sooner(comparison, placing)))
 }

@@ -5,4 +5,5 @@ mod faults;
 mod set;
 
 pub use faults::first_derivation_fault;
+pub use redefined_pairs::RedefinedPair;
 pub use set::DerivedSet;

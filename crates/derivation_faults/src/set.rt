@@ -1,11 +1,12 @@
 use attr_uses::AttrTables;
 use content_types::ContentTypes;
 use element_types::Declarations;
+use redefined_pairs::RedefinedPair;
 use xs_components::Components;
 use xs_names::Names;
 
 /// The components of a schema set with what is known of them: their names, the types of element declarations, the tables of
-/// attribute uses, and the content types.
+/// attribute uses, the content types, and the attribute groups that redefine others without a reference to themselves, with these.
 #[derive(Clone, Copy)]
 pub struct DerivedSet<'a> {
     pub names: &'a Names,
@@ -13,4 +14,5 @@ pub struct DerivedSet<'a> {
     pub declarations: &'a Declarations,
     pub tables: &'a AttrTables,
     pub contents: &'a ContentTypes,
+    pub redefined: &'a [RedefinedPair],
 }

@@ -18,3 +18,7 @@ no_facets = record {
   total_digits = None;
   fraction_digits = None;
 }
+
+-- the facets that have no memory of their own
+abbrev pub plain_part : FacetList → FacetList
+plain_part list = record list { patterns = []; enumeration = None; max_inclusive = None; max_exclusive = None; min_inclusive = None; min_exclusive = None }

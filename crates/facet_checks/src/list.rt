@@ -1,7 +1,7 @@
 //! The facets in force for a type.
-ghost use Rattle.std.specs.Prelude.{◌≡◌, IfOk};
+ghost use Rattle.std.specs.Prelude.{◌≡◌, IfOk, OnOk};
 ghost use Rattle.std.specs.Option.{option_copied};
-ghost use Rattle.facet_checks.specs.List.{no_facets};
+ghost use Rattle.facet_checks.specs.List.{no_facets, plain_part};
 
 use crate::PatternText;
 use simple_values::Value;
@@ -94,39 +94,46 @@ impl FacetList {
     pub fn try_clone(&self, alloc: Global) -> Result<FacetList, AllocError>
         ensures { IfOk result (λ copy. copy ≡ self.now) }
     {
-        let (max_inclusive, max_exclusive) = copied_side(
-            self.max_inclusive.as_ref(),
-            self.max_exclusive.as_ref(),
-        )?;
-        let (min_inclusive, min_exclusive) = copied_side(
-            self.min_inclusive.as_ref(),
-            self.min_exclusive.as_ref(),
-        )?;
-        Ok(FacetList {
+        let mut copy = self.plain_copy(alloc);
+        match self.copy_to(alloc, &mut copy) {
+            Ok(()) => Ok(copy),
+            Err(error) => Err(error),
+        }
+    }
+
+    // The facets that have no memory of their own.
+    fn plain_copy(&self, alloc: Global) -> FacetList
+        ensures { result ≡ plain_part self.now }
+    {
+        FacetList {
             white_space: self.white_space,
-            patterns: copied_steps(alloc, self.patterns.as_slice())?,
+            patterns: Listed::new(alloc),
             length: self.length,
             min_length: self.min_length,
             max_length: self.max_length,
-            enumeration: copied_values(self.enumeration.as_ref())?,
-            max_inclusive,
-            max_exclusive,
-            min_inclusive,
-            min_exclusive,
+            enumeration: None,
+            max_inclusive: None,
+            max_exclusive: None,
+            min_inclusive: None,
+            min_exclusive: None,
             total_digits: self.total_digits,
             fraction_digits: self.fraction_digits,
-        })
+        }
     }
-}
 
-// The bounds of a side, copied.
-fn copied_side(
-    inclusive: Option<&Bound>,
-    exclusive: Option<&Bound>,
-) -> Result<(Option<Bound>, Option<Bound>), AllocError>
-    ensures { IfOk result (λ copies. copies ≡ (option_copied inclusive.entry, option_copied exclusive.entry)) }
-{
-    Ok((copied_bound(inclusive)?, copied_bound(exclusive)?))
+    // Adds those that have.
+    fn copy_to(&self, alloc: Global, copy: &mut FacetList) -> Result<(), AllocError>
+        requires { copy.old ≡ plain_part self.now }
+        ensures { OnOk result (copy.new ≡ self.now) }
+    {
+        copy.patterns = copied_steps(alloc, self.patterns.as_slice())?;
+        copy.enumeration = copied_values(self.enumeration.as_ref())?;
+        copy.max_inclusive = copied_bound(self.max_inclusive.as_ref())?;
+        copy.max_exclusive = copied_bound(self.max_exclusive.as_ref())?;
+        copy.min_inclusive = copied_bound(self.min_inclusive.as_ref())?;
+        copy.min_exclusive = copied_bound(self.min_exclusive.as_ref())?;
+        Ok(())
+    }
 }
 
 fn copied_bound(bound: Option<&Bound>) -> Result<Option<Bound>, AllocError>

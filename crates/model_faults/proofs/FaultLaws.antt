@@ -1,6 +1,6 @@
 -- The first fault by the numbers of fixed values that were found.
 use Rattle.std.proofs.Common.{◌≡◌, ℕ, List, Option, subst}
-use Rattle.std.specs.Prelude.{Result, Ok, Err, IfOk}
+use Rattle.std.specs.Prelude.{Result, IfOk}
 use Rattle.xs_codes.specs.declared.fault.Fault.{Fault}
 use Rattle.xs_faults.specs.Least.{IsLeast}
 use Rattle.xs_names.specs.Names.{NameTable}
@@ -10,13 +10,14 @@ use Rattle.element_derivation.specs.Derivation.{excluded}
 use Rattle.fixed_values.specs.Fixed.{AreFixedNumbers}
 use Rattle.particle_restrict.specs.declared.terms.Term.{Term}
 use Rattle.restriction_terms.specs.Terms.{AreTerms}
-use Rattle.model_restriction.specs.ModelRestrictions.{IsModelFault}
+use Rattle.group_restriction.specs.GroupRestrictions.{IsRestrictionFault}
+use Rattle.redefined_pairs.specs.declared.pairs.RedefinedPair.{RedefinedPair}
 use Rattle.model_restriction.proofs.RestrictionLaws.{if-ok}
 use Rattle.model_faults.specs.ModelFaults.{IsFirstModelFault}
 
-module _ (t : Tables) (names : NameTable) (members : List (List ℕ)) (fixed : List (Option ℕ)) where
+module _ (t : Tables) (names : NameTable) (members : List (List ℕ)) (fixed : List (Option ℕ)) (pairs : List RedefinedPair) where
   pub first-read : {E : Type 0} (u : Tables) → u ≡ t → AreFixedNumbers t fixed → (r : Result (Option Fault) E) →
-      IfOk r (λ found. (terms : List Term) × AreTerms t names fixed terms × IsLeast (IsModelFault t members terms (derives u excluded)) found) → IfOk r (IsFirstModelFault t names members)
+      IfOk r (λ found. (terms : List Term) × AreTerms t names fixed terms × IsLeast (IsRestrictionFault t members terms (derives u excluded) pairs) found) → IfOk r (IsFirstModelFault t names members pairs)
   first-read u e numbers r found =
-      if-ok r (λ found. (terms : List Term) × AreTerms t names fixed terms × IsLeast (IsModelFault t members terms (derives u excluded)) found) (IsFirstModelFault t names members)
-      (λ fault x. (x.0, record { fixed = fixed; numbers = numbers; right = x.1 }, subst (λ u. IsLeast (IsModelFault t members x.0 (derives u excluded)) fault) e x.2)) found
+      if-ok r (λ found. (terms : List Term) × AreTerms t names fixed terms × IsLeast (IsRestrictionFault t members terms (derives u excluded) pairs) found) (IsFirstModelFault t names members pairs)
+      (λ fault x. (x.0, record { fixed = fixed; numbers = numbers; right = x.1 }, subst (λ u. IsLeast (IsRestrictionFault t members x.0 (derives u excluded) pairs) fault) e x.2)) found

@@ -1,5 +1,5 @@
--- The restriction of content models in a schema set (Structures 3.4.6, 5.4.2; 3.9.6).
-use Rattle.std.specs.Prelude.{◌≡◌, ◌⊎◌, ℕ, ◌<◌, List, Option, Some, IfSome, length, slice_get}
+-- The restriction of content models and of redefining groups in a schema set (Structures 3.4.6, 5.4.2; 3.9.6; 4.2.2).
+use Rattle.std.specs.Prelude.{◌≡◌, ◌⊎◌, ℕ, List, Option, Some, IfSome, slice_get}
 use Rattle.xs_codes.specs.declared.fault.Fault.{Fault}
 use Rattle.xs_faults.specs.Least.{IsLeast}
 use Rattle.xs_names.specs.Names.{NameTable}
@@ -20,7 +20,8 @@ use Rattle.restriction_terms.specs.Terms.{AreElementsNamed, AreTerms}
 use Rattle.simple_types.specs.SimpleTypes.{AreTypesOf, IsWhole}
 use Rattle.simple_types.specs.declared.types.SimpleTypes.{SimpleTypes}
 use Rattle.type_derives.specs.Within.{AreSimple}
-use Rattle.model_restriction.specs.ModelRestrictions.{IsModelFault}
+use Rattle.group_restriction.specs.GroupRestrictions.{IsRestrictionFault}
+use Rattle.redefined_pairs.specs.declared.pairs.RedefinedPair.{RedefinedPair}
 use Rattle.model_restriction.specs.declared.models.ModelSet.{ModelSet}
 
 -- The terms of particles by number, with numbers of fixed values that two declarations share exactly where their values are the same.
@@ -30,9 +31,10 @@ pub record IsReading (t : Tables) (names : NameTable) (terms : List Term) : Type
   pub numbers : AreFixedNumbers t fixed
   pub right : AreTerms t names fixed terms
 
--- the first fault of phase 9, of the restriction of content models, or none
-abbrev pub IsFirstModelFault : Tables → NameTable → List (List ℕ) → Option Fault → Type 0
-IsFirstModelFault t names members found = (terms : List Term) × IsReading t names terms × IsLeast (IsModelFault t members terms (derives t excluded)) found
+-- the first fault of phase 9, of the restriction of content models and of redefining groups, by the pairs of these and of what they
+-- redefine, or none
+abbrev pub IsFirstModelFault : Tables → NameTable → List (List ℕ) → List RedefinedPair → Option Fault → Type 0
+IsFirstModelFault t names members pairs found = (terms : List Term) × IsReading t names terms × IsLeast (IsRestrictionFault t members terms (derives t excluded) pairs) found
 
 -- What is known of a schema set: references go to lower ranks, what simple types are made of is simple, the types that elements name and
 -- the particles of contents are there, and elements have names of the table.

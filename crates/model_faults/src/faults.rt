@@ -5,14 +5,16 @@ ghost use Rattle.model_faults.specs.ModelFaults.{AreKnown, AreRead, IsFirstModel
 
 use element_derivation::Derivations;
 use fixed_values::fixed_numbers;
-use model_restriction::{ModelSet, first_model_fault as first_fault_by};
+use group_restriction::{ModelSet, RedefinedPair, first_restriction_fault};
 use simple_types::SimpleTypes;
 use std::alloc::{AllocError, Global};
 use xs_codes::Fault;
 
 /// The first complex type whose content model its base does not allow (Structures 3.4.6, Derivation Valid (Restriction, Complex),
 /// 5.4.2): a restriction with complexContent, whose base is not anyType, and whose particle is no valid restriction of the base's
-/// (3.9.6). The code is that of the case of the two particles.
+/// (3.9.6), with the code of the case of the two particles; or model group definition that redefines another without a reference
+/// to itself, and whose model group is no valid restriction of that of the other (src-redefine.6.2.2). `pairs` has the numbers of
+/// these and of what they redefine.
 ///
 /// # Errors
 ///
@@ -20,14 +22,15 @@ use xs_codes::Fault;
 pub fn first_model_fault(
     alloc: Global,
     set: &ModelSet<'_>,
+    pairs: &[RedefinedPair],
     types: &mut SimpleTypes,
 ) -> Result<Option<Fault>, AllocError>
     requires known { AreKnown set.now }
     requires read { AreRead set.now.parts.now types.old }
-    ensures first { IfOk result (IsFirstModelFault set.now.parts.now set.now.names.now set.now.members.now) }
+    ensures first { IfOk result (IsFirstModelFault set.now.parts.now set.now.names.now set.now.members.now pairs.now) }
     ensures same { types.new ≡ types.old }
 {
     let fixed = fixed_numbers(alloc, set.parts, set.declarations, set.contents, types)?;
     let derivations = Derivations::of(alloc, set.parts, set.declarations)?;
-    first_fault_by(alloc, set, &fixed, &derivations)
+    first_restriction_fault(alloc, set, &fixed, pairs, &derivations)
 }

@@ -20,12 +20,12 @@ use xs_lists::Listed;
 /// The components of a schema set with what is known of them: the content types, the terms, what particles stand for, and which
 /// types derive from which.
 #[derive(Drop)]
-pub(crate) struct ComparedModels<'a, T> {
-    pub(crate) parts: &'a Components,
-    pub(crate) contents: &'a ContentTypes,
-    pub(crate) terms: &'a [Term],
-    pub(crate) stands_for: &'a [Listed<u32>],
-    pub(crate) types: &'a T,
+pub struct ComparedModels<'a, T> {
+    pub parts: &'a Components,
+    pub contents: &'a ContentTypes,
+    pub terms: &'a [Term],
+    pub stands_for: &'a [Listed<u32>],
+    pub types: &'a T,
 }
 
 /// The code of the content model of a complex type against that of a base.
@@ -78,8 +78,12 @@ fn forms_code<T: Derivation>(
     told_code(restricts(alloc, &own, &under, set.terms, set.types))
 }
 
-// The code that an answer tells.
-fn told_code(answer: Result<(), RestrictFault>) -> Result<Option<Code>, AllocError>
+/// The code that an answer of `particle_restrict` tells, if the one particle does not restrict the other.
+///
+/// # Errors
+///
+/// `AllocError` is want of memory.
+pub fn told_code(answer: Result<(), RestrictFault>) -> Result<Option<Code>, AllocError>
     ensures told { IfOk result (λ code. told_code answer ≡ Some code) }
 {
     match answer {

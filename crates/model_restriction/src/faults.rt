@@ -18,8 +18,13 @@ use xs_faults::sooner;
 // The phase of compiling that looks at the restriction of content models.
 const PHASE: u8 = 9;
 
-/// The first fault of all complex types.
-pub(crate) fn first_fault<T: Derivation>(
+/// The first complex type whose content model its base does not allow, as [`first_model_fault`](crate::first_model_fault) answers it,
+/// by these terms.
+///
+/// # Errors
+///
+/// `AllocError` is want of memory.
+pub fn first_fault<T: Derivation>(
     alloc: Global,
     set: &ComparedModels<'_, T>,
 ) -> Result<Option<Fault>, AllocError>

@@ -32,8 +32,8 @@ fn declared_type(name: Option<NameId>) -> Option<Declared>
     }
 }
 
-// What a form declares.
-fn declared_by(form: &Represented) -> Option<Declared>
+/// What a form declares in a symbol space whose components may be redefined, if it does.
+pub fn declared_by(form: &Represented) -> Option<Declared>
     ensures { result ≡ spec.declared_by form.now }
 {
     match form {
@@ -51,8 +51,8 @@ fn declared_by(form: &Represented) -> Option<Declared>
     }
 }
 
-/// What the representation at a place declares.
-pub(crate) fn declared_at(reps: &[Representation], place: usize) -> Option<Declared>
+/// What the representation at a place declares in a symbol space whose components may be redefined, if it does.
+pub fn declared_at(reps: &[Representation], place: usize) -> Option<Declared>
     ensures { result ≡ spec.declared_at reps.now place }
 {
     match reps.get(place) {

@@ -9,7 +9,7 @@ mod references;
 mod renaming;
 mod tables;
 
-pub use declared::{Declared, VersionKind};
+pub use declared::{Declared, VersionKind, declared_at, declared_by};
 pub use laws::names_alone_change;
-pub use redirections::Redirection;
+pub use redirections::{Redirection, versions_around};
 pub use renaming::name_versions;

@@ -84,8 +84,12 @@ fn version_or(originals: &[Option<u32>], place: u32, above: Option<u32>) -> Opti
     }
 }
 
-// The redefining version that each element is or stands in, by its place.
-fn versions_around(
+/// The redefining component that each element is or stands in, at whatever depth, by their places (Structures 4.2.2).
+///
+/// # Errors
+///
+/// `AllocError` is want of memory, or of places.
+pub fn versions_around(
     alloc: Global,
     reps: &[Representation],
     originals: &[Option<u32>],

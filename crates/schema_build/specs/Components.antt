@@ -12,9 +12,12 @@ use Rattle.representations.specs.Names.{spaces_of}
 use Rattle.document_representations.specs.Documents.{representations, scopes, origins}
 use Rattle.redefined_names.specs.VersionNames.{with_versions}
 use Rattle.redefined_names.specs.Renamed.{renamed}
+use Rattle.redefined_groups.specs.Groups.{AreRedefined}
+use Rattle.redefined_groups.specs.declared.groups.RedefinedGroups.{RedefinedGroups}
 use Rattle.shared_originals.specs.Shared.{IsShared}
 use Rattle.reference_faults.specs.Faults.{IsBroken}
 use Rattle.build_components.specs.Built.{built}
+use Rattle.schema_build.specs.declared.building.BuiltSet.{BuiltSet}
 
 -- Structures 3.15.1: the components of what elements represent, names by the symbol spaces, texts in these scopes
 abbrev pub AreOf : List Representation → List (List (List ℕ × ℕ)) → Tables → Type 0
@@ -24,9 +27,10 @@ AreOf reps scopes parts = (source : Source) × (source.reps.now ≡ reps) × (so
 abbrev pub IsFault : NameTable → List Origin → List Representation → List (Option ℕ) → Fault → Type 0
 IsFault t origins reps originals fault = IsShared reps originals fault ⊎ IsBroken t origins reps fault
 
--- the components, where no such constraint is broken, else the first that is
-abbrev pub IsMade : NameTable → List Origin → List Representation → List (Option ℕ) → List (List (List ℕ × ℕ)) → Result Tables Fault → Type 0
-IsMade t origins reps originals scopes (Ok parts) = IsLeast (IsFault t origins reps originals) None × AreOf reps scopes parts
+-- the components, and the groups and attribute groups that redefine others without a reference to themselves, where no such constraint
+-- is broken, else the first that is
+abbrev pub IsMade : NameTable → List Origin → List Representation → List (Option ℕ) → List (List (List ℕ × ℕ)) → Result BuiltSet Fault → Type 0
+IsMade t origins reps originals scopes (Ok made) = IsLeast (IsFault t origins reps originals) None × AreOf reps scopes made.parts × AreRedefined reps originals made.redefined
 IsMade t origins reps originals scopes (Err fault) = IsLeast (IsFault t origins reps originals) (Some fault)
 
 -- of a set of documents, whose names are in the table, and of the originals of what they redefine, by places
@@ -43,9 +47,13 @@ module _ (t : NameTable) (documents : List SetDocument) (originals : List (Optio
   abbrev pub IsNameFault : Fault → Type 0
   IsNameFault fault = IsFault all_names (origins t documents) versions originals fault
 
+  -- the groups and attribute groups that redefine others without a reference to themselves
+  abbrev pub AreRedefining : RedefinedGroups → Type 0
+  AreRedefining redefined = AreRedefined versions originals redefined
+
   abbrev pub AreComponents : Tables → Type 0
   AreComponents parts = AreOf versions (scopes t documents) parts
 
   -- Structures 3.15.1, 3.15.3: the components, or the first fault of names and references
-  abbrev pub IsBuilt : Result Tables Fault → Type 0
+  abbrev pub IsBuilt : Result BuiltSet Fault → Type 0
   IsBuilt answer = IsMade all_names (origins t documents) versions originals (scopes t documents) answer

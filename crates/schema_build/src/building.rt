@@ -7,10 +7,13 @@ ghost use Rattle.representations.specs.Names as symbols;
 ghost use Rattle.document_representations.specs.Documents.{set_table};
 ghost use Rattle.redefined_names.specs.VersionNames.{with_versions};
 ghost use Rattle.redefined_names.specs.Renamed.{renamed};
+ghost use Rattle.build_components.specs.Built.{built};
+ghost use Rattle.redefined_groups.specs.Groups.{AreRedefined};
 ghost use Rattle.schema_build.specs.Components as spec;
 
 use document_representations::{EffectiveSet, RepresentedSet, represent};
-use redefined_names::name_versions;
+use redefined_groups::{RedefinedGroups, redefined_groups};
+use redefined_names::{name_versions, names_alone_change};
 use reference_faults::first_fault;
 use representations::{Origin, Representation, Source, spaces_of};
 use shared_originals::first_shared;
@@ -19,6 +22,13 @@ use xs_codes::Fault;
 use xs_components::Components;
 use xs_faults::sooner;
 use xs_names::{Names, Scope};
+
+/// The components of a schema set, and the groups and attribute groups that redefine others without a reference to themselves.
+#[derive(Debug, Drop)]
+pub struct BuiltSet {
+    pub parts: Components,
+    pub redefined: RedefinedGroups,
+}
 
 // The first fault of names and references, and of originals.
 fn first_of_both(
@@ -37,6 +47,21 @@ fn first_of_both(
     Ok(sooner(shared, broken))
 }
 
+// The components of what is represented, with what redefines others without a reference to itself.
+fn build_parts(
+    alloc: Global,
+    source: &Source,
+    originals: &[Option<u32>],
+) -> Result<BuiltSet, AllocError>
+    requires behind { AreBehind source.now.reps.now }
+    ensures parts { IfOk result (λ made. made.parts ≡ built source.now) }
+    ensures redefined { IfOk result (λ made. AreRedefined source.now.reps.now originals.now made.redefined) }
+{
+    let redefined = redefined_groups(alloc, source.reps, originals)?;
+    let parts = build_components::build(alloc, source)?;
+    Ok(BuiltSet { parts, redefined })
+}
+
 // The components of what is represented, or the first fault of names and references.
 fn build_source(
     alloc: Global,
@@ -44,16 +69,17 @@ fn build_source(
     origins: &[Origin],
     source: &Source,
     originals: &[Option<u32>],
-) -> Result<Result<Components, Fault>, AllocError>
+) -> Result<Result<BuiltSet, Fault>, AllocError>
     requires spaces { source.now.spaces.now ≡ symbols.spaces_of source.now.reps.now }
     requires named { AreNamed names.now source.now.reps.now }
+    requires behind { AreBehind source.now.reps.now }
     ensures made { IfOk result (spec.IsMade names.now origins.now source.now.reps.now originals.now source.now.scopes.now) }
 {
     match first_of_both(alloc, names, origins, source, originals)? {
         Some(fault) => Ok(Err(fault)),
         None => {
-            let parts = build_components::build(alloc, source)?;
-            Ok(Ok(parts))
+            let built = build_parts(alloc, source, originals)?;
+            Ok(Ok(built))
         },
     }
 }
@@ -66,8 +92,9 @@ fn build_versions(
     reps: &[Representation],
     originals: &[Option<u32>],
     scopes: &[Scope],
-) -> Result<Result<Components, Fault>, AllocError>
+) -> Result<Result<BuiltSet, Fault>, AllocError>
     requires named { AreNamed names.now reps.now }
+    requires behind { AreBehind reps.now }
     ensures made { IfOk result (spec.IsMade names.now origins.now reps.now originals.now scopes.now) }
 {
     let spaces = spaces_of(alloc, reps)?;
@@ -85,7 +112,7 @@ fn build_read(
     names: &mut Names,
     read: RepresentedSet,
     originals: &[Option<u32>],
-) -> Result<Result<Components, Fault>, AllocError>
+) -> Result<Result<BuiltSet, Fault>, AllocError>
     requires named { AreNamed names.old read.reps }
     requires behind { AreBehind read.reps }
     ensures table { OnOk result (names.new ≡ with_versions names.old read.reps originals.now) }
@@ -97,6 +124,7 @@ fn build_read(
         scopes,
         origins,
     } = read;
+    names_alone_change();
     let versions = name_versions(alloc, names, reps, originals)?;
     build_versions(
         alloc,
@@ -108,7 +136,8 @@ fn build_read(
     )
 }
 
-/// The components of a schema set (Structures 3.15.1), or its first fault of names and references: by document, then element,
+/// The components of a schema set (Structures 3.15.1) with the groups and attribute groups that redefine others without a reference
+/// to themselves, or its first fault of names and references: by document, then element,
 /// then the order of the codes. The original of each element that redefines a component comes by its place among the elements of
 /// the set. The names that stand in the documents come into the table, in the order of the documents, and those of originals behind
 /// them.
@@ -122,7 +151,7 @@ pub fn build(
     names: &mut Names,
     set: &EffectiveSet<'_>,
     originals: &[Option<u32>],
-) -> Result<Result<Components, Fault>, AllocError>
+) -> Result<Result<BuiltSet, Fault>, AllocError>
     ensures table { OnOk result (names.new ≡ spec.all_names (set_table names.old set.now.documents) set.now.documents originals.now) }
     ensures built { IfOk result (spec.IsBuilt (set_table names.old set.now.documents) set.now.documents originals.now) }
     ensures grown { Grown names.old names.new }

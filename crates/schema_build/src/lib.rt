@@ -3,5 +3,6 @@
 
 mod building;
 
-pub use building::build;
+pub use building::{BuiltSet, build};
 pub use document_representations::{Available, EffectiveSet};
+pub use redefined_groups::RedefinedGroups;

@@ -9,9 +9,10 @@ use Rattle.schema_build.specs.Documents.{set_table}
 use Rattle.schema_build.specs.SetDocument.{SetDocument}
 use Rattle.representations.specs.declared.source.Source.{Source}
 use Rattle.schema_build.specs.Built.{built}
-use Rattle.schema_build.specs.Components.{all_names, IsBuilt, IsNameFault, AreComponents}
+use Rattle.schema_build.specs.Components.{all_names, IsBuilt, IsNameFault, AreComponents, AreRedefining}
+use Rattle.schema_build.specs.declared.building.BuiltSet.{BuiltSet}
 use Rattle.schema_check.specs.Phases.{IsFirstOfPhases}
-use Rattle.schema_check.specs.SetPhases.{names, name_phase, AreParts, set_phases, base_phase, type_phase, part_phases, by_components, IsSetCompiled}
+use Rattle.schema_check.specs.SetPhases.{names, name_phase, AreParts, AreRedefiningGroups, set_phases, base_phase, type_phase, part_phases, by_components, IsSetCompiled}
 use Rattle.schema_check.specs.declared.documents.CompiledSet.{CompiledSet}
 use Rattle.schema_check.specs.inside.Typed.{ArePartsCompiled}
 use Rattle.schema_check.proofs.PhaseLaws.{after-one, first-implied}
@@ -21,9 +22,13 @@ module _ (set : List SetDocument) (originals : List (Option ℕ)) (t : NameTable
   unfolding name_phase
   unnamed fault built = subst (λ (x : NameTable). IsLeast (IsNameFault x set originals) (Some fault)) same built
 
-  named : (parts : Tables) → IsBuilt t set originals (Ok parts) → name_phase set originals None × AreParts set originals parts
-  unfolding name_phase AreParts
-  named parts built = (subst (λ (x : NameTable). IsLeast (IsNameFault x set originals) None) same built.0, subst (λ (x : NameTable). AreComponents x set originals parts) same built.1)
+  named : (made : BuiltSet) → IsBuilt t set originals (Ok made) → name_phase set originals None × AreParts set originals made.parts × AreRedefiningGroups set originals made.redefined
+  unfolding name_phase AreParts AreRedefiningGroups
+  named made built = (
+    subst (λ (x : NameTable). IsLeast (IsNameFault x set originals) None) same built.0,
+    subst (λ (x : NameTable). AreComponents x set originals made.parts) same built.1,
+    subst (λ (x : NameTable). AreRedefining x set originals made.redefined) same built.2,
+  )
 
   -- the names of the documents and of originals
   all-named : (u : NameTable) → u ≡ all_names t set originals → u ≡ names set originals
@@ -41,16 +46,17 @@ all-phases : (set : List SetDocument) (originals : List (Option ℕ)) (parts : T
 all-phases set originals parts found b first =
     after-one (name_phase set originals) (by_components set originals base_phase ∷ by_components set originals type_phase ∷ []) found b.0 (component-phases set originals parts found b.1 first)
 
-parts-compiled : {E : Type 0} (result : Result (Result CompiledSet Fault) E) (set : List SetDocument) (originals : List (Option ℕ)) (u : NameTable) (parts : Tables) → u ≡ names set originals
-    → name_phase set originals None × AreParts set originals parts → IfOk result (ArePartsCompiled u parts) → IfOk result (IsSetCompiled set originals)
-parts-compiled (Ok (Ok made)) set originals u parts same b compiled = (all-phases set originals parts None b compiled.1.0, (compiled.0 ∙ same, parts, b.1, compiled.1.1))
-parts-compiled (Ok (Err fault)) set originals u parts same b compiled = all-phases set originals parts (Some fault) b compiled
-parts-compiled (Err e) set originals u parts same b compiled = compiled
+parts-compiled : {E : Type 0} (result : Result (Result CompiledSet Fault) E) (set : List SetDocument) (originals : List (Option ℕ)) (u : NameTable) (whole : BuiltSet) → u ≡ names set originals
+    → name_phase set originals None × AreParts set originals whole.parts × AreRedefiningGroups set originals whole.redefined → IfOk result (ArePartsCompiled u whole.redefined whole.parts) → IfOk result (IsSetCompiled set originals)
+parts-compiled (Ok (Ok made)) set originals u whole same b compiled =
+    (all-phases set originals whole.parts None (b.0, b.1) compiled.2.0, (compiled.0 ∙ same, whole.parts, b.1, compiled.2.1, subst (AreRedefiningGroups set originals) (sym compiled.1) b.2))
+parts-compiled (Ok (Err fault)) set originals u whole same b compiled = all-phases set originals whole.parts (Some fault) (b.0, b.1) compiled
+parts-compiled (Err e) set originals u whole same b compiled = compiled
 
-pub set-compiled : {E : Type 0} (result : Result (Result CompiledSet Fault) E) (set : List SetDocument) (originals : List (Option ℕ)) (t u : NameTable) (parts : Tables) → t ≡ set_table no_names set
-    → u ≡ all_names t set originals → IsBuilt t set originals (Ok parts) → IfOk result (ArePartsCompiled u parts) → IfOk result (IsSetCompiled set originals)
-set-compiled result set originals t u parts same table built compiled =
-    parts-compiled result set originals u parts (all-named set originals t same u table) (named set originals t same parts built) compiled
+pub set-compiled : {E : Type 0} (result : Result (Result CompiledSet Fault) E) (set : List SetDocument) (originals : List (Option ℕ)) (t u : NameTable) (whole : BuiltSet) → t ≡ set_table no_names set
+    → u ≡ all_names t set originals → IsBuilt t set originals (Ok whole) → IfOk result (ArePartsCompiled u whole.redefined whole.parts) → IfOk result (IsSetCompiled set originals)
+set-compiled result set originals t u whole same table built compiled =
+    parts-compiled result set originals u whole (all-named set originals t same u table) (named set originals t same whole built) compiled
 
 pub set-unnamed : (set : List SetDocument) (originals : List (Option ℕ)) (t : NameTable) (fault : Fault) → t ≡ set_table no_names set → IsBuilt t set originals (Err fault) → IsSetCompiled set originals (Err fault)
 set-unnamed set originals t fault same built = inl (unnamed set originals t same fault built)
@@ -60,6 +66,7 @@ pub first-names : (set : List SetDocument) (none : NameTable) → none ≡ no_na
 first-names set none empty = ap (λ (x : NameTable). set_table x set) empty
 
 -- what the components are built from
-pub source-of : (t : NameTable) (set : List SetDocument) (originals : List (Option ℕ)) (parts : Tables) (answer : Result Tables Fault) → answer ≡ Ok parts → IsBuilt t set originals answer → (source : Source) × (parts ≡ built source)
-source-of t set originals parts (Ok other) is b = (b.1.0, (let e : ◌≡◌ {A = Result Tables Fault} (Ok other) (Ok parts) = is in let same : other ≡ parts = cc in sym same ∙ b.1.4))
-source-of t set originals parts (Err fault) is b = absurd (let e : ◌≡◌ {A = Result Tables Fault} (Err fault) (Ok parts) = is in cc)
+pub source-of : (t : NameTable) (set : List SetDocument) (originals : List (Option ℕ)) (whole : BuiltSet) (answer : Result BuiltSet Fault) → answer ≡ Ok whole → IsBuilt t set originals answer → (source : Source) × (whole.parts ≡ built source)
+source-of t set originals whole (Ok other) is b =
+    (b.1.0, (let e : ◌≡◌ {A = Result BuiltSet Fault} (Ok other) (Ok whole) = is in let same : other ≡ whole = cc in ap (λ (w : BuiltSet). w.parts) (sym same) ∙ b.1.4))
+source-of t set originals whole (Err fault) is b = absurd (let e : ◌≡◌ {A = Result BuiltSet Fault} (Err fault) (Ok whole) = is in cc)

@@ -10,9 +10,10 @@ use Rattle.type_derivation.specs.Cycles.{IsBroken, IsGrown}
 use Rattle.type_derivation.specs.Particles.{AreContentsSet}
 use Rattle.simple_types.specs.declared.types.SimpleTypes.{SimpleTypes}
 use Rattle.simple_types.specs.SimpleTypes.{AreTypesOf, AreWhole, first_fault_of}
+use Rattle.redefined_groups.specs.declared.groups.RedefinedGroups.{RedefinedGroups}
 use Rattle.schema_build.specs.SetDocument.{SetDocument}
 use Rattle.schema_build.specs.Documents.{set_table}
-use Rattle.schema_build.specs.Components.{all_names, IsNameFault, AreComponents}
+use Rattle.schema_build.specs.Components.{all_names, IsNameFault, AreComponents, AreRedefining}
 use Rattle.schema_check.specs.declared.documents.CompiledSet.{CompiledSet}
 use Rattle.schema_check.specs.Phases.{IsFirstOfPhases}
 
@@ -53,6 +54,10 @@ module _ (set : List SetDocument) (originals : List (Option ℕ)) where
   unfoldable pub AreParts : Tables → Type 0
   AreParts parts = AreComponents (set_table no_names set) set originals parts
 
+  -- the groups and attribute groups that redefine others without a reference to themselves
+  unfoldable pub AreRedefiningGroups : RedefinedGroups → Type 0
+  AreRedefiningGroups redefined = AreRedefining (set_table no_names set) set originals redefined
+
   -- a phase that looks at the components of the set
   abbrev pub by_components : (Tables → Option Fault → Type 0) → Option Fault → Type 0
   by_components phase found = (parts : Tables) × AreParts parts × phase parts found
@@ -61,7 +66,7 @@ module _ (set : List SetDocument) (originals : List (Option ℕ)) where
   set_phases = name_phase ∷ by_components base_phase ∷ by_components type_phase ∷ []
 
   abbrev pub IsCompiled : CompiledSet → Type 0
-  IsCompiled made = (made.names ≡ names) × (parts : Tables) × AreParts parts × IsReady parts made.parts made.types
+  IsCompiled made = (made.names ≡ names) × (parts : Tables) × AreParts parts × IsReady parts made.parts made.types × AreRedefiningGroups made.redefined
 
   -- the compiled set, or the first fault of the first phase that has one
   abbrev pub IsSetCompiled : Result CompiledSet Fault → Type 0

@@ -41,7 +41,7 @@ fn compile_set(
     let mut names = Names::new(alloc)?;
     let built = build(alloc, &mut names, set, originals)?;
     match built {
-        Ok(parts) => compile_parts(alloc, names, parts),
+        Ok(whole) => compile_parts(alloc, names, whole),
         Err(fault) => Ok(Err(fault)),
     }
 }

@@ -1,3 +1,4 @@
+use schema_build::RedefinedGroups;
 use simple_types::SimpleTypes;
 use xs_codes::Fault;
 use xs_components::Components;
@@ -12,6 +13,8 @@ pub struct CompiledSet {
     pub parts: Components,
     /// Its simple types, and the simple contents of its complex types.
     pub types: SimpleTypes,
+    /// The groups and attribute groups that redefine others without a reference to themselves, with these.
+    pub redefined: RedefinedGroups,
 }
 
 /// Why schema documents are not compiled.

@@ -4,6 +4,7 @@ ghost use Rattle.component_circles.specs.References.{IsClosed};
 ghost use Rattle.schema_check.specs.inside.Typed as spec;
 
 use crate::documents::CompiledSet;
+use schema_build::{BuiltSet, RedefinedGroups};
 use simple_types::SimpleTypes;
 use std::alloc::{AllocError, Global};
 use type_derivation::cycles;
@@ -35,15 +36,17 @@ fn judge_types(
 fn judged_set(
     names: Names,
     parts: Components,
+    redefined: RedefinedGroups,
     judged: Result<SimpleTypes, Fault>,
 ) -> Result<CompiledSet, Fault>
-    ensures { (old : Tables) → spec.IsTyped old parts judged → spec.ArePartsCompiled names old result }
+    ensures { (old : Tables) → spec.IsTyped old parts judged → spec.ArePartsCompiled names redefined old result }
 {
     match judged {
         Ok(types) => Ok(CompiledSet {
             names,
             parts,
             types,
+            redefined,
         }),
         Err(fault) => Err(fault),
     }
@@ -53,14 +56,18 @@ fn judged_set(
 pub(crate) fn compile_parts(
     alloc: Global,
     names: Names,
-    mut parts: Components,
+    built: BuiltSet,
 ) -> Result<Result<CompiledSet, Fault>, AllocError>
-    requires closed { IsClosed parts }
-    requires none { All (λ content. content ≡ None) parts.contents }
-    ensures { IfOk result (spec.ArePartsCompiled names parts) }
+    requires closed { IsClosed built.parts }
+    requires none { All (λ content. content ≡ None) built.parts.contents }
+    ensures { IfOk result (spec.ArePartsCompiled names built.redefined built.parts) }
 {
+    let BuiltSet {
+        mut parts,
+        redefined,
+    } = built;
     match judge_types(alloc, &mut parts) {
-        Ok(judged) => Ok(judged_set(names, parts, judged)),
+        Ok(judged) => Ok(judged_set(names, parts, redefined, judged)),
         Err(error) => Err(error),
     }
 }

@@ -12,6 +12,7 @@ use Rattle.attr_faults.specs.Tables.{AreTablesOf}
 use Rattle.attr_faults.specs.AttrTables.{AttrTables}
 use Rattle.particle_forms.specs.Accepted.{is_inhabited}
 use Rattle.model_faults.specs.ModelFaults.{IsFirstModelFault}
+use Rattle.redefined_pairs.specs.declared.pairs.RedefinedPair.{RedefinedPair}
 use Rattle.content_models.specs.Built.{IsSource}
 use Rattle.content_models.specs.declared.automaton.ContentAutomaton.{ContentAutomaton}
 use Rattle.all_limits.specs.SetModels.{content_of, AreModels, IsBroken}
@@ -93,9 +94,9 @@ module _ (made : CompiledSet) (found : Found) (is : IsFound made.parts found) wh
       (subst (λ (cs : List ℕ). IfOk result (λ answer. IfErr answer (λ fault. IsLeast (IsBroken made.names made.parts found.members cs) (Some fault)))) same fault)
 
   -- the first fault of phase 9 is told by the members of substitution groups
-  pub by-members : {E : Type 0} (result : Result (Option Fault) E) → IfOk result (IsFirstModelFault made.parts made.names found.members) → IfOk result (restriction_phase made)
-  by-members (Ok fault) h = (found.members, is.members, h)
-  by-members (Err e) h = tt
+  pub by-members : {E : Type 0} (pairs : List RedefinedPair) → pairs ≡ made.redefined.groups.items → (result : Result (Option Fault) E) → IfOk result (IsFirstModelFault made.parts made.names found.members pairs) → IfOk result (restriction_phase made)
+  by-members pairs same (Ok fault) h = (found.members, is.members, subst (λ ps. IsFirstModelFault made.parts made.names found.members ps fault) same h)
+  by-members pairs same (Err e) h = tt
 
   -- without a fault in phases 6 and 7
   module _ (early : IsFirstOfPhases (early_phases made) None) where

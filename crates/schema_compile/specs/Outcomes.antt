@@ -35,7 +35,7 @@ module _ (made : CompiledSet) where
 
   -- phase 7, of derivation, but for the content models of restrictions
   abbrev pub derivation_phase : Option Fault → Type 0
-  derivation_phase found = IsLeast (IsDerivationFault made.parts made.names) found
+  derivation_phase found = IsLeast (IsDerivationFault made.parts made.names made.redefined.attr_groups.items) found
 
   -- phase 8, of content models, by the members of substitution groups and the classes of declarations (Structures 3.3.6, 3.8.6)
   abbrev pub model_phase : Option Fault → Type 0
@@ -43,9 +43,10 @@ module _ (made : CompiledSet) where
       (members : List (List ℕ)) × (classes : List ℕ) × AreGroups made.parts members × AreClassesOf made.parts classes × IsLeast (IsBroken made.names made.parts members classes) found
 
   -- phase 9, of the content models of restrictions, by the members of substitution groups: cos-particle-restrict.2 and the cases
-  -- that are named rcase (Structures 3.4.6, Derivation Valid (Restriction, Complex), 5.4.2; 3.9.6)
+  -- that are named rcase (Structures 3.4.6, Derivation Valid (Restriction, Complex), 5.4.2; 3.9.6), and src-redefine.6.2.2 (Structures
+  -- 4.2.2)
   abbrev pub restriction_phase : Option Fault → Type 0
-  restriction_phase found = (members : List (List ℕ)) × AreGroups made.parts members × IsFirstModelFault made.parts made.names members found
+  restriction_phase found = (members : List (List ℕ)) × AreGroups made.parts members × IsFirstModelFault made.parts made.names members made.redefined.groups.items found
 
   -- the phases behind simple types
   abbrev pub late_phases : List (Option Fault → Type 0)

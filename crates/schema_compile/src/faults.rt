@@ -73,6 +73,7 @@ fn derivation_fault(
         declarations: &found.declarations,
         tables: &found.attr_uses,
         contents: &found.contents,
+        redefined: &set.redefined.attr_groups,
     };
     first_derivation_fault(alloc, &derived, &mut set.types)
 }

@@ -60,7 +60,7 @@ fn restriction_fault(
         declarations: &found.declarations,
         contents: &found.contents,
     };
-    first_model_fault(alloc, &compared, &mut set.types)
+    first_model_fault(alloc, &compared, &set.redefined.groups, &mut set.types)
 }
 
 // What was found, with these automata of content models; or the first fault of phase 9.

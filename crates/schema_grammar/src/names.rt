@@ -1,4 +1,4 @@
-ghost use Rattle.std.specs.Prelude.{◌≡◌};
+ghost use Rattle.std.specs.Prelude.{◌≡◌, map};
 ghost use Rattle.schema_grammar.specs.Names as names;
 
 use crate::{AttributeName, Tag};
@@ -7,53 +7,67 @@ use tree_rows::Expanded;
 /// The namespace of schema documents (Structures 2.6).
 pub const SCHEMA_NAMESPACE: &str = "http://www.w3.org/2001/XMLSchema";
 
+/// The schema elements with their local names.
+const TAGS: [(&str, Tag); 40] = [
+    ("schema", Tag::Schema),
+    ("include", Tag::Include),
+    ("import", Tag::Import),
+    ("redefine", Tag::Redefine),
+    ("element", Tag::Element),
+    ("attribute", Tag::Attribute),
+    ("complexType", Tag::ComplexType),
+    ("simpleContent", Tag::SimpleContent),
+    ("complexContent", Tag::ComplexContent),
+    ("restriction", Tag::Restriction),
+    ("extension", Tag::Extension),
+    ("group", Tag::Group),
+    ("attributeGroup", Tag::AttributeGroup),
+    ("all", Tag::All),
+    ("choice", Tag::Choice),
+    ("sequence", Tag::Sequence),
+    ("any", Tag::Any),
+    ("anyAttribute", Tag::AnyAttribute),
+    ("simpleType", Tag::SimpleType),
+    ("list", Tag::List),
+    ("union", Tag::Union),
+    ("length", Tag::Length),
+    ("minLength", Tag::MinLength),
+    ("maxLength", Tag::MaxLength),
+    ("pattern", Tag::Pattern),
+    ("enumeration", Tag::Enumeration),
+    ("whiteSpace", Tag::WhiteSpace),
+    ("maxInclusive", Tag::MaxInclusive),
+    ("maxExclusive", Tag::MaxExclusive),
+    ("minInclusive", Tag::MinInclusive),
+    ("minExclusive", Tag::MinExclusive),
+    ("totalDigits", Tag::TotalDigits),
+    ("fractionDigits", Tag::FractionDigits),
+    ("unique", Tag::Unique),
+    ("key", Tag::Key),
+    ("keyref", Tag::Keyref),
+    ("selector", Tag::Selector),
+    ("field", Tag::Field),
+    ("annotation", Tag::Annotation),
+    ("notation", Tag::Notation),
+];
+
+/// The schema element beside a name; `Tag::Other` where the name is not there.
+fn tag_among(table: &[(&str, Tag)], local: &str) -> Tag
+    ensures { result ≡ names.by_name Tag.Other (map (λ entry. (entry.0.now, entry.1)) table.now) local.now }
+{
+    for entry in table {
+        if local == entry.0 {
+            return entry.1;
+        }
+    }
+    Tag::Other
+}
+
 /// The schema element of this local name.
 fn tag_named(local: &str) -> Tag
     ensures { result ≡ names.tag_named local.now }
 {
-    match local {
-        "schema" => Tag::Schema,
-        "include" => Tag::Include,
-        "import" => Tag::Import,
-        "redefine" => Tag::Redefine,
-        "element" => Tag::Element,
-        "attribute" => Tag::Attribute,
-        "complexType" => Tag::ComplexType,
-        "simpleContent" => Tag::SimpleContent,
-        "complexContent" => Tag::ComplexContent,
-        "restriction" => Tag::Restriction,
-        "extension" => Tag::Extension,
-        "group" => Tag::Group,
-        "attributeGroup" => Tag::AttributeGroup,
-        "all" => Tag::All,
-        "choice" => Tag::Choice,
-        "sequence" => Tag::Sequence,
-        "any" => Tag::Any,
-        "anyAttribute" => Tag::AnyAttribute,
-        "simpleType" => Tag::SimpleType,
-        "list" => Tag::List,
-        "union" => Tag::Union,
-        "length" => Tag::Length,
-        "minLength" => Tag::MinLength,
-        "maxLength" => Tag::MaxLength,
-        "pattern" => Tag::Pattern,
-        "enumeration" => Tag::Enumeration,
-        "whiteSpace" => Tag::WhiteSpace,
-        "maxInclusive" => Tag::MaxInclusive,
-        "maxExclusive" => Tag::MaxExclusive,
-        "minInclusive" => Tag::MinInclusive,
-        "minExclusive" => Tag::MinExclusive,
-        "totalDigits" => Tag::TotalDigits,
-        "fractionDigits" => Tag::FractionDigits,
-        "unique" => Tag::Unique,
-        "key" => Tag::Key,
-        "keyref" => Tag::Keyref,
-        "selector" => Tag::Selector,
-        "field" => Tag::Field,
-        "annotation" => Tag::Annotation,
-        "notation" => Tag::Notation,
-        _ => Tag::Other,
-    }
+    tag_among(&TAGS, local)
 }
 
 /// The schema element of this expanded name; `Tag::Other` where the name is of no schema element.

@@ -5,6 +5,7 @@ use Rattle.xs_components.specs.Tables.{Tables}
 use Rattle.xs_faults.specs.Least.{IsLeast}
 use Rattle.xs_names.specs.Names.{NameTable}
 use Rattle.simple_types.specs.declared.types.SimpleTypes.{SimpleTypes}
+use Rattle.redefined_groups.specs.declared.groups.RedefinedGroups.{RedefinedGroups}
 use Rattle.schema_documents.specs.Available.{Available}
 use Rattle.set_originals.specs.Originals.{AreOriginals}
 use Rattle.schema_build.specs.SetDocument.{SetDocument}
@@ -19,9 +20,9 @@ abbrev pub IsTyped : Tables → Tables → Result SimpleTypes Fault → Type 0
 IsTyped old new (Ok types) = IsFirstOfPhases (part_phases old) None × IsReady old new types
 IsTyped old new (Err fault) = IsFirstOfPhases (part_phases old) (Some fault)
 
-abbrev pub ArePartsCompiled : NameTable → Tables → Result CompiledSet Fault → Type 0
-ArePartsCompiled t parts (Ok made) = (made.names ≡ t) × IsTyped parts made.parts (Ok made.types)
-ArePartsCompiled t parts (Err fault) = IsFirstOfPhases (part_phases parts) (Some fault)
+abbrev pub ArePartsCompiled : NameTable → RedefinedGroups → Tables → Result CompiledSet Fault → Type 0
+ArePartsCompiled t redefined parts (Ok made) = (made.names ≡ t) × (made.redefined ≡ redefined) × IsTyped parts made.parts (Ok made.types)
+ArePartsCompiled t redefined parts (Err fault) = IsFirstOfPhases (part_phases parts) (Some fault)
 
 -- a fault as the reason of a refusal
 abbrev pub as_refusal : Result CompiledSet Fault → Result CompiledSet Refusal

@@ -20,4 +20,4 @@ first_model_fault-requires c =
     }
 
 pub returns-clause-first : goal.returns-clause-first
-returns-clause-first c = by-members c.args.set.now c.args.found.now c.requires.found c.first_model_fault.result c.first_model_fault.ensures.first
+returns-clause-first c = by-members c.args.set.now c.args.found.now c.requires.found c.deref.result.now c.deref.ensures.value c.first_model_fault.result c.first_model_fault.ensures.first

@@ -1,0 +1,4 @@
+pub mod Redefined
+pub mod Numbers
+pub mod Groups
+pub mod inside
