@@ -71,8 +71,9 @@ fn placing_fault(alloc: Global, set: &DerivedSet<'_>) -> Result<Option<Fault>, A
 }
 
 /// The first fault of derivation, by document, item and code: of extensions (cos-ct-extends.1.1, .1.4), of restrictions but for
-/// their content models (derivation-ok-restriction.1 to .5.4.1), of redefining attribute groups (src-redefine.7.2.2), of elements in substitution groups (e-props-correct.4), and of
-/// `all` (x-limit.all, cos-all-limited.1, .2). Where there is none, each content model that an `all` stands in is that `all`.
+/// their content models (derivation-ok-restriction.1 to .5.4.1), of redefining attribute groups (src-redefine.7.2.2), of elements in
+/// substitution groups (e-props-correct.4), and of `all` (x-limit.all, cos-all-limited.1, .2). Where there is none, each content model
+/// that an `all` stands in is that `all`.
 ///
 /// # Errors
 ///

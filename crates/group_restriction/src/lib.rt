@@ -3,9 +3,11 @@
 
 mod faults;
 mod forms;
+mod models;
 mod restrictions;
 
 pub use faults::first_group_fault;
-pub use model_restriction::{ComparedModels, ModelSet};
+pub use model_restriction::ComparedModels;
+pub use models::ModelSet;
 pub use redefined_pairs::RedefinedPair;
 pub use restrictions::first_restriction_fault;

@@ -13,7 +13,8 @@ ghost use Rattle.model_restriction.specs.Compared.{IsCompared};
 ghost use Rattle.group_restriction.specs.GroupRestrictions.{IsRestrictionFault};
 
 use crate::faults::first_group_fault;
-use model_restriction::{ComparedModels, ModelSet, first_fault};
+use crate::models::ModelSet;
+use model_restriction::{ComparedModels, first_fault};
 use particle_restrict::Derivation;
 use redefined_pairs::RedefinedPair;
 use restriction_terms::{stands_for, terms_of};
@@ -37,7 +38,7 @@ fn first_of_both<T: Derivation>(
     Ok(sooner(model, group))
 }
 
-/// The first complex type whose content model its base does not allow (Structures 3.4.6, 5.4.2), or model group definition that
+/// The first complex type whose content model its base does not allow (Structures 3.4.6, 5.4.2; 3.9.6), or model group definition that
 /// redefines another without a reference to itself and whose model group is no valid restriction of that of the other
 /// (src-redefine.6.2.2). `fixed` has the numbers of the fixed values of element declarations, which two share where their values
 /// are the same; `types` tells which types derive from which without extension, list and union; `pairs` has the numbers of the

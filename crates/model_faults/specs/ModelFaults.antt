@@ -22,7 +22,7 @@ use Rattle.simple_types.specs.declared.types.SimpleTypes.{SimpleTypes}
 use Rattle.type_derives.specs.Within.{AreSimple}
 use Rattle.group_restriction.specs.GroupRestrictions.{IsRestrictionFault}
 use Rattle.redefined_pairs.specs.declared.pairs.RedefinedPair.{RedefinedPair}
-use Rattle.model_restriction.specs.declared.models.ModelSet.{ModelSet}
+use Rattle.group_restriction.specs.declared.models.ModelSet.{ModelSet}
 
 -- The terms of particles by number, with numbers of fixed values that two declarations share exactly where their values are the same.
 -- Which numbers these are makes no difference: they are compared with one another alone.

@@ -18,8 +18,9 @@ use xs_faults::sooner;
 // The phase of compiling that looks at the restriction of content models.
 const PHASE: u8 = 9;
 
-/// The first complex type whose content model its base does not allow, as [`first_model_fault`](crate::first_model_fault) answers it,
-/// by these terms.
+/// The first complex type whose content model its base does not allow (Structures 3.4.6, Derivation Valid (Restriction, Complex),
+/// 5.4.2): a restriction with complexContent, whose base is not anyType, and whose particle is no valid restriction of the base's
+/// (3.9.6).
 ///
 /// # Errors
 ///

@@ -3,9 +3,7 @@
 
 mod compared;
 mod faults;
-mod models;
 
 pub use compared::{ComparedModels, told_code};
 pub use faults::first_fault;
-pub use models::{ModelSet, first_model_fault};
 pub use restriction_terms::Derivation;
