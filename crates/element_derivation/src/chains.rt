@@ -9,7 +9,8 @@ ghost use Rattle.type_derives.specs.Derives.{members_of};
 ghost use Rattle.type_derives.specs.Within.{AreSimple};
 ghost use Rattle.element_derivation.specs.Derivation as spec;
 
-use xs_components::{Builtin, ComplexType, Components, Methods, SimpleForm, TypeId};
+use type_derives::above;
+use xs_components::{Components, Methods, TypeId};
 
 /// The methods without which the types of elements derive in a restriction: extension, list and union (Structures 3.9.6).
 pub(crate) fn excluded() -> Methods
@@ -24,50 +25,12 @@ pub(crate) fn excluded() -> Methods
     }
 }
 
-// The type that a built-in type is derived from.
-fn builtin_base(of: Builtin) -> TypeId
-    ensures { result ≡ derives.builtin_base of }
-{
-    match simple_values::base_of(of) {
-        None => TypeId::AnyType,
-        Some(base) => TypeId::Builtin(base),
-    }
-}
-
-// The type that a simple type is derived from, by how it is made.
-fn simple_base(form: &SimpleForm) -> TypeId
-    ensures { result ≡ derives.simple_base form.now }
-{
-    match form {
-        SimpleForm::Restrict { base, .. } => *base,
-        SimpleForm::ListOf { .. } | SimpleForm::UnionOf { .. } => {
-            TypeId::Builtin(Builtin::AnySimpleType)
-        }
-    }
-}
-
-// The base of a complex type that is a restriction.
-fn restricted(part: &ComplexType) -> Option<TypeId>
-    ensures { result ≡ derives.above_complex spec.excluded part.now }
-{
-    if part.by_extension {
-        None
-    } else {
-        Some(part.base)
-    }
-}
-
 // The type that a type restricts; none for anyType and for extensions.
 fn restricted_by(parts: &Components, of: &TypeId) -> Option<TypeId>
     requires { IsType parts.now of.now }
     ensures { result ≡ derives.above parts.now spec.excluded of.now }
 {
-    match of {
-        TypeId::AnyType => None,
-        TypeId::Builtin(builtin) => Some(builtin_base(*builtin)),
-        TypeId::Simple(id) => Some(simple_base(&parts.simple(*id).form)),
-        TypeId::Complex(id) => restricted(parts.complex(*id)),
-    }
+    above(parts, &excluded(), of)
 }
 
 // Whether two types are the same.

@@ -12,8 +12,8 @@ ghost use Rattle.element_derivation.specs.inside.Asked.{AreAsked, IsUnionAt, Are
 
 use element_types::Declarations;
 use std::alloc::{AllocError, Global};
-use type_derives::Within;
-use xs_components::{Components, SimpleForm, SimpleId, TypeId};
+use type_derives::{Within, members_of};
+use xs_components::{Components, SimpleId, TypeId};
 
 // Whether a type has member types: it is a union, or restricts one.
 fn has_members(parts: &Components, of: TypeId) -> bool
@@ -21,15 +21,7 @@ fn has_members(parts: &Components, of: TypeId) -> bool
     requires there { IsType parts.now of }
     ensures { result ≡ not (length (members_of parts.now of) == 0) }
 {
-    let mut at = of;
-    'up: while let TypeId::Simple(id) = at {
-        match &parts.simple(id).form {
-            SimpleForm::Restrict { base, .. } => at = *base,
-            SimpleForm::ListOf { .. } => return false,
-            SimpleForm::UnionOf { members } => return !members.is_empty(),
-        }
-    }
-    false
+    !members_of(parts, of).is_empty()
 }
 
 // Marks a type, if it is one of the tables' simple types.

@@ -6,4 +6,5 @@ mod steps;
 mod within;
 
 pub use chains::derives;
+pub use steps::{above, members_of};
 pub use within::Within;

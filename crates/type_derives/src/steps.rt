@@ -26,8 +26,8 @@ fn simple_base(form: &SimpleForm) -> TypeId
     }
 }
 
-/// The member types of a union, or of the union that a type restricts; none of other types.
-pub(crate) fn members_of(parts: &Components, of: TypeId) -> &[TypeId]
+/// The member types of a union (Structures 3.14.1), or of the union that a type restricts; none of other types.
+pub fn members_of(parts: &Components, of: TypeId) -> &[TypeId]
     requires ranked { IsRanked parts.now }
     requires there { IsType parts.now of }
     ensures { result.now ≡ spec.members_of parts.now of }
@@ -61,8 +61,8 @@ fn above_complex(part: &ComplexType, excluded: &Methods) -> Option<TypeId>
     }
 }
 
-/// The type that a type is derived from, where it is not by one of these methods; none for anyType.
-pub(crate) fn above(parts: &Components, excluded: &Methods, of: &TypeId) -> Option<TypeId>
+/// The type that a type is derived from (Structures 3.4.6, 3.14.6), where it is not by one of these methods; none for anyType.
+pub fn above(parts: &Components, excluded: &Methods, of: &TypeId) -> Option<TypeId>
     requires { IsType parts.now of.now }
     ensures { result ≡ spec.above parts.now excluded.now of.now }
 {
