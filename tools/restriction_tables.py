@@ -112,13 +112,13 @@ class Pair(Model):
         self.particles(text)
         self.schema.end()
 
-    def others(self):
-        """The groups, global elements and types, as far as they are named."""
+    def others(self, elsewhere=()):
+        """The groups, global elements and types, as far as they are named here, or in these lines."""
         for name, text in self.groups.items():
             self.group(name, text)
         for name, (properties, head) in self.globals.items():
             self.element(f'{name}#{properties}', name=name, substitutionGroup=head)
-        wanted, lines = [], '\n'.join(self.schema.lines)
+        wanted, lines = [], '\n'.join([*self.schema.lines, *elsewhere])
         for name, text in reversed(self.declared.items()):
             if re.search(rf' {name}\b', lines):
                 wanted.insert(0, text)
@@ -153,17 +153,19 @@ class Pair(Model):
         return last == ')' if first in KINDS else re.match(r'\w*', first)[0] not in self.groups
 
     def redefined(self):
-        """The stream of a group that redefines that of the base."""
+        """The stream of a group that redefines that of the base. What the base names is declared first, as in the stream of types."""
+        self.begin()
+        self.group('M', self.base)
+        original = self.schema
         self.begin()
         self.schema.begin('xs:redefine', schemaLocation='g')
         self.group('M', self.derived)
         self.schema.end()
-        first = self.schema.lines + [')xs:schema']
-        self.begin()
-        self.group('M', self.base)
-        self.others()
+        redefining = self.schema.lines + [')xs:schema']
+        self.schema = original
+        self.others(redefining)
         self.schema.lines[0] = 'schema\tg'
-        self.schema.lines = first + self.schema.lines + [')xs:schema']
+        self.schema.lines = redefining + self.schema.lines + [')xs:schema']
         return self.schema
 
 
