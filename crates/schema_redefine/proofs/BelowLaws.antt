@@ -1,245 +1,168 @@
--- Marking what is below an element.
-use Rattle.std.proofs.Common.{◌≡◌, ◌≢◌, ◌&&◌, ◌==◌, not, if◌then◌else◌, ℕ, zero, suc, ◌+◌, ◌<◌, ◌≤◌, ◌⊎◌, inl, inr, ◌↔◌, List, [], ◌∷◌, ◌++◌, length, length-append, length-set, set, Bool, true, false, true≢false, Option, Some, refl, sym, ap, ◌∙◌, subst, arith}
-use Rattle.std.specs.Prelude.{Contains, slice_get}
-use Rattle.std.proofs.lemmas.Bool.{cases_eq, false≢true, eqb-true, eq-eqb, not-true}
-use Rattle.std.proofs.lemmas.Option.{none-some, same_Some, slice_get_within}
-use Rattle.std.proofs.lemmas.List.{append-nil, get_or-set_same, get_or-set_other}
+-- Finding what is below an element.
+use Rattle.std.proofs.Common.{◌≡◌, ◌==◌, not, if◌then◌else◌, ℕ, ◌+◌, ◌<◌, ◌⊎◌, inl, inr, List, [], ◌∷◌, ◌++◌, length, length-append, Bool, true, false, true≢false, refl, sym, ap, ◌∙◌, subst, arith}
+use Rattle.std.specs.Prelude.{Contains}
+use Rattle.std.specs.List.{flat_map}
+use Rattle.std.proofs.lemmas.Bool.{eqb-true, eq-eqb, not-true, not-false}
 use Rattle.std.proofs.lemmas.List.Elements.{Contains-push, Contains-push_cases, Contains-append_left, Contains-append_right, Contains-append_cases}
 use Rattle.schema_shape.specs.declared.forms.Shape.{Shape}
-use Rattle.redefine_originals.specs.declared.versions.Redefinable.{Redefinable}
-use Rattle.redefine_originals.proofs.InsideLaws.{place-of, at-place, inside-has, inside-from}
-use Rattle.schema_redefine.specs.Redefinitions.{IsBelow, child, deeper, is_self_reference}
-use Rattle.schema_redefine.specs.inside.Below.{marked, AreBelow, weight, AllMarked, IsWanted, IsSpreading, IsMarking, IsSelfBefore, AreSelves}
+use Rattle.redefine_originals.proofs.InsideLaws.{contains-cases, inside-has, inside-from}
+use Rattle.schema_redefine.specs.Redefinitions.{IsBelow, child, deeper}
+use Rattle.schema_redefine.specs.inside.Below.{AreBelow, weight, IsWanted, IsKnown, IsSpreading}
+use Rattle.schema_redefine.specs.inside.Numbers.{of_number}
+use Rattle.schema_redefine.proofs.NumberLaws.{number-has, number-from}
 
-and-true : (a b : Bool) → (a && b) ≡ true → (a ≡ true) × (b ≡ true)
-and-true true b e = (refl, e)
-and-true false b e = absurd (false≢true e)
+abbrev members_of : List Shape → List ℕ
+members_of shapes = flat_map (λ s. s.members) shapes
 
--- ---- one mark more
-weight-less : (shapes : List Shape) (marks : List Bool) (place : ℕ) (s : Shape) → slice_get shapes place ≡ Some s → place < length marks → marked marks place ≡ false
-    → weight shapes (set marks place true) + length s.members ≡ weight shapes marks
-weight-less [] marks place s e h free = absurd (none-some s e)
-weight-less (x ∷ shapes) [] place s e h free = absurd (omega (arith, h))
-weight-less (x ∷ shapes) (true ∷ marks) zero s e h free = absurd (true≢false free)
-weight-less (x ∷ shapes) (false ∷ marks) zero s e h free =
-    let same : length x.members ≡ length s.members = ap (λ (t : Shape). length t.members) (same_Some x s e) in
-    omega (arith, same)
-weight-less (x ∷ shapes) (m ∷ marks) (suc place) s e h free = let rest = weight-less shapes marks place s e (omega (arith, h)) free in omega (arith, rest)
+members-has : (shapes : List Shape) (s : Shape) (m : ℕ) → Contains shapes s → Contains s.members m → Contains (members_of shapes) m
+members-has [] s m c k = absurd (omega (arith, c.1))
+members-has (x ∷ shapes) s m c k = elim (contains-cases x s shapes c) [
+  | inl same ↦ Contains-append_left x.members (members_of shapes) m (subst (λ (t : Shape). Contains t.members m) (sym same) k)
+  | inr more ↦ Contains-append_right x.members (members_of shapes) m (members-has shapes s m more k)
+]
 
-module _ (shapes : List Shape) (item : ℕ) (old : List Bool) (old_left : List ℕ) where
-  pub marking-none : IsMarking shapes item old old_left old old_left
-  marking-none = record {
-    kept = λ place m. m;
-    only = λ place s e m. inl m;
-    later = λ m c. c;
-    waits = λ m c. inl c;
-    count = refl;
-  }
+members-from : (shapes : List Shape) (m : ℕ) → Contains (members_of shapes) m → (s : Shape) × Contains shapes s × Contains s.members m
+members-from [] m c = absurd (omega (arith, c.1))
+members-from (x ∷ shapes) m c = elim (Contains-append_cases x.members (members_of shapes) m c) [
+  | inl own ↦ (x, Contains-append_left (x ∷ []) shapes x (Contains-push [] x), own)
+  | inr more ↦ (let r = members-from shapes m more in (r.0, Contains-append_right (x ∷ []) shapes r.0 r.1, r.2))
+]
 
-  module _ (marks : List Bool) (left : List ℕ) (m : IsMarking shapes item old old_left marks left) (place : ℕ) (s : Shape) (e : slice_get shapes place ≡ Some s) (len : length marks ≡ length shapes) where
-    here : place < length marks
-    here = let h = slice_get_within shapes place s e in omega (arith, h, len)
+-- another number is seen
+abbrev pub IsSeenMore : ℕ → (ℕ → Bool) → (ℕ → Bool) → Type 0
+IsSeenMore item old new = (q : ℕ) → new q ≡ (if item == q then true else old q)
 
-    own : marked (set marks place true) place ≡ true
-    own = get_or-set_same marks place true false here
-
-    kept-mark : (p : ℕ) → marked marks p ≡ true → marked (set marks place true) p ≡ true
-    kept-mark p h = elim (cases_eq p place) [ inl same ↦ subst (λ k. marked (set marks place true) k ≡ true) (sym same) own | inr other ↦ get_or-set_other marks place p true false other ∙ h ]
-
-    cases-mark : (p : ℕ) → marked (set marks place true) p ≡ true → (p ≡ place) ⊎ (marked marks p ≡ true)
-    cases-mark p h = elim (cases_eq p place) [ inl same ↦ inl same | inr other ↦ inr (sym (get_or-set_other marks place p true false other) ∙ h) ]
-
-    pub marking-more : (new : List ℕ) → s.item ≡ item → marked marks place ≡ false → new ≡ left ++ s.members → IsMarking shapes item old old_left (set marks place true) new
-    marking-more new is free grown = record {
-      kept = λ p h. kept-mark p (m.kept p h);
-      only = λ p t f h. elim (cases-mark p h) [
-        | inl same ↦ (
-            let one : s ≡ t = same_Some s t (sym e ∙ ap (slice_get shapes) (sym same) ∙ f) in
-            inr (subst (λ (u : Shape). (u.item ≡ item) × ((k : ℕ) → Contains u.members k → Contains new k)) one (is, λ k c. into k (Contains-append_right left s.members k c)))
-            )
-        | inr before ↦ elim (m.only p t f before) [ inl o ↦ inl o | inr was ↦ inr (was.0, λ k c. into k (Contains-append_left left s.members k (was.1 k c))) ]
-      ];
-      later = λ k c. into k (Contains-append_left left s.members k (m.later k c));
-      waits = λ k c. elim (Contains-append_cases left s.members k (subst (λ (l : List ℕ). Contains l k) grown c)) [ inl before ↦ m.waits k before | inr own ↦ inr (s, at-place shapes place s e, is, own) ];
-      count = counted;
-    }
-      where
-        into : (k : ℕ) → Contains (left ++ s.members) k → Contains new k
-        into k c = subst (λ (l : List ℕ). Contains l k) (sym grown) c
-
-        counted : weight shapes (set marks place true) + length new ≡ weight shapes old + length old_left
-        counted =
-            let less = weight-less shapes marks place s e here free in
-            let longer : length new ≡ length (left ++ s.members) = ap length grown in
-            let sum = length-append left s.members in
-            let before = m.count in
-            omega (arith, less, longer, sum, before)
-
-    -- up to a place all of the number are marked
-    pub first-more : ((p : ℕ) (t : Shape) → p < place → slice_get shapes p ≡ Some t → t.item ≡ item → marked marks p ≡ true)
-        → (p : ℕ) (t : Shape) → p < place + 1 → slice_get shapes p ≡ Some t → t.item ≡ item → marked (set marks place true) p ≡ true
-    first-more all p t h f is = elim (cases_eq p place) [ inl same ↦ subst (λ k. marked (set marks place true) k ≡ true) (sym same) own | inr other ↦ kept-mark p (all p t (omega (arith, h, other)) f is) ]
-
-    pub first-same : (s.item ≡ item → marked marks place ≡ true) → ((p : ℕ) (t : Shape) → p < place → slice_get shapes p ≡ Some t → t.item ≡ item → marked marks p ≡ true)
-        → (p : ℕ) (t : Shape) → p < place + 1 → slice_get shapes p ≡ Some t → t.item ≡ item → marked marks p ≡ true
-    first-same was all p t h f is = elim (cases_eq p place) [
-      | inl same ↦ (
-          let one : t ≡ s = same_Some t s (sym f ∙ ap (slice_get shapes) same ∙ e) in
-          subst (λ k. marked marks k ≡ true) (sym same) (was (subst (λ (u : Shape). u.item ≡ item) one is))
-          )
-      | inr other ↦ all p t (omega (arith, h, other)) f is
-    ]
-
--- the state of marking up to a place
-pub record IsAt (shapes : List Shape) (item : ℕ) (old : List Bool) (old_left : List ℕ) (place : ℕ) (marks : List Bool) (left : List ℕ) : Type 0 where
-  pub len : length marks ≡ length shapes
-  pub marking : IsMarking shapes item old old_left marks left
-  pub first : (p : ℕ) (t : Shape) → p < place → slice_get shapes p ≡ Some t → t.item ≡ item → marked marks p ≡ true
-
-module _ (shapes : List Shape) (item : ℕ) (old : List Bool) (old_left : List ℕ) where
-  pub at-more : (place : ℕ) (s : Shape) (marks : List Bool) (left : List ℕ) (new : List Bool) (new_left : List ℕ) (wanted : Bool) → slice_get shapes place ≡ Some s
-      → IsAt shapes item old old_left place marks left → wanted ≡ ((s.item == item) && not (marked marks place)) → new ≡ (if wanted then set marks place true else marks)
-      → new_left ≡ left ++ (if wanted then s.members else []) → IsAt shapes item old old_left (place + 1) new new_left
-  at-more place s marks left new new_left true e l w n g =
-      let both = and-true (s.item == item) (not (marked marks place)) (sym w) in
-      let is = eqb-true s.item item both.0 in
-      subst (λ (b : List Bool). IsAt shapes item old old_left (place + 1) b new_left) (sym n) (record {
-        len = length-set marks place true ∙ l.len;
-        marking = marking-more shapes item old old_left marks left l.marking place s e l.len new_left is (not-true (marked marks place) both.1) g;
-        first = first-more shapes item old old_left marks left l.marking place s e l.len l.first;
-      })
-  at-more place s marks left new new_left false e l w n g =
-      subst (λ (b : List Bool). IsAt shapes item old old_left (place + 1) b new_left) (sym n)
-      (subst (IsAt shapes item old old_left (place + 1) marks) (sym (g ∙ append-nil left)) (record {
-        len = l.len;
-        marking = l.marking;
-        first = first-same shapes item old old_left marks left l.marking place s e l.len was l.first;
-      }))
+module _ (item : ℕ) (old new : ℕ → Bool) (more : IsSeenMore item old new) where
+  seen-kept : (q : ℕ) → old q ≡ true → new q ≡ true
+  seen-kept q e = by (item == q) refl
     where
-      was : s.item ≡ item → marked marks place ≡ true
-      was is = by (marked marks place) refl
-        where
-          by : (b : Bool) → marked marks place ≡ b → marked marks place ≡ true
-          by true h = h
-          by false h = absurd (true≢false (sym (ap (λ b. b && not (marked marks place)) (eq-eqb s.item item is) ∙ ap not h) ∙ sym w))
+      by : (b : Bool) → (item == q) ≡ b → new q ≡ true
+      by true t = rw t at (more q)
+      by false t = (rw t at (more q)) ∙ e
 
-  pub at-end : (place : ℕ) (marks : List Bool) (left : List ℕ) → length shapes ≤ place → IsAt shapes item old old_left place marks left → AllMarked shapes marks item
-  at-end place marks left h l p s e is = let w = slice_get_within shapes p s e in l.first p s (omega (arith, h, w)) e is
+  seen-own : new item ≡ true
+  seen-own = rw (eq-eqb item item refl) at (more item)
+
+  seen-cases : (q : ℕ) → new q ≡ true → (q ≡ item) ⊎ (old q ≡ true)
+  seen-cases q e = by (item == q) refl
+    where
+      by : (b : Bool) → (item == q) ≡ b → (q ≡ item) ⊎ (old q ≡ true)
+      by true t = inl (sym (eqb-true item q t))
+      by false t = inr (sym (rw t at (more q)) ∙ e)
+
+  -- what has the number counts no longer
+  pub weight-less : old item ≡ false → (shapes : List Shape) → weight new shapes + length (members_of (of_number shapes item)) ≡ weight old shapes
+  weight-less free [] = refl
+  weight-less free (s ∷ shapes) = by (s.item == item) refl (weight-less free shapes)
+    where
+      by : (b : Bool) → (s.item == item) ≡ b → weight new shapes + length (members_of (of_number shapes item)) ≡ weight old shapes
+          → weight new (s ∷ shapes) + length (members_of (of_number (s ∷ shapes) item)) ≡ weight old (s ∷ shapes)
+      by true t rest =
+          let is = eqb-true s.item item t in
+          let was : old s.item ≡ false = ap old is ∙ free in
+          let now : new s.item ≡ true = ap new is ∙ seen-own in
+          let sum = length-append s.members (members_of (of_number shapes item)) in
+          rw (t, was, now) (omega (arith, rest, sum))
+      by false t rest =
+          let other : (item == s.item) ≡ false = apart in
+          let same : new s.item ≡ old s.item = rw other at (more s.item) in
+          rw (t, same) (omega (arith, rest))
+        where
+          apart : (item == s.item) ≡ false
+          apart = at (item == s.item) refl
+            where
+              at : (r : Bool) → (item == s.item) ≡ r → (item == s.item) ≡ false
+              at true e = absurd (true≢false (sym (eq-eqb s.item item (sym (eqb-true item s.item e))) ∙ t))
+              at false e = e
 
 -- ---- spreading
 module _ (shapes : List Shape) (version : Shape) where
-  pub spreading-begun : (marks : List Bool) (left : List ℕ) → ((p : ℕ) → marked marks p ≡ false) → length marks ≡ length shapes → left ≡ [] ++ version.members → IsSpreading shapes version marks left
-  spreading-begun marks left none len e = record {
-    len = len;
-    sound = λ p s f m. absurd (true≢false (sym m ∙ none p));
+  pub spreading-begun : (seen : ℕ → Bool) → ((q : ℕ) → seen q ≡ false) → (left : List ℕ) → left ≡ [] ++ version.members → IsSpreading shapes version seen [] left
+  spreading-begun seen none left e = record {
+    sound = λ s c. absurd (omega (arith, c.1));
     wanted = λ i c. inl (subst (λ (l : List ℕ). Contains l i) e c);
+    all = λ s c t. absurd (true≢false (sym t ∙ none s.item));
     begun = λ i c. inl (subst (λ (l : List ℕ). Contains l i) (sym e) c);
-    closed = λ p s f m. absurd (true≢false (sym m ∙ none p));
+    closed = λ s c. absurd (omega (arith, c.1));
   }
 
   wanted-below : (s : Shape) → Contains shapes s → IsWanted shapes version s.item → IsBelow shapes version s
   wanted-below s c (inl m) = child s (inside-has shapes version s c m)
   wanted-below s c (inr t) = deeper t.0 s t.1 (inside-has shapes t.0 s c t.2)
 
-  pub spreading-more : (item : ℕ) (old : List Bool) (left : List ℕ) (new : List Bool) (new_left : List ℕ) → IsSpreading shapes version old (left ++ item ∷ []) → length new ≡ length shapes
-      → IsMarking shapes item old left new new_left → AllMarked shapes new item → IsSpreading shapes version new new_left
-  spreading-more item old left new new_left l len m all = record {
-    len = len;
-    sound = λ p s e h. elim (m.only p s e h) [ inl o ↦ l.sound p s e o | inr is ↦ its s (at-place shapes p s e) is.0 ];
-    wanted = λ i c. elim (m.waits i c) [ inl o ↦ l.wanted i (Contains-append_left left (item ∷ []) i o) | inr s ↦ inr (s.0, its s.0 s.1 s.2, s.3) ];
-    begun = λ i c. onward i (l.begun i c);
-    closed = λ p s e h i c. elim (m.only p s e h) [ inl o ↦ onward i (l.closed p s e o i c) | inr is ↦ inl (is.1 i c) ];
-  }
-    where
-      its : (s : Shape) → Contains shapes s → s.item ≡ item → IsBelow shapes version s
-      its s c is = wanted-below s c (subst (IsWanted shapes version) (sym is) (l.wanted item (Contains-push left item)))
+  module _ (item : ℕ) (seen : ℕ → Bool) (found : List Shape) (left : List ℕ) (l : IsSpreading shapes version seen found (left ++ item ∷ [])) where
+    -- a number that was seen
+    pub spreading-seen : (new : ℕ → Bool) (is_new : Bool) → IsSeenMore item seen new → is_new ≡ not (seen item) → is_new ≡ false → IsSpreading shapes version new found left
+    spreading-seen new is_new more is again = record {
+      sound = l.sound;
+      wanted = λ i c. l.wanted i (Contains-append_left left (item ∷ []) i c);
+      all = λ s c t. elim (seen-cases item seen new more s.item t) [ inl own ↦ l.all s c (ap seen own ∙ was) | inr before ↦ l.all s c before ];
+      begun = λ i c. onward i (l.begun i c);
+      closed = λ s c i m. onward i (l.closed s c i m);
+    }
+      where
+        was : seen item ≡ true
+        was = not-false (seen item) (sym is ∙ again)
 
-      onward : (i : ℕ) → Contains (left ++ item ∷ []) i ⊎ AllMarked shapes old i → Contains new_left i ⊎ AllMarked shapes new i
-      onward i (inl c) = elim (Contains-push_cases left item i c) [ inl before ↦ inl (m.later i before) | inr same ↦ inr (subst (AllMarked shapes new) same all) ]
-      onward i (inr a) = inr (λ p s e is. m.kept p (a p s e is))
+        onward : (i : ℕ) → IsKnown seen (left ++ item ∷ []) i → IsKnown new left i
+        onward i (inl c) = elim (Contains-push_cases left item i c) [ inl before ↦ inl before | inr same ↦ inr (subst (λ k. new k ≡ true) same (seen-own item seen new more)) ]
+        onward i (inr t) = inr (seen-kept item seen new more i t)
 
-  below-there : (s : Shape) → IsBelow shapes version s → Contains shapes s
-  below-there _ (child s c) = (inside-from shapes version s c).0
-  below-there _ (deeper t s b c) = (inside-from shapes t s c).0
+    -- a number more
+    pub spreading-more : (new : ℕ → Bool) (new_found : List Shape) (new_left : List ℕ) → IsSeenMore item seen new → new_found ≡ found ++ of_number shapes item
+        → new_left ≡ left ++ members_of (of_number shapes item) → IsSpreading shapes version new new_found new_left
+    spreading-more new new_found new_left more f g = record {
+      sound = λ s c. elim (found-cases s c) [ inl before ↦ l.sound s before | inr own ↦ its s own ];
+      wanted = λ i c. elim (Contains-append_cases left (members_of (of_number shapes item)) i (subst (λ (k : List ℕ). Contains k i) g c)) [
+        | inl before ↦ l.wanted i (Contains-append_left left (item ∷ []) i before)
+        | inr own ↦ (let m = members-from (of_number shapes item) i own in inr (m.0, its m.0 m.1, m.2))
+      ];
+      all = λ s c t. elim (seen-cases item seen new more s.item t) [
+        | inl is ↦ subst (λ (k : List Shape). Contains k s) (sym f) (Contains-append_right found (of_number shapes item) s (number-has shapes item s c is))
+        | inr was ↦ subst (λ (k : List Shape). Contains k s) (sym f) (Contains-append_left found (of_number shapes item) s (l.all s c was))
+      ];
+      begun = λ i c. onward i (l.begun i c);
+      closed = λ s c i m. elim (found-cases s c) [
+        | inl before ↦ onward i (l.closed s before i m)
+        | inr own ↦ inl (subst (λ (k : List ℕ). Contains k i) (sym g) (Contains-append_right left (members_of (of_number shapes item)) i (members-has (of_number shapes item) s i own m)))
+      ];
+    }
+      where
+        found-cases : (s : Shape) → Contains new_found s → Contains found s ⊎ Contains (of_number shapes item) s
+        found-cases s c = Contains-append_cases found (of_number shapes item) s (subst (λ (k : List Shape). Contains k s) f c)
 
-  module _ (marks : List Bool) (l : IsSpreading shapes version marks []) where
-    none-left : (i : ℕ) → Contains [] i ⊎ AllMarked shapes marks i → AllMarked shapes marks i
-    none-left i (inl c) = absurd (omega (arith, c.1))
-    none-left i (inr a) = a
+        its : (s : Shape) → Contains (of_number shapes item) s → IsBelow shapes version s
+        its s c = let n = number-from shapes item s c in wanted-below s n.0 (subst (IsWanted shapes version) (sym n.1) (l.wanted item (Contains-push left item)))
 
-    below-marked : (s : Shape) → IsBelow shapes version s → (p : ℕ) → slice_get shapes p ≡ Some s → marked marks p ≡ true
-    below-marked _ (child s c) p e = none-left s.item (l.begun s.item (inside-from shapes version s c).1) p s e refl
-    below-marked _ (deeper t s b c) p e =
-        let q = place-of shapes t (below-there t b) in
-        none-left s.item (l.closed q.0 t q.1 (below-marked t b q.0 q.1) s.item (inside-from shapes t s c).1) p s e refl
+        onward : (i : ℕ) → IsKnown seen (left ++ item ∷ []) i → IsKnown new new_left i
+        onward i (inl c) = elim (Contains-push_cases left item i c) [
+          | inl before ↦ inl (subst (λ (k : List ℕ). Contains k i) (sym g) (Contains-append_left left (members_of (of_number shapes item)) i before))
+          | inr is ↦ inr (subst (λ k. new k ≡ true) is (seen-own item seen new more))
+        ]
+        onward i (inr t) = inr (seen-kept item seen new more i t)
 
-    spread : AreBelow shapes version marks
-    spread = record { len = l.len; exact = λ p s e. (l.sound p s e, λ b. below-marked s b p e) }
+  -- there is less to do
+  pub spreading-length : (item : ℕ) (old new : ℕ → Bool) (is_new : Bool) (left old_left new_left : List ℕ) → IsSeenMore item old new → is_new ≡ not (old item) → is_new ≡ true → old_left ≡ left ++ item ∷ []
+      → new_left ≡ left ++ members_of (of_number shapes item) → weight new shapes + length new_left < weight old shapes + length old_left
+  spreading-length item old new is_new left old_left new_left more is first o n =
+      let free : old item ≡ false = not-true (old item) (sym is ∙ first) in
+      let less = weight-less item old new more free shapes in
+      let before : length old_left ≡ length left + 1 = ap length o ∙ length-append left (item ∷ []) in
+      let after : length new_left ≡ length left + length (members_of (of_number shapes item)) = ap length n ∙ length-append left (members_of (of_number shapes item)) in
+      omega (arith, less, before, after)
 
-  pub spreading-ended : (marks : List Bool) (left : List ℕ) → length left ≡ 0 → IsSpreading shapes version marks left → AreBelow shapes version marks
-  spreading-ended marks [] e l = spread marks l
-  spreading-ended marks (i ∷ left) e l = absurd (omega (arith, e))
+  module _ (seen : ℕ → Bool) (found : List Shape) (l : IsSpreading shapes version seen found []) where
+    none-left : (s : Shape) → Contains shapes s → IsKnown seen [] s.item → Contains found s
+    none-left s c (inl k) = absurd (omega (arith, k.1))
+    none-left s c (inr t) = l.all s c t
 
-  -- the next, as it is taken from what is left
-  pub spreading-length : (item : ℕ) (old : List Bool) (left : List ℕ) (new : List Bool) (new_left : List ℕ) → IsMarking shapes item old left new new_left
-      → weight shapes new + length new_left < weight shapes old + length (left ++ item ∷ [])
-  spreading-length item old left new new_left m = let more = length-append left (item ∷ []) in let count = m.count in omega (arith, more, count)
+    below-found : (s : Shape) → IsBelow shapes version s → Contains found s
+    below-found _ (child s c) = let f = inside-from shapes version s c in none-left s f.0 (l.begun s.item f.1)
+    below-found _ (deeper t s b c) = let f = inside-from shapes t s c in none-left s f.0 (l.closed t (below-found t b) s.item f.1)
 
-  -- ---- the references of what is below
-  pub selves-all : (target : Option (List ℕ)) (of : Redefinable) (name : List ℕ) (marks : List Bool) (xs : List Shape) → AreBelow shapes version marks
-      → ((s : Shape) → Contains xs s ↔ IsSelfBefore shapes target of name marks (length shapes) s) → AreSelves shapes target of name version xs
-  selves-all target of name marks xs b are s = (
-    λ c. (let i = (are s).0 c in record { below = (b.exact i.place s i.there).0 i.mark; to = i.to }),
-    λ r. (
-        let p = place-of shapes s (below-there s r.below) in
-        (are s).1 (record { place = p.0; before = slice_get_within shapes p.0 s p.1; there = p.1; mark = (b.exact p.0 s p.1).1 r.below; to = r.to })
-        ),
-  )
+    spread : AreBelow shapes version found
+    spread s = (l.sound s, below-found s)
 
-module _ (shapes : List Shape) (target : Option (List ℕ)) (of : Redefinable) (name : List ℕ) (marks : List Bool) where
-  pub selves-begun : (s : Shape) → Contains [] s ↔ IsSelfBefore shapes target of name marks 0 s
-  selves-begun s = (λ c. absurd (omega (arith, c.1)), λ i. absurd (let b = i.before in omega (arith, b)))
-
-  pub selves-more : (place : ℕ) (x : Shape) (old new : List Shape) (b : Bool) → slice_get shapes place ≡ Some x → b ≡ (marked marks place && is_self_reference shapes target of name x.form)
-      → new ≡ old ++ (if b then x ∷ [] else []) → ((s : Shape) → Contains old s ↔ IsSelfBefore shapes target of name marks place s)
-      → (s : Shape) → Contains new s ↔ IsSelfBefore shapes target of name marks (place + 1) s
-  selves-more place x old new b e is grown are s = by b is grown
-    where
-      longer : IsSelfBefore shapes target of name marks place s → IsSelfBefore shapes target of name marks (place + 1) s
-      longer i = record { place = i.place; before = let h = i.before in omega (arith, h); there = i.there; mark = i.mark; to = i.to }
-
-      shorter : (i : IsSelfBefore shapes target of name marks (place + 1) s) → i.place ≢ place → IsSelfBefore shapes target of name marks place s
-      shorter i n = record { place = i.place; before = let h = i.before in omega (arith, h, n); there = i.there; mark = i.mark; to = i.to }
-
-      here : (i : IsSelfBefore shapes target of name marks (place + 1) s) → i.place ≡ place → (x ≡ s) × (marked marks place ≡ true)
-      here i same = (same_Some x s (sym e ∙ ap (slice_get shapes) (sym same) ∙ i.there), subst (λ k. marked marks k ≡ true) same i.mark)
-
-      by : (b : Bool) → b ≡ (marked marks place && is_self_reference shapes target of name x.form) → new ≡ old ++ (if b then x ∷ [] else []) → Contains new s ↔ IsSelfBefore shapes target of name marks (place + 1) s
-      by true t g = (
-        λ c. elim (Contains-push_cases old x s (subst (λ (l : List Shape). Contains l s) g c)) [
-          | inl before ↦ longer ((are s).0 before)
-          | inr same ↦ (
-              let both = and-true (marked marks place) (is_self_reference shapes target of name x.form) (sym t) in
-              subst (IsSelfBefore shapes target of name marks (place + 1)) same (record { place = place; before = omega arith; there = e; mark = both.0; to = both.1 })
-              )
-        ],
-        λ i. subst (λ (l : List Shape). Contains l s) (sym g) (elim (cases_eq i.place place) [
-          | inl same ↦ subst (Contains (old ++ x ∷ [])) (here i same).0 (Contains-push old x)
-          | inr other ↦ Contains-append_left old (x ∷ []) s ((are s).1 (shorter i other))
-        ]),
-      )
-      by false f g = (
-        λ c. longer ((are s).0 (subst (λ (l : List Shape). Contains l s) (g ∙ append-nil old) c)),
-        λ i. subst (λ (l : List Shape). Contains l s) (sym (g ∙ append-nil old)) (elim (cases_eq i.place place) [
-          | inl same ↦ (
-              let h = here i same in
-              let t : is_self_reference shapes target of name x.form ≡ true = subst (λ (u : Shape). is_self_reference shapes target of name u.form ≡ true) (sym h.0) i.to in
-              absurd (true≢false (sym (ap (λ m. m && is_self_reference shapes target of name x.form) h.1 ∙ t) ∙ sym f))
-              )
-          | inr other ↦ (are s).1 (shorter i other)
-        ]),
-      )
-
-  pub selves-end : (xs : List Shape) (end : ℕ) → length shapes ≤ end → end ≤ length shapes → ((s : Shape) → Contains xs s ↔ IsSelfBefore shapes target of name marks end s)
-      → (s : Shape) → Contains xs s ↔ IsSelfBefore shapes target of name marks (length shapes) s
-  selves-end xs end l m are = let same : end ≡ length shapes = omega (arith, l, m) in subst (λ n. (s : Shape) → Contains xs s ↔ IsSelfBefore shapes target of name marks n s) same are
+  pub spreading-ended : (seen : ℕ → Bool) (found : List Shape) (left : List ℕ) → length left ≡ 0 → IsSpreading shapes version seen found left → AreBelow shapes version found
+  spreading-ended seen found [] e l = spread seen found l
+  spreading-ended seen found (i ∷ left) e l = absurd (omega (arith, e))

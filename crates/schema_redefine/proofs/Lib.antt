@@ -1,4 +1,6 @@
 pub mod BelowLaws
 pub mod ChainLaws
-pub mod OwnLaws
 pub mod FaultLaws
+pub mod InnerLaws
+pub mod NumberLaws
+pub mod OwnLaws

@@ -1,7 +1,7 @@
 -- What a redefining child breaks by itself, and what it breaks.
-use Rattle.std.proofs.Common.{◌≡◌, ◌≢◌, ℕ, ◌≤◌, ◌==◌, ◌&&◌, ◌||◌, not, if◌then◌else◌, List, [], ◌∷◌, map, Bool, true, false, true≢false, inl, inr, Option, None, Some, refl, sym, ap, ◌∙◌, subst, arith}
+use Rattle.std.proofs.Common.{◌≡◌, ◌≢◌, ℕ, ◌≤◌, ◌==◌, ◌||◌, not, if◌then◌else◌, List, [], ◌∷◌, map, Bool, true, false, true≢false, inl, inr, Option, None, Some, refl, sym, ap, ◌∙◌, subst, arith}
 use Rattle.std.specs.Prelude.{Contains, slice_get}
-use Rattle.std.specs.List.{list_any, filter}
+use Rattle.std.specs.List.{list_any}
 use Rattle.std.proofs.lemmas.Bool.{cases_eq, false≢true, not-true, eqb-false, eqb-true}
 use Rattle.std.proofs.lemmas.Option.{none-some, same_Some}
 use Rattle.std.proofs.lemmas.List.Folds.{list_any_at}
@@ -12,11 +12,11 @@ use Rattle.schema_shape.specs.declared.forms.Shape.{Shape}
 use Rattle.redefine_originals.specs.Available.{Available}
 use Rattle.redefine_originals.specs.declared.versions.Redefinable.{Redefinable}
 use Rattle.redefine_originals.specs.declared.versions.Redefinable.TheVariants as kind
-use Rattle.redefine_originals.specs.Versions.{inside, Child, Version, in_redefine, IsOriginal}
+use Rattle.redefine_originals.specs.Versions.{Child, Version, in_redefine, IsOriginal}
 use Rattle.redefine_originals.proofs.InsideLaws.{contains-first, contains-rest}
 use Rattle.redefine_originals.proofs.VersionLaws.{original-one}
-use Rattle.schema_redefine.specs.Redefinitions.{HasSelfReferences, is_content, derives, content_derives, derives_from_itself, occurs_otherwise, Breaks, other_base, several, otherwise, several_uses, BreaksHere, lost, circle, own}
-use Rattle.schema_redefine.specs.inside.Below.{AreSelves, are_several, group_code, uses_code}
+use Rattle.schema_redefine.specs.Redefinitions.{HasSelfReferences, derives_from_itself, occurs_otherwise, Breaks, other_base, several, otherwise, several_uses, BreaksHere, lost, circle, own}
+use Rattle.schema_redefine.specs.inside.Selves.{AreSelves, are_several, group_code, uses_code}
 use Rattle.schema_redefine.specs.inside.Broken.{IsFirstCode}
 use Rattle.schema_redefine.specs.inside.Chains.{ComesBack}
 
@@ -73,21 +73,9 @@ several-none f (y ∷ ys) e = absurd (none-some y e)
 pub otherwise-read : {X : Type 0} (f : X → Shape) (xs : List X) (r : Bool) → r ≡ list_any (λ y. occurs_otherwise (f y).form) xs → r ≡ list_any (λ (s : Shape). occurs_otherwise s.form) (map f xs)
 otherwise-read f xs r is = is ∙ sym (any-map f (λ (s : Shape). occurs_otherwise s.form) xs)
 
-any-filter : (p q : Shape → Bool) (xs : List Shape) → list_any (λ x. q x && p x) xs ≡ list_any p (filter q xs)
-any-filter p q [] = refl
-any-filter p q (x ∷ xs) = by (q x) refl (any-filter p q xs)
-  where
-    by : (b : Bool) → q x ≡ b → list_any (λ x. q x && p x) xs ≡ list_any p (filter q xs) → list_any (λ x. q x && p x) (x ∷ xs) ≡ list_any p (filter q (x ∷ xs))
-    by true e rest = rw e (ap (λ b. p x || b) rest)
-    by false e rest = rw e rest
-
-pub any-inside : (p : Shape → Bool) (shapes : List Shape) (parent : Shape) (r : Bool) → r ≡ list_any (λ (s : Shape). list_any (λ item. item == s.item) parent.members && p s) shapes → r ≡ list_any p (inside shapes parent)
-any-inside p shapes parent r is = is ∙ any-filter p (λ (s : Shape). list_any (λ item. item == s.item) parent.members) shapes
-
-pub content-read : (shapes : List Shape) (target : Option (List ℕ)) (name : List ℕ) (content : Shape) (r : Bool) → is_content content.form ≡ true
-    → r ≡ list_any (λ (s : Shape). list_any (λ item. item == s.item) content.members && derives shapes target name s.form) shapes → r ≡ content_derives shapes target name content
-content-read shapes target name content r e is =
-    any-inside (λ (s : Shape). derives shapes target name s.form) shapes content r is ∙ sym (ap (λ b. b && list_any (λ (s : Shape). derives shapes target name s.form) (inside shapes content)) e)
+-- a test of what is read by a function
+pub any-read : {X : Type 0} (f : X → Shape) (p : Shape → Bool) (xs : List X) (ys : List Shape) (r : Bool) → map f xs ≡ ys → r ≡ list_any (λ x. p (f x)) xs → r ≡ list_any p ys
+any-read f p xs ys r e is = is ∙ sym (any-map f p xs) ∙ ap (list_any p) e
 
 -- ---- by itself
 module _ (shapes : List Shape) (target : Option (List ℕ)) (name : List ℕ) (version : Shape) where

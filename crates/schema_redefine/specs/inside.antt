@@ -1,3 +1,5 @@
 pub mod Below
 pub mod Broken
 pub mod Chains
+pub mod Numbers
+pub mod Selves

@@ -1,18 +1,12 @@
-ghost use Rattle.std.specs.Prelude.{◌≡◌, ◌<◌, ◌++◌, ◌==◌, ◌&&◌, not, ℕ, [], true, false, length, slice_set, if◌then◌else◌, IfOk, OnOk};
+ghost use Rattle.std.specs.Prelude.{◌≡◌, ◌++◌, ◌∷◌, [], map, IfOk, OnOk};
+ghost use Rattle.std.specs.List.{flat_map};
 ghost use Rattle.schema_redefine.specs.inside.Below as inside;
 
+use crate::numbered::Numbered;
 use schema_shape::Shape;
 use std::alloc::{AllocError, Global};
-
-// Whether the element at a place is marked.
-pub(crate) fn is_marked(marks: &[bool], place: usize) -> bool
-    ensures { result ≡ inside.marked marks.now place }
-{
-    match marks.get(place) {
-        None => false,
-        Some(mark) => *mark,
-    }
-}
+use std::collections::HashSet;
+use xs_lists::Listed;
 
 // Puts the members of an element to what is left.
 fn put_members(members: &[u32], left: &mut Vec<u32>) -> Result<(), AllocError>
@@ -24,81 +18,53 @@ fn put_members(members: &[u32], left: &mut Vec<u32>) -> Result<(), AllocError>
     Ok(())
 }
 
-// Whether the element at a place has this number and is not marked.
-fn is_wanted(shape: &Shape, item: u32, marks: &[bool], place: usize) -> bool
-    ensures { result ≡ ((shape.now.item == item) && not (inside.marked marks.now place)) }
-{
-    shape.item == item && !is_marked(marks, place)
-}
-
-// Marks an element, if it is wanted, and puts its members to what is left.
-fn mark_if(
-    wanted: bool,
-    shape: &Shape,
-    place: usize,
-    marks: &mut [bool],
+// Puts an element to those that were found, and its members to what is left.
+fn put_shape<'a>(
+    shape: &'a Shape,
+    found: &mut Listed<&'a Shape>,
     left: &mut Vec<u32>,
 ) -> Result<(), AllocError>
-    requires place { place < length marks.old }
-    ensures marks { OnOk result (marks.new ≡ (if wanted then slice_set marks.old place true else marks.old)) }
-    ensures left { OnOk result (left.new.items ≡ left.old.items ++ (if wanted then shape.now.members else [])) }
+    ensures found { OnOk result (map (λ r. r.now) found.new ≡ map (λ r. r.now) found.old ++ shape.now ∷ []) }
+    ensures left { OnOk result (left.new.items ≡ left.old.items ++ shape.now.members) }
 {
-    if wanted {
-        marks[place] = true;
-        put_members(shape.members.as_slice(), left)?;
-    }
+    found.push(shape)?;
+    put_members(shape.members.as_slice(), left)?;
     Ok(())
 }
 
-// Marks the elements of this number, and puts their members to what is left.
-fn mark_item(
-    shapes: &[Shape],
-    item: u32,
-    marks: &mut [bool],
+// Puts elements to those that were found, and their members to what is left.
+fn put_shapes<'a>(
+    shapes: &[&'a Shape],
+    found: &mut Listed<&'a Shape>,
     left: &mut Vec<u32>,
 ) -> Result<(), AllocError>
-    requires len { length marks.old ≡ length shapes.now }
-    ensures len { OnOk result (length marks.new ≡ length shapes.now) }
-    ensures marking { OnOk result (inside.IsMarking shapes.now item marks.old left.old.items marks.new left.new.items) }
-    ensures all { OnOk result (inside.AllMarked shapes.now marks.new item) }
+    ensures found { OnOk result (map (λ r. r.now) found.new ≡ map (λ r. r.now) found.old ++ map (λ r. r.now) shapes.now) }
+    ensures left { OnOk result (left.new.items ≡ left.old.items ++ flat_map (λ s. s.members) (map (λ r. r.now) shapes.now)) }
 {
-    let mut place = 0;
     for shape in shapes {
-        let wanted = is_wanted(shape, item, marks, place);
-        mark_if(wanted, shape, place, marks, left)?;
-        place += 1;
+        put_shape(*shape, found, left)?;
     }
     Ok(())
 }
 
-// Marks the elements that are below one of them.
-fn spread(
+// The elements below one of them. Each number is looked up once, so that the work grows with what is below alone.
+pub(crate) fn below<'a>(
     alloc: Global,
-    shapes: &[Shape],
+    numbered: &Numbered<'a>,
     version: &Shape,
-    marks: &mut [bool],
-) -> Result<(), AllocError>
-    requires len { length marks.old ≡ length shapes.now }
-    requires none { (p : ℕ) → inside.marked marks.old p ≡ false }
-    ensures { OnOk result (inside.AreBelow shapes.now version.now marks.new) }
+) -> Result<Listed<&'a Shape>, AllocError>
+    ensures { IfOk result (λ found. inside.AreBelow numbered.now version.now (map (λ r. r.now) found)) }
 {
+    let mut seen = HashSet::new(alloc);
+    let mut found = Listed::new(alloc);
     let mut left = Vec::new(alloc);
     put_members(version.members.as_slice(), &mut left)?;
     while let Some(item) = left.pop() {
-        mark_item(shapes, item, marks, &mut left)?;
+        let is_new = seen.insert(item)?;
+        if !is_new {
+            continue;
+        }
+        put_shapes(numbered.of_number(item), &mut found, &mut left)?;
     }
-    Ok(())
-}
-
-// Marks, by their places, the elements that are below one of them.
-pub(crate) fn below(
-    alloc: Global,
-    shapes: &[Shape],
-    version: &Shape,
-) -> Result<Vec<bool>, AllocError>
-    ensures { IfOk result (λ marks. inside.AreBelow shapes.now version.now marks.items) }
-{
-    let mut marks = Vec::from_elem(alloc, false, shapes.len())?;
-    spread(alloc, shapes, version, marks.as_mut_slice())?;
-    Ok(marks)
+    Ok(found)
 }

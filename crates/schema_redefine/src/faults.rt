@@ -1,5 +1,6 @@
 ghost use Rattle.std.specs.Prelude.{◌≡◌, ◌<◌, ◌^◌, Contains, map, length, All, IfOk};
 ghost use Rattle.std.specs.Option.{option_map};
+ghost use Rattle.std.specs.List.Sorted.{IsPermutation};
 ghost use Rattle.xs_faults.specs.Least.{IsLeast};
 ghost use Rattle.set_closure.specs.Sourced.{AreSources};
 ghost use Rattle.set_closure.specs.EffectiveSet.{IsEffectiveSet};
@@ -9,6 +10,7 @@ ghost use Rattle.schema_redefine.specs.Redefinitions as spec;
 ghost use Rattle.schema_redefine.specs.inside.Broken as inside;
 
 use crate::chains::comes_back;
+use crate::numbered::Numbered;
 use crate::own::own_code;
 use redefine_originals::{Child, Declared, Version, declared_as, original_of, redefining};
 use set_closure::{Available, SetDocument, Sources};
@@ -37,10 +39,12 @@ fn version_of<'a>(document: u32, child: Child<'a>) -> Version<'a>
 fn declared_code<'a>(
     sources: &Sources<'a>,
     document: &SetDocument<'a>,
+    numbered: &Numbered<'_>,
     child: Child<'a>,
     declared: Declared<'a>,
 ) -> Result<Option<Code>, AllocError>
     requires sources { AreSources sources.now }
+    requires numbered { IsPermutation document.now.shaped.now.shapes numbered.now }
     ensures { IfOk result (inside.IsFirstCode (spec.BreaksHere sources.now.available.now document.now.number document.now.shaped.now.shapes document.now.target
         declared.entry.kind declared.entry.name.now (child_entry child.entry))) }
 {
@@ -53,7 +57,14 @@ fn declared_code<'a>(
     if comes_back(sources, version_of(document.number, child))? {
         return Ok(Some(Code::XRedefineCircle));
     }
-    let own = own_code(sources.alloc, document, declared.kind, name, child.shape)?;
+    let own = own_code(
+        sources.alloc,
+        document,
+        numbered,
+        declared.kind,
+        name,
+        child.shape,
+    )?;
     Ok(own)
 }
 
@@ -61,15 +72,17 @@ fn declared_code<'a>(
 fn child_code<'a>(
     sources: &Sources<'a>,
     document: &SetDocument<'a>,
+    numbered: &Numbered<'_>,
     child: Child<'a>,
 ) -> Result<Option<Code>, AllocError>
     requires sources { AreSources sources.now }
+    requires numbered { IsPermutation document.now.shaped.now.shapes numbered.now }
     ensures { IfOk result (inside.IsFirstCode (inside.IsBroken sources.now.available.now document.now (child_entry child.entry))) }
 {
     match declared_as(&child.shape.form) {
         None => Ok(None),
         Some(declared) => {
-            let code = declared_code(sources, document, child, declared)?;
+            let code = declared_code(sources, document, numbered, child, declared)?;
             Ok(code)
         },
     }
@@ -94,12 +107,14 @@ fn fault_of(document: u32, item: u32, code: Option<Code>) -> Option<Fault>
 fn child_fault<'a>(
     sources: &Sources<'a>,
     document: &SetDocument<'a>,
+    numbered: &Numbered<'_>,
     child: Child<'a>,
 ) -> Result<Option<Fault>, AllocError>
     requires sources { AreSources sources.now }
+    requires numbered { IsPermutation document.now.shaped.now.shapes numbered.now }
     ensures { IfOk result (IsLeast (inside.IsChildFault sources.now.available.now document.now (child_entry child.entry))) }
 {
-    let code = child_code(sources, document, child)?;
+    let code = child_code(sources, document, numbered, child)?;
     Ok(fault_of(document.number, child.shape.item, code))
 }
 
@@ -107,14 +122,16 @@ fn child_fault<'a>(
 fn children_fault<'a>(
     sources: &Sources<'a>,
     document: &SetDocument<'a>,
+    numbered: &Numbered<'_>,
     children: &[Child<'a>],
 ) -> Result<Option<Fault>, AllocError>
     requires sources { AreSources sources.now }
+    requires numbered { IsPermutation document.now.shaped.now.shapes numbered.now }
     ensures { IfOk result (IsLeast (inside.IsOneOf (inside.IsChildFault sources.now.available.now document.now) (map child_entry children.now))) }
 {
     let mut first = None;
     for child in children {
-        let found = child_fault(sources, document, *child)?;
+        let found = child_fault(sources, document, numbered, *child)?;
         first = sooner(first, found);
     }
     Ok(first)
@@ -128,8 +145,10 @@ fn document_fault<'a>(
     requires sources { AreSources sources.now }
     ensures { IfOk result (IsLeast (inside.IsDocumentFault sources.now.available.now document.now)) }
 {
-    let children = redefining(sources.alloc, document.shaped.shapes.as_slice())?;
-    let first = children_fault(sources, document, children.as_slice())?;
+    let shapes = document.shaped.shapes.as_slice();
+    let children = redefining(sources.alloc, shapes)?;
+    let numbered = Numbered::new(sources.alloc, shapes)?;
+    let first = children_fault(sources, document, &numbered, children.as_slice())?;
     Ok(first)
 }
 

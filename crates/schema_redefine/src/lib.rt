@@ -5,6 +5,7 @@ mod below;
 mod chains;
 mod faults;
 mod names;
+mod numbered;
 mod own;
 
 pub use faults::first_redefine_fault;

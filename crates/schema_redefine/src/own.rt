@@ -1,14 +1,16 @@
-ghost use Rattle.std.specs.List.{list_any};
-ghost use Rattle.std.specs.Prelude.{◌≡◌, ◌==◌, ◌&&◌, ◌||◌, not, ◌++◌, ◌∷◌, ◌↔◌, [], map, length, Contains, if◌then◌else◌, IfOk, OnOk};
-ghost use Rattle.schema_shape.specs.declared.forms.Shape.{Shape as ShapeData};
+ghost use Rattle.std.specs.List.{list_any, filter};
+ghost use Rattle.std.specs.List.Sorted.{IsPermutation};
+ghost use Rattle.std.specs.Prelude.{◌≡◌, ◌==◌, ◌&&◌, ◌||◌, not, map, IfOk};
 ghost use Rattle.redefine_originals.specs.declared.versions.Redefinable.TheVariants as redefinable;
 ghost use Rattle.schema_redefine.specs.Redefinitions as spec;
-ghost use Rattle.schema_redefine.specs.inside.Below as inside;
 ghost use Rattle.schema_redefine.specs.inside.Broken.{IsFirstCode};
+ghost use Rattle.schema_redefine.specs.inside.Numbers.{of_number, any_inside};
+ghost use Rattle.schema_redefine.specs.inside.Selves as inside;
 
-use crate::below::{below, is_marked};
+use crate::below::below;
 use crate::names::{derives, is_self_reference, restricts};
-use redefine_originals::{Redefinable, is_member};
+use crate::numbered::Numbered;
+use redefine_originals::Redefinable;
 use schema_shape::{Form, Shape};
 use schema_values::Occurs;
 use set_closure::SetDocument;
@@ -44,91 +46,94 @@ fn is_content(form: &Form) -> bool
     }
 }
 
-// Whether one of these elements is derived from the type of this name.
-fn any_derives(document: &SetDocument<'_>, name: &str, members: &[u32]) -> bool
-    ensures { result ≡ list_any (λ s. list_any (λ item. item == s.item) members.now && spec.derives document.now.shaped.now.shapes document.now.target name.now s.form) document.now.shaped.now.shapes }
+// Whether an element of this number is derived from the type of this name.
+fn any_derives(document: &SetDocument<'_>, numbered: &Numbered<'_>, name: &str, item: u32) -> bool
+    ensures { result ≡ list_any (λ s. spec.derives document.now.shaped.now.shapes document.now.target name.now s.form) (of_number numbered.now item) }
 {
-    let shapes = document.shaped.shapes.as_slice();
-    shapes.iter().any(|shape| is_member(members, shape.item)
-        && derives(document, name, &shape.form))
+    let shapes = numbered.of_number(item);
+    shapes
+        .iter()
+        .any(|shape| derives(document, name, &shape.form))
 }
 
 // Whether an element is content that is derived from the type of this name.
-fn content_derives(document: &SetDocument<'_>, name: &str, content: &Shape) -> bool
-    ensures { result ≡ spec.content_derives document.now.shaped.now.shapes document.now.target name.now content.now }
+fn content_derives(
+    document: &SetDocument<'_>,
+    numbered: &Numbered<'_>,
+    name: &str,
+    content: &Shape,
+) -> bool
+    ensures { result ≡ (spec.is_content content.now.form
+        && any_inside numbered.now (λ s. spec.derives document.now.shaped.now.shapes document.now.target name.now s.form) content.now) }
 {
-    is_content(&content.form) && any_derives(document, name, content.members.as_slice())
+    is_content(&content.form)
+        && content
+            .members
+            .as_slice()
+            .iter()
+            .any(|item| any_derives(document, numbered, name, *item))
 }
 
 // Whether an element is a derivation from the type of this name, or content that is one.
-fn is_derivation(document: &SetDocument<'_>, name: &str, shape: &Shape) -> bool
-    ensures { result ≡ (spec.restricts document.now.shaped.now.shapes document.now.target name.now shape.now.form || spec.content_derives document.now.shaped.now.shapes document.now.target name.now shape.now) }
+fn is_derivation(
+    document: &SetDocument<'_>,
+    numbered: &Numbered<'_>,
+    name: &str,
+    shape: &Shape,
+) -> bool
+    ensures { result ≡ inside.is_derivation numbered.now document.now.shaped.now.shapes document.now.target name.now shape.now }
 {
-    restricts(document, name, &shape.form) || content_derives(document, name, shape)
+    restricts(document, name, &shape.form) || content_derives(document, numbered, name, shape)
 }
 
-// Whether one of these elements is a derivation from the type of this name, or content that is one.
-fn any_derivation(document: &SetDocument<'_>, name: &str, members: &[u32]) -> bool
-    ensures { result ≡ list_any (λ s. list_any (λ item. item == s.item) members.now && (spec.restricts document.now.shaped.now.shapes document.now.target name.now s.form
-        || spec.content_derives document.now.shaped.now.shapes document.now.target name.now s)) document.now.shaped.now.shapes }
+// Whether an element of this number is a derivation from the type of this name, or content that is one.
+fn any_derivation(
+    document: &SetDocument<'_>,
+    numbered: &Numbered<'_>,
+    name: &str,
+    item: u32,
+) -> bool
+    ensures { result ≡ list_any (inside.is_derivation numbered.now document.now.shaped.now.shapes document.now.target name.now) (of_number numbered.now item) }
 {
-    let shapes = document.shaped.shapes.as_slice();
-    shapes.iter().any(|shape| is_member(members, shape.item)
-        && is_derivation(document, name, shape))
+    let shapes = numbered.of_number(item);
+    shapes
+        .iter()
+        .any(|shape| is_derivation(document, numbered, name, shape))
 }
 
 // Whether a type is derived from the one of its name.
-fn derives_from_itself(document: &SetDocument<'_>, name: &str, version: &Shape) -> bool
+fn derives_from_itself(
+    document: &SetDocument<'_>,
+    numbered: &Numbered<'_>,
+    name: &str,
+    version: &Shape,
+) -> bool
+    requires numbered { IsPermutation document.now.shaped.now.shapes numbered.now }
     ensures { result ≡ spec.derives_from_itself document.now.shaped.now.shapes document.now.target name.now version.now }
 {
-    any_derivation(document, name, version.members.as_slice())
+    version
+        .members
+        .as_slice()
+        .iter()
+        .any(|item| any_derivation(document, numbered, name, *item))
 }
 
-// Puts an element to others, if it is wanted.
-fn put_if<'a>(
-    wanted: bool,
-    shape: &'a Shape,
-    references: &mut Listed<&'a Shape>,
-) -> Result<(), AllocError>
-    ensures { OnOk result (map (λ r. r.now) references.new ≡ map (λ r. r.now) references.old ++ (if wanted then shape.now ∷ [] else [])) }
-{
-    if wanted {
-        references.push(shape)?;
-    }
-    Ok(())
-}
-
-// Whether the element at a place is marked and refers to the component of this kind and name.
-fn is_marked_reference(
+// Of some elements those that refer to the component of this kind and name.
+fn referring<'a>(
+    alloc: Global,
     document: &SetDocument<'_>,
     kind: Redefinable,
     name: &str,
-    marked: bool,
-    shape: &Shape,
-) -> bool
-    ensures { result ≡ (marked && spec.is_self_reference document.now.shaped.now.shapes document.now.target kind name.now shape.now.form) }
-{
-    marked && is_self_reference(document, kind, name, &shape.form)
-}
-
-// Of some marked elements those that refer to the component of this kind and name.
-fn marked_references<'a>(
-    alloc: Global,
-    document: &SetDocument<'a>,
-    kind: Redefinable,
-    name: &str,
-    marks: &[bool],
+    shapes: &[&'a Shape],
 ) -> Result<Listed<&'a Shape>, AllocError>
-    ensures { IfOk result (λ references. (s : ShapeData) → Contains (map (λ r. r.now) references) s
-        ↔ inside.IsSelfBefore document.now.shaped.now.shapes document.now.target kind name.now marks.now (length document.now.shaped.now.shapes) s) }
+    ensures { IfOk result (λ references. map (λ r. r.now) references
+        ≡ filter (λ s. spec.is_self_reference document.now.shaped.now.shapes document.now.target kind name.now s.form) (map (λ r. r.now) shapes.now)) }
 {
     let mut references = Listed::new(alloc);
-    let mut place = 0;
-    for shape in document.shaped.shapes.as_slice() {
-        let mark = is_marked(marks, place);
-        let wanted = is_marked_reference(document, kind, name, mark, shape);
-        put_if(wanted, shape, &mut references)?;
-        place += 1;
+    for shape in shapes {
+        if is_self_reference(document, kind, name, &shape.form) {
+            references.push(*shape)?;
+        }
     }
     Ok(references)
 }
@@ -136,15 +141,17 @@ fn marked_references<'a>(
 // The references of a version to itself.
 fn self_references<'a>(
     alloc: Global,
-    document: &SetDocument<'a>,
+    document: &SetDocument<'_>,
+    numbered: &Numbered<'a>,
     kind: Redefinable,
     name: &str,
     version: &Shape,
 ) -> Result<Listed<&'a Shape>, AllocError>
+    requires numbered { IsPermutation document.now.shaped.now.shapes numbered.now }
     ensures { IfOk result (λ references. inside.AreSelves document.now.shaped.now.shapes document.now.target kind name.now version.now (map (λ r. r.now) references)) }
 {
-    let marks = below(alloc, document.shaped.shapes.as_slice(), version)?;
-    let references = marked_references(alloc, document, kind, name, marks.as_slice())?;
+    let found = below(alloc, numbered, version)?;
+    let references = referring(alloc, document, kind, name, found.as_slice())?;
     Ok(references)
 }
 
@@ -198,10 +205,16 @@ fn uses_code(references: &[&Shape]) -> Option<Code>
 }
 
 // The code that a redefining type breaks by itself.
-fn type_code(document: &SetDocument<'_>, name: &str, version: &Shape) -> Option<Code>
+fn type_code(
+    document: &SetDocument<'_>,
+    numbered: &Numbered<'_>,
+    name: &str,
+    version: &Shape,
+) -> Option<Code>
+    requires numbered { IsPermutation document.now.shaped.now.shapes numbered.now }
     ensures { IsFirstCode (spec.Breaks document.now.shaped.now.shapes document.now.target name.now version.now redefinable.Type) result }
 {
-    if derives_from_itself(document, name, version) {
+    if derives_from_itself(document, numbered, name, version) {
         return None;
     }
     Some(Code::SrcRedefine5)
@@ -211,12 +224,14 @@ fn type_code(document: &SetDocument<'_>, name: &str, version: &Shape) -> Option<
 fn group_code(
     alloc: Global,
     document: &SetDocument<'_>,
+    numbered: &Numbered<'_>,
     name: &str,
     version: &Shape,
 ) -> Result<Option<Code>, AllocError>
+    requires numbered { IsPermutation document.now.shaped.now.shapes numbered.now }
     ensures { IfOk result (IsFirstCode (spec.Breaks document.now.shaped.now.shapes document.now.target name.now version.now redefinable.Group)) }
 {
-    let references = self_references(alloc, document, Redefinable::Group, name, version)?;
+    let references = self_references(alloc, document, numbered, Redefinable::Group, name, version)?;
     Ok(references_code(references.as_slice()))
 }
 
@@ -224,12 +239,21 @@ fn group_code(
 fn attribute_group_code(
     alloc: Global,
     document: &SetDocument<'_>,
+    numbered: &Numbered<'_>,
     name: &str,
     version: &Shape,
 ) -> Result<Option<Code>, AllocError>
+    requires numbered { IsPermutation document.now.shaped.now.shapes numbered.now }
     ensures { IfOk result (IsFirstCode (spec.Breaks document.now.shaped.now.shapes document.now.target name.now version.now redefinable.AttributeGroup)) }
 {
-    let references = self_references(alloc, document, Redefinable::AttributeGroup, name, version)?;
+    let references = self_references(
+        alloc,
+        document,
+        numbered,
+        Redefinable::AttributeGroup,
+        name,
+        version,
+    )?;
     Ok(uses_code(references.as_slice()))
 }
 
@@ -237,15 +261,19 @@ fn attribute_group_code(
 pub(crate) fn own_code(
     alloc: Global,
     document: &SetDocument<'_>,
+    numbered: &Numbered<'_>,
     kind: Redefinable,
     name: &str,
     version: &Shape,
 ) -> Result<Option<Code>, AllocError>
+    requires numbered { IsPermutation document.now.shaped.now.shapes numbered.now }
     ensures { IfOk result (IsFirstCode (spec.Breaks document.now.shaped.now.shapes document.now.target name.now version.now kind)) }
 {
     match kind {
-        Redefinable::Type => Ok(type_code(document, name, version)),
-        Redefinable::Group => group_code(alloc, document, name, version),
-        Redefinable::AttributeGroup => attribute_group_code(alloc, document, name, version),
+        Redefinable::Type => Ok(type_code(document, numbered, name, version)),
+        Redefinable::Group => group_code(alloc, document, numbered, name, version),
+        Redefinable::AttributeGroup => attribute_group_code(
+            alloc, document, numbered, name, version,
+        ),
     }
 }
