@@ -92,7 +92,7 @@ find-filter {X} p q (x ∷ xs) = by (p x) (q x) refl refl (find-filter p q xs)
 pub found-inside : {X : Type 0} (p q : X → Bool) (xs : List X) (r : Option X) → r ≡ find (λ x. p x && q x) xs → r ≡ find p (filter q xs)
 found-inside p q xs r e = e ∙ find-filter p q xs
 
-find-map : {X Y : Type 0} (f : X → Y) (p : Y → Bool) (xs : List X) → option_map f (find (λ x. p (f x)) xs) ≡ find p (map f xs)
+pub find-map : {X Y : Type 0} (f : X → Y) (p : Y → Bool) (xs : List X) → option_map f (find (λ x. p (f x)) xs) ≡ find p (map f xs)
 find-map f p [] = refl
 find-map {X} {Y} f p (x ∷ xs) = by (p (f x)) refl (find-map f p xs)
   where

@@ -1,2 +1,5 @@
 pub mod Entries
 pub mod Marks
+pub mod Named
+pub mod DocumentVersions
+pub mod Orders
