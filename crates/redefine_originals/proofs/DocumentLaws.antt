@@ -1,5 +1,5 @@
 -- What stands in an element, one by one, and the versions of a document.
-use Rattle.std.proofs.Common.{◌≡◌, ℕ, ◌+◌, ◌<◌, List, [], ◌∷◌, ◌++◌, length, map, take, get_or, Bool, true, false, Option, None, Some, refl, sym, ap, ◌∙◌}
+use Rattle.std.proofs.Common.{◌≡◌, ℕ, ◌+◌, ◌<◌, List, [], ◌∷◌, ◌++◌, length, map, take, get_or, Bool, true, false, refl, sym, ap, ◌∙◌}
 use Rattle.std.specs.List.{find, filter}
 use Rattle.std.specs.Option.{option_map, option_or}
 use Rattle.std.proofs.lemmas.List.{append-nil, take_more}
@@ -7,7 +7,7 @@ use Rattle.std.proofs.lemmas.List.Elements.{filter-append}
 use Rattle.std.proofs.lemmas.List.Folds.{find-append}
 use Rattle.schema_shape.specs.declared.forms.Shape.{Shape}
 use Rattle.redefine_originals.specs.declared.versions.Redefinable.{Redefinable}
-use Rattle.redefine_originals.specs.Versions.{declares, Child, Version, in_redefine, on_top, at_top, redefining, version_in}
+use Rattle.redefine_originals.specs.Versions.{declares, Version, in_redefine, on_top, at_top, redefining, version_in}
 use Rattle.redefine_originals.specs.declared.versions.Redefinable.TheVariants as kind
 use Rattle.redefine_originals.specs.declared.document_versions.DocumentVersions.{DocumentVersions}
 use Rattle.redefine_originals.specs.inside.DocumentVersions.{all_versions, HasVersions}

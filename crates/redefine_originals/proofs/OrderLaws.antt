@@ -1,5 +1,5 @@
 -- The order in which documents are looked through, one by one.
-use Rattle.std.proofs.Common.{◌≡◌, ℕ, zero, suc, ◌+◌, ◌-◌, ◌<◌, List, [], ◌∷◌, ◌++◌, length, length-append, length-set, set, get_or, Bool, true, false, true≢false, Option, None, Some, refl, sym, ap, ◌∙◌, subst, arith}
+use Rattle.std.proofs.Common.{◌≡◌, ℕ, zero, suc, ◌+◌, ◌-◌, ◌<◌, List, [], ◌∷◌, ◌++◌, length, length-set, set, get_or, Bool, true, false, true≢false, Option, None, Some, refl, sym, ap, ◌∙◌, subst, arith}
 use Rattle.std.specs.Prelude.{All, Contains, reverse, slice_get}
 use Rattle.std.specs.Option.{option_or}
 use Rattle.std.proofs.lemmas.Option.{none-some, same_Some, slice_get-get_or, get_or_from_slice_get, slice_get_read}
@@ -8,7 +8,7 @@ use Rattle.set_closure.specs.Available.{Available}
 use Rattle.set_closure.specs.Order.{IsNumber}
 use Rattle.redefine_originals.specs.declared.versions.Redefinable.{Redefinable}
 use Rattle.redefine_originals.specs.Versions.{Version, shapes_of, shapes_at, version_at, inclusions, Finds, nowhere, again, here, further}
-use Rattle.redefine_originals.specs.inside.Marks.{marked, AreSeen}
+use Rattle.redefine_originals.specs.inside.Marks.{marked}
 use Rattle.redefine_originals.specs.inside.Orders.{IsByNumber, first_of, IsOrder, IsOrdering}
 use Rattle.redefine_originals.proofs.FindsLaws.{one-more, marked-more}
 use Rattle.redefine_originals.proofs.NamedLaws.{or-none, or-assoc}

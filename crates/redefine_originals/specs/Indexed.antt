@@ -1,5 +1,5 @@
 -- What is known of the documents in whose components originals are found.
-use Rattle.std.specs.Prelude.{◌≡◌, ℕ, List}
+use Rattle.std.specs.Prelude.{List}
 use Rattle.set_closure.specs.Available.{Available}
 use Rattle.set_closure.specs.Sourced.{AreSources}
 use Rattle.redefine_originals.specs.Versions.{shapes_at}

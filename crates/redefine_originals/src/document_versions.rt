@@ -85,18 +85,13 @@ fn versions_of(
 
 impl<'a> DocumentVersions<'a> {
     /// The versions that the document of this number has.
-    pub(crate) fn new(
-        alloc: Global,
-        document: u32,
-        shapes: &'a [Shape],
-    ) -> Result<Self, AllocError>
+    pub(crate) fn new(alloc: Global, document: u32, shapes: &'a [Shape]) -> Result<Self, AllocError>
         ensures { IfOk result (inside.HasVersions document shapes.now) }
     {
         let all = versions_of(alloc, document, shapes)?;
         let types = named_versions(alloc, Redefinable::Type, all.as_slice())?;
         let groups = named_versions(alloc, Redefinable::Group, all.as_slice())?;
-        let attribute_groups =
-            named_versions(alloc, Redefinable::AttributeGroup, all.as_slice())?;
+        let attribute_groups = named_versions(alloc, Redefinable::AttributeGroup, all.as_slice())?;
         Ok(DocumentVersions {
             types,
             groups,

@@ -13,11 +13,11 @@ loop-shape-preserved c =
     c.contains.ensures ∙ (c.in_ok-members.ensures c.shape-item.result.item ∙ ap (λ (ms : List ℕ). list_any (λ item. item == c.shape-item.result.item) ms) c.as_slice.ensures) in
     elim c.if-contains.branch [
       | then-contains+in_ok-push w ↦
-      kept-more q c.args.shapes.now c.loop-shape.shape-index c.shape-item.result c.loop-shape-test.true c.shape-item.is
-      (map (λ s. s.now) c.loop-shape.found) (map (λ s. s.now) c.if-contains.found) (sym tested ∙ w.if-contains.true) c.loop-shape.invariant
-      (ap (map (λ (s : Bor Shape). s.now)) (w.found-is ∙ w.in_ok-push.ensures.ok) ∙ map-append (λ (s : Bor Shape). s.now) c.loop-shape.found (_ ∷ []))
+          kept-more q c.args.shapes.now c.loop-shape.shape-index c.shape-item.result c.loop-shape-test.true c.shape-item.is
+          (map (λ s. s.now) c.loop-shape.found) (map (λ s. s.now) c.if-contains.found) (sym tested ∙ w.if-contains.true) c.loop-shape.invariant
+          (ap (map (λ (s : Bor Shape). s.now)) (w.found-is ∙ w.in_ok-push.ensures.ok) ∙ map-append (λ (s : Bor Shape). s.now) c.loop-shape.found (_ ∷ []))
       | else-contains w ↦
-      ap (map (λ (s : Bor Shape). s.now)) w.found-is
-      ∙ left-out q c.args.shapes.now c.loop-shape.shape-index c.shape-item.result c.loop-shape-test.true c.shape-item.is
-      (map (λ s. s.now) c.loop-shape.found) (sym tested ∙ w.if-contains.false) c.loop-shape.invariant
+          ap (map (λ (s : Bor Shape). s.now)) w.found-is
+          ∙ left-out q c.args.shapes.now c.loop-shape.shape-index c.shape-item.result c.loop-shape-test.true c.shape-item.is
+          (map (λ s. s.now) c.loop-shape.found) (sym tested ∙ w.if-contains.false) c.loop-shape.invariant
     ]

@@ -1,4 +1,4 @@
-use Rattle.std.proofs.Common.{◌≡◌, ◌++◌, ◌∷◌, ◌-◌, ◌∙◌, [], ℕ, true, false, refl, ap, arith}
+use Rattle.std.proofs.Common.{◌≡◌, ◌++◌, ◌-◌, ◌∙◌, ℕ, true, false, refl, ap, arith}
 use Rattle.std.specs.Prelude.{reverse}
 use Rattle.std.specs.Global.{Vec}
 use Rattle.set_closure.specs.Order.{IsNumber}

@@ -1,4 +1,4 @@
-use Rattle.std.proofs.Common.{map, ap, ◌∙◌, List, subst}
+use Rattle.std.proofs.Common.{map}
 use Rattle.redefine_originals.specs.inside.Entries.{version_entry}
 use Rattle.redefine_originals.proofs.DocumentLaws.{has-versions}
 use Rattle.redefine_originals.proofs.document_versions.DocumentVersions.new.Goals as goal
