@@ -4,3 +4,4 @@ pub mod VersionLaws
 pub mod NamedLaws
 pub mod DocumentLaws
 pub mod OrderLaws
+pub mod RedefineLaws

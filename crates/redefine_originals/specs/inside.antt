@@ -3,3 +3,5 @@ pub mod Marks
 pub mod Named
 pub mod DocumentVersions
 pub mod Orders
+pub mod Lists
+pub mod Redefines

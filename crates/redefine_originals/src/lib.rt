@@ -6,9 +6,11 @@ mod document_versions;
 mod finding;
 mod index;
 mod inside;
+mod lists;
 mod named;
 mod orders;
 mod originals;
+mod redefines;
 mod versions;
 
 pub use children::{is_member, redefining};
