@@ -6,14 +6,14 @@ use std::collections::HashMap;
 
 /// Lists by numbers, of which most have none.
 #[derive(Drop)]
-pub(crate) struct NumberedLists<T: Drop> {
+pub struct NumberedLists<T: Drop> {
     alloc: Global,
     inner: HashMap<u32, Vec<T>>,
 }
 
 impl<T: Drop> NumberedLists<T> {
     /// No lists.
-    pub(crate) fn new(alloc: Global) -> Self
+    pub fn new(alloc: Global) -> Self
         ensures { (q : ℕ) → listed result q ≡ [] }
     {
         NumberedLists {
@@ -23,7 +23,7 @@ impl<T: Drop> NumberedLists<T> {
     }
 
     /// The list of a number.
-    pub(crate) fn get(&self, number: u32) -> &[T]
+    pub fn get(&self, number: u32) -> &[T]
         ensures { result.now ≡ listed self.now number }
     {
         match self.inner.get(&number) {
@@ -33,7 +33,11 @@ impl<T: Drop> NumberedLists<T> {
     }
 
     /// Puts an item behind the list of a number.
-    pub(crate) fn push(&mut self, number: u32, item: T) -> Result<(), AllocError>
+    ///
+    /// # Errors
+    ///
+    /// `AllocError` is want of memory.
+    pub fn push(&mut self, number: u32, item: T) -> Result<(), AllocError>
         ensures { OnOk result ((q : ℕ) → listed self.new q ≡ listed self.old q ++ (if number == q then item ∷ [] else [])) }
     {
         match self.inner.get_mut(&number) {

@@ -1,11 +1,10 @@
-ghost use Rattle.std.specs.Prelude.{◌≡◌, ◌+◌, ◌≤◌, ◌==◌, ◌&&◌, ℕ, None, Some, length, if◌then◌else◌, IfOk, OnOk};
+ghost use Rattle.std.specs.Prelude.{◌≡◌, ◌+◌, ◌≤◌, ◌==◌, ℕ, None, Some, length, if◌then◌else◌, IfOk, OnOk};
 ghost use Rattle.std.specs.List.{position_from};
 ghost use Rattle.std.specs.Option.{option_or};
-ghost use Rattle.redefine_originals.specs.Order.{same_target};
 ghost use Rattle.set_originals.specs.Originals as spec;
 ghost use Rattle.set_originals.specs.inside.Places as inside;
 
-use redefine_originals::SetDocument;
+use redefine_originals::{NumberedLists, SetDocument};
 use schema_shape::Shape;
 use set_closure::is_same;
 use std::alloc::{AllocError, Global};
@@ -67,19 +66,19 @@ fn document_places(
     Ok(places)
 }
 
-// Whether a document has this number and this target namespace.
-fn is_asked(d: &SetDocument<'_>, target: &Option<Text>, document: u32) -> bool
-    ensures { result ≡ (d.now.number == document && same_target d.now.target target.now) }
-{
-    d.number == document && is_same(d.target.as_ref(), target.as_ref())
+/// A document of a set: its target namespace there, and the places of its elements.
+#[derive(Drop)]
+pub(crate) struct PlacedDocument<'s> {
+    target: &'s Option<Text>,
+    places: DocumentPlaces,
 }
 
 /// The documents of a set, and the places of their elements: document by document, in document order.
 #[derive(Drop)]
 pub(crate) struct SetPlaces<'s, 'a> {
     pub(crate) set: &'s [SetDocument<'a>],
-    // Of each document the places of its elements.
-    documents: Vec<DocumentPlaces>,
+    // By the numbers of documents. One that is in the set with two target namespaces stands twice.
+    documents: NumberedLists<PlacedDocument<'s>>,
 }
 
 impl<'s, 'a> SetPlaces<'s, 'a> {
@@ -92,14 +91,16 @@ impl<'s, 'a> SetPlaces<'s, 'a> {
         ensures places { IfOk result inside.ArePlaces }
         ensures same { IfOk result (λ places. places.set.now ≡ set.now) }
     {
-        let mut documents = Vec::new(alloc);
+        let mut documents = NumberedLists::new(alloc);
         let mut place = 0;
         for d in set {
             let shapes = d.shaped.shapes.as_slice();
             if shapes.len() > (u32::MAX - place) as usize {
                 return Err(AllocError);
             }
-            documents.push(document_places(alloc, place, shapes)?)?;
+            let places = document_places(alloc, place, shapes)?;
+            let target = &d.target;
+            documents.push(d.number, PlacedDocument { target, places })?;
             place += shapes.len() as u32;
         }
         Ok(SetPlaces { set, documents })
@@ -110,9 +111,9 @@ impl<'s, 'a> SetPlaces<'s, 'a> {
         requires { inside.ArePlaces self.now }
         ensures { result ≡ spec.version_place 0 self.now.set.now target.now document item }
     {
-        for (index, d) in self.set.iter().enumerate() {
-            if is_asked(d, target, document) {
-                return self.documents[index].find(item);
+        for d in self.documents.get(document) {
+            if is_same(d.target.as_ref(), target.as_ref()) {
+                return d.places.find(item);
             }
         }
         None

@@ -1,9 +1,10 @@
 use Rattle.std.proofs.Common.{◌≡◌, take}
-use Rattle.set_originals.specs.inside.Places.{HaveFrom, total}
+use Rattle.redefine_originals.specs.inside.Lists.{listed}
+use Rattle.set_originals.specs.inside.Places.{total, ArePlaced}
 use Rattle.set_originals.proofs.places.SetPlaces.new.Given as goal
 
 abbrev pub invariant-loop-d : goal.invariant-loop-d
 invariant-loop-d l = record {
   place : l.place ≡ total (take l.d-index l.set);
-  have : HaveFrom 0 (take l.d-index l.set) l.documents.items;
+  placed : ArePlaced (take l.d-index l.set) (listed l.documents);
 }
