@@ -12,7 +12,7 @@ use Rattle.redefine_originals.specs.Versions.{Version, version_at, inclusions, F
 use Rattle.redefine_originals.specs.inside.Marks.{marked, AreSeen, weight, work, IsLooking}
 
 -- ---- lists
-one-more : (d : ℕ) (xs : List ℕ) → reverse (xs ++ d ∷ []) ≡ d ∷ reverse xs
+pub one-more : (d : ℕ) (xs : List ℕ) → reverse (xs ++ d ∷ []) ≡ d ∷ reverse xs
 one-more d xs = reverse-append xs (d ∷ [])
 
 among-first : (d : ℕ) (xs : List ℕ) → Contains (d ∷ xs) d
@@ -40,7 +40,7 @@ module _ (available : List Available) (of : Redefinable) (name : List ℕ) where
 
 -- ---- marks
 module _ (available : List Available) where
-  marked-more : (d : ℕ) (marks : List Bool) (seen : List ℕ) → IsNumber available d → length marks ≡ length available → AreSeen available marks seen → AreSeen available (set marks (d - 1) true) (d ∷ seen)
+  pub marked-more : (d : ℕ) (marks : List Bool) (seen : List ℕ) → IsNumber available d → length marks ≡ length available → AreSeen available marks seen → AreSeen available (set marks (d - 1) true) (d ∷ seen)
   marked-more d marks seen is len are x number = elim (cases_eq x d) [
     | inl same ↦ (
         let there : d - 1 < length marks = omega (arith, len, is.0, is.1) in

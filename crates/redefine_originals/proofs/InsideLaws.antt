@@ -1,11 +1,11 @@
 -- What stands in an element, and what is found among some.
-use Rattle.std.proofs.Common.{◌≡◌, ℕ, zero, suc, ◌+◌, ◌<◌, ◌==◌, ◌&&◌, ◌⊎◌, inl, inr, List, [], ◌∷◌, ◌++◌, map, drop, length, get_or, Bool, true, false, if◌then◌else◌, Option, None, Some, refl, sym, ap, ◌∙◌, subst, arith}
+use Rattle.std.proofs.Common.{◌≡◌, ℕ, zero, suc, ◌+◌, ◌<◌, ◌==◌, ◌&&◌, ◌⊎◌, inl, inr, List, [], ◌∷◌, map, drop, length, get_or, Bool, true, false, Option, None, Some, refl, sym, ap, ◌∙◌, subst, arith}
 use Rattle.std.specs.Prelude.{Contains, slice_get}
 use Rattle.std.specs.List.{list_any, find, filter, flat_map}
 use Rattle.std.specs.Option.{option_map, option_or}
 use Rattle.std.proofs.lemmas.Bool.{false≢true, eqb-true, eq-eqb}
 use Rattle.std.proofs.lemmas.Option.{none-some, same_Some, slice_get-get_or, slice_get_within, get_or_from_slice_get}
-use Rattle.std.proofs.lemmas.List.{append-nil, append_assoc, drop_more}
+use Rattle.std.proofs.lemmas.List.{drop_more}
 use Rattle.std.proofs.lemmas.List.Folds.{list_any_at, find-append}
 use Rattle.std.proofs.lemmas.List.Elements.{Contains-push, Contains-push_cases, Contains-append_left, Contains-append_right, Contains-append_cases, Contains-get_or}
 use Rattle.schema_shape.specs.declared.forms.Shape.{Shape}
@@ -92,7 +92,7 @@ find-filter {X} p q (x ∷ xs) = by (p x) (q x) refl refl (find-filter p q xs)
 pub found-inside : {X : Type 0} (p q : X → Bool) (xs : List X) (r : Option X) → r ≡ find (λ x. p x && q x) xs → r ≡ find p (filter q xs)
 found-inside p q xs r e = e ∙ find-filter p q xs
 
-find-map : {X Y : Type 0} (f : X → Y) (p : Y → Bool) (xs : List X) → option_map f (find (λ x. p (f x)) xs) ≡ find p (map f xs)
+pub find-map : {X Y : Type 0} (f : X → Y) (p : Y → Bool) (xs : List X) → option_map f (find (λ x. p (f x)) xs) ≡ find p (map f xs)
 find-map f p [] = refl
 find-map {X} {Y} f p (x ∷ xs) = by (p (f x)) refl (find-map f p xs)
   where
@@ -127,13 +127,3 @@ module _ (of : Redefinable) (name : List ℕ) (shapes : List Shape) where
   pub redefining-miss : (i : ℕ) (x : Shape) (r : Option Child) → i < length shapes → x ≡ get_or shapes i x → In (drop i shapes) ≡ r
       → None ≡ find (λ c. declares of name c.shape) (children_at shapes x (redefined x.form)) → In (drop (i + 1) shapes) ≡ r
   redefining-miss i x r h e inv is = ap (λ o. option_or o (In (drop (i + 1) shapes))) is ∙ sym (in-next i x h e) ∙ inv
-
--- one element more of a redefine
-pub inside-more : (location : List ℕ) (q : Shape → Bool) (xs : List Shape) (i : ℕ) (x : Shape) (old new r : List Child) (b : Bool) → i < length xs → x ≡ get_or xs i x
-    → old ++ map (child_of location) (filter q (drop i xs)) ≡ r → b ≡ q x → new ≡ old ++ (if b then child_of location x ∷ [] else []) → new ++ map (child_of location) (filter q (drop (i + 1) xs)) ≡ r
-inside-more location q xs i x old new r b h e inv is grown =
-    ap (λ l. l ++ map (child_of location) (filter q (drop (i + 1) xs))) grown ∙ by b is ∙ ap (λ l. old ++ map (child_of location) (filter q l)) (sym (drop_more xs i x h ∙ ap (λ y. y ∷ drop (i + 1) xs) (sym e))) ∙ inv
-  where
-    by : (b : Bool) → b ≡ q x → (old ++ (if b then child_of location x ∷ [] else [])) ++ map (child_of location) (filter q (drop (i + 1) xs)) ≡ old ++ map (child_of location) (filter q (x ∷ drop (i + 1) xs))
-    by true t = rw (sym t) (append_assoc old (child_of location x ∷ []) (map (child_of location) (filter q (drop (i + 1) xs))))
-    by false f = rw (sym f) (ap (λ l. l ++ map (child_of location) (filter q (drop (i + 1) xs))) (append-nil old))

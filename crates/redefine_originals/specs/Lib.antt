@@ -1,3 +1,4 @@
+pub mod Indexed
 pub mod Versions
 pub mod inside
 pub use Rattle.set_closure.specs.EffectiveSet

@@ -44,7 +44,7 @@ fn put_document(found: &mut Vec<u32>, document: Option<u32>) -> Result<(), Alloc
 }
 
 // The documents that elements include and redefine.
-fn all_included(sources: &Sources<'_>, shapes: &[Shape]) -> Result<Vec<u32>, AllocError>
+pub(crate) fn all_included(sources: &Sources<'_>, shapes: &[Shape]) -> Result<Vec<u32>, AllocError>
     requires sources { AreSources sources.now }
     ensures found { IfOk result (λ found. found.items ≡ filter_map (λ s. option_and_then (document_at sources.now.available.now) (spec.included s.form)) shapes.now) }
 {

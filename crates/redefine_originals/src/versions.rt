@@ -69,7 +69,7 @@ pub fn declared_as(form: &Form) -> Option<Declared<'_>>
 }
 
 // Whether two kinds are the same.
-fn is_same_kind(one: Redefinable, other: Redefinable) -> bool
+pub(crate) fn is_same_kind(one: Redefinable, other: Redefinable) -> bool
     ensures { result ≡ spec.same_kind one other }
 {
     match (one, other) {

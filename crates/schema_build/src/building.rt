@@ -42,7 +42,7 @@ fn first_of_both(
     requires named { AreNamed names.now source.now.reps.now }
     ensures least { IfOk result (IsLeast (spec.IsFault names.now origins.now source.now.reps.now originals.now)) }
 {
-    let shared = first_shared(source.reps, originals);
+    let shared = first_shared(alloc, source.reps, originals)?;
     let broken = first_fault(alloc, names, source, origins)?;
     Ok(sooner(shared, broken))
 }

@@ -1,16 +1,17 @@
-ghost use Rattle.std.specs.Prelude.{◌≡◌, ◌==◌, ◌<◌, ◌^◌, ◌++◌, List, Some, length, map, IfOk, OnOk};
-ghost use Rattle.std.specs.List.{AllZip, find};
-ghost use Rattle.std.specs.Option.{option_map};
+ghost use Rattle.std.specs.Prelude.{◌≡◌, ◌<◌, ◌^◌, ◌++◌, ℕ, List, Some, length, map, IfOk, OnOk};
+ghost use Rattle.std.specs.List.{AllZip};
 ghost use Rattle.redefine_originals.specs.SetDocument.{SetDocument};
-ghost use Rattle.redefine_originals.specs.Sourced.{AreSources};
-ghost use Rattle.redefine_originals.specs.Versions as versions;
+ghost use Rattle.redefine_originals.specs.Indexed.{AreIndexed};
 ghost use Rattle.redefine_originals.specs.inside.Entries.{child_entry};
 ghost use Rattle.schema_shape.specs.declared.forms.Shape.{Shape};
 ghost use Rattle.set_originals.specs.Originals as spec;
+ghost use Rattle.set_originals.specs.inside.Numbered.{child_found};
+ghost use Rattle.set_originals.specs.inside.Places.{ArePlaces};
 
-use crate::places::version_place;
+use crate::numbered::{NumberedChildren, numbered_children};
+use crate::places::SetPlaces;
 use redefine_originals::{
-    Available, Child, SetDocument, Sources, declared_as, original_of, redefining,
+    Available, Child, Originals, SetDocument, Sources, declared_as, redefining,
 };
 use std::alloc::{AllocError, Global};
 use xs_names::Text;
@@ -18,102 +19,106 @@ use xs_names::Text;
 // So many documents have numbers.
 const MOST: usize = 65535;
 
-// The element of this number among those that stand in redefines.
-fn child_of<'a>(children: &[Child<'a>], item: u32) -> Option<Child<'a>>
-    ensures { option_map child_entry result ≡ find (λ c. c.shape.item == item) (map child_entry children.now) }
-{
-    for child in children {
-        if child.shape.item == item {
-            return Some(*child);
-        }
-    }
-    None
-}
-
 // The place of the original of what stands in a redefine.
 fn child_place(
-    sources: &Sources<'_>,
-    set: &[SetDocument<'_>],
+    index: &Originals<'_>,
+    places: &SetPlaces<'_, '_>,
     target: &Option<Text>,
     child: Child<'_>,
 ) -> Result<Option<u32>, AllocError>
-    requires sources { AreSources sources.now }
-    ensures { IfOk result (spec.IsChildPlace sources.now.available.now set.now target.now (Some (child_entry child.entry))) }
+    requires index { AreIndexed index.now }
+    requires places { ArePlaces places.now }
+    ensures { IfOk result (spec.IsChildPlace index.now.sources.available.now places.now.set.now target.now (Some (child_entry child.entry))) }
 {
     let Some(declared) = declared_as(&child.shape.form) else {
         return Ok(None);
     };
     let location = child.location.as_str();
     let name = declared.name.as_str();
-    match original_of(sources, location, declared.kind, name)? {
+    match index.original(location, declared.kind, name)? {
         None => Ok(None),
-        Some(version) => version_place(set, target, version.document, version.shape.item),
+        Some(version) => Ok(places.find(target, version.document, version.shape.item)),
     }
 }
 
 // The place of the original of an element of a document, where it stands in a redefine.
 fn element_place(
-    sources: &Sources<'_>,
-    set: &[SetDocument<'_>],
+    index: &Originals<'_>,
+    places: &SetPlaces<'_, '_>,
     target: &Option<Text>,
-    children: &[Child<'_>],
+    children: &NumberedChildren<'_>,
     item: u32,
 ) -> Result<Option<u32>, AllocError>
-    requires sources { AreSources sources.now }
-    ensures { IfOk result (spec.IsChildPlace sources.now.available.now set.now target.now (find (λ c. c.shape.item == item) (map child_entry children.now))) }
+    requires index { AreIndexed index.now }
+    requires places { ArePlaces places.now }
+    ensures { IfOk result (spec.IsChildPlace index.now.sources.available.now places.now.set.now target.now (child_found children.now item)) }
 {
-    match child_of(children, item) {
+    match children.find(item) {
         None => Ok(None),
-        Some(child) => child_place(sources, set, target, child),
+        Some(child) => child_place(index, places, target, child),
     }
 }
 
 // Puts the places of the originals of the elements of a document behind others.
 fn add_elements(
-    sources: &Sources<'_>,
-    set: &[SetDocument<'_>],
+    index: &Originals<'_>,
+    places: &SetPlaces<'_, '_>,
     document: &SetDocument<'_>,
-    children: &[Child<'_>],
+    children: &NumberedChildren<'_>,
     originals: &mut Vec<Option<u32>>,
 ) -> Result<(), AllocError>
-    requires sources { AreSources sources.now }
-    requires children { map child_entry children.now ≡ versions.redefining (spec.shapes_of document.now) }
-    ensures { OnOk result ((before : List (SetDocument × Shape)) → AllZip (spec.IsOriginalPlace sources.now.available.now set.now) before originals.old.items
-        → AllZip (spec.IsOriginalPlace sources.now.available.now set.now) (before ++ map (λ s. (document.now, s)) (spec.shapes_of document.now)) originals.new.items) }
+    requires index { AreIndexed index.now }
+    requires places { ArePlaces places.now }
+    requires children { (item : ℕ) → child_found children.now item ≡ spec.child_of (spec.shapes_of document.now) item }
+    ensures { OnOk result ((before : List (SetDocument × Shape)) → AllZip (spec.IsOriginalPlace index.now.sources.available.now places.now.set.now) before originals.old.items
+        → AllZip (spec.IsOriginalPlace index.now.sources.available.now places.now.set.now) (before ++ map (λ s. (document.now, s)) (spec.shapes_of document.now)) originals.new.items) }
 {
     for shape in document.shaped.shapes.as_slice() {
-        let place = element_place(sources, set, &document.target, children, shape.item)?;
+        let place = element_place(index, places, &document.target, children, shape.item)?;
         originals.push(place)?;
     }
     Ok(())
 }
 
+// What stands in the redefines of a document, by the numbers of elements.
+fn document_children<'a>(
+    alloc: Global,
+    document: &SetDocument<'a>,
+) -> Result<NumberedChildren<'a>, AllocError>
+    ensures { IfOk result (λ children. (item : ℕ) → child_found children item ≡ spec.child_of (spec.shapes_of document.now) item) }
+{
+    let children = redefining(alloc, document.shaped.shapes.as_slice())?;
+    numbered_children(alloc, children.as_slice())
+}
+
 // The same, where what stands in its redefines is not known yet.
 fn add_document(
-    sources: &Sources<'_>,
-    set: &[SetDocument<'_>],
+    index: &Originals<'_>,
+    places: &SetPlaces<'_, '_>,
     document: &SetDocument<'_>,
     originals: &mut Vec<Option<u32>>,
 ) -> Result<(), AllocError>
-    requires sources { AreSources sources.now }
-    ensures { OnOk result ((before : List (SetDocument × Shape)) → AllZip (spec.IsOriginalPlace sources.now.available.now set.now) before originals.old.items
-        → AllZip (spec.IsOriginalPlace sources.now.available.now set.now) (before ++ map (λ s. (document.now, s)) (spec.shapes_of document.now)) originals.new.items) }
+    requires index { AreIndexed index.now }
+    requires places { ArePlaces places.now }
+    ensures { OnOk result ((before : List (SetDocument × Shape)) → AllZip (spec.IsOriginalPlace index.now.sources.available.now places.now.set.now) before originals.old.items
+        → AllZip (spec.IsOriginalPlace index.now.sources.available.now places.now.set.now) (before ++ map (λ s. (document.now, s)) (spec.shapes_of document.now)) originals.new.items) }
 {
-    let children = redefining(sources.alloc, document.shaped.shapes.as_slice())?;
-    add_elements(sources, set, document, children.as_slice(), originals)
+    let children = document_children(index.sources.alloc, document)?;
+    add_elements(index, places, document, &children, originals)
 }
 
-// The places of the originals of the elements of a set of these documents.
+// The places of the originals of the elements of a set.
 fn originals_of(
-    sources: &Sources<'_>,
-    set: &[SetDocument<'_>],
+    index: &Originals<'_>,
+    places: &SetPlaces<'_, '_>,
 ) -> Result<Vec<Option<u32>>, AllocError>
-    requires sources { AreSources sources.now }
-    ensures { IfOk result (λ originals. spec.AreOriginals sources.now.available.now set.now originals.items) }
+    requires index { AreIndexed index.now }
+    requires places { ArePlaces places.now }
+    ensures { IfOk result (λ originals. spec.AreOriginals index.now.sources.available.now places.now.set.now originals.items) }
 {
-    let mut originals = Vec::new(sources.alloc);
-    for document in set {
-        add_document(sources, set, document, &mut originals)?;
+    let mut originals = Vec::new(index.sources.alloc);
+    for document in places.set {
+        add_document(index, places, document, &mut originals)?;
     }
     Ok(originals)
 }
@@ -137,5 +142,7 @@ pub fn set_originals(
         return Err(AllocError);
     }
     let sources = Sources::new(alloc, available)?;
-    originals_of(&sources, set)
+    let index = Originals::new(sources)?;
+    let places = SetPlaces::new(alloc, set)?;
+    originals_of(&index, &places)
 }

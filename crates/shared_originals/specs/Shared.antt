@@ -1,5 +1,5 @@
 -- Redefining components with one original (Structures 3.15.6, 4.2.2).
-use Rattle.std.specs.Prelude.{◌≡◌, ℕ, ◌<◌, ◌==◌, Bool, true, false, List, Option, None, Some, slice_get, slice_index_or, take}
+use Rattle.std.specs.Prelude.{◌≡◌, ℕ, ◌==◌, Bool, true, false, List, Option, None, Some, slice_get, slice_index_or, take}
 use Rattle.std.specs.List.{list_any}
 use Rattle.xs_codes.specs.declared.code.Code.TheVariants.{SchPropsCorrect2}
 use Rattle.xs_codes.specs.declared.fault.Fault.{Fault}

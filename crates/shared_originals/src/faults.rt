@@ -1,9 +1,12 @@
-ghost use Rattle.std.specs.Prelude.{◌≡◌, ◌≤◌, length, take, if◌then◌else◌, Some, None};
-ghost use Rattle.std.specs.List.{list_any};
+ghost use Rattle.std.specs.Prelude.{◌≡◌, ◌||◌, ℕ, nat_eq, slice_index_or, if◌then◌else◌, Some, None, IfOk, OnOk};
+ghost use Rattle.std.specs.HashSet.{contains};
 ghost use Rattle.xs_faults.specs.Least.{IsLeast};
 ghost use Rattle.shared_originals.specs.Shared as spec;
+ghost use Rattle.shared_originals.specs.inside.Met as inside;
 
 use representations::Representation;
+use std::alloc::{AllocError, Global};
+use std::collections::HashSet;
 use xs_codes::{Code, Fault};
 use xs_components::Place;
 use xs_faults::sooner;
@@ -11,25 +14,27 @@ use xs_faults::sooner;
 // The phase of compiling that looks at names.
 const PHASE: u8 = 3;
 
-// Whether an original is among others.
-fn is_among(originals: &[Option<u32>], original: u32) -> bool
-    ensures { result ≡ list_any (spec.is_original original) originals.now }
-{
-    for other in originals {
-        if *other == Some(original) {
-            return true;
-        }
-    }
-    false
-}
-
-// Whether the original of the component at a place is that of an earlier one.
-fn is_shared(originals: &[Option<u32>], place: usize) -> bool
-    ensures { result ≡ spec.is_shared originals.now place }
+// The original of the component at a place, if it has one.
+fn original_at(originals: &[Option<u32>], place: usize) -> Option<u32>
+    ensures { result ≡ slice_index_or originals.now place None }
 {
     match originals.get(place) {
-        Some(Some(original)) => is_among(&originals[..place], *original),
-        _ => false,
+        Some(original) => *original,
+        None => None,
+    }
+}
+
+// Puts an original to those that were met, and answers whether it was among them.
+fn meet(met: &mut HashSet<u32>, original: Option<u32>) -> Result<bool, AllocError>
+    ensures again { IfOk result (λ again. again ≡ inside.was_met (contains nat_eq met.old) original) }
+    ensures met { OnOk result ((o : ℕ) → contains nat_eq met.new o ≡ (contains nat_eq met.old o || spec.is_original o original)) }
+{
+    match original {
+        None => Ok(false),
+        Some(original) => {
+            let added = met.insert(original)?;
+            Ok(!added)
+        },
     }
 }
 
@@ -51,12 +56,22 @@ fn fault_if(broken: bool, at: Place) -> Option<Fault>
 
 /// The first fault of two redefining components that have one original (Structures 3.15.6): by document, then element. The later of
 /// the two is named. The original of each representation that redefines a component comes by its place.
-pub fn first_shared(reps: &[Representation], originals: &[Option<u32>]) -> Option<Fault>
-    ensures least { IsLeast (spec.IsShared reps.now originals.now) result }
+///
+/// # Errors
+///
+/// `AllocError` is want of memory.
+pub fn first_shared(
+    alloc: Global,
+    reps: &[Representation],
+    originals: &[Option<u32>],
+) -> Result<Option<Fault>, AllocError>
+    ensures least { IfOk result (IsLeast (spec.IsShared reps.now originals.now)) }
 {
+    let mut met = HashSet::new(alloc);
     let mut best = None;
     for (place, rep) in reps.iter().enumerate() {
-        best = sooner(best, fault_if(is_shared(originals, place), rep.at));
+        let shared = meet(&mut met, original_at(originals, place))?;
+        best = sooner(best, fault_if(shared, rep.at));
     }
-    best
+    Ok(best)
 }

@@ -13,6 +13,6 @@ returns c =
     let originals = c.args.originals.now in
     record {
       least = subst (λ (o : Option Fault). IsLeast (IsFault c.args.names.now c.args.origins.now reps originals) o) (sym c.sooner.ensures.sooner)
-          (least-sum (IsShared reps originals) (IsBroken c.args.names.now c.args.origins.now reps) c.first_shared-shared.result c.in_ok-broken.broken
-          c.first_shared-shared.ensures.least c.in_ok-broken.ensures.least);
+          (least-sum (IsShared reps originals) (IsBroken c.args.names.now c.args.origins.now reps) c.in_ok-shared.shared c.in_ok-broken.broken
+          c.in_ok-shared.ensures.least c.in_ok-broken.ensures.least);
     }

@@ -6,5 +6,5 @@ use Rattle.set_originals.specs.Originals.{IsOriginalPlace, shapes_of}
 use Rattle.set_originals.proofs.originals.add_elements.Given as goal
 
 abbrev pub invariant-loop-shape : goal.invariant-loop-shape
-invariant-loop-shape l = (before : List (SetDocument × Shape)) → AllZip (IsOriginalPlace l.sources.available.now l.set) before l.initial.originals.items
-    → AllZip (IsOriginalPlace l.sources.available.now l.set) (before ++ map (λ s. (l.document, s)) (take l.shape-index (shapes_of l.document))) l.originals.items
+invariant-loop-shape l = (before : List (SetDocument × Shape)) → AllZip (IsOriginalPlace l.index.sources.available.now l.places.set.now) before l.initial.originals.items
+    → AllZip (IsOriginalPlace l.index.sources.available.now l.places.set.now) (before ++ map (λ s. (l.document, s)) (take l.shape-index (shapes_of l.document))) l.originals.items
