@@ -2,9 +2,9 @@ ghost use Rattle.std.specs.Prelude.{◌≡◌, ◌<◌, ◌^◌, Contains, map, 
 ghost use Rattle.std.specs.Option.{option_map};
 ghost use Rattle.std.specs.List.Sorted.{IsPermutation};
 ghost use Rattle.xs_faults.specs.Least.{IsLeast};
-ghost use Rattle.set_closure.specs.Sourced.{AreSources};
 ghost use Rattle.set_closure.specs.EffectiveSet.{IsEffectiveSet};
 ghost use Rattle.redefine_originals.specs.Versions as versions;
+ghost use Rattle.redefine_originals.specs.Indexed.{AreIndexed};
 ghost use Rattle.redefine_originals.specs.inside.Entries.{child_entry, version_entry};
 ghost use Rattle.schema_redefine.specs.Redefinitions as spec;
 ghost use Rattle.schema_redefine.specs.inside.Broken as inside;
@@ -12,7 +12,7 @@ ghost use Rattle.schema_redefine.specs.inside.Broken as inside;
 use crate::chains::comes_back;
 use crate::numbered::Numbered;
 use crate::own::own_code;
-use redefine_originals::{Child, Declared, Version, declared_as, original_of, redefining};
+use redefine_originals::{Child, Declared, Originals, Version, declared_as, redefining};
 use set_closure::{Available, SetDocument, Sources};
 use std::alloc::{AllocError, Global};
 use xs_codes::{Code, Fault};
@@ -37,28 +37,28 @@ fn version_of<'a>(document: u32, child: Child<'a>) -> Version<'a>
 
 // The first code that what redefines a component of this kind and name breaks in a document of a set.
 fn declared_code<'a>(
-    sources: &Sources<'a>,
+    originals: &Originals<'a>,
     document: &SetDocument<'a>,
     numbered: &Numbered<'_>,
     child: Child<'a>,
     declared: Declared<'a>,
 ) -> Result<Option<Code>, AllocError>
-    requires sources { AreSources sources.now }
+    requires originals { AreIndexed originals.now }
     requires numbered { IsPermutation document.now.shaped.now.shapes numbered.now }
-    ensures { IfOk result (inside.IsFirstCode (spec.BreaksHere sources.now.available.now document.now.number document.now.shaped.now.shapes document.now.target
+    ensures { IfOk result (inside.IsFirstCode (spec.BreaksHere originals.now.sources.available.now document.now.number document.now.shaped.now.shapes document.now.target
         declared.entry.kind declared.entry.name.now (child_entry child.entry))) }
 {
     let name = declared.name.as_str();
-    let original = original_of(sources, child.location.as_str(), declared.kind, name)?;
+    let original = originals.original(child.location.as_str(), declared.kind, name)?;
     match original {
         None => return Ok(Some(Code::SrcExpredef)),
         Some(_) => {},
     }
-    if comes_back(sources, version_of(document.number, child))? {
+    if comes_back(originals, version_of(document.number, child))? {
         return Ok(Some(Code::XRedefineCircle));
     }
     let own = own_code(
-        sources.alloc,
+        originals.sources.alloc,
         document,
         numbered,
         declared.kind,
@@ -70,19 +70,19 @@ fn declared_code<'a>(
 
 // The first code that what stands in a redefine breaks in a document of a set.
 fn child_code<'a>(
-    sources: &Sources<'a>,
+    originals: &Originals<'a>,
     document: &SetDocument<'a>,
     numbered: &Numbered<'_>,
     child: Child<'a>,
 ) -> Result<Option<Code>, AllocError>
-    requires sources { AreSources sources.now }
+    requires originals { AreIndexed originals.now }
     requires numbered { IsPermutation document.now.shaped.now.shapes numbered.now }
-    ensures { IfOk result (inside.IsFirstCode (inside.IsBroken sources.now.available.now document.now (child_entry child.entry))) }
+    ensures { IfOk result (inside.IsFirstCode (inside.IsBroken originals.now.sources.available.now document.now (child_entry child.entry))) }
 {
     match declared_as(&child.shape.form) {
         None => Ok(None),
         Some(declared) => {
-            let code = declared_code(sources, document, numbered, child, declared)?;
+            let code = declared_code(originals, document, numbered, child, declared)?;
             Ok(code)
         },
     }
@@ -105,33 +105,33 @@ fn fault_of(document: u32, item: u32, code: Option<Code>) -> Option<Fault>
 
 // The first fault of what stands in a redefine.
 fn child_fault<'a>(
-    sources: &Sources<'a>,
+    originals: &Originals<'a>,
     document: &SetDocument<'a>,
     numbered: &Numbered<'_>,
     child: Child<'a>,
 ) -> Result<Option<Fault>, AllocError>
-    requires sources { AreSources sources.now }
+    requires originals { AreIndexed originals.now }
     requires numbered { IsPermutation document.now.shaped.now.shapes numbered.now }
-    ensures { IfOk result (IsLeast (inside.IsChildFault sources.now.available.now document.now (child_entry child.entry))) }
+    ensures { IfOk result (IsLeast (inside.IsChildFault originals.now.sources.available.now document.now (child_entry child.entry))) }
 {
-    let code = child_code(sources, document, numbered, child)?;
+    let code = child_code(originals, document, numbered, child)?;
     Ok(fault_of(document.number, child.shape.item, code))
 }
 
 // The first fault of some of what stands in redefines of a document.
 fn children_fault<'a>(
-    sources: &Sources<'a>,
+    originals: &Originals<'a>,
     document: &SetDocument<'a>,
     numbered: &Numbered<'_>,
     children: &[Child<'a>],
 ) -> Result<Option<Fault>, AllocError>
-    requires sources { AreSources sources.now }
+    requires originals { AreIndexed originals.now }
     requires numbered { IsPermutation document.now.shaped.now.shapes numbered.now }
-    ensures { IfOk result (IsLeast (inside.IsOneOf (inside.IsChildFault sources.now.available.now document.now) (map child_entry children.now))) }
+    ensures { IfOk result (IsLeast (inside.IsOneOf (inside.IsChildFault originals.now.sources.available.now document.now) (map child_entry children.now))) }
 {
     let mut first = None;
     for child in children {
-        let found = child_fault(sources, document, numbered, *child)?;
+        let found = child_fault(originals, document, numbered, *child)?;
         first = sooner(first, found);
     }
     Ok(first)
@@ -139,30 +139,30 @@ fn children_fault<'a>(
 
 // The first fault of what stands in redefines of a document.
 fn document_fault<'a>(
-    sources: &Sources<'a>,
+    originals: &Originals<'a>,
     document: &SetDocument<'a>,
 ) -> Result<Option<Fault>, AllocError>
-    requires sources { AreSources sources.now }
-    ensures { IfOk result (IsLeast (inside.IsDocumentFault sources.now.available.now document.now)) }
+    requires originals { AreIndexed originals.now }
+    ensures { IfOk result (IsLeast (inside.IsDocumentFault originals.now.sources.available.now document.now)) }
 {
     let shapes = document.shaped.shapes.as_slice();
-    let children = redefining(sources.alloc, shapes)?;
-    let numbered = Numbered::new(sources.alloc, shapes)?;
-    let first = children_fault(sources, document, &numbered, children.as_slice())?;
+    let children = redefining(originals.sources.alloc, shapes)?;
+    let numbered = Numbered::new(originals.sources.alloc, shapes)?;
+    let first = children_fault(originals, document, &numbered, children.as_slice())?;
     Ok(first)
 }
 
 // The first fault of what stands in redefines of the documents of a set.
 fn set_fault<'a>(
-    sources: &Sources<'a>,
+    originals: &Originals<'a>,
     set: &[SetDocument<'a>],
 ) -> Result<Option<Fault>, AllocError>
-    requires sources { AreSources sources.now }
-    ensures { IfOk result (IsLeast (inside.IsSetFault sources.now.available.now set.now)) }
+    requires originals { AreIndexed originals.now }
+    ensures { IfOk result (IsLeast (inside.IsSetFault originals.now.sources.available.now set.now)) }
 {
     let mut first = None;
     for document in set {
-        let found = document_fault(sources, document)?;
+        let found = document_fault(originals, document)?;
         first = sooner(first, found);
     }
     Ok(first)
@@ -187,6 +187,7 @@ pub fn first_redefine_fault<'a>(
         return Err(AllocError);
     }
     let sources = Sources::new(alloc, available)?;
-    let first = set_fault(&sources, set)?;
+    let originals = Originals::new(sources)?;
+    let first = set_fault(&originals, set)?;
     Ok(first)
 }

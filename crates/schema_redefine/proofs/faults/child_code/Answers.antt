@@ -3,4 +3,4 @@ use Rattle.schema_redefine.proofs.FaultLaws.{undeclared}
 use Rattle.schema_redefine.proofs.faults.child_code.Goals as goal
 
 pub returns-in-None : goal.returns-in-None
-returns-in-None c = undeclared c.args.sources.now.available.now c.args.document.now (child_entry c.args.child) c.in-None.ensures
+returns-in-None c = undeclared c.args.originals.now.sources.available.now c.args.document.now (child_entry c.args.child) c.in-None.ensures

@@ -7,5 +7,5 @@ use Rattle.schema_redefine.proofs.faults.child_fault.Goals as goal
 
 pub returns : goal.returns
 returns c =
-    subst (IsLeast (IsChildFault c.args.sources.now.available.now c.args.document.now (child_entry c.args.child))) (sym c.fault_of.ensures)
-    (child-least c.args.sources.now.available.now c.args.document.now (child_entry c.args.child) c.in_ok-code.code c.in_ok-code.ensures)
+    subst (IsLeast (IsChildFault c.args.originals.now.sources.available.now c.args.document.now (child_entry c.args.child))) (sym c.fault_of.ensures)
+    (child-least c.args.originals.now.sources.available.now c.args.document.now (child_entry c.args.child) c.in_ok-code.code c.in_ok-code.ensures)

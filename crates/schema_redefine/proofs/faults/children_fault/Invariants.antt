@@ -5,4 +5,4 @@ use Rattle.schema_redefine.specs.inside.Broken.{IsChildFault, IsOneOf}
 use Rattle.schema_redefine.proofs.faults.children_fault.Given as goal
 
 abbrev pub invariant-loop-child : goal.invariant-loop-child
-invariant-loop-child l = IsLeast (IsOneOf (IsChildFault l.sources.available.now l.document) (take l.child-index (map child_entry l.children))) l.first
+invariant-loop-child l = IsLeast (IsOneOf (IsChildFault l.originals.sources.available.now l.document) (take l.child-index (map child_entry l.children))) l.first

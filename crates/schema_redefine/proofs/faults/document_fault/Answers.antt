@@ -7,5 +7,5 @@ use Rattle.schema_redefine.proofs.faults.document_fault.Goals as goal
 
 pub returns : goal.returns
 returns c =
-    subst (λ l. IsLeast (IsOneOf (IsChildFault c.args.sources.now.available.now c.args.document.now) l) c.in_ok-first.first)
+    subst (λ l. IsLeast (IsOneOf (IsChildFault c.args.originals.now.sources.available.now c.args.document.now) l) c.in_ok-first.first)
     (ap (map child_entry) c.as_slice.ensures ∙ c.in_ok-children.ensures ∙ ap redefining c.as_slice-shapes.ensures) c.in_ok-first.ensures
