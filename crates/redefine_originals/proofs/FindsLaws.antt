@@ -55,7 +55,7 @@ module _ (available : List Available) where
         )
   ]
 
-  weight-less : (n k : ℕ) (marks : List Bool) → k < length marks → get_or marks k false ≡ false → weight available n (set marks k true) + length (inclusions available (n + k)) ≡ weight available n marks
+  pub weight-less : (n k : ℕ) (marks : List Bool) → k < length marks → get_or marks k false ≡ false → weight available n (set marks k true) + length (inclusions available (n + k)) ≡ weight available n marks
   weight-less n k [] h e = absurd (omega (arith, h))
   weight-less n zero (true ∷ marks) h e = absurd (true≢false e)
   weight-less n zero (false ∷ marks) h e =

@@ -5,3 +5,4 @@ pub mod NamedLaws
 pub mod DocumentLaws
 pub mod OrderLaws
 pub mod RedefineLaws
+pub mod FirstsLaws

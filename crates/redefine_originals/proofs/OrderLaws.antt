@@ -9,8 +9,9 @@ use Rattle.set_closure.specs.Order.{IsNumber}
 use Rattle.redefine_originals.specs.declared.versions.Redefinable.{Redefinable}
 use Rattle.redefine_originals.specs.Versions.{Version, shapes_of, shapes_at, version_at, inclusions, Finds, nowhere, again, here, further}
 use Rattle.redefine_originals.specs.inside.Marks.{marked}
-use Rattle.redefine_originals.specs.inside.Orders.{IsByNumber, first_of, IsOrder, IsOrdering}
+use Rattle.redefine_originals.specs.inside.Orders.{IsByNumber, firsts, first_of, IsOrder, IsOrdering}
 use Rattle.redefine_originals.proofs.FindsLaws.{one-more, marked-more}
+use Rattle.redefine_originals.proofs.FirstsLaws.{firsts-all, firsts-find}
 use Rattle.redefine_originals.proofs.NamedLaws.{or-none, or-assoc}
 
 -- ---- what there is for each document
@@ -100,12 +101,12 @@ module _ (available : List Available) where
       found-on free of name found None e f = further d (reverse left) l.seen found (new-one free) e f
       found-on free of name found (Some v) e f = here d (reverse left) l.seen v (new-one free) e
 
-      pub ordering-further : (new longer : List ℕ) → marked marks d ≡ false → All (IsNumber available) (inclusions available d) → reverse new ≡ inclusions available d ++ reverse left → longer ≡ order ++ d ∷ []
+      pub ordering-further : (new longer : List ℕ) → marked marks d ≡ false → All (IsNumber available) (inclusions available d) → reverse new ≡ firsts [] (inclusions available d) ++ reverse left → longer ≡ order ++ d ∷ []
           → IsOrdering available start (set marks (d - 1) true) new longer
       ordering-further new longer free numbers e put = record {
         seen = d ∷ l.seen;
         len = length-set marks (d - 1) true ∙ l.len;
-        numbers = subst (All (IsNumber available)) (sym e) (All-append (IsNumber available) (inclusions available d) (reverse left) numbers left-numbers);
+        numbers = subst (All (IsNumber available)) (sym e) (All-append (IsNumber available) (firsts [] (inclusions available d)) (reverse left) (firsts-all (IsNumber available) [] (inclusions available d) numbers) left-numbers);
         ordered = subst (All (IsNumber available)) (sym put) (All-append (IsNumber available) order (d ∷ []) l.ordered (All-cons (IsNumber available) d [] next-number (All-nil (IsNumber available))));
         are = marked-more available d marks l.seen next-number l.len l.are;
         leads = λ of name found f.
@@ -114,7 +115,7 @@ module _ (available : List Available) where
             let same : option_or so_far (option_or own found) ≡ option_or (first_of available of name longer) found =
             sym (or-assoc so_far own found) ∙ ap (λ o. option_or o found) (sym (ap (first_of available of name) put ∙ first-push of name order d)) in
             subst (Finds available of name (start ∷ []) []) same
-            (onward of name (option_or own found) (found-on free of name found own refl (subst (λ ds. Finds available of name ds (d ∷ l.seen) found) e f)));
+            (onward of name (option_or own found) (found-on free of name found own refl (firsts-find available of name (inclusions available d) (reverse left) (d ∷ l.seen) found (subst (λ ds. Finds available of name ds (d ∷ l.seen) found) e f))));
       }
 
     pub ordering-ended : (marks : List Bool) (left order : List ℕ) → length left ≡ 0 → IsOrdering available start marks left order → IsOrder available start order

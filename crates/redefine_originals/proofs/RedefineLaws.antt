@@ -3,6 +3,7 @@ use Rattle.std.proofs.Common.{◌≡◌, ℕ, zero, suc, ◌+◌, ◌<◌, ◌==
 use Rattle.std.specs.Prelude.{slice_get, filter_map}
 use Rattle.std.specs.List.{filter, flat_map}
 use Rattle.std.proofs.lemmas.Bool.{eqb-true, eq-eqb}
+use Rattle.std.proofs.lemmas.Grind.{flat_map-append}
 use Rattle.std.proofs.lemmas.Option.{none-some, same_Some}
 use Rattle.std.proofs.lemmas.List.{append-nil, append_assoc, take_more, map-append, length-map, length-take-le}
 use Rattle.std.proofs.lemmas.List.Elements.{filter-append}
@@ -66,6 +67,12 @@ numbers-more {D} entry item rs i r number now new h is e step so_far =
     ∙ sym (ap (owner_numbers item 0) more ∙ numbers-push item 0 (map entry (take i rs)) (entry r))
 
 -- ---- what stands in a redefine
+-- one element more
+pub flat-more : {A B : Type 0} (f : A → List B) (xs : List A) (i : ℕ) (x : A) (old new : List B) → i < length xs → x ≡ get_or xs i x → new ≡ old ++ f x → old ≡ flat_map f (take i xs) → new ≡ flat_map f (take (i + 1) xs)
+flat-more {A} f xs i x old new h is put so_far =
+    put ∙ ap (λ l. l ++ f x) so_far
+    ∙ sym (ap (flat_map f) (take_more xs i x h ∙ ap (λ (y : A). take i xs ++ y ∷ []) (sym is)) ∙ (flat_map-append f (take i xs) (x ∷ []) ∙ ap (λ l. flat_map f (take i xs) ++ l) (append-nil (f x))))
+
 equal-not : (a b : ℕ) → a < b → (b == a) ≡ false
 equal-not a b h = by (b == a) refl
   where

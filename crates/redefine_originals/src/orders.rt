@@ -1,4 +1,4 @@
-ghost use Rattle.std.specs.Prelude.{◌≡◌, ◌++◌, ◌∷◌, [], length, reverse, IfOk, OnOk};
+ghost use Rattle.std.specs.Prelude.{◌≡◌, ◌++◌, ◌∷◌, [], length, reverse, if◌then◌else◌, IfOk, OnOk};
 ghost use Rattle.set_closure.specs.Order.{IsNumber};
 ghost use Rattle.set_closure.specs.Sourced.{AreSources};
 ghost use Rattle.redefine_originals.specs.Versions as spec;
@@ -7,8 +7,32 @@ ghost use Rattle.redefine_originals.specs.inside.Orders as inside;
 use crate::originals::all_included;
 use set_closure::{Available, Sources};
 use std::alloc::{AllocError, Global};
+use std::collections::HashSet;
 
-// The documents that each document includes and redefines.
+// Puts a document to others, if that is wanted.
+fn push_if(wanted: bool, document: u32, found: &mut Vec<u32>) -> Result<(), AllocError>
+    ensures { OnOk result (found.new.items ≡ found.old.items ++ (if wanted then document ∷ [] else [])) }
+{
+    if wanted {
+        found.push(document)?;
+    }
+    Ok(())
+}
+
+// The same documents, each once, where it stands first.
+fn firsts(alloc: Global, documents: &[u32]) -> Result<Vec<u32>, AllocError>
+    ensures { IfOk result (λ found. found.items ≡ inside.firsts [] documents.now) }
+{
+    let mut noted = HashSet::new(alloc);
+    let mut found = Vec::new(alloc);
+    for document in documents {
+        let is_new = noted.insert(*document)?;
+        push_if(is_new, *document, &mut found)?;
+    }
+    Ok(found)
+}
+
+// The documents that each document includes and redefines, each once.
 fn all_inclusions(sources: &Sources<'_>) -> Result<Vec<Vec<u32>>, AllocError>
     requires sources { AreSources sources.now }
     ensures { IfOk result (λ inclusions. inside.AreInclusions sources.now.available.now inclusions.items) }
@@ -16,7 +40,8 @@ fn all_inclusions(sources: &Sources<'_>) -> Result<Vec<Vec<u32>>, AllocError>
     let mut inclusions = Vec::new(sources.alloc);
     for document in sources.available {
         let found = all_included(sources, document.shaped.shapes.as_slice())?;
-        inclusions.push(found)?;
+        let once = firsts(sources.alloc, found.as_slice())?;
+        inclusions.push(once)?;
     }
     Ok(inclusions)
 }

@@ -1,5 +1,6 @@
 -- In which order documents are looked through, as the code has it.
-use Rattle.std.specs.Prelude.{◌≡◌, ℕ, ◌+◌, List, [], ◌∷◌, Bool, Option, None, Some, All, length, reverse, slice_get}
+use Rattle.std.specs.Prelude.{◌≡◌, ℕ, ◌+◌, ◌==◌, ◌++◌, if◌then◌else◌, List, [], ◌∷◌, Bool, Option, None, Some, All, length, reverse, slice_get}
+use Rattle.std.specs.List.{list_any}
 use Rattle.std.specs.Option.{option_or}
 use Rattle.std.specs.Global.{Vec}
 use Rattle.set_closure.specs.Available.{Available}
@@ -13,8 +14,13 @@ pub record IsByNumber {X : Type 0} (Holds : ℕ → X → Type 0) (available : L
   pub len : length xs ≡ length available
   pub each : (place : ℕ) (x : X) → slice_get xs place ≡ Some x → Holds (place + 1) x
 
+-- of documents each once, where it stands first, but for those that stand before
+abbrev pub firsts : List ℕ → List ℕ → List ℕ
+firsts before [] = []
+firsts before (document ∷ documents) = (if list_any (λ other. other == document) before then [] else document ∷ []) ++ firsts (before ++ document ∷ []) documents
+
 abbrev pub AreInclusions : List Available → List (Vec ℕ) → Type 0
-AreInclusions available = IsByNumber (λ number found. found.items ≡ inclusions available number) available
+AreInclusions available = IsByNumber (λ number found. found.items ≡ firsts [] (inclusions available number)) available
 
 -- the first version of a component in documents that are looked through in this order
 abbrev pub first_of : List Available → Redefinable → List ℕ → List ℕ → Option Version
