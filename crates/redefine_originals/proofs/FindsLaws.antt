@@ -1,15 +1,15 @@
 -- Looking through documents, depth first and each once.
-use Rattle.std.proofs.Common.{◌≡◌, ℕ, zero, suc, ◌+◌, ◌-◌, ◌<◌, ◌⊎◌, inl, inr, List, [], ◌∷◌, ◌++◌, length, length-append, length-set, set, get_or, Bool, true, false, true≢false, Option, None, Some, refl, sym, ap, ◌∙◌, subst, arith}
-use Rattle.std.specs.Prelude.{All, Contains, reverse}
+use Rattle.std.proofs.Common.{◌≡◌, ℕ, zero, suc, ◌+◌, ◌-◌, ◌<◌, ◌⊎◌, inl, inr, List, [], ◌∷◌, ◌++◌, length, set, get_or, Bool, true, false, true≢false, Option, refl, sym, ap, ◌∙◌, subst, arith}
+use Rattle.std.specs.Prelude.{Contains, reverse}
 use Rattle.std.proofs.lemmas.Bool.{cases_eq}
-use Rattle.std.proofs.lemmas.Option.{none-some, slice_get-get_or, get_or_from_slice_get}
-use Rattle.std.proofs.lemmas.List.{get_or-set_same, get_or-set_other, reverse-append, length-reverse}
-use Rattle.std.proofs.lemmas.List.Elements.{All-cons, All-nil, All-head, All-tail, All-append, Contains-push, Contains-push_cases, Contains-append_left, Contains-append_right, Contains-append_cases}
+use Rattle.std.proofs.lemmas.Option.{none-some}
+use Rattle.std.proofs.lemmas.List.{get_or-set_same, get_or-set_other, reverse-append}
+use Rattle.std.proofs.lemmas.List.Elements.{Contains-push, Contains-push_cases, Contains-append_left, Contains-append_right, Contains-append_cases}
 use Rattle.set_closure.specs.Available.{Available}
 use Rattle.set_closure.specs.Order.{IsNumber}
 use Rattle.redefine_originals.specs.declared.versions.Redefinable.{Redefinable}
-use Rattle.redefine_originals.specs.Versions.{Version, version_at, inclusions, Finds, nowhere, again, here, further}
-use Rattle.redefine_originals.specs.inside.Marks.{marked, AreSeen, weight, work, IsLooking}
+use Rattle.redefine_originals.specs.Versions.{Version, inclusions, Finds, nowhere, again, here, further}
+use Rattle.redefine_originals.specs.inside.Marks.{marked, AreSeen, weight}
 
 -- ---- lists
 pub one-more : (d : ℕ) (xs : List ℕ) → reverse (xs ++ d ∷ []) ≡ d ∷ reverse xs
@@ -67,75 +67,3 @@ module _ (available : List Available) where
       let same : n + 1 + k ≡ n + suc k = omega arith in
       let count : length (inclusions available (n + 1 + k)) ≡ length (inclusions available (n + suc k)) = ap (λ i. length (inclusions available i)) same in
       omega (arith, rest, count)
-
-  pub work-less : (d : ℕ) (marks : List Bool) (left new : List ℕ) → IsNumber available d → length marks ≡ length available → marked marks d ≡ false → reverse new ≡ inclusions available d ++ reverse left
-      → work available (set marks (d - 1) true) new < work available marks (left ++ d ∷ [])
-  work-less d marks left new is len free e =
-      let there : d - 1 < length marks = omega (arith, len, is.0, is.1) in
-      let weighs = weight-less 1 (d - 1) marks there free in
-      let same : 1 + (d - 1) ≡ d = omega (arith, is.0) in
-      let count : length (inclusions available (1 + (d - 1))) ≡ length (inclusions available d) = ap (λ i. length (inclusions available i)) same in
-      let lengths : length (reverse new) ≡ length (inclusions available d ++ reverse left) = ap length e in
-      let a = length-reverse new in let b = length-reverse left in let c = length-append (inclusions available d) (reverse left) in
-      let more = length-append left (d ∷ []) in
-      omega (arith, weighs, count, lengths, a, b, c, more)
-
-  pub work-again : (d : ℕ) (marks : List Bool) (left : List ℕ) → work available marks left < work available marks (left ++ d ∷ [])
-  work-again d marks left = let more = length-append left (d ∷ []) in omega (arith, more)
-
-  -- ---- one document after the other
-  module _ (of : Redefinable) (name : List ℕ) (start : ℕ) where
-    pub looking-begun : (marks : List Bool) (left : List ℕ) → ((d : ℕ) → marked marks d ≡ false) → length marks ≡ length available → IsNumber available start → left ≡ [] ++ start ∷ [] → IsLooking available of name start marks left
-    looking-begun marks left none len is e = record {
-      seen = [];
-      len = len;
-      numbers = subst (λ l. All (IsNumber available) (reverse l)) (sym e) (All-cons (IsNumber available) start [] is (All-nil (IsNumber available)));
-      are = λ d number. (λ m. absurd (true≢false (sym m ∙ none d)), λ c. absurd (omega (arith, c.1)));
-      leads = λ found f. subst (λ l. Finds available of name (reverse l) [] found) e f;
-    }
-
-    module _ (d : ℕ) (marks : List Bool) (left : List ℕ) (l : IsLooking available of name start marks (left ++ d ∷ [])) where
-      pub next-number : IsNumber available d
-      next-number = All-head (IsNumber available) d (reverse left) (subst (All (IsNumber available)) (one-more d left) l.numbers)
-
-      -- the mark of the next, as it is read
-      pub mark-read : (v b : Bool) → v ≡ get_or marks (d - 1) v → v ≡ b → marked marks d ≡ b
-      mark-read v b e is =
-          let n = next-number in let len = l.len in
-          let there : d - 1 < length marks = omega (arith, n.0, n.1, len) in
-          get_or_from_slice_get marks (d - 1) (get_or marks (d - 1) v) false (slice_get-get_or marks (d - 1) v there) ∙ sym e ∙ is
-
-      left-numbers : All (IsNumber available) (reverse left)
-      left-numbers = All-tail (IsNumber available) d (reverse left) (subst (All (IsNumber available)) (one-more d left) l.numbers)
-
-      onward : (found : Option Version) → Finds available of name (d ∷ reverse left) l.seen found → Finds available of name (start ∷ []) [] found
-      onward found f = l.leads found (subst (λ ds. Finds available of name ds l.seen found) (sym (one-more d left)) f)
-
-      new-one : marked marks d ≡ false → Contains l.seen d → ⊥
-      new-one free c = true≢false (sym ((l.are d next-number).1 c) ∙ free)
-
-      pub looking-again : marked marks d ≡ true → IsLooking available of name start marks left
-      looking-again m = record {
-        seen = l.seen;
-        len = l.len;
-        numbers = left-numbers;
-        are = l.are;
-        leads = λ found f. onward found (again d (reverse left) l.seen found ((l.are d next-number).0 m) f);
-      }
-
-      pub looking-here : (v : Version) → marked marks d ≡ false → version_at available of name d ≡ Some v → Finds available of name (start ∷ []) [] (Some v)
-      looking-here v free e = onward (Some v) (here d (reverse left) l.seen v (new-one free) e)
-
-      pub looking-further : (new : List ℕ) → marked marks d ≡ false → version_at available of name d ≡ None → All (IsNumber available) (inclusions available d) → reverse new ≡ inclusions available d ++ reverse left
-          → IsLooking available of name start (set marks (d - 1) true) new
-      looking-further new free none numbers e = record {
-        seen = d ∷ l.seen;
-        len = length-set marks (d - 1) true ∙ l.len;
-        numbers = subst (All (IsNumber available)) (sym e) (All-append (IsNumber available) (inclusions available d) (reverse left) numbers left-numbers);
-        are = marked-more d marks l.seen next-number l.len l.are;
-        leads = λ found f. onward found (further d (reverse left) l.seen found (new-one free) none (subst (λ ds. Finds available of name ds (d ∷ l.seen) found) e f));
-      }
-
-    pub looking-ended : (marks : List Bool) (left : List ℕ) → length left ≡ 0 → IsLooking available of name start marks left → Finds available of name (start ∷ []) [] None
-    looking-ended marks [] e l = l.leads None (nowhere l.seen)
-    looking-ended marks (d ∷ left) e l = absurd (omega (arith, e))

@@ -1,16 +1,14 @@
 -- What stands in an element, and what is found among some.
-use Rattle.std.proofs.Common.{◌≡◌, ℕ, zero, suc, ◌+◌, ◌<◌, ◌==◌, ◌&&◌, ◌⊎◌, inl, inr, List, [], ◌∷◌, map, drop, length, get_or, Bool, true, false, Option, None, Some, refl, sym, ap, ◌∙◌, subst, arith}
-use Rattle.std.specs.Prelude.{Contains, slice_get}
-use Rattle.std.specs.List.{list_any, find, filter, flat_map}
-use Rattle.std.specs.Option.{option_map, option_or}
+use Rattle.std.proofs.Common.{◌≡◌, ℕ, zero, suc, ◌<◌, ◌==◌, ◌⊎◌, inl, inr, List, [], ◌∷◌, map, length, get_or, Bool, true, false, Some, refl, sym, subst, arith}
+use Rattle.std.specs.Prelude.{Contains}
+use Rattle.std.specs.List.{list_any, find, filter}
+use Rattle.std.specs.Option.{option_map}
 use Rattle.std.proofs.lemmas.Bool.{false≢true, eqb-true, eq-eqb}
-use Rattle.std.proofs.lemmas.Option.{none-some, same_Some, slice_get-get_or, slice_get_within, get_or_from_slice_get}
-use Rattle.std.proofs.lemmas.List.{drop_more}
-use Rattle.std.proofs.lemmas.List.Folds.{list_any_at, find-append}
-use Rattle.std.proofs.lemmas.List.Elements.{Contains-push, Contains-push_cases, Contains-append_left, Contains-append_right, Contains-append_cases, Contains-get_or}
+use Rattle.std.proofs.lemmas.Option.{none-some, same_Some}
+use Rattle.std.proofs.lemmas.List.Folds.{list_any_at}
+use Rattle.std.proofs.lemmas.List.Elements.{Contains-push, Contains-push_cases, Contains-append_left, Contains-append_right, Contains-append_cases}
 use Rattle.schema_shape.specs.declared.forms.Shape.{Shape}
-use Rattle.redefine_originals.specs.declared.versions.Redefinable.{Redefinable}
-use Rattle.redefine_originals.specs.Versions.{declares, inside, Child, redefined, children_at}
+use Rattle.redefine_originals.specs.Versions.{inside}
 
 pub contains-first : {X : Type 0} (x : X) (xs : List X) → Contains (x ∷ xs) x
 contains-first x xs = Contains-append_left (x ∷ []) xs x (Contains-push [] x)
@@ -23,13 +21,6 @@ contains-cases x y xs c = elim (Contains-append_cases (x ∷ []) xs y c) [
   | inl one ↦ elim (Contains-push_cases [] x y one) [ inl none ↦ absurd (omega (arith, none.1)) | inr same ↦ inl same ]
   | inr more ↦ inr more
 ]
-
--- a place of what a list has
-pub place-of : {X : Type 0} (xs : List X) (x : X) → Contains xs x → (k : ℕ) × (slice_get xs k ≡ Some x)
-place-of xs x c = (c.0, slice_get-get_or xs c.0 x c.1 ∙ ap (λ y. Some y) c.2)
-
-pub at-place : {X : Type 0} (xs : List X) (k : ℕ) (x : X) → slice_get xs k ≡ Some x → Contains xs x
-at-place xs k x e = subst (Contains xs) (get_or_from_slice_get xs k x x e) (Contains-get_or xs k x (slice_get_within xs k x e))
 
 pub filter-from : {X : Type 0} (p : X → Bool) (xs : List X) (x : X) → Contains (filter p xs) x → Contains xs x × (p x ≡ true)
 filter-from p [] x c = absurd (omega (arith, c.1))
@@ -79,19 +70,6 @@ find-true {X} p (y ∷ xs) x e = by (p y) refl (find-true p xs x)
     by true t rest = let here : Some y ≡ Some x = rw t at e in subst (λ z. p z ≡ true) (same_Some y x here) t
     by false t rest = rest (rw t at e)
 
-find-filter : {X : Type 0} (p q : X → Bool) (xs : List X) → find (λ x. p x && q x) xs ≡ find p (filter q xs)
-find-filter p q [] = refl
-find-filter {X} p q (x ∷ xs) = by (p x) (q x) refl refl (find-filter p q xs)
-  where
-    by : (a b : Bool) → p x ≡ a → q x ≡ b → find (λ x. p x && q x) xs ≡ find p (filter q xs) → find (λ x. p x && q x) (x ∷ xs) ≡ find p (filter q (x ∷ xs))
-    by true true e f rest = rw (e, f) (rw e refl)
-    by true false e f rest = rw (e, f) rest
-    by false true e f rest = rw (e, f) (rw e rest)
-    by false false e f rest = rw (e, f) rest
-
-pub found-inside : {X : Type 0} (p q : X → Bool) (xs : List X) (r : Option X) → r ≡ find (λ x. p x && q x) xs → r ≡ find p (filter q xs)
-found-inside p q xs r e = e ∙ find-filter p q xs
-
 pub find-map : {X Y : Type 0} (f : X → Y) (p : Y → Bool) (xs : List X) → option_map f (find (λ x. p (f x)) xs) ≡ find p (map f xs)
 find-map f p [] = refl
 find-map {X} {Y} f p (x ∷ xs) = by (p (f x)) refl (find-map f p xs)
@@ -99,31 +77,3 @@ find-map {X} {Y} f p (x ∷ xs) = by (p (f x)) refl (find-map f p xs)
     by : (b : Bool) → p (f x) ≡ b → option_map f (find (λ x. p (f x)) xs) ≡ find p (map f xs) → option_map f (find (λ x. p (f x)) (x ∷ xs)) ≡ find p (map f (x ∷ xs))
     by true e rest = rw e refl
     by false e rest = rw e rest
-
-abbrev child_of : List ℕ → Shape → Child
-child_of location s = record { location = location; shape = s }
-
-module _ (of : Redefinable) (name : List ℕ) (shapes : List Shape) where
-  -- what is found in an element that is a redefine
-  pub child-found : (parent : Shape) (location : List ℕ) (o : Option (List ℕ)) (r : Option Shape) → Some location ≡ o → r ≡ find (declares of name) (inside shapes parent)
-      → option_map (child_of location) r ≡ find (λ c. declares of name c.shape) (children_at shapes parent o)
-  child-found parent location o r e f =
-      subst (λ q. option_map (child_of location) r ≡ find (λ c. declares of name c.shape) (children_at shapes parent q)) e
-      (ap (option_map (child_of location)) f ∙ find-map (child_of location) (λ c. declares of name c.shape) (inside shapes parent))
-
-  abbrev In : List Shape → Option Child
-  In xs = find (λ c. declares of name c.shape) (flat_map (λ s. children_at shapes s (redefined s.form)) xs)
-
-  in-next : (i : ℕ) (x : Shape) → i < length shapes → x ≡ get_or shapes i x
-      → In (drop i shapes) ≡ option_or (find (λ c. declares of name c.shape) (children_at shapes x (redefined x.form))) (In (drop (i + 1) shapes))
-  in-next i x h e =
-      ap In (drop_more shapes i x h ∙ ap (λ y. y ∷ drop (i + 1) shapes) (sym e))
-      ∙ find-append (λ (c : Child). declares of name c.shape) (children_at shapes x (redefined x.form)) (flat_map (λ s. children_at shapes s (redefined s.form)) (drop (i + 1) shapes))
-
-  pub redefining-hit : (i : ℕ) (x : Shape) (c : Child) (r : Option Child) → i < length shapes → x ≡ get_or shapes i x → In (drop i shapes) ≡ r
-      → Some c ≡ find (λ c. declares of name c.shape) (children_at shapes x (redefined x.form)) → Some c ≡ r
-  redefining-hit i x c r h e inv is = ap (λ o. option_or o (In (drop (i + 1) shapes))) is ∙ sym (in-next i x h e) ∙ inv
-
-  pub redefining-miss : (i : ℕ) (x : Shape) (r : Option Child) → i < length shapes → x ≡ get_or shapes i x → In (drop i shapes) ≡ r
-      → None ≡ find (λ c. declares of name c.shape) (children_at shapes x (redefined x.form)) → In (drop (i + 1) shapes) ≡ r
-  redefining-miss i x r h e inv is = ap (λ o. option_or o (In (drop (i + 1) shapes))) is ∙ sym (in-next i x h e) ∙ inv

@@ -1,5 +1,4 @@
-ghost use Rattle.std.specs.Prelude.{◌≡◌, ◌==◌, map, IfOk};
-ghost use Rattle.std.specs.List.{list_any};
+ghost use Rattle.std.specs.Prelude.{◌≡◌, map, IfOk};
 ghost use Rattle.std.specs.Option.{option_copied};
 ghost use Rattle.redefine_originals.specs.Versions as spec;
 ghost use Rattle.redefine_originals.specs.inside.Entries.{child_entry};
@@ -19,13 +18,6 @@ pub(crate) fn redefined(form: &Form) -> Option<&Text>
         Form::Redefine { location } => Some(location),
         _ => None,
     }
-}
-
-/// Whether an element is among the members of another.
-pub fn is_member(members: &[u32], item: u32) -> bool
-    ensures { result ≡ list_any (λ other. other == item) members.now }
-{
-    members.iter().any(|other| *other == item)
 }
 
 /// What stands in the redefines of a document, in document order (Structures 4.2.2).

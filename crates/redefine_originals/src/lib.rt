@@ -3,19 +3,17 @@
 
 mod children;
 mod document_versions;
-mod finding;
+mod inclusions;
 mod index;
 mod inside;
 mod lists;
 mod named;
 mod orders;
-mod originals;
 mod redefines;
 mod versions;
 
-pub use children::{is_member, redefining};
+pub use children::redefining;
 pub use index::Originals;
 pub use lists::NumberedLists;
-pub use originals::original_of;
 pub use set_closure::{Available, ClosedSet, EffectiveSet, SetDocument, Sources, close_set};
 pub use versions::{Child, Declared, Redefinable, Version, declared_as};

@@ -4,7 +4,7 @@ ghost use Rattle.set_closure.specs.Sourced.{AreSources};
 ghost use Rattle.redefine_originals.specs.Versions as spec;
 ghost use Rattle.redefine_originals.specs.inside.Orders as inside;
 
-use crate::originals::all_included;
+use crate::inclusions::all_included;
 use set_closure::{Available, Sources};
 use std::alloc::{AllocError, Global};
 use std::collections::HashSet;

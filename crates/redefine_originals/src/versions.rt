@@ -79,13 +79,3 @@ pub(crate) fn is_same_kind(one: Redefinable, other: Redefinable) -> bool
         _ => false,
     }
 }
-
-// Whether an element declares a component of this kind and name.
-pub(crate) fn declares(kind: Redefinable, name: &str, shape: &Shape) -> bool
-    ensures { result ≡ spec.declares kind name.now shape.now }
-{
-    match declared_as(&shape.form) {
-        None => false,
-        Some(declared) => is_same_kind(kind, declared.kind) && name == declared.name.as_str(),
-    }
-}

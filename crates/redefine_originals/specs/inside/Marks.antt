@@ -1,9 +1,8 @@
 -- Which documents were looked at, by marks of their places.
-use Rattle.std.specs.Prelude.{◌≡◌, ℕ, ◌+◌, ◌-◌, ◌↔◌, List, [], ◌∷◌, Bool, true, false, Option, Contains, All, length, reverse, slice_index_or, if◌then◌else◌}
+use Rattle.std.specs.Prelude.{◌≡◌, ℕ, ◌+◌, ◌-◌, ◌↔◌, List, [], ◌∷◌, Bool, true, false, Contains, length, slice_index_or, if◌then◌else◌}
 use Rattle.set_closure.specs.Available.{Available}
 use Rattle.set_closure.specs.Order.{IsNumber}
-use Rattle.redefine_originals.specs.declared.versions.Redefinable.{Redefinable}
-use Rattle.redefine_originals.specs.Versions.{Version, inclusions, Finds}
+use Rattle.redefine_originals.specs.Versions.{inclusions}
 
 abbrev pub marked : List Bool → ℕ → Bool
 marked marks document = slice_index_or marks (document - 1) false
@@ -20,11 +19,3 @@ weight available number (m ∷ marks) = (if m then 0 else length (inclusions ava
 -- how many documents are left to look at, at most
 abbrev pub work : List Available → List Bool → List ℕ → ℕ
 work available marks left = weight available 1 marks + length left
-
--- what is found in what is left, the last first, is what was looked for
-pub record IsLooking (available : List Available) (of : Redefinable) (name : List ℕ) (start : ℕ) (marks : List Bool) (left : List ℕ) : Type 0 where
-  pub seen : List ℕ
-  pub len : length marks ≡ length available
-  pub numbers : All (IsNumber available) (reverse left)
-  pub are : AreSeen available marks seen
-  pub leads : (found : Option Version) → Finds available of name (reverse left) seen found → Finds available of name (start ∷ []) [] found

@@ -3,7 +3,7 @@ use Rattle.std.specs.Prelude.{filter_map}
 use Rattle.std.specs.Option.{option_and_then}
 use Rattle.set_closure.specs.EffectiveSet.{document_at}
 use Rattle.redefine_originals.specs.Versions.{included}
-use Rattle.redefine_originals.proofs.originals.all_included.Given as goal
+use Rattle.redefine_originals.proofs.inclusions.all_included.Given as goal
 
 abbrev pub invariant-loop-shape : goal.invariant-loop-shape
 invariant-loop-shape l =
