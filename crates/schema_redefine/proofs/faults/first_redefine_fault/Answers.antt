@@ -1,3 +1,4 @@
+use Rattle.std.proofs.Common.{◌∙◌}
 use Rattle.schema_redefine.proofs.FaultLaws.{set-least}
 use Rattle.schema_redefine.proofs.faults.first_redefine_fault.Goals as goal
 
