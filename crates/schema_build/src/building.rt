@@ -137,10 +137,9 @@ fn build_read(
 }
 
 /// The components of a schema set (Structures 3.15.1) with the groups and attribute groups that redefine others without a reference
-/// to themselves, or its first fault of names and references: by document, then element,
-/// then the order of the codes. The original of each element that redefines a component comes by its place among the elements of
-/// the set. The names that stand in the documents come into the table, in the order of the documents, and those of originals behind
-/// them.
+/// to themselves, or its first fault of names and references: by document, then element, then the order of the codes. The original
+/// of each element that redefines a component comes by its place among the elements of the set. The names that stand in the documents
+/// come into the table, in the order of the documents, and those of originals behind them.
 ///
 /// # Errors
 ///
