@@ -11,10 +11,10 @@ use Rattle.tree_rows.specs.Forest.{Document}
 use Rattle.tree_edits.specs.Tests.{first_refusal, tests_of, made, unless_refused, edited}
 use Rattle.tree_edits.specs.declared.edit.Edit.{Edit}
 use Rattle.tree_edits.specs.declared.edit.EditError.{EditError}
-use Rattle.node_links.specs.Nodes.{Nodes, node}
-use Rattle.node_links.specs.declared.content.NameAttribute.{NameAttribute}
-use Rattle.tree_changes.specs.Held.{attributes_at, bindings_at, has_number, HasRoom}
-use Rattle.tree_changes.specs.Stands.{StandsFor, binding_of}
+use Rattle.doc_nodes.specs.Nodes.{Nodes, node}
+use Rattle.doc_nodes.specs.declared.content.NameAttribute.{NameAttribute}
+use Rattle.doc_changes.specs.Held.{attributes_at, bindings_at, has_number, HasRoom}
+use Rattle.doc_changes.specs.Stands.{StandsFor, binding_of}
 use Rattle.doc_tree.proofs.Answering.{bindings_are, few_bindings}
 
 unrefused : (o : Option EditError) (d e : Document) → unless_refused o d ≡ Ok e → (o ≡ None) × (e ≡ d)

@@ -7,14 +7,16 @@ ghost use Rattle.tree_building.specs.Building.{block};
 ghost use Rattle.tree_edits.specs.Edits.{can_be_made, scope_in};
 ghost use Rattle.tree_edits.specs.Tests.{edited};
 ghost use Rattle.tree_edits.specs.declared.edit.Edit.TheVariants as edits;
-ghost use Rattle.tree_changes.specs.Stands.{StandsFor};
+ghost use Rattle.doc_changes.specs.Stands.{StandsFor};
 
 use crate::same::is_same_tree;
-use doc_tree::{DocTree, NodeKind};
+use doc_tree::DocTree;
 use item_listing::Item;
-use plain_tree::{Edit, Tree, fragment};
+use plain_tree::{Tree, fragment};
 use std::alloc::{AllocError, Global};
 use std::process::Abort;
+use tree_edits::Edit;
+use tree_rows::NodeKind;
 use xs_names::{Names, Text};
 
 /// The tree that a document is.

@@ -2,7 +2,7 @@
 
 ghost use Rattle.std.specs.Prelude.{◌≡◌, true, IfOk, OnOk};
 ghost use Rattle.tree_edits.specs.Edits.{can_be_made};
-ghost use Rattle.tree_changes.specs.Stands.{StandsFor};
+ghost use Rattle.doc_changes.specs.Stands.{StandsFor};
 
 use crate::calls::{compare, make_edit};
 use crate::elements::make_element_edit;
@@ -11,10 +11,12 @@ use crate::random::Random;
 use crate::readers::compare_readers;
 use crate::spelled::Spaces;
 use doc_tree::DocTree;
-use plain_tree::{Edit, Tree, is_one_element, read_tree};
+use plain_tree::{Tree, read_tree};
 use std::alloc::{AllocError, Global};
 use std::process::Abort;
 use std::test::Fail;
+use tree_building::is_one_element;
+use tree_edits::Edit;
 use xs_names::{Names, Text};
 
 /// The insertion of a part below a node.

@@ -4,18 +4,20 @@ ghost use Rattle.std.specs.Prelude.{◌≡◌, ℕ, ◌<◌, length, true, IfOk,
 ghost use Rattle.tree_rows.specs.Forest.{Document};
 ghost use Rattle.tree_rows.specs.declared.row.NodeKind.TheVariants as kinds;
 ghost use Rattle.xs_names.specs.Names.{NameTable};
-ghost use Rattle.tree_changes.specs.Held.{kind_at, HasRoom};
-ghost use Rattle.tree_changes.specs.Stands.{StandsFor};
+ghost use Rattle.doc_changes.specs.Held.{kind_at, HasRoom};
+ghost use Rattle.doc_changes.specs.Stands.{StandsFor};
 ghost use Rattle.tree_edits.specs.Edits.{can_be_made};
 
 use crate::calls::{compare, is_made, plain_of};
 use crate::same::is_same_tree;
 use crate::spelled::Spaces;
-use doc_tree::{DocTree, NodeKind};
-use plain_tree::{Edit, Tree};
+use doc_tree::DocTree;
+use plain_tree::Tree;
 use std::alloc::{AllocError, Global};
 use std::process::Abort;
 use tag_names::Prefixes;
+use tree_edits::Edit;
+use tree_rows::NodeKind;
 use xs_names::{NameId, Names, Text, TextPool};
 
 /// Whether an element has far fewer attributes and bindings than it may have.

@@ -1,9 +1,10 @@
 //! The readers of a document beside the plain tree.
 
 use crate::spelled::Spaces;
-use doc_tree::{DocTree, NodeKind};
-use plain_tree::{Attribute, Content, Row, Tree};
+use doc_tree::DocTree;
+use plain_tree::Tree;
 use std::process::Abort;
+use tree_rows::{Attribute, Content, NodeKind, Row};
 use xs_names::Names;
 
 /// Sees that the attributes of an element are these, and no more.

@@ -1,6 +1,7 @@
 //! Which trees are the same.
 
-use plain_tree::{Attribute, Binding, Content, Row, Tree};
+use plain_tree::Tree;
+use tree_rows::{Attribute, Binding, Content, Row};
 
 fn is_same_content(one: &Content, other: &Content) -> bool {
     match one {

@@ -2,8 +2,8 @@
 
 ghost use Rattle.std.specs.Prelude.{◌<◌, length, IfSome};
 
-use plain_tree::Expanded;
 use std::alloc::AllocError;
+use tree_rows::Expanded;
 use xs_names::{NameId, Names, NsId, Text};
 
 const NAMESPACES: [&str; 4] = ["", "u", "v", "w"];

@@ -11,29 +11,29 @@ use Rattle.xs_components.specs.declared.attribute.AttrUse.{AttrUse}
 use Rattle.xs_components.specs.declared.common.TypeId.{TypeId}
 use Rattle.xs_components.specs.declared.common.TypeId.TheVariants.{Builtin}
 use Rattle.xs_components.specs.declared.common.ValueConstraint.{ValueConstraint}
-use Rattle.use_maps.specs.declared.entry.UseAt.{UseAt}
+use Rattle.attr_uses.specs.declared.entry.UseAt.{UseAt}
 use Rattle.simple_values.specs.declared.value.Value.{Value}
-use Rattle.simple_types.specs.Trying.{Scope}
+use Rattle.facets.specs.Trying.{Scope}
 use Rattle.attr_uses.specs.Written.{use_at}
 use Rattle.attr_uses.specs.Uses.{use_named}
 use Rattle.assess_records.specs.declared.outcome.ValueSource.{ValueSource}
 use Rattle.assess_records.specs.declared.outcome.ValueSource.TheVariants.{Given, Schema}
 use Rattle.assess_records.specs.declared.shape.NamedText.{NamedText}
-use Rattle.attr_governing.specs.Governing.{attr_governing}
-use Rattle.attr_governing.specs.declared.governing.AttrGoverning.{AttrGoverning}
-use Rattle.attr_governing.specs.declared.governing.AttrGoverning.TheVariants.{Instance, Declared, Unassessed, Refused}
-use Rattle.attr_added.specs.Lacking.{effective_constraint, is_added}
-use Rattle.attr_added.specs.Added.{AreNamed}
-use Rattle.attr_codes.specs.Values.{is_value, IsFixedMet, IsMet, IsJudged, IsRead}
-use Rattle.attr_codes.specs.Records.{declared, use_constraint, IsDeclaredJudged, IsByDeclaration, IsAttrJudged}
-use Rattle.attr_codes.specs.declared.judged.JudgedAttr.{JudgedAttr}
-use Rattle.attr_codes.specs.declared.values.AttrText.{AttrText}
-use Rattle.attr_codes.specs.declared.values.AttrText.TheVariants.{Valid}
+use Rattle.attr_assess.specs.Governing.{attr_governing}
+use Rattle.attr_assess.specs.declared.governing.AttrGoverning.{AttrGoverning}
+use Rattle.attr_assess.specs.declared.governing.AttrGoverning.TheVariants.{Instance, Declared, Unassessed, Refused}
+use Rattle.attr_assess.specs.Lacking.{effective_constraint, is_added}
+use Rattle.attr_assess.specs.Added.{AreNamed}
+use Rattle.attr_assess.specs.Values.{is_value, IsFixedMet, IsMet, IsJudged, IsRead}
+use Rattle.attr_assess.specs.Records.{declared, use_constraint, IsDeclaredJudged, IsByDeclaration, IsAttrJudged}
+use Rattle.attr_assess.specs.declared.judged.JudgedAttr.{JudgedAttr}
+use Rattle.attr_assess.specs.declared.values.AttrText.{AttrText}
+use Rattle.attr_assess.specs.declared.values.AttrText.TheVariants.{Valid}
 use Rattle.attr_assess.specs.Assessed.{record_of, value_of, element_uses, IsGivenJudged, IsAddedJudged, AreAttrsAssessed}
 use Rattle.attr_assess.specs.declared.assessed.AssessedAttrs.{AssessedAttrs}
-use Rattle.validity_laws.specs.Determined.{HasOneOutcomeEach}
+use Rattle.simple_types.specs.Determined.{HasOneOutcomeEach}
 use Rattle.assessment_laws.proofs.Named.{sorted-same}
-use Rattle.attr_laws.proofs.There.{added-in}
+use Rattle.assessment_laws.proofs.There.{added-in}
 use Rattle.assessment_laws.proofs.Zips.{zip-same}
 
 module _ (t : Tables) (one : HasOneOutcomeEach t) where

@@ -8,29 +8,29 @@ use Rattle.xs_components.specs.Tables.{Tables}
 use Rattle.xs_components.specs.declared.common.TypeId.{TypeId}
 use Rattle.xs_components.specs.declared.common.ValueConstraint.{ValueConstraint}
 use Rattle.simple_values.specs.declared.value.Value.{Value}
-use Rattle.simple_types.specs.Trying.{Scope}
+use Rattle.facets.specs.Trying.{Scope}
 use Rattle.assess_records.specs.declared.record.AttrRecord.{AttrRecord}
 use Rattle.assess_records.specs.declared.record.ElementRecord.{ElementRecord}
 use Rattle.assess_records.specs.declared.shape.ElementShape.{ElementShape}
-use Rattle.content_types.specs.ContentTypes.{content_of}
-use Rattle.content_types.specs.declared.ContentType.{ContentType}
-use Rattle.content_types.specs.declared.ContentType.TheVariants.{SimpleType, Empty, SimpleContent, ElementOnly, Mixed}
-use Rattle.attr_added.specs.Lacking.{is_missing}
-use Rattle.attr_added.specs.Added.{AreNamed}
+use Rattle.component_tables.specs.ContentTypes.{content_of}
+use Rattle.component_tables.specs.declared.content_types.ContentType.{ContentType}
+use Rattle.component_tables.specs.declared.content_types.ContentType.TheVariants.{SimpleType, Empty, SimpleContent, ElementOnly, Mixed}
+use Rattle.attr_assess.specs.Lacking.{is_missing}
+use Rattle.attr_assess.specs.Added.{AreNamed}
 use Rattle.attr_assess.specs.Assessed.{element_uses}
 use Rattle.elem_governing.specs.declared.pairs.Governing.{Governing}
 use Rattle.elem_governing.specs.declared.local_types.XsiType.{XsiType}
-use Rattle.element_codes.specs.declared.outcome.TextOutcome.{TextOutcome}
-use Rattle.element_codes.specs.declared.outcome.TextOutcome.TheVariants.{Valid}
-use Rattle.element_codes.specs.Facts.{is_taken, governing_content}
-use Rattle.element_codes.specs.Used.{value_in, text_used, scope_used, fixed_value}
-use Rattle.element_codes.specs.Codes.{declaration_codes, type_codes, nil_codes, missing_code, missing_codes, filled_codes, by_content, governed_codes, fixed_codes}
-use Rattle.element_codes.specs.Records.{decl, nil_text, nil, taken, constraint, record_with, element_record}
-use Rattle.element_judging.specs.Texts.{is_value, IsMet, IsOutcome, IsRead, is_read, IsReadIf, IsTextOutcome}
-use Rattle.element_judging.specs.Judged.{IsElementJudged}
+use Rattle.elem_codes.specs.declared.outcome.TextOutcome.{TextOutcome}
+use Rattle.elem_codes.specs.declared.outcome.TextOutcome.TheVariants.{Valid}
+use Rattle.elem_codes.specs.Facts.{is_taken, governing_content}
+use Rattle.elem_codes.specs.Used.{value_in, text_used, scope_used, fixed_value}
+use Rattle.elem_codes.specs.Codes.{declaration_codes, type_codes, nil_codes, missing_code, missing_codes, filled_codes, by_content, governed_codes, fixed_codes}
+use Rattle.elem_codes.specs.Records.{decl, nil_text, nil, taken, constraint, record_with, element_record}
+use Rattle.elem_assess.specs.Texts.{is_value, IsMet, IsOutcome, IsRead, is_read, IsReadIf, IsTextOutcome}
+use Rattle.elem_assess.specs.Judged.{IsElementJudged}
 use Rattle.elem_assess.specs.Local.{IsLocal, said_on}
 use Rattle.elem_assess.specs.declared.records.Judged.{Judged}
-use Rattle.validity_laws.specs.Determined.{HasOneOutcomeEach}
+use Rattle.simple_types.specs.Determined.{HasOneOutcomeEach}
 use Rattle.assessment_laws.proofs.Attrs.{assessed-same}
 use Rattle.assessment_laws.proofs.Named.{those-as-many}
 

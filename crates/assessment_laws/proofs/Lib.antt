@@ -1,3 +1,6 @@
+pub mod AttrZips
+pub mod There
+pub mod FewFound
 pub mod Zips
 pub mod Sorted
 pub mod Named

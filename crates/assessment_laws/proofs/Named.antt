@@ -19,8 +19,8 @@ use Rattle.std.proofs.lemmas.Map.Views.{Contains-from_any, list_any-from_Contain
 use Rattle.std.proofs.lemmas.Option.{slice_get-get_or}
 use Rattle.std.proofs.lemmas.Slice.Eq.{bytes_eq-Decides}
 use Rattle.xs_names.specs.Names.{NameTable, IsSound, space_of, local_of}
-use Rattle.attr_added.specs.Lacking.{AreThose}
-use Rattle.attr_added.specs.Order.{space_text, name_order, is_before}
+use Rattle.attr_assess.specs.Lacking.{AreThose}
+use Rattle.attr_assess.specs.Order.{space_text, name_order, is_before}
 use Rattle.assessment_laws.proofs.Sorted.{HasSame, same-list}
 
 -- ---- all numbers of which a test is true

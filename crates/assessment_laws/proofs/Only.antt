@@ -8,11 +8,11 @@ use Rattle.assess_records.specs.Counts.{counts_of}
 use Rattle.assess_records.specs.declared.shape.ElementShape.{ElementShape}
 use Rattle.elem_governing.specs.declared.pairs.Governing.{Governing}
 use Rattle.elem_assess.specs.Local.{IsLocal}
-use Rattle.assessed_ids.specs.Added.{AreNamed}
-use Rattle.assessed_ids.specs.Numbered.{Scope, Head, head_of, heads, names_of, named_texts, scope_in, characters, shape_of}
-use Rattle.assessed_ids.specs.Attribution.{SchemaSet, content_particle}
-use Rattle.assessed_ids.specs.Assessment.{Entry, Assessed, entry, Beside, first_pair, other_pairs, sibling_records, judged_of, governed, AreJudged, IsEntry, AreAssessed, root_pairs, IsAssessment}
-use Rattle.validity_laws.specs.Determined.{HasOneOutcomeEach}
+use Rattle.attr_assess.specs.Added.{AreNamed}
+use Rattle.assess_records.specs.Numbered.{Scope, Head, head_of, heads, names_of, named_texts, scope_in, characters, shape_of}
+use Rattle.assessment.specs.Attribution.{SchemaSet, content_particle}
+use Rattle.assessment.specs.Assessment.{Entry, Assessed, entry, Beside, first_pair, other_pairs, sibling_records, judged_of, governed, AreJudged, IsEntry, AreAssessed, root_pairs, IsAssessment}
+use Rattle.simple_types.specs.Determined.{HasOneOutcomeEach}
 use Rattle.assessment_laws.proofs.Terms.{terms-are}
 use Rattle.assessment_laws.proofs.Judged.{local-is}
 

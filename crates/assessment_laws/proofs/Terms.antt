@@ -9,13 +9,13 @@ use Rattle.particle_models.specs.Particles.{Particle, Place, Mark}
 use Rattle.particle_models.specs.Words.{Words, IsWordOfNames, BeginsWord, EndsIn}
 use Rattle.particle_forms.specs.Models.{model_of}
 use Rattle.particle_forms.specs.Accepted.{accepts}
-use Rattle.model_symbols.specs.declared.terms.Accepts.{Accepts}
-use Rattle.model_symbols.specs.Terms.{ExpandedName, name_at}
-use Rattle.model_symbols.specs.Attribution.{IsFirstTerm}
+use Rattle.content_automaton.specs.declared.symbol_terms.Accepts.{Accepts}
+use Rattle.content_automaton.specs.Terms.{ExpandedName, name_at}
+use Rattle.content_automaton.specs.Attribution.{IsFirstTerm}
 use Rattle.content_automaton.specs.Modelled.{IsTermAt}
 use Rattle.content_models.specs.Terms.{model_terms, terms_of}
 use Rattle.content_models.specs.Built.{IsFirstIn}
-use Rattle.assessed_ids.specs.Attribution.{SchemaSet, expanded, IsWord, Begins, IsStuck, IsTermOf, AreTermsBy, AreTerms}
+use Rattle.assessment.specs.Attribution.{SchemaSet, expanded, IsWord, Begins, IsStuck, IsTermOf, AreTermsBy, AreTerms}
 
 module _ (accepts : ℕ → ExpandedName → Bool) (model : Particle) where
   -- the first names of a word begin one

@@ -4,12 +4,12 @@ ghost use Rattle.std.specs.Prelude.{◌≡◌, ℕ, List, Option};
 ghost use Rattle.xs_names.specs.Names.{IsSound};
 ghost use Rattle.tree_rows.specs.Forest.{Forest, Document};
 ghost use Rattle.tree_rows.specs.Whole.{IsTree};
-ghost use Rattle.assessed_ids.specs.Added.{AreNamed};
-ghost use Rattle.assessed_ids.specs.Attribution.{SchemaSet, AreTerms};
-ghost use Rattle.assessed_ids.specs.Assessment.{Beside, Assessed, IsAssessment};
-ghost use Rattle.assessed_ids.specs.Joined.{beside_of};
+ghost use Rattle.attr_assess.specs.Added.{AreNamed};
+ghost use Rattle.assessment.specs.Attribution.{SchemaSet, AreTerms};
+ghost use Rattle.assessment.specs.Assessment.{Beside, Assessed, IsAssessment};
+ghost use Rattle.assessment.specs.Joined.{beside_of};
 
-use assessed_ids::codes_of_ids_join_the_assessment;
+use assessment::codes_of_ids_join_the_assessment;
 
 /// The names of child elements determine the terms of a content model that the children are attributed to, and the place where
 /// they get stuck (Structures 3.4.4).

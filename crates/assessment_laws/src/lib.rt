@@ -1,9 +1,10 @@
-//! What is determined of the assessment of a document by a schema set (Structures 5.2).
+//! What holds of the records of an element's attributes (Structures 3.2.4, 3.4.4, 3.4.5).
 #![tactic(auto)]
 
+mod attr_laws;
 mod laws;
 
+pub use attr_laws::{attribute_records_are_there, attributes_have_few_codes};
 pub use laws::{
     terms_are_determined, the_assessment_is_the_only_one, the_assessment_with_ids_is_the_only_one,
 };
-pub use validity_laws::simple_validity_has_one_outcome;

@@ -8,16 +8,16 @@ use Rattle.std.proofs.lemmas.List.Elements.{All-head, All-tail}
 use Rattle.xs_names.specs.Names.{NameTable}
 use Rattle.xs_components.specs.Tables.{Tables}
 use Rattle.xs_components.specs.declared.attribute.AttrUse.{AttrUse}
-use Rattle.use_maps.specs.declared.entry.UseAt.{UseAt}
+use Rattle.attr_uses.specs.declared.entry.UseAt.{UseAt}
 use Rattle.attr_uses.specs.Written.{use_at}
 use Rattle.attr_uses.specs.Uses.{use_named}
 use Rattle.assess_records.specs.declared.outcome.ValueSource.TheVariants.{Schema}
-use Rattle.attr_codes.specs.AttrGoverning.TheVariants.{Declared}
-use Rattle.attr_added.specs.Lacking.{effective_constraint}
-use Rattle.attr_added.specs.Added.{IsAddedUse}
-use Rattle.attr_added.specs.declared.added.AddedUse.{AddedUse}
-use Rattle.attr_codes.specs.Records.{IsAttrJudged}
-use Rattle.attr_codes.specs.declared.judged.JudgedAttr.{JudgedAttr}
+use Rattle.attr_assess.specs.declared.governing.AttrGoverning.TheVariants.{Declared}
+use Rattle.attr_assess.specs.Lacking.{effective_constraint}
+use Rattle.attr_assess.specs.Added.{IsAddedUse}
+use Rattle.attr_assess.specs.declared.added.AddedUse.{AddedUse}
+use Rattle.attr_assess.specs.Records.{IsAttrJudged}
+use Rattle.attr_assess.specs.declared.judged.JudgedAttr.{JudgedAttr}
 use Rattle.attr_assess.specs.Assessed.{record_of, value_of, IsAddedJudged}
 use Rattle.attr_assess.specs.inside.Lists.{Holds, HoldsEach, IsUseJudged}
 use Rattle.attr_assess.specs.declared.assessed.AssessedAttrs.{AssessedAttrs}

@@ -1,3 +1,9 @@
+pub mod TableLaws
+pub mod Names
+pub mod Needs
+pub mod Orders
+pub mod Steps
+pub mod Notes
 pub mod Zips
 pub mod Held
 pub mod Whole

@@ -3,15 +3,15 @@ use Rattle.std.proofs.Common.{◌≡◌, ◌^◌, List, [], ◌++◌, Option, No
 use Rattle.xs_names.specs.Names.{NameTable}
 use Rattle.xs_components.specs.Tables.{Tables}
 use Rattle.xs_components.specs.declared.common.TypeId.{TypeId}
-use Rattle.use_maps.specs.declared.entry.UseAt.{UseAt}
-use Rattle.attr_codes.specs.Trying.{Scope}
+use Rattle.attr_uses.specs.declared.entry.UseAt.{UseAt}
+use Rattle.facets.specs.Trying.{Scope}
 use Rattle.assess_records.specs.declared.shape.NamedText.{NamedText}
-use Rattle.attr_codes.specs.Governing.{uses_for}
-use Rattle.attr_added.specs.Lacking.{is_missing, AreThose}
-use Rattle.attr_added.specs.Added.{AreLacking}
-use Rattle.attr_added.specs.declared.added.AddedUse.{AddedUse}
-use Rattle.attr_added.specs.declared.lacking.Lacking.{Lacking}
-use Rattle.attr_added.proofs.Steps.{nothing-missing, nothing-added}
+use Rattle.attr_assess.specs.Governing.{uses_for}
+use Rattle.attr_assess.specs.Lacking.{is_missing, AreThose}
+use Rattle.attr_assess.specs.Added.{AreLacking}
+use Rattle.attr_assess.specs.declared.added.AddedUse.{AddedUse}
+use Rattle.attr_assess.specs.declared.lacking.Lacking.{Lacking}
+use Rattle.attr_assess.proofs.Steps.{nothing-missing, nothing-added}
 use Rattle.attr_assess.specs.Assessed.{record_of, value_of, IsGivenJudged, IsAddedJudged, AreAttrsAssessed}
 use Rattle.attr_assess.specs.inside.Lists.{HoldsEach, HoldsLacking, IsUseJudged}
 use Rattle.attr_assess.specs.declared.assessed.AssessedAttrs.{AssessedAttrs}

@@ -5,20 +5,20 @@ use Rattle.std.specs.Option.{IsSomeAnd}
 use Rattle.xs_names.specs.Names.{NameTable}
 use Rattle.xs_components.specs.Tables.{Tables}
 use Rattle.xs_components.specs.declared.common.TypeId.{TypeId}
-use Rattle.use_maps.specs.declared.entry.UseAt.{UseAt}
+use Rattle.attr_uses.specs.declared.entry.UseAt.{UseAt}
 use Rattle.simple_values.specs.declared.value.Value.{Value}
-use Rattle.attr_codes.specs.Trying.{Scope}
+use Rattle.facets.specs.Trying.{Scope}
 use Rattle.attr_uses.specs.Written.{use_at}
 use Rattle.attr_uses.specs.Uses.{use_named}
 use Rattle.assess_records.specs.declared.outcome.ValueSource.TheVariants.{Given, Schema}
 use Rattle.assess_records.specs.declared.record.AttrRecord.{AttrRecord}
 use Rattle.assess_records.specs.declared.shape.NamedText.{NamedText}
-use Rattle.attr_codes.specs.Governing.{uses_for, attr_governing}
-use Rattle.attr_codes.specs.AttrGoverning.TheVariants.{Declared}
-use Rattle.attr_added.specs.Lacking.{effective_constraint, is_missing, AreThose}
-use Rattle.attr_added.specs.Added.{AreAddedNames}
-use Rattle.attr_codes.specs.Records.{IsAttrJudged}
-use Rattle.attr_codes.specs.declared.judged.JudgedAttr.{JudgedAttr}
+use Rattle.attr_assess.specs.Governing.{uses_for, attr_governing}
+use Rattle.attr_assess.specs.declared.governing.AttrGoverning.TheVariants.{Declared}
+use Rattle.attr_assess.specs.Lacking.{effective_constraint, is_missing, AreThose}
+use Rattle.attr_assess.specs.Added.{AreAddedNames}
+use Rattle.attr_assess.specs.Records.{IsAttrJudged}
+use Rattle.attr_assess.specs.declared.judged.JudgedAttr.{JudgedAttr}
 use Rattle.attr_assess.specs.declared.assessed.AssessedAttrs.{AssessedAttrs}
 
 abbrev pub record_of : JudgedAttr → AttrRecord

@@ -1,8 +1,11 @@
+pub mod Instance
+pub mod Governing
+pub mod Schema
+pub mod Lacking
+pub mod Order
+pub mod Added
+pub mod Values
+pub mod Records
+pub mod Types
 pub mod Assessed
 pub mod inside
-pub use Rattle.attr_added.specs.Added
-pub use Rattle.attr_codes.specs.Records
-pub use Rattle.attr_codes.specs.Schema
-pub use Rattle.attr_codes.specs.Types
-pub use Rattle.attr_codes.specs.declared.judged.JudgedAttr
-pub use Rattle.attr_codes.specs.declared.values.AttrText

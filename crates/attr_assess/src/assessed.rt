@@ -1,17 +1,19 @@
 //! The records of an element's attributes.
 
 ghost use Rattle.std.specs.Prelude.{◌≡◌, ◌<◌, ◌∷◌, List, [], Bool, All, length, IfOk, IfSome, OnOk};
-ghost use Rattle.xs_references.specs.Heights.{IsType};
-ghost use Rattle.attr_codes.specs.Governing.{uses_for};
-ghost use Rattle.attr_codes.specs.Schema.{IsAttrSet};
-ghost use Rattle.attr_added.specs.Added.{AreNamed};
-ghost use Rattle.attr_codes.specs.Types.{IsTypeSet};
+ghost use Rattle.component_references.specs.Heights.{IsType};
+ghost use Rattle.attr_assess.specs.Governing.{uses_for};
+ghost use Rattle.attr_assess.specs.Schema.{IsAttrSet};
+ghost use Rattle.attr_assess.specs.Added.{AreNamed};
+ghost use Rattle.attr_assess.specs.Types.{IsTypeSet};
 ghost use Rattle.attr_assess.specs.Assessed.{AreAttrsAssessed, IsGivenJudged};
 ghost use Rattle.attr_assess.specs.inside.Lists.{Holds, HoldsEach, HoldsLacking, IsUseJudged};
 
+use crate::{
+    AddedUse, AttrGoverning, AttrItem, AttrSchema, JudgedAttr, Lacking, judge, lacking_attrs,
+};
 use assess_records::{AttrRecords, NamedText, ValueSource};
-use attr_added::{AddedUse, Lacking, lacking_attrs};
-use attr_codes::{AttrGoverning, AttrItem, AttrSchema, JudgedAttr, SimpleTypes, judge};
+use simple_types::SimpleTypes;
 use simple_values::Value;
 use std::alloc::{AllocError, Global};
 use xs_components::{Components, NameIdList, TypeId};

@@ -7,12 +7,12 @@ use Rattle.xs_components.specs.declared.common.TypeId.{TypeId}
 use Rattle.xs_components.specs.declared.common.TypeId.TheVariants.{AnyType, Builtin, Simple, Complex}
 use Rattle.xs_components.specs.declared.complex.ComplexType.{ComplexType}
 use Rattle.xs_components.specs.declared.attr_group.AttrGroupDef.{AttrGroupDef}
-use Rattle.xs_references.specs.Descent.{after_turns, AsksLower}
-use Rattle.xs_references.specs.Heights.{type_height, IsType}
-use Rattle.xs_references.specs.Ranked.{IsBelow, IsRanked}
-use Rattle.xs_references.proofs.DescentLaws.{along-is}
-use Rattle.xs_references.proofs.ListLaws.{map-same}
-use Rattle.use_maps.specs.declared.entry.UseHolder.TheVariants.{Complex as OfType, AttrGroup as OfGroup}
+use Rattle.component_references.specs.Descent.{after_turns, AsksLower}
+use Rattle.component_references.specs.Heights.{type_height, IsType}
+use Rattle.component_references.specs.Ranked.{IsBelow, IsRanked}
+use Rattle.component_references.proofs.DescentLaws.{along-is}
+use Rattle.component_references.proofs.ListLaws.{map-same}
+use Rattle.attr_uses.specs.declared.entry.UseHolder.TheVariants.{Complex as OfType, AttrGroup as OfGroup}
 use Rattle.attr_uses.specs.Written.{own_of_group, own_of_type}
 use Rattle.attr_uses.specs.Uses.{no_uses, own_uses, with_groups, or_fault, first_refusal, accepted_groups, refused_or, group_step, group_uses, uses_with_groups, with_own, type_part, type_step, any_type_uses, uses_of}
 

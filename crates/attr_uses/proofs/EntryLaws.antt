@@ -12,12 +12,12 @@ use Rattle.std.proofs.lemmas.List.Folds.{list_any-append}
 use Rattle.std.proofs.lemmas.Map.Views.{any-filter_same}
 use Rattle.xs_components.specs.Tables.{Tables}
 use Rattle.xs_components.specs.declared.attribute.AttrUse.{AttrUse}
-use Rattle.use_maps.specs.Entries.{same_use, joined}
-use Rattle.use_maps.specs.declared.entry.Entry.{Entry}
-use Rattle.use_maps.specs.declared.entry.UseAt.{UseAt}
-use Rattle.use_maps.specs.declared.entry.UseHolder.{UseHolder}
-use Rattle.use_maps.specs.declared.join.Join.TheVariants.{Union, Override, Without}
-use Rattle.use_maps.proofs.MapLaws.{same_use-itself}
+use Rattle.attr_uses.specs.Entries.{same_use, joined}
+use Rattle.attr_uses.specs.declared.entry.Entry.{Entry}
+use Rattle.attr_uses.specs.declared.entry.UseAt.{UseAt}
+use Rattle.attr_uses.specs.declared.entry.UseHolder.{UseHolder}
+use Rattle.attr_uses.specs.declared.join.Join.TheVariants.{Union, Override, Without}
+use Rattle.attr_uses.proofs.MapLaws.{same_use-itself}
 use Rattle.attr_uses.specs.Written.{use_name, is_name, has_name, places, united_uses}
 use Rattle.attr_uses.specs.Uses.{AttrUses, name_among, is_listed, is_left, restricted_uses}
 use Rattle.attr_uses.specs.Tables.{is_needed, is_id, entry_of, entry_for}

@@ -4,8 +4,8 @@ use Rattle.std.proofs.lemmas.Option.{slice_get_within}
 use Rattle.xs_codes.specs.declared.fault.Fault.{Fault}
 use Rattle.xs_components.specs.Tables.{Tables}
 use Rattle.xs_components.specs.declared.common.Wildcard.{Wildcard}
-use Rattle.use_maps.specs.Maps.{MapNodes, IsMapOf, KeepsMaps}
-use Rattle.use_maps.specs.declared.entry.Entry.{Entry}
+use Rattle.attr_uses.specs.Maps.{MapNodes, IsMapOf, KeepsMaps}
+use Rattle.attr_uses.specs.declared.entry.Entry.{Entry}
 use Rattle.attr_uses.specs.Uses.{AttrUses, group_uses}
 use Rattle.attr_uses.specs.Tables.{StandsFor, Answers, IsAnswer, IsSetOf, IsStore, IsWildcard, kept_wildcard, IsKeptWildcard}
 use Rattle.attr_uses.specs.inside.Kept.{Keeps, IsAnswerAt, AreGroups}

@@ -1,3 +1,12 @@
+pub mod GrowLaws
+pub mod MapLaws
+pub mod NodeLaws
+pub mod SumLaws
+pub mod NextLaws
+pub mod UnlikeLaws
+pub mod TwoLaws
+pub mod StepLaws
+pub mod CallLaws
 pub mod DefLaws
 pub mod UseLaws
 pub mod EntryLaws

@@ -13,12 +13,12 @@ use Rattle.xs_components.specs.Tables.{Tables}
 use Rattle.xs_components.specs.declared.common.Wildcard.{Wildcard}
 use Rattle.xs_components.specs.declared.complex.ComplexType.{ComplexType}
 use Rattle.xs_codes.specs.declared.code.Code.TheVariants.{SrcCt5}
-use Rattle.use_maps.specs.declared.entry.UseHolder.{UseHolder}
-use Rattle.use_maps.specs.Entries.{joined}
-use Rattle.use_maps.specs.Maps.{MapNodes, IsMapOf, KeepsMaps}
-use Rattle.use_maps.specs.declared.entry.Entry.{Entry}
-use Rattle.use_maps.specs.declared.join.Join.TheVariants.{Union, Override, Without}
-use Rattle.use_maps.specs.declared.maps.UseMap.{UseMap}
+use Rattle.attr_uses.specs.declared.entry.UseHolder.{UseHolder}
+use Rattle.attr_uses.specs.Entries.{joined}
+use Rattle.attr_uses.specs.Maps.{MapNodes, IsMapOf, KeepsMaps}
+use Rattle.attr_uses.specs.declared.entry.Entry.{Entry}
+use Rattle.attr_uses.specs.declared.join.Join.TheVariants.{Union, Override, Without}
+use Rattle.attr_uses.specs.declared.maps.UseMap.{UseMap}
 use Rattle.attr_uses.specs.Wildcards.{joined_wildcard, intersection, union}
 use Rattle.attr_uses.specs.Written.{OwnParts, fault_at, places, united_uses}
 use Rattle.attr_uses.specs.Uses.{AttrUses, no_uses, with_group, with_groups, accepted_groups, first_refusal, restricted_uses, extended_uses, is_listed, any_wildcard, any_type_uses, own_uses, or_fault, with_base, group_uses}

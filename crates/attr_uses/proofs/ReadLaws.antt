@@ -3,10 +3,10 @@ use Rattle.std.proofs.Common.{◌≡◌, ℕ, ◌^◌, ◌<◌, Bool, List, [], 
 use Rattle.std.specs.Prelude.{IsTrue, ◌↔◌}
 use Rattle.std.specs.Option.{option_map}
 use Rattle.xs_components.specs.Tables.{Tables}
-use Rattle.use_maps.specs.Maps.{entry_is, SomeIs, TwoAre, IsLeast}
-use Rattle.use_maps.specs.Maps as maps
-use Rattle.use_maps.specs.declared.entry.Entry.{Entry}
-use Rattle.use_maps.specs.declared.entry.UseAt.{UseAt}
+use Rattle.attr_uses.specs.Maps.{entry_is, SomeIs, TwoAre, IsLeast}
+use Rattle.attr_uses.specs.Maps as maps
+use Rattle.attr_uses.specs.declared.entry.Entry.{Entry}
+use Rattle.attr_uses.specs.declared.entry.UseAt.{UseAt}
 use Rattle.attr_uses.specs.Written.{has_name}
 use Rattle.attr_uses.specs.Uses.{first_of, use_named}
 use Rattle.attr_uses.specs.Tables.{entry_of, entry_for, has_another, is_id_named, is_needed_named, HasTwoOfOneName, HasTwoIds, IsNext, IsNextUnlike}

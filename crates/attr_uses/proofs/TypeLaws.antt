@@ -10,9 +10,9 @@ use Rattle.xs_components.specs.declared.common.TypeId.{TypeId}
 use Rattle.xs_components.specs.declared.common.TypeId.TheVariants.{AnyType, Builtin, Simple, Complex}
 use Rattle.xs_components.specs.declared.complex.ComplexType.{ComplexType}
 use Rattle.xs_components.specs.declared.attr_group.AttrGroupDef.{AttrGroupDef}
-use Rattle.xs_references.specs.Heights.{IsType, IsLower, first_height}
-use Rattle.xs_references.specs.Ranked.{IsBelow, IsRanked}
-use Rattle.use_maps.specs.declared.entry.UseHolder.TheVariants.{Complex as OfType, AttrGroup as OfGroup}
+use Rattle.component_references.specs.Heights.{IsType, IsLower, first_height}
+use Rattle.component_references.specs.Ranked.{IsBelow, IsRanked}
+use Rattle.attr_uses.specs.declared.entry.UseHolder.TheVariants.{Complex as OfType, AttrGroup as OfGroup}
 use Rattle.attr_uses.specs.Written.{own_of_type, own_of_group, own_parts}
 use Rattle.attr_uses.specs.Uses.{AttrUses, group_uses, uses_with_groups, with_own, with_base_of, with_base, type_part, uses_of}
 use Rattle.attr_uses.specs.Tables.{StandsFor, Answers, IsAnswer, AreTablesOf}

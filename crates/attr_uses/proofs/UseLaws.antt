@@ -2,10 +2,10 @@
 use Rattle.std.proofs.Common.{◌≡◌, ℕ, Bool, true, false, ◌==◌, List, [], ◌∷◌, filter, refl, sym, ap, ◌∙◌}
 use Rattle.std.specs.Prelude.{if◌then◌else◌}
 use Rattle.std.proofs.lemmas.Bool.{and_parts, eqb-true, true≢false}
-use Rattle.use_maps.specs.Entries.{same_holder, same_use}
-use Rattle.use_maps.specs.declared.entry.UseAt.{UseAt}
-use Rattle.use_maps.specs.declared.entry.UseHolder.{UseHolder}
-use Rattle.use_maps.specs.declared.entry.UseHolder.TheVariants.{Complex as OfType, AttrGroup as OfGroup}
+use Rattle.attr_uses.specs.Entries.{same_holder, same_use}
+use Rattle.attr_uses.specs.declared.entry.UseAt.{UseAt}
+use Rattle.attr_uses.specs.declared.entry.UseHolder.{UseHolder}
+use Rattle.attr_uses.specs.declared.entry.UseHolder.TheVariants.{Complex as OfType, AttrGroup as OfGroup}
 
 same_holder-is : (a b : UseHolder) → same_holder a b ≡ true → a ≡ b
 same_holder-is (OfType a) (OfType b) e = ap OfType (eqb-true a b e)

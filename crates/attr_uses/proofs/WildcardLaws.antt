@@ -6,10 +6,10 @@ use Rattle.std.proofs.lemmas.Bool.{eqb-true, eqb-false}
 use Rattle.std.proofs.lemmas.List.Folds.{list_any-append}
 use Rattle.std.proofs.lemmas.Option.{none-some}
 use Rattle.std.proofs.Math.Bool.{or_comm}
-use Rattle.xs_namespaces.specs.Sets.{has, admits, IsIntersection, IsUnion}
-use Rattle.xs_namespaces.specs.declared.constraint.NsConstraint.{NsConstraint}
-use Rattle.xs_namespaces.specs.declared.constraint.NsConstraint.TheVariants.{Any, Not, In}
-use Rattle.xs_namespaces.proofs.SetLaws.{no-intersection, no-union, all-united, but-absent-united, but-one-united, has-filter, has-kept}
+use Rattle.xs_components.specs.Sets.{has, admits, IsIntersection, IsUnion}
+use Rattle.xs_components.specs.declared.namespace_constraint.NsConstraint.{NsConstraint}
+use Rattle.xs_components.specs.declared.namespace_constraint.NsConstraint.TheVariants.{Any, Not, In}
+use Rattle.xs_components.proofs.SetLaws.{no-intersection, no-union, all-united, but-absent-united, but-one-united, has-filter, has-kept}
 use Rattle.xs_components.specs.declared.common.Wildcard.{Wildcard}
 use Rattle.attr_uses.specs.Wildcards.{both_excluded, intersection, union_of_negation, with_all_but, union, admitting, joined_wildcard}
 use Rattle.attr_uses.specs.Tables.{IsLike, IsWildcard, kept_wildcard, IsKeptWildcard}

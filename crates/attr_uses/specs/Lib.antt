@@ -1,3 +1,7 @@
+pub mod Entries
+pub mod Nodes
+pub mod Maps
+pub mod Steps
 pub mod Wildcards
 pub mod Written
 pub mod Uses

@@ -3,16 +3,16 @@ use Rattle.std.specs.Prelude.{◌≡◌, ℕ, ◌^◌, ◌<◌, ◌≤◌, Bool,
 use Rattle.std.specs.List.{list_any}
 use Rattle.std.specs.Option.{is_some}
 use Rattle.xs_codes.specs.declared.fault.Fault.{Fault}
-use Rattle.xs_namespaces.specs.Sets.{admits}
+use Rattle.xs_components.specs.Sets.{admits}
 use Rattle.xs_components.specs.Tables.{Tables}
 use Rattle.xs_components.specs.declared.common.Wildcard.{Wildcard}
 use Rattle.xs_components.specs.declared.common.TypeId.TheVariants.{Complex}
 use Rattle.xs_components.specs.declared.attribute.AttributeDecl.{AttributeDecl}
 use Rattle.xs_components.specs.declared.attribute.AttrUse.{AttrUse}
-use Rattle.use_maps.specs.Entries.{same_use}
-use Rattle.use_maps.specs.Maps.{MapNodes, IsMapOf}
-use Rattle.use_maps.specs.declared.entry.Entry.{Entry}
-use Rattle.use_maps.specs.declared.entry.UseAt.{UseAt}
+use Rattle.attr_uses.specs.Entries.{same_use}
+use Rattle.attr_uses.specs.Maps.{MapNodes, IsMapOf}
+use Rattle.attr_uses.specs.declared.entry.Entry.{Entry}
+use Rattle.attr_uses.specs.declared.entry.UseAt.{UseAt}
 use Rattle.attr_uses.specs.Written.{use_at, has_name}
 use Rattle.attr_uses.specs.Uses.{AttrUses, uses_of, group_uses, use_named, is_listed, any_wildcard}
 use Rattle.attr_uses.specs.declared.store.KeptTable.{KeptTable}

@@ -4,18 +4,18 @@ use Rattle.std.specs.List.{list_any}
 use Rattle.std.specs.Option.{option_map, option_and_then}
 use Rattle.xs_codes.specs.declared.code.Code.TheVariants.{SrcCt5}
 use Rattle.xs_codes.specs.declared.fault.Fault.{Fault}
-use Rattle.xs_namespaces.specs.declared.constraint.NsConstraint.TheVariants.{Any}
+use Rattle.xs_components.specs.declared.namespace_constraint.NsConstraint.TheVariants.{Any}
 use Rattle.xs_components.specs.Tables.{Tables}
 use Rattle.xs_components.specs.declared.common.Wildcard.{Wildcard}
 use Rattle.xs_components.specs.declared.common.Process.TheVariants.{Lax}
 use Rattle.xs_components.specs.declared.common.TypeId.{TypeId}
 use Rattle.xs_components.specs.declared.common.TypeId.TheVariants.{AnyType, Builtin, Simple, Complex}
 use Rattle.xs_components.specs.declared.complex.ComplexType.{ComplexType}
-use Rattle.xs_references.specs.Descent.{along}
-use Rattle.xs_references.specs.Heights.{type_height}
-use Rattle.use_maps.specs.declared.entry.UseAt.{UseAt}
-use Rattle.use_maps.specs.declared.entry.UseHolder.{UseHolder}
-use Rattle.use_maps.specs.declared.entry.UseHolder.TheVariants.{Complex as OfType, AttrGroup as OfGroup}
+use Rattle.component_references.specs.Descent.{along}
+use Rattle.component_references.specs.Heights.{type_height}
+use Rattle.attr_uses.specs.declared.entry.UseAt.{UseAt}
+use Rattle.attr_uses.specs.declared.entry.UseHolder.{UseHolder}
+use Rattle.attr_uses.specs.declared.entry.UseHolder.TheVariants.{Complex as OfType, AttrGroup as OfGroup}
 use Rattle.attr_uses.specs.Wildcards.{joined_wildcard, intersection, union}
 use Rattle.attr_uses.specs.Written.{OwnParts, fault_at, own_of_type, own_parts, use_name, has_name, places, united_uses}
 

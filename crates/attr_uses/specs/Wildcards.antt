@@ -2,9 +2,9 @@
 use Rattle.std.specs.Prelude.{ℕ, Bool, true, false, ◌||◌, ◌==◌, ◌++◌, Option, None, Some, filter, if◌then◌else◌}
 use Rattle.std.specs.Option.{option_map}
 use Rattle.xs_names.specs.Names.{absent_space}
-use Rattle.xs_namespaces.specs.Sets.{admits}
-use Rattle.xs_namespaces.specs.declared.constraint.NsConstraint.{NsConstraint}
-use Rattle.xs_namespaces.specs.declared.constraint.NsConstraint.TheVariants.{Any, Not, In}
+use Rattle.xs_components.specs.Sets.{admits}
+use Rattle.xs_components.specs.declared.namespace_constraint.NsConstraint.{NsConstraint}
+use Rattle.xs_components.specs.declared.namespace_constraint.NsConstraint.TheVariants.{Any, Not, In}
 use Rattle.xs_components.specs.declared.common.Wildcard.{Wildcard}
 
 -- two negations: of one namespace, or of a namespace and the absent one

@@ -5,10 +5,10 @@ use Rattle.std.specs.Option.{option_map, option_and_then}
 use Rattle.xs_codes.specs.declared.code.Code.{Code}
 use Rattle.xs_codes.specs.declared.code.Code.TheVariants.{SrcAttributeGroup2, SrcCt4}
 use Rattle.xs_codes.specs.declared.fault.Fault.{Fault}
-use Rattle.use_maps.specs.Entries.{same_use}
-use Rattle.use_maps.specs.declared.entry.UseHolder.{UseHolder}
-use Rattle.use_maps.specs.declared.entry.UseHolder.TheVariants.{Complex as OfType, AttrGroup as OfGroup}
-use Rattle.use_maps.specs.declared.entry.UseAt.{UseAt}
+use Rattle.attr_uses.specs.Entries.{same_use}
+use Rattle.attr_uses.specs.declared.entry.UseHolder.{UseHolder}
+use Rattle.attr_uses.specs.declared.entry.UseHolder.TheVariants.{Complex as OfType, AttrGroup as OfGroup}
+use Rattle.attr_uses.specs.declared.entry.UseAt.{UseAt}
 use Rattle.xs_components.specs.Tables.{Tables}
 use Rattle.xs_components.specs.declared.common.Place.{Place}
 use Rattle.xs_components.specs.declared.common.Wildcard.{Wildcard}

@@ -3,7 +3,7 @@
 ghost use Rattle.std.specs.Prelude.{◌≡◌, ◌<◌, List, Bool, Some, length, slice_get, slice_index, IfOk};
 ghost use Rattle.xs_components.specs.Tables.{Tables};
 ghost use Rattle.xs_components.specs.declared.common.TypeId.TheVariants.{Complex};
-ghost use Rattle.xs_references.specs.Ranked.{IsRanked};
+ghost use Rattle.component_references.specs.Ranked.{IsRanked};
 ghost use Rattle.attr_uses.specs.Uses as spec;
 ghost use Rattle.attr_uses.specs.Uses.{AttrUses, uses_of};
 ghost use Rattle.attr_uses.specs.Tables.{StandsFor, Answers, IsStore};
@@ -13,8 +13,8 @@ use crate::groups::{Answer, or_fault};
 use crate::own::fault_at;
 use crate::store::{KeptTable, Store};
 use crate::wildcards::Joining;
+use crate::{Join, UseHolder};
 use std::alloc::{AllocError, Global};
-use use_maps::{Join, UseHolder};
 use xs_codes::Code;
 use xs_components::{ComplexType, Components, TypeId};
 

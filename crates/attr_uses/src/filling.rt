@@ -1,19 +1,19 @@
 //! The tables of all components, in the order of ranks.
 
 ghost use Rattle.std.specs.Prelude.{◌≡◌, ◌<◌, length, slice_index, IfOk, OnOk};
-ghost use Rattle.xs_references.specs.Order.{IsOrder};
-ghost use Rattle.xs_references.specs.Ranked.{IsRanked};
+ghost use Rattle.component_references.specs.Order.{IsOrder};
+ghost use Rattle.component_references.specs.Ranked.{IsRanked};
 ghost use Rattle.attr_uses.specs.Uses.{group_uses};
 ghost use Rattle.attr_uses.specs.Tables.{Answers, IsStore};
 ghost use Rattle.attr_uses.specs.inside.Kept.{Keeps, AreGroups, AreTypes, AreBelow, IsGroupAnswer};
 
+use crate::UseHolder;
 use crate::groups::Answer;
 use crate::store::Store;
+use component_references::order_of;
 use std::alloc::{AllocError, Global};
-use use_maps::UseHolder;
 use xs_components::Components;
 use xs_lists::Listed;
-use xs_references::order_of;
 
 impl Store {
     // The tables of all attribute groups.

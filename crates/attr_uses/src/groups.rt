@@ -13,8 +13,8 @@ ghost use Rattle.attr_uses.specs.inside.Kept.{Keeps, IsTable, IsMade, IsAnswerAt
 use crate::own::{groups_in, no_form_in};
 use crate::store::{KeptTable, Store};
 use crate::wildcards::Joining;
+use crate::{Join, UseHolder};
 use std::alloc::{AllocError, Global};
-use use_maps::{Join, UseHolder};
 use xs_codes::Fault;
 use xs_components::{AttrGroupId, Components};
 

@@ -1,15 +1,15 @@
 //! What stands in a component itself.
 
 ghost use Rattle.std.specs.Prelude.{◌≡◌, ◌++◌, [], ◌∷◌, List, false, Some, slice_index_or, IfOk};
-ghost use Rattle.use_maps.specs.Maps.{IsMapOf, KeepsMaps};
-ghost use Rattle.use_maps.specs.declared.entry.UseAt.{UseAt};
+ghost use Rattle.attr_uses.specs.Maps.{IsMapOf, KeepsMaps};
+ghost use Rattle.attr_uses.specs.declared.entry.UseAt.{UseAt};
 ghost use Rattle.attr_uses.specs.Written.{own_parts, use_at, places};
 ghost use Rattle.attr_uses.specs.Written as spec;
 ghost use Rattle.attr_uses.specs.Tables.{entry_for, IsSetOf};
 ghost use Rattle.attr_uses.specs.inside.Kept.{named_entry};
 
+use crate::{Entry, UseAt, UseHolder, UseMap, UseMaps};
 use std::alloc::AllocError;
-use use_maps::{Entry, UseAt, UseHolder, UseMap, UseMaps};
 use xs_codes::{Code, Fault};
 use xs_components::{AttrGroupId, AttrUse, Components, Place, Wildcard};
 use xs_names::NameId;

@@ -8,12 +8,10 @@ ghost use Rattle.attr_uses.specs.Written.{own_parts};
 ghost use Rattle.attr_uses.specs.Tables.{StandsFor, IsStore};
 ghost use Rattle.attr_uses.specs.inside.Kept.{Keeps};
 
-use crate::own;
+use crate::{UseHolder, UseMap, UseMaps, own};
 use std::alloc::{AllocError, Global};
-use use_maps::{UseHolder, UseMap, UseMaps};
-use xs_components::{Components, Process, Wildcard};
+use xs_components::{Components, NsConstraint, Process, Wildcard};
 use xs_lists::Listed;
-use xs_namespaces::NsConstraint;
 
 /// The table of one type or of one attribute group, among those that are kept together.
 #[derive(Clone, Copy, Debug, PartialEq, Eq)]

@@ -2,18 +2,18 @@
 
 ghost use Rattle.std.specs.Prelude.{◌≡◌, ◌<◌, ◌↔◌, [], List, Bool, IsTrue, length, option_copied, IfOk};
 ghost use Rattle.xs_components.specs.Tables.{Tables};
-ghost use Rattle.xs_references.specs.Heights.{IsType};
-ghost use Rattle.xs_references.specs.Ranked.{IsRanked};
+ghost use Rattle.component_references.specs.Heights.{IsType};
+ghost use Rattle.component_references.specs.Ranked.{IsRanked};
 ghost use Rattle.attr_uses.specs.Written as written;
 ghost use Rattle.attr_uses.specs.Uses as spec;
 ghost use Rattle.attr_uses.specs.Uses.{AttrUses};
 ghost use Rattle.attr_uses.specs.Tables.{StandsFor, Answers, AreTablesOf, IsTableOf, HasTwoOfOneName, HasTwoIds, IsNext, IsNextUnlike, IsWildcard, IsStore};
 
+use crate::UseAt;
 use crate::groups::Answer;
 use crate::own::uses_in;
 use crate::store::{KeptTable, Store};
 use std::alloc::{AllocError, Global};
-use use_maps::UseAt;
 use xs_codes::Fault;
 use xs_components::{AttrGroupId, AttrUse, Components, TypeId, Wildcard};
 use xs_lists::Listed;

@@ -2,7 +2,7 @@
 
 ghost use Rattle.std.specs.Prelude.{◌≡◌, ◌<◌, Option, Some, length, slice_get, IfOk};
 ghost use Rattle.std.specs.Option.{option_map};
-ghost use Rattle.xs_namespaces.specs.declared.constraint.NsConstraint.{NsConstraint};
+ghost use Rattle.xs_components.specs.declared.namespace_constraint.NsConstraint.{NsConstraint};
 ghost use Rattle.xs_components.specs.declared.common.Wildcard.{Wildcard};
 ghost use Rattle.attr_uses.specs.Wildcards.{joined_wildcard, admitting};
 ghost use Rattle.attr_uses.specs.Tables.{IsWildcard, kept_wildcard, IsKeptWildcard};
@@ -10,8 +10,7 @@ ghost use Rattle.attr_uses.specs.inside.Kept.{Keeps, join_of, SameSet, IsFound, 
 
 use crate::store::Store;
 use std::alloc::{AllocError, Global};
-use xs_components::Wildcard;
-use xs_namespaces::NsConstraint;
+use xs_components::{NsConstraint, Wildcard};
 
 // How the namespaces of two wildcards are made one.
 #[derive(Clone, Copy, Debug, PartialEq, Eq)]

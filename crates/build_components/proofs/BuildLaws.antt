@@ -19,15 +19,15 @@ use Rattle.representations.specs.declared.parts.Represented.{Represented}
 use Rattle.representations.specs.declared.parts.Represented.TheVariants as forms
 use Rattle.representations.specs.declared.parts.Representation.{Representation}
 use Rattle.representations.specs.declared.source.Source.{Source}
-use Rattle.component_numbers.specs.Numbers.{with_parts}
-use Rattle.component_numbers.proofs.NumberLaws.{same_length, same_values}
+use Rattle.set_representations.specs.Numbers.{with_parts}
+use Rattle.set_representations.proofs.NumberLaws.{same_length, same_values}
 use Rattle.build_types.specs.Numbers.{type_ids, complexes_in}
 use Rattle.build_types.specs.SimpleTypes as simple
 use Rattle.build_types.specs.inside.Places.{with_places}
-use Rattle.build_elements.specs.Constraints as constraints
-use Rattle.build_elements.specs.Elements as elements
-use Rattle.build_complex.specs.Groups as models
-use Rattle.build_complex.specs.Complexes as complex
+use Rattle.build_components.specs.Constraints as constraints
+use Rattle.build_components.specs.Elements as elements
+use Rattle.build_components.specs.Groups as models
+use Rattle.build_components.specs.Complexes as complex
 use Rattle.build_components.specs.Built as built
 use Rattle.build_components.specs.inside.Steps as steps
 use Rattle.build_components.proofs.TableLaws.{simple_places, simple_places_by, complex_places, complex_places_by, no_contents, with_types, places_are}

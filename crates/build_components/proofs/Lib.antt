@@ -1,5 +1,15 @@
+pub mod HeadLaws
+pub mod PaddedLaws
+pub mod GroupLaws
 pub mod TableLaws
 pub mod StepLaws
 pub mod BuildLaws
-pub use Rattle.build_complex.proofs.GroupLaws
-pub use Rattle.build_elements.proofs.HeadLaws
+pub mod ListLaws
+pub mod ThereLaws
+pub mod TypeLaws
+pub mod AttributeLaws
+pub mod ConstraintLaws
+pub mod ElementLaws
+pub mod ParticleLaws
+pub mod ComplexLaws
+pub mod ClosedLaws

@@ -9,14 +9,14 @@ use Rattle.xs_components.specs.declared.common.TypeId.{TypeId}
 use Rattle.representations.specs.declared.parts.Represented.{Represented}
 use Rattle.representations.specs.declared.parts.Represented.TheVariants as forms
 use Rattle.representations.specs.declared.source.Source.{Source}
-use Rattle.component_numbers.specs.Numbers.{numbers_of, with_parts}
-use Rattle.component_numbers.proofs.NumberLaws.{same_length, same_values}
-use Rattle.build_attributes.specs.Declarations.{attributes_of}
-use Rattle.build_attributes.specs.Groups as attr
-use Rattle.build_elements.specs.Constraints as constraints
-use Rattle.build_elements.specs.Elements as elements
-use Rattle.build_elements.specs.declared.constraints.ConstraintNumbers.{ConstraintNumbers}
-use Rattle.build_complex.specs.Models.{particles_for, with_models}
+use Rattle.set_representations.specs.Numbers.{numbers_of, with_parts}
+use Rattle.set_representations.proofs.NumberLaws.{same_length, same_values}
+use Rattle.build_types.specs.Declarations.{attributes_of}
+use Rattle.build_types.specs.Groups as attr
+use Rattle.build_components.specs.Constraints as constraints
+use Rattle.build_components.specs.Elements as elements
+use Rattle.build_components.specs.declared.constraints.ConstraintNumbers.{ConstraintNumbers}
+use Rattle.build_components.specs.Models.{particles_for, with_models}
 use Rattle.build_components.specs.inside.Steps as steps
 use Rattle.build_components.specs.declared.steps.AttributeNumbers.{AttributeNumbers}
 

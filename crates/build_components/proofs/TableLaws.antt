@@ -10,8 +10,8 @@ use Rattle.xs_components.specs.declared.complex.ComplexType.{ComplexType}
 use Rattle.representations.specs.declared.parts.Represented.{Represented}
 use Rattle.representations.specs.declared.parts.Represented.TheVariants as forms
 use Rattle.representations.specs.declared.parts.Representation.{Representation}
-use Rattle.component_numbers.specs.Numbers.{with_parts}
-use Rattle.component_numbers.proofs.NumberLaws.{with_parts_none, with_parts_more}
+use Rattle.set_representations.specs.Numbers.{with_parts}
+use Rattle.set_representations.proofs.NumberLaws.{with_parts_none, with_parts_more}
 use Rattle.build_types.specs.inside.Places.{no_simple, no_complex, place_for, with_place, with_places}
 
 abbrev pub simple_places_by : Represented → Place → List SimpleType

@@ -10,17 +10,17 @@ use Rattle.xs_components.specs.declared.attribute.AttributeDecl.{AttributeDecl}
 use Rattle.xs_components.specs.declared.attr_group.AttrGroupDef.{AttrGroupDef}
 use Rattle.xs_components.specs.declared.complex.ComplexType.{ComplexType}
 use Rattle.representations.specs.declared.source.Source.{Source}
-use Rattle.component_numbers.specs.Numbers.{numbers_of, with_parts}
+use Rattle.set_representations.specs.Numbers.{numbers_of, with_parts}
 use Rattle.build_types.specs.Numbers.{type_ids}
 use Rattle.build_types.specs.SimpleTypes as simple
-use Rattle.build_attributes.specs.Declarations.{attributes_of}
-use Rattle.build_attributes.specs.Groups as attr
-use Rattle.build_elements.specs.Constraints as constraints
-use Rattle.build_elements.specs.Elements as elements
-use Rattle.build_complex.specs.Groups as models
-use Rattle.build_complex.specs.Particles as terms
-use Rattle.build_complex.specs.Complexes as complex
-use Rattle.build_elements.specs.declared.constraints.ConstraintNumbers.{ConstraintNumbers}
+use Rattle.build_types.specs.Declarations.{attributes_of}
+use Rattle.build_types.specs.Groups as attr
+use Rattle.build_components.specs.Constraints as constraints
+use Rattle.build_components.specs.Elements as elements
+use Rattle.build_components.specs.Groups as models
+use Rattle.build_components.specs.Particles as terms
+use Rattle.build_components.specs.Complexes as complex
+use Rattle.build_components.specs.declared.constraints.ConstraintNumbers.{ConstraintNumbers}
 
 module _ (source : Source) where
   -- the numbers by place

@@ -2,8 +2,8 @@ ghost use Rattle.std.specs.Prelude.{◌≡◌, IfOk, OnOk};
 ghost use Rattle.xs_components.specs.Tables.{no_tables};
 ghost use Rattle.build_components.specs.Built as spec;
 
+use crate::ComplexNumbers;
 use crate::steps::{add_attribute_parts, add_element_parts, fill_types};
-use build_complex::ComplexNumbers;
 use build_types::number_types;
 use representations::Source;
 use std::alloc::{AllocError, Global};

@@ -1,13 +1,11 @@
 ghost use Rattle.std.specs.Prelude.{◌≡◌, length, IfOk, OnOk};
 ghost use Rattle.xs_components.specs.Table.{no_parts};
 ghost use Rattle.build_types.specs.SimpleTypes.{simple_types};
-ghost use Rattle.build_complex.specs.Complexes.{complex_types};
+ghost use Rattle.build_components.specs.Complexes.{complex_types};
 ghost use Rattle.build_components.specs.inside.Steps as spec;
 
-use build_attributes::{add_attributes, build_attr_groups, number_attr_groups};
-use build_complex::{ComplexNumbers, build_complexes, build_particles};
-use build_elements::{add_constraints, build_elements};
-use build_types::build_simples;
+use crate::{ComplexNumbers, add_constraints, build_complexes, build_elements, build_particles};
+use build_types::{add_attributes, build_attr_groups, build_simples, number_attr_groups};
 use representations::Source;
 use std::alloc::{AllocError, Global};
 use xs_components::{AttrGroupId, AttributeId, Components, ParticleId, TypeId};

@@ -1,4 +1,8 @@
 pub mod Numbers
 pub mod Types
 pub mod SimpleTypes
+pub mod Values
+pub mod Declarations
+pub mod Members
+pub mod Groups
 pub mod inside

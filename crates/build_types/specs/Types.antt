@@ -1,7 +1,7 @@
 -- The types that are meant by names and by what stands in an element.
 use Rattle.std.specs.Prelude.{ℕ, List, Option, None, Some, find, slice_index_or}
 use Rattle.std.specs.Option.{option_map, unwrap_or}
-use Rattle.symbol_spaces.specs.Symbols.{first_place}
+use Rattle.component_tables.specs.Symbols.{first_place}
 use Rattle.xs_components.specs.declared.common.TypeId.{TypeId}
 use Rattle.xs_components.specs.declared.common.TypeId.TheVariants as types
 use Rattle.representations.specs.declared.parts.TypeName.{TypeName}

@@ -5,7 +5,7 @@ use Rattle.std.specs.Option.{option_map, option_and_then, unwrap_or}
 use Rattle.std.proofs.lemmas.Bool.{cases_lt}
 use Rattle.std.proofs.lemmas.Option.{slice_get-get_or, slice_get_past, unwrap_or-slice_get}
 use Rattle.xs_names.specs.Names.{NameTable}
-use Rattle.schema_models.specs.ContentAutomaton.{ContentAutomaton}
+use Rattle.content_models.specs.declared.automaton.ContentAutomaton.{ContentAutomaton}
 use Rattle.schema_models.specs.SetModels.{content_of}
 use Rattle.compiled_schema.specs.declared.compiled.Compiled.{Compiled}
 use Rattle.compiled_schema.specs.Usable.{IsModelOver, HasModelOver, AreModels}

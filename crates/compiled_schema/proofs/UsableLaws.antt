@@ -5,7 +5,7 @@ use Rattle.xs_names.specs.Names.{NameTable, Grown}
 use Rattle.xs_names.proofs.GrownLaws.{Grown-trans}
 use Rattle.xs_components.specs.Tables.{Tables}
 use Rattle.xs_components.specs.declared.attribute.AttributeDecl.{AttributeDecl}
-use Rattle.schema_models.specs.ContentAutomaton.{ContentAutomaton}
+use Rattle.content_models.specs.declared.automaton.ContentAutomaton.{ContentAutomaton}
 use Rattle.compiled_schema.specs.declared.compiled.Compiled.{Compiled}
 use Rattle.compiled_schema.specs.Usable.{AreNamed, HasModelOver, AreModels, IsUsable}
 

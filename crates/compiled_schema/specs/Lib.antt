@@ -1,12 +1,1 @@
 pub mod Usable
-pub use Rattle.schema_models.specs.Checks
-pub use Rattle.schema_models.specs.ModelFault
-pub use Rattle.assessed_ids.specs.Numbered
-pub use Rattle.assessed_ids.specs.Attribution
-pub use Rattle.assessed_ids.specs.Fitting
-pub use Rattle.assessed_ids.specs.Assessment
-pub use Rattle.assessed_ids.specs.Plain
-pub use Rattle.assessed_ids.specs.Ids
-pub use Rattle.assessed_ids.specs.Table
-pub use Rattle.assessed_ids.specs.Bearings
-pub use Rattle.assessed_ids.specs.Joined

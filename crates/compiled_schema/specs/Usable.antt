@@ -6,19 +6,19 @@ use Rattle.xs_components.specs.Tables.{Tables}
 use Rattle.xs_components.specs.declared.complex.ComplexType.{ComplexType}
 use Rattle.xs_components.specs.declared.element.ElementDecl.{ElementDecl}
 use Rattle.xs_components.specs.declared.simple.SimpleType.{SimpleType}
-use Rattle.xs_members.specs.Heads.{names_of}
+use Rattle.xs_components.specs.Heads.{names_of}
 use Rattle.subst_groups.specs.Groups.{AreGroups}
 use Rattle.elem_governing.specs.View.{IsView}
-use Rattle.assessed_ids.specs.Source.{IsSource}
-use Rattle.assessed_ids.specs.Schema.{IsAttrSet}
-use Rattle.assessed_ids.specs.Types.{IsTypeSet}
-use Rattle.assessed_ids.specs.Added.{AreNamed as AreAttrsNamed}
-use Rattle.element_classes.specs.Classes.{AreClassesOf}
-use Rattle.schema_models.specs.Built.{IsBuilt}
-use Rattle.schema_models.specs.ContentAutomaton.{ContentAutomaton}
-use Rattle.schema_models.specs.Checks.{IsAmbiguousModel}
+use Rattle.elem_assess.specs.Source.{IsSource}
+use Rattle.attr_assess.specs.Schema.{IsAttrSet}
+use Rattle.attr_assess.specs.Types.{IsTypeSet}
+use Rattle.attr_assess.specs.Added.{AreNamed as AreAttrsNamed}
+use Rattle.component_tables.specs.Classes.{AreClassesOf}
+use Rattle.content_models.specs.Built.{IsBuilt}
+use Rattle.content_models.specs.declared.automaton.ContentAutomaton.{ContentAutomaton}
+use Rattle.model_checks.specs.Checks.{IsAmbiguousModel}
 use Rattle.schema_models.specs.SetModels.{content_of}
-use Rattle.assessed_ids.specs.Attribution.{SchemaSet}
+use Rattle.assessment.specs.Attribution.{SchemaSet}
 use Rattle.compiled_schema.specs.declared.compiled.Compiled.{Compiled}
 
 -- the schema set that is compiled

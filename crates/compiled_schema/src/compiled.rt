@@ -1,10 +1,8 @@
-use assessed_ids::{AttrTables, SimpleTypes};
-use component_names::ComponentNames;
-use content_types::ContentTypes;
-use element_types::Declarations;
+use attr_uses::AttrTables;
+use component_tables::{ComponentNames, ContentTypes, Declarations};
 use schema_models::Models;
-use xs_components::Components;
-use xs_members::Members;
+use simple_types::SimpleTypes;
+use xs_components::{Components, Members};
 use xs_names::Names;
 
 /// A compiled schema set.

@@ -3,11 +3,11 @@
 ghost use Rattle.std.specs.Prelude.{◌≡◌, ℕ, Some, None, MatchOption};
 ghost use Rattle.xs_names.specs.Names.{NameTable};
 ghost use Rattle.schema_models.specs.SetModels.{content_of};
-ghost use Rattle.assessed_ids.specs.Attribution.{content_particle};
+ghost use Rattle.assessment.specs.Attribution.{content_particle};
 ghost use Rattle.compiled_schema.specs.Usable as spec;
 
 use crate::Compiled;
-use schema_models::ContentAutomaton;
+use content_models::ContentAutomaton;
 use xs_components::{ComplexId, TypeId};
 
 impl Compiled {

@@ -2,4 +2,8 @@
 #![tactic(auto)]
 
 #[cfg(test)]
+mod bases;
+#[cfg(test)]
+mod parts;
+#[cfg(test)]
 mod tables;

@@ -9,13 +9,13 @@ use Rattle.particle_models.specs.Particles.{Particle, Place, Mark}
 use Rattle.particle_models.specs.Words.{BeginsWord, EndsIn, names_of}
 use Rattle.particle_models.specs.Unrolled.{places}
 use Rattle.particle_models.specs.Model.{blank}
-use Rattle.model_symbols.specs.declared.terms.Accepts.{Accepts}
-use Rattle.model_symbols.specs.declared.attribution.Attribution.{Attribution}
-use Rattle.model_symbols.specs.declared.attribution.Attribution.TheVariants.{Nothing, OneClass, Ambivalent}
-use Rattle.model_symbols.specs.Terms.{ExpandedName}
-use Rattle.model_symbols.specs.Symbols.{symbol_of}
-use Rattle.model_symbols.specs.Attribution.{IsStranger, IsFirstTerm, IsAmbivalent, IsAttributed}
-use Rattle.content_states.specs.Automaton.{Automaton, run, state_of, start_of, step_of, dead_of, term_of}
+use Rattle.content_automaton.specs.declared.symbol_terms.Accepts.{Accepts}
+use Rattle.content_automaton.specs.declared.attribution.Attribution.{Attribution}
+use Rattle.content_automaton.specs.declared.attribution.Attribution.TheVariants.{Nothing, OneClass, Ambivalent}
+use Rattle.content_automaton.specs.Terms.{ExpandedName}
+use Rattle.content_automaton.specs.Symbols.{symbol_of}
+use Rattle.content_automaton.specs.Attribution.{IsStranger, IsFirstTerm, IsAmbivalent, IsAttributed}
+use Rattle.content_automaton.specs.Automaton.{Automaton, run, state_of, start_of, step_of, dead_of, term_of}
 use Rattle.content_automaton.specs.Recognized.{IsUnambiguous, nth_place}
 use Rattle.content_automaton.specs.Modelled.{ModelAutomaton, IsAutomatonOf, AreAmbiguous, IsTermAt, IsFirstTermOf, IsAmbiguousBy, first_of, is_ambivalent}
 

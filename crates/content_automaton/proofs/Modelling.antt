@@ -3,30 +3,30 @@ use Rattle.std.proofs.Common.{◌≡◌, ℕ, ◌*◌, ◌<◌, ◌≤◌, ◌�
 use Rattle.std.specs.Prelude.{All, MatchOption}
 use Rattle.std.proofs.lemmas.Bool.{cases_lt, false≢true}
 use Rattle.std.proofs.lemmas.List.Elements.{Contains-get_or}
-use Rattle.content_states.specs.Outcome.{WhereTooMany}
-use Rattle.content_states.specs.declared.stop.Stop.{Stop}
-use Rattle.content_states.specs.declared.stop.Stop.TheVariants.{Memory, TooManyStates}
+use Rattle.content_automaton.specs.Outcome.{WhereTooMany}
+use Rattle.content_automaton.specs.declared.stop.Stop.{Stop}
+use Rattle.content_automaton.specs.declared.stop.Stop.TheVariants.{Memory, TooManyStates}
 use Rattle.xs_positions.specs.Tree.{Tree}
-use Rattle.xs_positions.specs.Words.{IsWord}
+use Rattle.xs_positions.specs.PositionWords.{IsWord}
 use Rattle.xs_names.specs.Names.{NameTable}
 use Rattle.xs_names.specs.Numbering.{HasNoRepeats}
-use Rattle.xs_namespaces.specs.declared.constraint.NsConstraint.TheVariants.{Any}
+use Rattle.xs_components.specs.declared.namespace_constraint.NsConstraint.TheVariants.{Any}
 use Rattle.particle_models.specs.Particles.{Particle}
 use Rattle.particle_models.specs.Unrolled.{unrolled}
 use Rattle.particle_models.specs.Model.{UnrolledModel}
 use Rattle.particle_models.specs.Reach.{Reach}
-use Rattle.model_symbols.specs.declared.terms.Accepts.{Accepts}
-use Rattle.model_symbols.specs.declared.terms.Accepts.TheVariants.{Wildcard}
-use Rattle.model_symbols.specs.declared.attribution.Attribution.{Attribution}
-use Rattle.model_symbols.specs.Terms.{ExpandedName}
-use Rattle.model_symbols.specs.Symbols.{SymbolTable, IsNamed, AreNamesOf, AreSymbolsOf, symbol_of, count_of}
-use Rattle.model_symbols.specs.Listed.{IsListing}
-use Rattle.model_symbols.proofs.Symboling.{symbol_below}
-use Rattle.content_states.specs.Moves.{symbol_at}
-use Rattle.content_states.specs.Automaton.{Automaton, Accepts as BySymbol, Speaks, run, term_of}
-use Rattle.content_states.specs.Ambiguity.{AreReachedTogether, AreReachedApart}
-use Rattle.content_states.specs.Count.{IsStateCount}
-use Rattle.content_states.proofs.Pairing.{cases_then}
+use Rattle.content_automaton.specs.declared.symbol_terms.Accepts.{Accepts}
+use Rattle.content_automaton.specs.declared.symbol_terms.Accepts.TheVariants.{Wildcard}
+use Rattle.content_automaton.specs.declared.attribution.Attribution.{Attribution}
+use Rattle.content_automaton.specs.Terms.{ExpandedName}
+use Rattle.content_automaton.specs.Symbols.{SymbolTable, IsNamed, AreNamesOf, AreSymbolsOf, symbol_of, count_of}
+use Rattle.content_automaton.specs.Listed.{IsListing}
+use Rattle.content_automaton.proofs.Symboling.{symbol_below}
+use Rattle.content_automaton.specs.Moves.{symbol_at}
+use Rattle.content_automaton.specs.Automaton.{Automaton, Accepts as BySymbol, Speaks, run, term_of}
+use Rattle.content_automaton.specs.Ambiguity.{AreReachedTogether, AreReachedApart}
+use Rattle.content_automaton.specs.Count.{IsStateCount}
+use Rattle.content_automaton.proofs.Pairing.{cases_then}
 use Rattle.content_automaton.specs.Recognized.{AreSymbols, IsUnambiguous}
 use Rattle.content_automaton.specs.Counted.{IsStateCountOf}
 use Rattle.content_automaton.specs.Modelled.{IsModelOf, IsAutomatonOf}

@@ -4,7 +4,7 @@ use Rattle.std.specs.Prelude.{All, slice_index}
 use Rattle.std.proofs.lemmas.List.{length-map}
 use Rattle.std.proofs.lemmas.List.Elements.{All-tail, All-nil, All-cons, Contains-get_or}
 use Rattle.xs_positions.specs.Tree.{size, symbols}
-use Rattle.xs_positions.specs.Words.{IsWord}
+use Rattle.xs_positions.specs.PositionWords.{IsWord}
 use Rattle.particle_models.specs.Particles.{Particle, Place}
 use Rattle.particle_models.specs.Words.{IsAmbiguous}
 use Rattle.particle_models.specs.Unrolled.{places, unrolled, count, HasNoAll}
@@ -14,10 +14,10 @@ use Rattle.particle_models.specs.Reach.{Reads, Reach}
 use Rattle.particle_models.proofs.Placing.{length_places}
 use Rattle.particle_models.proofs.Ranging.{symbols_within}
 use Rattle.particle_models.proofs.Marked.{names_word, names_begin, ends_reach, reach_ends, places_differ}
-use Rattle.content_states.specs.Moves.{takes, symbol_at}
-use Rattle.content_states.specs.Automaton.{Automaton, Accepts, Speaks, run, term_of}
-use Rattle.content_states.specs.Ambiguity.{AreReachedTogether, AreReachedApart}
-use Rattle.content_states.specs.Count.{IsReachSet, IsStateCount}
+use Rattle.content_automaton.specs.Moves.{takes, symbol_at}
+use Rattle.content_automaton.specs.Automaton.{Automaton, Accepts, Speaks, run, term_of}
+use Rattle.content_automaton.specs.Ambiguity.{AreReachedTogether, AreReachedApart}
+use Rattle.content_automaton.specs.Count.{IsReachSet, IsStateCount}
 use Rattle.content_automaton.specs.Counted.{IsReachSetOf, IsStateCountOf}
 use Rattle.content_automaton.specs.Recognized.{ExpandedName, AreSymbols, Recognizes, IsUnambiguous, GivesTerms, nth_place}
 

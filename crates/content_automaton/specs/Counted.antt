@@ -2,13 +2,13 @@
 use Rattle.std.specs.Prelude.{◌≡◌, ◌≢◌, ℕ, suc, ◌↔◌, Bool, List, [], length, Contains}
 use Rattle.std.specs.List.{AllPairs}
 use Rattle.std.specs.List.Sorted.{IsStrictlyIncreasing}
-use Rattle.xs_positions.specs.Words.{IsWord}
+use Rattle.xs_positions.specs.PositionWords.{IsWord}
 use Rattle.xs_positions.specs.Positions.{Table}
 use Rattle.particle_models.specs.Particles.{Particle}
 use Rattle.particle_models.specs.Unrolled.{unrolled}
 use Rattle.particle_models.specs.Model.{Accepts}
 use Rattle.particle_models.specs.Reach.{Reach}
-use Rattle.model_symbols.specs.Terms.{ExpandedName}
+use Rattle.content_automaton.specs.Terms.{ExpandedName}
 
 module _ (accepts : ℕ → ExpandedName → Bool) (inhabited : ℕ → Bool) (model : Particle) (table : Table) where
   -- the set, written as a rising list, holds exactly the positions in which a prefix with some names may end, and is not empty

@@ -1,3 +1,14 @@
+pub mod Moves
+pub mod Built
+pub mod Outcome
+pub mod Automaton
+pub mod Count
+pub mod Ambiguity
+pub mod Terms
+pub mod Symbols
+pub mod Rows
+pub mod Attribution
+pub mod Listed
 pub mod Recognized
 pub mod Counted
 pub mod Modelled

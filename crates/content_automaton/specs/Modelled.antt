@@ -6,14 +6,14 @@ use Rattle.particle_models.specs.Particles.{Particle, Place}
 use Rattle.particle_models.specs.Words.{BeginsWord, EndsIn, IsAmbiguous}
 use Rattle.particle_models.specs.Unrolled.{places, HasNoAll}
 use Rattle.particle_models.specs.Model.{UnrolledModel, IsUnrolled, IsInhabitedBy}
-use Rattle.model_symbols.specs.declared.terms.Accepts.{Accepts}
-use Rattle.model_symbols.specs.declared.attribution.Attribution.{Attribution}
-use Rattle.model_symbols.specs.declared.attribution.Attribution.TheVariants.{Nothing, OneClass, Ambivalent}
-use Rattle.model_symbols.specs.Terms.{ExpandedName, accepts_name}
-use Rattle.model_symbols.specs.Symbols.{SymbolTable, AreSymbolsOf, symbol_of, count_of}
-use Rattle.model_symbols.specs.Attribution.{IsStranger, IsFirstTerm}
-use Rattle.model_symbols.specs.Listed.{AreAttributed}
-use Rattle.content_states.specs.Automaton.{Automaton}
+use Rattle.content_automaton.specs.declared.symbol_terms.Accepts.{Accepts}
+use Rattle.content_automaton.specs.declared.attribution.Attribution.{Attribution}
+use Rattle.content_automaton.specs.declared.attribution.Attribution.TheVariants.{Nothing, OneClass, Ambivalent}
+use Rattle.content_automaton.specs.Terms.{ExpandedName, accepts_name}
+use Rattle.content_automaton.specs.Symbols.{SymbolTable, AreSymbolsOf, symbol_of, count_of}
+use Rattle.content_automaton.specs.Attribution.{IsStranger, IsFirstTerm}
+use Rattle.content_automaton.specs.Listed.{AreAttributed}
+use Rattle.content_automaton.specs.Automaton.{Automaton}
 use Rattle.content_automaton.specs.Recognized.{Recognizes, IsUnambiguous, GivesTerms, nth_place}
 use Rattle.content_automaton.specs.Counted.{IsStateCountOf}
 use Rattle.content_automaton.specs.declared.refused.BuildError.{BuildError}

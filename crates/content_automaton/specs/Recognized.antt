@@ -5,8 +5,8 @@ use Rattle.particle_models.specs.Particles.{Particle, Place}
 use Rattle.particle_models.specs.Words.{IsWordOfNames, BeginsWord, EndsIn, IsAmbiguous}
 use Rattle.particle_models.specs.Unrolled.{places}
 use Rattle.particle_models.specs.Model.{blank}
-pub use Rattle.model_symbols.specs.Terms.{ExpandedName}
-use Rattle.content_states.specs.Automaton.{Automaton, state_of, dead_of, accepts_at, run, term_of}
+pub use Rattle.content_automaton.specs.Terms.{ExpandedName}
+use Rattle.content_automaton.specs.Automaton.{Automaton, state_of, dead_of, accepts_at, run, term_of}
 
 -- Each name has a symbol, and each symbol a name. Each term accepts the names whose symbols are listed for it, and no others.
 pub record AreSymbols (accepts : ℕ → ExpandedName → Bool) (terms : List ℕ) (accepted : List (List ℕ)) (symbols : ℕ) (symbol : ExpandedName → ℕ) : Type 0 where

@@ -6,17 +6,16 @@ ghost use Rattle.xs_names.specs.Numbering.{HasNoRepeats};
 ghost use Rattle.xs_positions.specs.Tree.{Tree};
 ghost use Rattle.xs_positions.specs.Positions.{ArePositionsOf};
 ghost use Rattle.particle_models.specs.Particles.{Particle};
-ghost use Rattle.model_symbols.specs.declared.terms.Accepts.{Accepts as AcceptsData};
-ghost use Rattle.model_symbols.specs.Terms.{ExpandedName, name_at};
-ghost use Rattle.model_symbols.specs.Symbols.{IsNamed, AreNamesOf, AreSymbolsOf, count_of, symbol_of};
-ghost use Rattle.model_symbols.specs.Attribution.{IsAmbivalent};
-ghost use Rattle.content_states.specs.Automaton.{start_of, step_of, accepts_at, state_of, dead_of};
+ghost use Rattle.content_automaton.specs.declared.symbol_terms.Accepts.{Accepts as AcceptsData};
+ghost use Rattle.content_automaton.specs.Terms.{ExpandedName, name_at};
+ghost use Rattle.content_automaton.specs.Symbols.{IsNamed, AreNamesOf, AreSymbolsOf, count_of, symbol_of};
+ghost use Rattle.content_automaton.specs.Attribution.{IsAmbivalent};
+ghost use Rattle.content_automaton.specs.Automaton.{start_of, step_of, accepts_at, state_of, dead_of};
 ghost use Rattle.content_automaton.specs.Recognized.{IsUnambiguous};
 ghost use Rattle.content_automaton.specs.Modelled.{IsModelOf, IsAutomatonOf, WhereRefused, HasTooManyStates, HasTooLargeTable, HasRoom, IsTermAt, IsFirstTermOf, IsAmbiguousBy, first_of, is_ambivalent};
 
 use crate::refused::BuildError;
-use content_states::{Machine, Stop};
-use model_symbols::{Accepts, Attribution, Symbols, list_terms};
+use crate::{Accepts, Attribution, Machine, Stop, Symbols, list_terms};
 use particle_models::Unrolled;
 use std::alloc::{AllocError, Global};
 use std::marker::Model;
@@ -39,7 +38,7 @@ impl Model for Automaton {
     ghost Value = { ModelAutomaton };
 
     ghost use Rattle.std.specs.Prelude.{◌≡◌};
-    ghost use Rattle.model_symbols.specs.Symbols.{count_of};
+    ghost use Rattle.content_automaton.specs.Symbols.{count_of};
 
     ghost view = { λ a. record { machine = a.machine; symbols = a.symbols; terms = a.terms.items; attributions = a.attributions.items } };
 

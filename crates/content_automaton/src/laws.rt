@@ -1,15 +1,15 @@
 //! What automata over symbols say of the words of content models.
 
 ghost use Rattle.std.specs.Prelude.{◌≡◌, ◌<◌, ℕ, Bool, List, Some, All};
-ghost use Rattle.xs_positions.specs.Words.{IsWord};
+ghost use Rattle.xs_positions.specs.PositionWords.{IsWord};
 ghost use Rattle.particle_models.specs.Particles.{Particle};
 ghost use Rattle.particle_models.specs.Words.{IsAmbiguous};
 ghost use Rattle.particle_models.specs.Reach.{Reach};
 ghost use Rattle.particle_models.specs.Unrolled.{unrolled, HasNoAll};
 ghost use Rattle.particle_models.specs.Model.{UnrolledModel, IsUnrolled, IsInhabitedBy};
-ghost use Rattle.content_states.specs.Moves.{symbol_at};
-ghost use Rattle.content_states.specs.Automaton.{Automaton, Speaks, Accepts, run, term_of};
-ghost use Rattle.content_states.specs.Ambiguity.{AreReachedTogether, AreReachedApart};
+ghost use Rattle.content_automaton.specs.Moves.{symbol_at};
+ghost use Rattle.content_automaton.specs.Automaton.{Automaton, Speaks, Accepts, run, term_of};
+ghost use Rattle.content_automaton.specs.Ambiguity.{AreReachedTogether, AreReachedApart};
 ghost use Rattle.content_automaton.specs.Recognized.{ExpandedName, AreSymbols, Recognizes, IsUnambiguous, GivesTerms, nth_place};
 
 /// Laws of the definitions (Structures 3.8.4, 3.8.6, 3.4.4): an automaton over the positions of a model recognizes its words; terms that the same

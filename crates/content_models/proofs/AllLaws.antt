@@ -11,14 +11,14 @@ use Rattle.xs_components.specs.Terms.{term_of}
 use Rattle.xs_components.specs.declared.particle.Particle.{Particle as Part}
 use Rattle.xs_components.specs.declared.particle.Term.{Term}
 use Rattle.xs_components.specs.declared.particle.Term.TheVariants.{Element, Any, Group, Sequence, Choice, All}
-use Rattle.particle_forms.specs.Ranked.{IsRanked}
+use Rattle.component_references.specs.Ranked.{IsRanked}
 use Rattle.particle_models.specs.Particles.{Particle, Particles, term, choice, all_of, occurs, none}
 use Rattle.particle_models.specs.Nodes.{members_of}
 use Rattle.particle_models.specs.Unrolled.{is_never, HasNoAll, positions_of}
 use Rattle.particle_forms.specs.Models.{group_particle, group_model, term_model, part_model, model_of}
 use Rattle.particle_forms.proofs.ModelLaws.{model_of_is}
-use Rattle.all_states.specs.declared.member.AllMember.{AllMember}
-use Rattle.all_states.specs.Shape.{particles_of, all_within, IsOnce}
+use Rattle.content_models.specs.declared.member.AllMember.{AllMember}
+use Rattle.content_models.specs.Shape.{particles_of, all_within, IsOnce}
 use Rattle.content_models.specs.Terms.{terms_of, terms_in}
 use Rattle.content_models.specs.Ways.{wrapped, some_optional, IsPlain, IsNoAll, part_member, member_at}
 use Rattle.content_models.specs.Built.{IsLimitedAll, IsLimited}

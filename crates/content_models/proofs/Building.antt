@@ -20,16 +20,16 @@ use Rattle.particle_models.specs.Model.{UnrolledModel, IsUnrolled, blank}
 use Rattle.particle_forms.specs.Models.{model_of}
 use Rattle.particle_forms.specs.Accepted.{accepts, is_inhabited}
 use Rattle.particle_forms.proofs.AcceptedLaws.{inhabited-by}
-use Rattle.element_types.specs.Types.{DeclarationTable}
-use Rattle.model_symbols.specs.declared.terms.Accepts.{Accepts}
-use Rattle.model_symbols.specs.Terms.{ExpandedName, accepts_name}
-use Rattle.model_symbols.specs.Symbols.{IsNamed, AreSymbolsOf, count_of}
-use Rattle.model_symbols.specs.Attribution.{IsFirstTerm}
+use Rattle.component_tables.specs.Types.{DeclarationTable}
+use Rattle.content_automaton.specs.declared.symbol_terms.Accepts.{Accepts}
+use Rattle.content_automaton.specs.Terms.{ExpandedName, accepts_name}
+use Rattle.content_automaton.specs.Symbols.{IsNamed, AreSymbolsOf, count_of}
+use Rattle.content_automaton.specs.Attribution.{IsFirstTerm}
 use Rattle.content_automaton.specs.Counted.{IsStateCountOf}
 use Rattle.content_automaton.specs.Modelled.{IsModelOf, ModelAutomaton, IsAutomatonOf, IsFirstTermOf, HasRoom as HasRoomFor, HasTooManyStates as PassesStates, HasTooLargeTable as PassesCells}
-use Rattle.all_states.specs.declared.member.AllMember.{AllMember}
-use Rattle.all_states.specs.Shape.{no_member, particles_of, all_within}
-use Rattle.all_models.specs.Modelled.{AllModel, IsAllModel, IsAllAutomatonOf, IsFirstMember}
+use Rattle.content_models.specs.declared.member.AllMember.{AllMember}
+use Rattle.content_models.specs.Shape.{no_member, particles_of, all_within}
+use Rattle.content_models.specs.Modelled.{AllModel, IsAllModel, IsAllAutomatonOf, IsFirstMember}
 use Rattle.content_models.specs.Terms.{terms_of, accepts_of, model_terms, term_number}
 use Rattle.content_models.specs.Ways.{some_optional, member_at, IsAllFound}
 use Rattle.content_models.specs.Built.{IsSource, IsLimitedAll, IsLimited, IsStateTotal, HasTooManyStates, HasTooLargeTable, IsBuilt, HasRoom, IsFirstIn}

@@ -1,3 +1,13 @@
+pub mod Counting
+pub mod Filling
+pub mod Around
+pub mod Lettering
+pub mod Running
+pub mod Recognizing
+pub mod Requiring
+pub mod Noting
+pub mod Modelling
+pub mod Attributing
 pub mod WayLaws
 pub mod AllLaws
 pub mod TermLaws

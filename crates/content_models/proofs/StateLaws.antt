@@ -2,12 +2,12 @@
 use Rattle.std.proofs.Common.{◌≡◌, ℕ, ◌↔◌, Bool, IsTrue, List, [], slice_index, sym, subst}
 use Rattle.std.specs.Prelude.{Contains, slice_index_or}
 use Rattle.xs_positions.specs.Positions.{Table}
-use Rattle.xs_positions.specs.Words.{IsWord}
+use Rattle.xs_positions.specs.PositionWords.{IsWord}
 use Rattle.particle_models.specs.Particles.{Particle}
 use Rattle.particle_models.specs.Unrolled.{unrolled, places}
 use Rattle.particle_models.specs.Model.{blank}
 use Rattle.particle_models.specs.Reach.{Reach}
-use Rattle.model_symbols.specs.Terms.{ExpandedName}
+use Rattle.content_automaton.specs.Terms.{ExpandedName}
 use Rattle.content_automaton.specs.Counted.{IsReachSetOf, IsStateCountOf}
 
 module _ (accepts : ℕ → ExpandedName → Bool) (inhabited : ℕ → Bool) (model : Particle) where

@@ -5,23 +5,23 @@ use Rattle.std.specs.List.{list_any}
 use Rattle.std.proofs.lemmas.List.{get_or-map, map-append}
 use Rattle.std.proofs.lemmas.List.Elements.{All-nil, All-cons, All-head, All-tail, All-append}
 use Rattle.xs_names.specs.Names.{NameTable, same_name}
-use Rattle.particle_forms.specs.Heads.{names_of as members_named}
+use Rattle.xs_components.specs.Heads.{names_of as members_named}
 use Rattle.xs_components.specs.Tables.{Tables}
 use Rattle.xs_components.specs.Terms.{term_of}
 use Rattle.xs_components.specs.declared.particle.Particle.{Particle as Part}
 use Rattle.xs_components.specs.declared.particle.Term.{Term}
 use Rattle.xs_components.specs.declared.particle.Term.TheVariants.{Element, Any, Group, Sequence, Choice, All}
-use Rattle.particle_forms.specs.Ranked.{held_particles, named_group, IsBelow, IsRanked}
+use Rattle.component_references.specs.Ranked.{held_particles, named_group, IsBelow, IsRanked}
 use Rattle.particle_models.specs.Particles.{Particle, Particles, Place, Path, term, sequence, choice, all_of, occurs, none, member}
 use Rattle.particle_models.specs.Nodes.{members_of}
 use Rattle.particle_models.specs.Unrolled.{is_never, places, places_in, HasNoAll, HaveNoAll}
 use Rattle.particle_forms.specs.Models.{group_particle, group_model, term_model, part_model, model_of}
 use Rattle.particle_forms.specs.Accepted as forms
 use Rattle.particle_forms.proofs.ModelLaws.{group-lower, model_of_is}
-use Rattle.model_symbols.specs.declared.terms.Given.{Given}
-use Rattle.model_symbols.specs.declared.terms.Accepts.{Accepts}
-use Rattle.model_symbols.specs.Terms.{ExpandedName, name_at, accepts_name, names_of}
-use Rattle.model_symbols.specs.Symbols.{IsNamed}
+use Rattle.content_automaton.specs.declared.symbol_terms.Given.{Given}
+use Rattle.content_automaton.specs.declared.symbol_terms.Accepts.{Accepts}
+use Rattle.content_automaton.specs.Terms.{ExpandedName, name_at, accepts_name, names_of}
+use Rattle.content_automaton.specs.Symbols.{IsNamed}
 use Rattle.content_automaton.specs.Modelled.{AcceptAs}
 use Rattle.content_models.specs.Terms.{terms_of, terms_in, given_by, term_accepts, part_accepts, accepts_of, term_number}
 

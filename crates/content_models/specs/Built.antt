@@ -3,22 +3,22 @@ use Rattle.std.specs.Prelude.{◌≡◌, ℕ, ◌*◌, ◌<◌, ◌≤◌, ◌�
 use Rattle.xs_names.specs.Names.{NameTable}
 use Rattle.xs_names.specs.Numbering.{HasNoRepeats}
 use Rattle.xs_components.specs.Tables.{Tables}
-use Rattle.particle_forms.specs.Heads.{names_of}
-use Rattle.particle_forms.specs.Ranked.{IsRanked}
+use Rattle.xs_components.specs.Heads.{names_of}
+use Rattle.component_references.specs.Ranked.{IsRanked}
 use Rattle.particle_models.specs.Particles.{Particle}
 use Rattle.particle_models.specs.Unrolled.{HasNoAll, positions_of}
 use Rattle.particle_models.specs.Model.{UnrolledModel, IsUnrolled}
 use Rattle.particle_forms.specs.Models.{model_of}
 use Rattle.particle_forms.specs.Accepted.{accepts, is_inhabited}
-use Rattle.element_types.specs.Types.{DeclarationTable, AreDeclarationsOf}
-use Rattle.model_symbols.specs.Terms.{ExpandedName}
-use Rattle.model_symbols.specs.Attribution.{IsStranger, IsFirstTerm}
-use Rattle.model_symbols.specs.Symbols.{SymbolTable, AreSymbolsOf, count_of}
+use Rattle.component_tables.specs.Types.{DeclarationTable, AreDeclarationsOf}
+use Rattle.content_automaton.specs.Terms.{ExpandedName}
+use Rattle.content_automaton.specs.Attribution.{IsStranger, IsFirstTerm}
+use Rattle.content_automaton.specs.Symbols.{SymbolTable, AreSymbolsOf, count_of}
 use Rattle.content_automaton.specs.Counted.{IsStateCountOf}
 use Rattle.content_automaton.specs.Modelled.{IsAutomatonOf}
-use Rattle.all_states.specs.declared.member.AllMember.{AllMember}
-use Rattle.all_states.specs.Shape.{IsOnce, IsAllOf}
-use Rattle.all_models.specs.Modelled.{IsAllAutomatonOf}
+use Rattle.content_models.specs.declared.member.AllMember.{AllMember}
+use Rattle.content_models.specs.Shape.{IsOnce, IsAllOf}
+use Rattle.content_models.specs.Modelled.{IsAllAutomatonOf}
 use Rattle.content_models.specs.Terms.{terms_of, model_terms}
 use Rattle.content_models.specs.declared.automaton.ContentAutomaton.{ContentAutomaton}
 use Rattle.content_models.specs.declared.automaton.ContentAutomaton.TheVariants.{States, All}

@@ -7,14 +7,14 @@ use Rattle.xs_components.specs.declared.common.Process.TheVariants.{Strict, Lax,
 use Rattle.xs_components.specs.declared.particle.Particle.{Particle as Part}
 use Rattle.xs_components.specs.declared.particle.Term.{Term}
 use Rattle.xs_components.specs.declared.particle.Term.TheVariants.{Element, Any, Group, Sequence, Choice, All}
-use Rattle.particle_forms.specs.Heads.{names_of}
+use Rattle.xs_components.specs.Heads.{names_of}
 use Rattle.particle_models.specs.Particles.{Particle, Particles, term, sequence, choice, all_of, occurs, none, member}
 use Rattle.particle_models.specs.Unrolled.{is_never}
 use Rattle.particle_forms.specs.Models.{model_of}
-use Rattle.model_symbols.specs.declared.terms.Given.{Given}
-use Rattle.model_symbols.specs.declared.terms.Accepts.{Accepts}
-use Rattle.model_symbols.specs.declared.terms.Accepts.TheVariants as accepted
-use Rattle.element_types.specs.Types.{given_declaration}
+use Rattle.content_automaton.specs.declared.symbol_terms.Given.{Given}
+use Rattle.content_automaton.specs.declared.symbol_terms.Accepts.{Accepts}
+use Rattle.content_automaton.specs.declared.symbol_terms.Accepts.TheVariants as accepted
+use Rattle.component_tables.specs.Types.{given_declaration}
 
 abbrev mutual
   -- the numbers of the terms of a model, in the order of the schema; a particle that comes no times has none

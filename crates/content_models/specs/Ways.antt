@@ -4,11 +4,11 @@ use Rattle.std.specs.List.{list_any}
 use Rattle.xs_components.specs.Tables.{Tables}
 use Rattle.xs_components.specs.Terms.{term_of}
 use Rattle.xs_components.specs.declared.particle.Particle.{Particle as Part}
-use Rattle.particle_forms.specs.Ranked.{named_group}
+use Rattle.component_references.specs.Ranked.{named_group}
 use Rattle.particle_models.specs.Particles.{Particle, term, sequence, choice, all_of, occurs}
 use Rattle.particle_models.specs.Nodes.{members_of}
 use Rattle.particle_forms.specs.Models.{group_particle, model_of}
-use Rattle.all_states.specs.declared.member.AllMember.{AllMember}
+use Rattle.content_models.specs.declared.member.AllMember.{AllMember}
 
 -- the particle of the group that a particle refers to
 abbrev pub group_below : Tables → ℕ → Option ℕ

@@ -2,11 +2,11 @@
 
 ghost use Rattle.std.specs.Prelude.{◌≡◌, ◌<◌, All, ◌++◌, map, length, IfSome, IfNone, IfOk, OnOk};
 ghost use Rattle.std.specs.List.{flat_map};
-ghost use Rattle.all_states.specs.declared.member.AllMember.{AllMember as AllMemberData};
-ghost use Rattle.particle_forms.specs.Ranked.{IsRanked};
+ghost use Rattle.content_models.specs.declared.member.AllMember.{AllMember as AllMemberData};
+ghost use Rattle.component_references.specs.Ranked.{IsRanked};
 ghost use Rattle.content_models.specs.Ways.{group_below, is_optional, IsAllFound, IsNoAll, member_at};
 
-use all_models::AllMember;
+use crate::AllMember;
 use std::alloc::{AllocError, Global};
 use xs_components::{Components, ParticleId, Term, TermId};
 

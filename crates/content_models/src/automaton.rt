@@ -3,9 +3,9 @@
 ghost use Rattle.std.specs.Prelude.{◌≡◌, ◌↔◌, ◌<◌, ◌^◌, ℕ, List, IsTrue, length, IfOk, IfErr};
 ghost use Rattle.xs_names.specs.Names.{NameTable, Grown};
 ghost use Rattle.xs_components.specs.Tables.{Tables};
-ghost use Rattle.model_symbols.specs.Symbols.{AreNamesOf, symbol_of, count_of};
-ghost use Rattle.model_symbols.specs.Terms.{ExpandedName, name_at};
-ghost use Rattle.model_symbols.specs.Attribution.{IsAmbivalent};
+ghost use Rattle.content_automaton.specs.Symbols.{AreNamesOf, symbol_of, count_of};
+ghost use Rattle.content_automaton.specs.Terms.{ExpandedName, name_at};
+ghost use Rattle.content_automaton.specs.Attribution.{IsAmbivalent};
 ghost use Rattle.particle_models.specs.Unrolled.{HasNoAll};
 ghost use Rattle.particle_forms.specs.Models.{model_of};
 ghost use Rattle.particle_forms.specs.Accepted.{accepts};
@@ -14,11 +14,11 @@ ghost use Rattle.content_models.specs.Terms.{model_terms};
 ghost use Rattle.content_models.specs.Ways.{IsAllFound};
 ghost use Rattle.content_models.specs.Built.{IsSource, IsLimited, IsBuilt, HasRoom, IsRefused, IsFirstIn, is_all, symbols_of, cells_of};
 
+use crate::AllAutomaton;
 use crate::all_content::{AllFound, find_all, read_members};
 use crate::reading::{read_terms, term_ids};
 use crate::refused::ModelError;
 use crate::source::ModelSource;
-use all_models::AllAutomaton;
 use content_automaton::{Automaton, BuildError};
 use particle_forms::unroll_by;
 use std::alloc::{AllocError, Global};

@@ -1,12 +1,12 @@
 //! The terms of a content model, with what they accept.
 
 ghost use Rattle.std.specs.Prelude.{◌≡◌, ◌<◌, All, Some, map, length, slice_index_or, IfOk};
-ghost use Rattle.particle_forms.specs.Heads.{names_of};
-ghost use Rattle.element_types.specs.Types.{AreDeclarationsOf};
+ghost use Rattle.xs_components.specs.Heads.{names_of};
+ghost use Rattle.component_tables.specs.Types.{AreDeclarationsOf};
 ghost use Rattle.content_models.specs.Terms.{given_by, process_class, accepts_of, term_number};
 
 use crate::source::ModelSource;
-use model_symbols::{Accepts, Given};
+use content_automaton::{Accepts, Given};
 use std::alloc::{AllocError, Global};
 use xs_components::{Components, ElementId, Process, Term, TermId};
 use xs_lists::Listed;

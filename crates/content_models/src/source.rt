@@ -1,8 +1,8 @@
 //! What content models are read off.
 
-use element_types::Declarations;
-use particle_forms::{Inhabited, Members};
-use xs_components::Components;
+use component_tables::Declarations;
+use particle_forms::Inhabited;
+use xs_components::{Components, Members};
 use xs_names::Names;
 
 /// What content models are read off: the components of a schema set with what was found of them, and the classes of its

@@ -16,13 +16,13 @@ use Rattle.tree_edits.specs.Edits.{has}
 use Rattle.plain_tree.specs.Nodes as plain
 use Rattle.plain_tree.specs.Nodes.{first_of, node_at, name_by, name_at, chars_by, chars_at, attribute_at, child_at}
 use Rattle.plain_tree.specs.Putting.{bindings_by, bindings_of}
-use Rattle.node_links.specs.declared.content.NameBinding.{NameBinding}
-use Rattle.node_links.specs.Nodes.{Node, Nodes, node, IsNode, Has, IsSound}
-use Rattle.node_links.specs.Nodes as links
-use Rattle.node_links.specs.declared.content.Content as links_content
-use Rattle.tree_changes.specs.Stands.{firsts, StandsFor, expanded_of, attribute_of, binding_of}
-use Rattle.tree_changes.specs.Held.{bindings_by as held_bindings}
-use Rattle.tree_changes.specs.Held.{kind_in, name_in, chars_in, attributes_in, bindings_in}
+use Rattle.doc_nodes.specs.declared.content.NameBinding.{NameBinding}
+use Rattle.doc_nodes.specs.Nodes.{Node, Nodes, node, IsNode, Has, IsSound}
+use Rattle.doc_nodes.specs.Nodes as links
+use Rattle.doc_nodes.specs.declared.content.Content as links_content
+use Rattle.doc_changes.specs.Stands.{firsts, StandsFor, expanded_of, attribute_of, binding_of}
+use Rattle.doc_changes.specs.Held.{bindings_by as held_bindings}
+use Rattle.doc_changes.specs.Held.{kind_in, name_in, chars_in, attributes_in, bindings_in}
 use Rattle.doc_tree.specs.Readers.{parent_of, children_by, children_of}
 use Rattle.doc_tree.proofs.Reading.{Shows, IsRead, absent, read, kind_by, kind_read, Under, parent_read, parent_absent, number_read}
 

@@ -9,19 +9,19 @@ use Rattle.tree_edits.specs.Edits.{Found, found, replaced, with_children, renumb
 use Rattle.tree_edits.specs.Tests.{is_element, element_node, with_nodes}
 use Rattle.tree_edits.proofs.Keeping.{joins_at, count-renumbered}
 use Rattle.tree_edits.proofs.Lying.{lies, count_changed}
-use Rattle.node_links.specs.Nodes.{Node, Nodes, node, IsNode, Holds}
-use Rattle.node_links.specs.declared.content.Content.{Content}
-use Rattle.node_links.specs.declared.content.Content.TheVariants as contents
-use Rattle.node_links.specs.declared.content.Element.{Element}
-use Rattle.node_links.proofs.Among.{same_or_other}
-use Rattle.tree_changes.specs.Stands.{StandsFor}
-use Rattle.tree_changes.specs.Held.{parent_at, set_number}
-use Rattle.tree_changes.specs.Parts.{IsOver}
-use Rattle.tree_changes.proofs.Changing.{own_below, is_over, placed}
-use Rattle.tree_changes.proofs.Holding.{HoldsElement}
-use Rattle.tree_changes.proofs.Lain.{at, lain, apart}
-use Rattle.tree_changes.proofs.Standing.{has_times, no_times}
-use Rattle.tree_planting.specs.Fits.{Fits}
+use Rattle.doc_nodes.specs.Nodes.{Node, Nodes, node, IsNode, Holds}
+use Rattle.doc_nodes.specs.declared.content.Content.{Content}
+use Rattle.doc_nodes.specs.declared.content.Content.TheVariants as contents
+use Rattle.doc_nodes.specs.declared.content.Element.{Element}
+use Rattle.doc_nodes.proofs.Among.{same_or_other}
+use Rattle.doc_changes.specs.Stands.{StandsFor}
+use Rattle.doc_changes.specs.Held.{parent_at, set_number}
+use Rattle.doc_changes.specs.Parts.{IsOver}
+use Rattle.doc_changes.proofs.Changing.{own_below, is_over, placed}
+use Rattle.doc_changes.proofs.Holding.{HoldsElement}
+use Rattle.doc_changes.proofs.Lain.{at, lain, apart}
+use Rattle.doc_changes.proofs.Standing.{has_times, no_times}
+use Rattle.doc_planting.specs.Fits.{Fits}
 use Rattle.doc_tree.specs.Counted.{live_count}
 use Rattle.doc_tree.proofs.Answering.{no_such}
 

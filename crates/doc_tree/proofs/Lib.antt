@@ -1,3 +1,4 @@
+pub mod Below
 pub mod Reading
 pub mod Answering
 pub mod Counting

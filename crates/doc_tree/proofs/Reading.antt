@@ -17,8 +17,8 @@ use Rattle.tree_rows.specs.declared.row.NodeKind.TheVariants as kinds
 use Rattle.tree_edits.specs.Edits.{has}
 use Rattle.plain_tree.specs.Nodes.{first_of, node_at, number_at}
 use Rattle.plain_tree.specs.Nodes as plain
-use Rattle.node_links.specs.Nodes.{Node, Nodes, IsNode, Has, IsSound}
-use Rattle.tree_changes.specs.Stands.{firsts, IsText, IsElement, StandFor}
+use Rattle.doc_nodes.specs.Nodes.{Node, Nodes, IsNode, Has, IsSound}
+use Rattle.doc_changes.specs.Stands.{firsts, IsText, IsElement, StandFor}
 use Rattle.doc_tree.specs.Readers.{parent_in}
 
 -- what the tree says of a node is what the node says

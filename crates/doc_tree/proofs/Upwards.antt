@@ -11,10 +11,10 @@ use Rattle.tree_rows.specs.declared.name.Expanded.{Expanded}
 use Rattle.tree_rows.specs.declared.row.Attribute.{Attribute}
 use Rattle.tree_rows.specs.declared.row.Binding.{Binding}
 use Rattle.tree_edits.specs.Edits.{has, scope_in}
-use Rattle.node_links.specs.Nodes.{Node, Nodes, node, IsNode, is_element, is_element_by, is_element_at}
-use Rattle.tree_changes.specs.Stands.{firsts, IsElement, StandFor, binding_of}
-use Rattle.tree_changes.specs.Held.{bindings_by, bindings_at, bindings_in}
-use Rattle.tree_changes.proofs.Standing.{if_one, absent_times, present_times}
+use Rattle.doc_nodes.specs.Nodes.{Node, Nodes, node, IsNode, is_element, is_element_by, is_element_at}
+use Rattle.doc_changes.specs.Stands.{firsts, IsElement, StandFor, binding_of}
+use Rattle.doc_changes.specs.Held.{bindings_by, bindings_at, bindings_in}
+use Rattle.doc_changes.proofs.Standing.{if_one, absent_times, present_times}
 use Rattle.doc_tree.specs.Following.{first_element, past_in}
 
 -- a number that comes once

@@ -12,7 +12,7 @@ use Rattle.xs_names.specs.Names.{NameTable, xml_name, first_spaces}
 use Rattle.xs_names.specs.Names.{IsSound as AreNames}
 use Rattle.xs_names.specs.Scope as numbered
 use Rattle.xs_names.proofs.NumberingLaws.{slice_get-Begins}
-use Rattle.node_links.specs.declared.content.Content as links_content
+use Rattle.doc_nodes.specs.declared.content.Content as links_content
 use Rattle.tree_rows.specs.Forest.{Forest, none, text, element, Document}
 use Rattle.tree_rows.specs.Whole.{HasRoot}
 use Rattle.tree_rows.specs.declared.row.Attribute.{Attribute}
@@ -21,11 +21,11 @@ use Rattle.tree_rows.specs.declared.row.Content.{Content}
 use Rattle.tree_rows.specs.declared.row.Content.TheVariants as rows
 use Rattle.tag_names.specs.Scopes.{binding_in, first_scope}
 use Rattle.tree_edits.specs.Edits.{has, scope_in}
-use Rattle.node_links.specs.declared.content.NameBinding.{NameBinding}
-use Rattle.node_links.specs.Nodes.{Node, Nodes, node, IsNode, IsChildAt, IsSound, Has, is_element_at, children_by, depth_by}
-use Rattle.tree_changes.specs.Stands.{firsts, StandFor, StandsFor, binding_of}
-use Rattle.tree_changes.specs.Held.{parent_at, bindings_in, bindings_at}
-use Rattle.tree_changes.proofs.Changing.{some_place}
+use Rattle.doc_nodes.specs.declared.content.NameBinding.{NameBinding}
+use Rattle.doc_nodes.specs.Nodes.{Node, Nodes, node, IsNode, IsChildAt, IsSound, Has, is_element_at, children_by, depth_by}
+use Rattle.doc_changes.specs.Stands.{firsts, StandFor, StandsFor, binding_of}
+use Rattle.doc_changes.specs.Held.{parent_at, bindings_in, bindings_at}
+use Rattle.doc_changes.proofs.Changing.{some_place}
 use Rattle.doc_tree.specs.Following.{first_element, next_in, next_of, past_in, past_of}
 use Rattle.doc_tree.proofs.Upwards.{IsChildIn, child_of, first_is, past_top, scope_top}
 use Rattle.doc_tree.proofs.Answering.{no_such, is_at}

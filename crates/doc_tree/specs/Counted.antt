@@ -1,6 +1,6 @@
 -- How many nodes there are.
 use Rattle.std.specs.Prelude.{ℕ, ◌+◌, [], ◌∷◌, Some, None}
-use Rattle.node_links.specs.Nodes.{Nodes}
+use Rattle.doc_nodes.specs.Nodes.{Nodes}
 
 -- how many of the numbers that were given out are those of nodes
 abbrev pub live_count : Nodes → ℕ

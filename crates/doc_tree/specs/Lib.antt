@@ -1,3 +1,5 @@
+pub mod NodeRows
 pub mod Readers
 pub mod Following
 pub mod Counted
+pub mod inside

@@ -4,7 +4,7 @@ use Rattle.tree_rows.specs.Forest.{Forest, none, text, element}
 use Rattle.tree_edits.specs.Edits.{has}
 use Rattle.plain_tree.specs.Nodes as plain
 use Rattle.plain_tree.specs.Nodes.{node_at}
-use Rattle.tree_changes.specs.Stands.{firsts}
+use Rattle.doc_changes.specs.Stands.{firsts}
 
 -- the parent of the node of this number, where the siblings stand under this one
 abbrev pub parent_in : Option ℕ → ℕ → Forest → Option ℕ

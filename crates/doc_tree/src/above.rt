@@ -6,14 +6,14 @@ ghost use Rattle.xs_names.specs.Names.{NameTable};
 ghost use Rattle.tree_rows.specs.Forest.{Document};
 ghost use Rattle.tree_edits.specs.Edits.{scope_in};
 ghost use Rattle.tag_names.specs.Scopes.{binding_in};
-ghost use Rattle.node_links.specs.Nodes.{Node, IsSound, IsNode, IsChildAt, is_element_at, children_by};
-ghost use Rattle.node_links.specs.Nodes as nodes;
-ghost use Rattle.tree_changes.specs.Held.{parent_at, bindings_at};
-ghost use Rattle.tree_changes.specs.Stands.{StandsFor, binding_of};
+ghost use Rattle.doc_nodes.specs.Nodes.{Node, IsSound, IsNode, IsChildAt, is_element_at, children_by};
+ghost use Rattle.doc_nodes.specs.Nodes as nodes;
+ghost use Rattle.doc_changes.specs.Held.{parent_at, bindings_at};
+ghost use Rattle.doc_changes.specs.Stands.{StandsFor, binding_of};
 ghost use Rattle.doc_tree.specs.Following.{past_of};
 
 use crate::contents::bindings_of;
-use node_links::{NameBinding, NodeLinks};
+use doc_nodes::{NameBinding, NodeLinks};
 use std::alloc::AllocError;
 use xs_names::Scope;
 

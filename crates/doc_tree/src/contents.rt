@@ -2,10 +2,10 @@
 
 ghost use Rattle.std.specs.Prelude.{◌≡◌, ◌<◌, ◌^◌, length, slice_get};
 ghost use Rattle.std.specs.Option.{option_copied};
-ghost use Rattle.tree_changes.specs.Held.{attributes_in, bindings_in, chars_in};
-ghost use Rattle.tree_changes.specs.Held as held;
+ghost use Rattle.doc_changes.specs.Held.{attributes_in, bindings_in, chars_in};
+ghost use Rattle.doc_changes.specs.Held as held;
 
-use node_links::{Content, NameAttribute, NameBinding};
+use doc_nodes::{Content, NameAttribute, NameBinding};
 use tree_rows::NodeKind;
 use xs_names::{NameId, Text};
 

@@ -1,9 +1,12 @@
-//! A document that is edited in place: its nodes by their numbers, each with its parent and its children.
+//! The plain tree that linked nodes stand for.
 #![tactic(auto)]
 
 mod above;
 mod contents;
+mod names;
+mod reading;
+mod rows;
 mod tree;
 
+pub use reading::read_tree;
 pub use tree::DocTree;
-pub use tree_rows::NodeKind;

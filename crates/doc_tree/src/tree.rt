@@ -5,13 +5,13 @@ ghost use Rattle.std.specs.Option.{option_map, option_and_then, option_copied};
 
 use crate::above::{bind_above, element_past};
 use crate::contents::{attribute_in, count_bindings, kind_in, name_in, text_in};
-use node_links::NodeLinks;
+use crate::read_tree;
+use doc_changes::{remove_node, rename_node, set_attribute, set_text, unset_attribute};
+use doc_nodes::NodeLinks;
+use doc_planting::{add_text, insert_part, nodes_of};
 use plain_tree::Tree;
 use std::alloc::{AllocError, Global};
 use std::marker::Model;
-use tree_changes::{remove_node, rename_node, set_attribute, set_text, unset_attribute};
-use tree_planting::{add_text, insert_part, nodes_of};
-use tree_reading::read_tree;
 use tree_rows::NodeKind;
 use xs_names::{NameId, Names, Scope, Text};
 
@@ -27,7 +27,7 @@ pub struct DocTree {
 
 impl Model for DocTree {
     ghost use Rattle.std.specs.Prelude.{◌≡◌};
-    ghost use Rattle.node_links.specs.Nodes.{Nodes};
+    ghost use Rattle.doc_nodes.specs.Nodes.{Nodes};
     ghost use Rattle.doc_tree.specs.Counted.{live_count};
 
     ghost Value = { Nodes };
@@ -38,32 +38,32 @@ impl Model for DocTree {
 }
 
 impl DocTree {
-    ghost use Rattle.node_links.specs.Nodes.{Node, IsSound};
-    ghost use Rattle.node_links.specs.Nodes as nodes;
+    ghost use Rattle.doc_nodes.specs.Nodes.{Node, IsSound};
+    ghost use Rattle.doc_nodes.specs.Nodes as nodes;
     ghost use Rattle.plain_tree.specs.Nodes.{name_at, chars_at};
     ghost use Rattle.plain_tree.specs.Nodes as plain;
     ghost use Rattle.plain_tree.specs.Putting.{bindings_of as plain_bindings};
     ghost use Rattle.tag_names.specs.Scopes.{binding_in, first_scope};
     ghost use Rattle.tree_edits.specs.Edits.{scope_in};
     ghost use Rattle.tree_rows.specs.Forest.{Forest, none, text as text_node, Document, count};
-    ghost use Rattle.tree_planting.specs.Fits.{Fits};
-    ghost use Rattle.tree_planting.specs.Planted.{Plants};
+    ghost use Rattle.doc_planting.specs.Fits.{Fits};
+    ghost use Rattle.doc_planting.specs.Planted.{Plants};
     ghost use Rattle.xs_names.specs.Names.{Grown};
     ghost use Rattle.xs_names.specs.Names.{IsSound as AreNames};
     ghost use Rattle.tree_rows.specs.Kinds.{kind_of};
     ghost use Rattle.xs_names.specs.Names.{NameTable};
-    ghost use Rattle.tree_changes.specs.Held as held;
-    ghost use Rattle.tree_changes.specs.Held.{parent_at, kind_at, attributes_at, bindings_at, has_number, set_number, unset_number, HasRoom};
+    ghost use Rattle.doc_changes.specs.Held as held;
+    ghost use Rattle.doc_changes.specs.Held.{parent_at, kind_at, attributes_at, bindings_at, has_number, set_number, unset_number, HasRoom};
     ghost use Rattle.tree_edits.specs.Edits.{renamed, attribute_set, attribute_unset};
-    ghost use Rattle.tree_changes.specs.Parts.{IsOver, Prunes};
+    ghost use Rattle.doc_changes.specs.Parts.{IsOver, Prunes};
     ghost use Rattle.tree_edits.specs.Tests.{made, with_nodes};
     ghost use Rattle.tree_edits.specs.declared.edit.Edit.TheVariants as edits;
     ghost use Rattle.tree_rows.specs.declared.row.NodeKind.TheVariants as kinds;
-    ghost use Rattle.node_links.specs.declared.content.Content.TheVariants as contents;
-    ghost use Rattle.node_links.specs.declared.content.Element.{Element};
-    ghost use Rattle.node_links.specs.Nodes.{IsNode, IsChildAt, Holds};
+    ghost use Rattle.doc_nodes.specs.declared.content.Content.TheVariants as contents;
+    ghost use Rattle.doc_nodes.specs.declared.content.Element.{Element};
+    ghost use Rattle.doc_nodes.specs.Nodes.{IsNode, IsChildAt, Holds};
     ghost use Rattle.doc_tree.specs.Readers.{parent_of, children_of};
-    ghost use Rattle.tree_changes.specs.Stands.{StandsFor, expanded_of};
+    ghost use Rattle.doc_changes.specs.Stands.{StandsFor, expanded_of};
     ghost use Rattle.doc_tree.specs.Counted.{live_count};
     ghost use Rattle.doc_tree.specs.Following.{next_of};
 

@@ -2,4 +2,8 @@
 #![tactic(auto)]
 
 #[cfg(test)]
+mod requests;
+#[cfg(test)]
 mod tags;
+#[cfg(test)]
+mod trees;

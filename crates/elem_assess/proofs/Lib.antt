@@ -1,2 +1,4 @@
 pub mod Shapes
 pub mod Marking
+pub mod SimpleTrees
+pub mod ContentTrees

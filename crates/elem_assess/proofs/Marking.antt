@@ -5,8 +5,8 @@ use Rattle.xs_codes.specs.declared.fault.Found.{Found}
 use Rattle.xs_components.specs.Tables.{Tables}
 use Rattle.assess_records.specs.declared.record.ElementRecord.{ElementRecord}
 use Rattle.assess_records.specs.declared.shape.ElementShape.{ElementShape}
-use Rattle.element_judging.specs.Governing.{Governing}
-use Rattle.element_judging.specs.Records.{nil, constraint, element_record}
+use Rattle.elem_governing.specs.declared.pairs.Governing.{Governing}
+use Rattle.elem_codes.specs.Records.{nil, constraint, element_record}
 use Rattle.elem_assess.specs.Local.{IsLocal, said_on}
 use Rattle.elem_assess.specs.Marked.{with_ids, marked_record, marked_judged}
 use Rattle.elem_assess.specs.declared.records.Judged.{Judged}

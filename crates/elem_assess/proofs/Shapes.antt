@@ -8,17 +8,17 @@ use Rattle.xs_components.specs.declared.common.ValueConstraint.{ValueConstraint}
 use Rattle.assess_records.specs.declared.outcome.Validity.{Validity}
 use Rattle.assess_records.specs.declared.record.AttrRecord.{AttrRecord}
 use Rattle.assess_records.specs.declared.shape.ElementShape.{ElementShape}
-use Rattle.content_types.specs.ContentTypes.{content_of}
-use Rattle.content_types.specs.declared.ContentType.{ContentType}
-use Rattle.content_types.specs.declared.ContentType.TheVariants.{SimpleType, Empty, SimpleContent, ElementOnly, Mixed}
-use Rattle.element_judging.specs.Governing.{Governing}
-use Rattle.element_judging.specs.XsiType.{XsiType}
-use Rattle.element_judging.specs.TextOutcome.{TextOutcome}
-use Rattle.element_judging.specs.Facts.{governing_content, is_strictly_assessed, is_taken}
-use Rattle.element_judging.specs.Used.{text_used, scope_used, fixed_value}
-use Rattle.element_judging.specs.Codes.{governed_codes, local_codes, declaration_codes, type_codes, nil_codes, fixed_codes}
-use Rattle.element_judging.specs.Records.{validity_of, any_invalid, nil_text, decl, constraint, nil, taken, all_codes, element_record}
-use Rattle.element_judging.specs.Texts.{is_read, IsRead, IsReadIf, IsTextOutcome}
+use Rattle.component_tables.specs.ContentTypes.{content_of}
+use Rattle.component_tables.specs.declared.content_types.ContentType.{ContentType}
+use Rattle.component_tables.specs.declared.content_types.ContentType.TheVariants.{SimpleType, Empty, SimpleContent, ElementOnly, Mixed}
+use Rattle.elem_governing.specs.declared.pairs.Governing.{Governing}
+use Rattle.elem_governing.specs.declared.local_types.XsiType.{XsiType}
+use Rattle.elem_codes.specs.declared.outcome.TextOutcome.{TextOutcome}
+use Rattle.elem_codes.specs.Facts.{governing_content, is_strictly_assessed, is_taken}
+use Rattle.elem_codes.specs.Used.{text_used, scope_used, fixed_value}
+use Rattle.elem_codes.specs.Codes.{governed_codes, local_codes, declaration_codes, type_codes, nil_codes, fixed_codes}
+use Rattle.elem_codes.specs.Records.{validity_of, any_invalid, nil_text, decl, constraint, nil, taken, all_codes, element_record}
+use Rattle.elem_assess.specs.Texts.{is_read, IsRead, IsReadIf, IsTextOutcome}
 use Rattle.elem_assess.specs.Marked.{with_ids, validity_with, marked_record}
 
 module _ (shape : ElementShape) (codes : List Found) where

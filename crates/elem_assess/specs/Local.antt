@@ -3,14 +3,14 @@ use Rattle.std.specs.Prelude.{◌≡◌}
 use Rattle.xs_names.specs.Names.{NameTable}
 use Rattle.xs_components.specs.Tables.{Tables}
 use Rattle.assess_records.specs.declared.shape.ElementShape.{ElementShape}
-use Rattle.instance_names.specs.Instance.{instance_text}
-use Rattle.instance_names.specs.declared.InstanceAttribute.TheVariants.{TypeName}
+use Rattle.assess_records.specs.Instance.{instance_text}
+use Rattle.assess_records.specs.declared.instance_names.InstanceAttribute.TheVariants.{TypeName}
 use Rattle.attr_assess.specs.Assessed.{AreAttrsAssessed}
 use Rattle.attr_assess.specs.declared.assessed.AssessedAttrs.{AssessedAttrs}
-use Rattle.element_judging.specs.LocalType.{xsi_type}
-use Rattle.element_judging.specs.Governing.{Governing}
-use Rattle.element_judging.specs.XsiType.{XsiType}
-use Rattle.element_judging.specs.Judged.{IsElementJudged}
+use Rattle.elem_governing.specs.LocalType.{xsi_type}
+use Rattle.elem_governing.specs.declared.pairs.Governing.{Governing}
+use Rattle.elem_governing.specs.declared.local_types.XsiType.{XsiType}
+use Rattle.elem_assess.specs.Judged.{IsElementJudged}
 use Rattle.elem_assess.specs.declared.records.Judged.{Judged}
 
 -- what xsi:type says on an element of this shape

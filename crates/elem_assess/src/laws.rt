@@ -6,7 +6,7 @@ ghost use Rattle.xs_codes.specs.declared.fault.Found.{Found};
 ghost use Rattle.xs_components.specs.Tables.{Tables};
 ghost use Rattle.assess_records.specs.declared.record.ElementRecord.{ElementRecord};
 ghost use Rattle.assess_records.specs.declared.shape.ElementShape.{ElementShape};
-ghost use Rattle.element_judging.specs.Governing.{Governing};
+ghost use Rattle.elem_governing.specs.declared.pairs.Governing.{Governing};
 ghost use Rattle.elem_assess.specs.Local.{IsLocal};
 ghost use Rattle.elem_assess.specs.Marked.{with_ids, marked_record, marked_judged};
 ghost use Rattle.elem_assess.specs.declared.records.Judged.{Judged as JudgedData};

@@ -4,19 +4,19 @@ ghost use Rattle.std.specs.Prelude.{◌≡◌, List, Bool, IfOk};
 ghost use Rattle.attr_assess.specs.Added.{AreNamed};
 ghost use Rattle.attr_assess.specs.Types.{IsTypeSet};
 ghost use Rattle.attr_assess.specs.Schema.{IsAttrSet};
-ghost use Rattle.element_judging.specs.View.{IsView};
-ghost use Rattle.element_judging.specs.Source.{IsSource};
+ghost use Rattle.elem_governing.specs.View.{IsView};
+ghost use Rattle.elem_assess.specs.Source.{IsSource};
 ghost use Rattle.elem_assess.specs.Local as spec;
 ghost use Rattle.elem_assess.specs.Set.{IsWithin};
 
-use assess_records::{AttrRecords, ElementRecord, ElementShape};
-use attr_assess::{AttrSchema, AttrTables, AttrValues, assess_attrs};
-use content_types::ContentTypes;
-use element_judging::{
-    ElementInput, ElementSource, Governing, SchemaView, SimpleTypes, XsiType, judge_element,
-    xsi_type,
-};
-use instance_names::{InstanceAttribute, instance_text};
+use crate::judge_element;
+use assess_records::{AttrRecords, ElementRecord, ElementShape, InstanceAttribute, instance_text};
+use attr_assess::{AttrSchema, AttrValues, assess_attrs};
+use attr_uses::AttrTables;
+use component_tables::ContentTypes;
+use elem_codes::{ElementInput, ElementSource};
+use elem_governing::{Governing, SchemaView, XsiType, xsi_type};
+use simple_types::SimpleTypes;
 use simple_values::Value;
 use std::alloc::{AllocError, Global};
 

@@ -4,10 +4,10 @@ use Rattle.std.specs.Prelude.{IfSome}
 use Rattle.xs_components.specs.Tables.{Tables}
 use Rattle.xs_components.specs.declared.element.ElementDecl.{ElementDecl}
 use Rattle.xs_components.specs.declared.common.TypeId.{TypeId}
-use Rattle.xs_references.specs.Heights.{IsType}
-use Rattle.xs_references.specs.Ranked.{IsRanked, IsBelow}
-use Rattle.element_types.specs.Types.{own_type, declared_type, type_of}
-use Rattle.element_types.proofs.TypeLaws.{type_of_is}
+use Rattle.component_references.specs.Heights.{IsType}
+use Rattle.component_references.specs.Ranked.{IsRanked, IsBelow}
+use Rattle.component_tables.specs.Types.{own_type, declared_type, type_of}
+use Rattle.component_tables.proofs.TypeLaws.{type_of_is}
 
 module _ (t : Tables) (ranked : IsRanked t) (types : (n : ℕ) (part : ElementDecl) → slice_get t.elements.parts n ≡ Some part → IfSome part.of (IsType t)) where
   abbrev AreBelow : ℕ → Type 0

@@ -6,14 +6,14 @@ use Rattle.std.proofs.lemmas.List.Elements.{All-contains}
 use Rattle.xs_components.specs.Tables.{Tables}
 use Rattle.xs_components.specs.declared.common.Methods.{Methods}
 use Rattle.xs_components.specs.declared.common.TypeId.{TypeId}
-use Rattle.xs_references.specs.Descent.{after_turns, AsksLower}
-use Rattle.xs_references.specs.Heights.{type_height, IsType, IsLower}
-use Rattle.xs_references.specs.Ranked.{IsRanked}
-use Rattle.xs_references.proofs.DescentLaws.{along-is}
-use Rattle.type_derives.specs.Derives.{above, members_of, is_simple}
-use Rattle.type_derives.specs.Chains.{Derives, same, by_base, by_member}
-use Rattle.type_derives.proofs.BaseLaws.{above-lower}
-use Rattle.type_derives.proofs.MemberLaws.{members-lower}
+use Rattle.component_references.specs.Descent.{after_turns, AsksLower}
+use Rattle.component_references.specs.Heights.{type_height, IsType, IsLower}
+use Rattle.component_references.specs.Ranked.{IsRanked}
+use Rattle.component_references.proofs.DescentLaws.{along-is}
+use Rattle.type_derivation.specs.Derives.{above, members_of, is_simple}
+use Rattle.type_derivation.specs.Chains.{Derives, same, by_base, by_member}
+use Rattle.type_derivation.proofs.BaseLaws.{above-lower}
+use Rattle.type_derivation.proofs.MemberLaws.{members-lower}
 use Rattle.elem_governing.specs.Derived.{same_type, base_derives, member_derives, derives_step, pair_height, derives}
 use Rattle.elem_governing.proofs.SameLaws.{same-is, same-self, any-passes, passes-any, any-same}
 

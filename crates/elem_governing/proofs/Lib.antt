@@ -2,3 +2,7 @@ pub mod SameLaws
 pub mod DerivedLaws
 pub mod DeclaredLaws
 pub mod ScopeLaws
+pub mod There
+mod Known
+mod Tags
+mod Siblings

@@ -7,9 +7,9 @@ use Rattle.xs_components.specs.Tables.{Tables}
 use Rattle.xs_components.specs.declared.common.Methods.{Methods}
 use Rattle.xs_components.specs.declared.common.TypeId.{TypeId}
 use Rattle.xs_components.specs.declared.common.TypeId.TheVariants.{AnyType, Builtin, Simple, Complex}
-use Rattle.xs_references.specs.Descent.{along}
-use Rattle.xs_references.specs.Heights.{type_height}
-use Rattle.type_derives.specs.Derives.{above, members_of, is_simple}
+use Rattle.component_references.specs.Descent.{along}
+use Rattle.component_references.specs.Heights.{type_height}
+use Rattle.type_derivation.specs.Derives.{above, members_of, is_simple}
 
 -- built-in types are the same where their names are
 abbrev pub same_builtin : Built → Built → Bool

@@ -10,7 +10,7 @@ use Rattle.xs_components.specs.declared.common.TypeId.TheVariants.{AnyType}
 use Rattle.xs_components.specs.declared.particle.Particle.{Particle}
 use Rattle.xs_components.specs.declared.particle.Term.{Term}
 use Rattle.xs_components.specs.declared.particle.Term.TheVariants.{Element, Any}
-use Rattle.element_types.specs.Types.{type_of, global_of, given_declaration}
+use Rattle.component_tables.specs.Types.{type_of, global_of, given_declaration}
 use Rattle.elem_governing.specs.LocalType.{xsi_type}
 use Rattle.elem_governing.specs.declared.pairs.Governing.{Governing}
 use Rattle.elem_governing.specs.declared.pairs.Mode.{Mode}

@@ -2,3 +2,4 @@ pub mod Derived
 pub mod LocalType
 pub mod Governing
 pub mod View
+pub mod Heads

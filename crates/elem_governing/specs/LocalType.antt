@@ -4,15 +4,15 @@ use Rattle.std.specs.Option.{option_map, option_and_then}
 use Rattle.xs_names.specs.Names.{NameTable}
 use Rattle.xs_names.specs.QName.{qname}
 use Rattle.xs_names.specs.Scope.{resolved}
-use Rattle.white_space.specs.WhiteSpace.{collapsed}
+use Rattle.xs_names.specs.WhiteSpace.{collapsed}
 use Rattle.xs_components.specs.Tables.{Tables}
 use Rattle.xs_components.specs.declared.common.Methods.{Methods}
 use Rattle.xs_components.specs.declared.common.TypeId.{TypeId}
 use Rattle.xs_components.specs.declared.common.TypeId.TheVariants.{AnyType, Builtin, Simple, Complex}
 use Rattle.xs_components.specs.declared.complex.ComplexType.{ComplexType}
 use Rattle.xs_components.specs.declared.element.ElementDecl.{ElementDecl}
-use Rattle.element_types.specs.Types.{type_of}
-use Rattle.component_names.specs.Named.{named_type}
+use Rattle.component_tables.specs.Types.{type_of}
+use Rattle.component_tables.specs.Named.{named_type}
 use Rattle.elem_governing.specs.Derived.{derives}
 use Rattle.elem_governing.specs.declared.local_types.XsiType.{XsiType}
 use Rattle.elem_governing.specs.declared.local_types.XsiType.TheVariants.{Absent, NotQName, Unresolved, NotDerived, Governs}

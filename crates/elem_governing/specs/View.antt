@@ -3,11 +3,11 @@ use Rattle.std.specs.Prelude.{◌≡◌, ℕ, ◌<◌, Some, List, length, slice
 use Rattle.xs_names.specs.Names.{NameTable}
 use Rattle.xs_components.specs.Tables.{Tables}
 use Rattle.xs_components.specs.declared.element.ElementDecl.{ElementDecl}
-use Rattle.xs_references.specs.Heights.{IsType}
-use Rattle.xs_references.specs.Ranked.{IsRanked}
-use Rattle.element_types.specs.Types.{DeclarationTable, AreDeclarationsOf}
-use Rattle.component_names.specs.Named.{Spaces, spaces_of}
-use Rattle.type_derives.specs.Within.{AreSimple}
+use Rattle.component_references.specs.Heights.{IsType}
+use Rattle.component_references.specs.Ranked.{IsRanked}
+use Rattle.component_tables.specs.Types.{DeclarationTable, AreDeclarationsOf}
+use Rattle.component_tables.specs.Named.{Spaces, spaces_of}
+use Rattle.type_derivation.specs.Within.{AreSimple}
 
 -- The components of a schema set, and what was found of them: references go to parts of lower rank, what a simple type is made of is
 -- simple, and the types that element declarations name are there.

@@ -1,13 +1,13 @@
 //! Whether a type derives from another.
 
 ghost use Rattle.std.specs.Prelude.{◌≡◌, IfOk};
-ghost use Rattle.xs_references.specs.Heights.{IsType};
-ghost use Rattle.xs_references.specs.Ranked.{IsRanked};
-ghost use Rattle.type_derives.specs.Within.{AreSimple};
+ghost use Rattle.component_references.specs.Heights.{IsType};
+ghost use Rattle.component_references.specs.Ranked.{IsRanked};
+ghost use Rattle.type_derivation.specs.Within.{AreSimple};
 ghost use Rattle.elem_governing.specs.Derived as spec;
 
 use std::alloc::{AllocError, Global};
-use type_derives::derives;
+use type_derivation::derives;
 use xs_components::{Components, Methods, TypeId};
 
 /// Whether a type derives from another without any of these methods.

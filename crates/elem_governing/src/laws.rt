@@ -4,9 +4,9 @@ ghost use Rattle.std.specs.Prelude.{◌↔◌, IsTrue};
 ghost use Rattle.xs_components.specs.Tables.{Tables};
 ghost use Rattle.xs_components.specs.declared.common.Methods.{Methods};
 ghost use Rattle.xs_components.specs.declared.common.TypeId.{TypeId};
-ghost use Rattle.xs_references.specs.Heights.{IsType};
-ghost use Rattle.xs_references.specs.Ranked.{IsRanked};
-ghost use Rattle.type_derives.specs.Chains.{Derives};
+ghost use Rattle.component_references.specs.Heights.{IsType};
+ghost use Rattle.component_references.specs.Ranked.{IsRanked};
+ghost use Rattle.type_derivation.specs.Chains.{Derives};
 ghost use Rattle.elem_governing.specs.Derived.{derives};
 
 /// A law: the test by recursion tells which types derive from which (Structures 3.4.6, 3.14.6).

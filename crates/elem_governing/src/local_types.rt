@@ -2,17 +2,16 @@
 
 ghost use Rattle.std.specs.Prelude.{◌≡◌, IfOk, slice_get};
 ghost use Rattle.std.specs.Option.{option_map};
-ghost use Rattle.xs_references.specs.Heights.{IsType};
-ghost use Rattle.element_types.specs.Types.{type_of};
+ghost use Rattle.component_references.specs.Heights.{IsType};
+ghost use Rattle.component_tables.specs.Types.{type_of};
 ghost use Rattle.elem_governing.specs.LocalType as spec;
 ghost use Rattle.elem_governing.specs.View.{IsView, AreKnown};
 
 use crate::SchemaView;
 use crate::derivation::is_derived;
 use std::alloc::{AllocError, Global};
-use white_space::{WhiteSpace, normalized};
 use xs_components::{Components, ElementId, Methods, TypeId};
-use xs_names::{Scope, Text, split_qname};
+use xs_names::{Scope, Text, WhiteSpace, normalized, split_qname};
 
 /// What the attribute xsi:type of an element says (Structures 2.6.1, 3.3.4).
 #[derive(Clone, Copy, Debug, PartialEq, Eq)]

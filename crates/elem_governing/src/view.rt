@@ -1,7 +1,6 @@
 //! What governing is read off.
 
-use component_names::ComponentNames;
-use element_types::Declarations;
+use component_tables::{ComponentNames, Declarations};
 use xs_components::Components;
 use xs_names::Names;
 

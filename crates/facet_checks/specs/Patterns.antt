@@ -1,10 +1,10 @@
 -- Patterns: Datatypes 4.3.4 and appendix F.
 use Rattle.std.specs.Prelude.{◌≡◌, ℕ, Bool, true, false, if◌then◌else◌, List, [], ◌∷◌, ◌⊎◌, Result, Ok, Err, Option, Some, None}
 use Rattle.std.specs.Str.{chars}
-use Rattle.xs_regex.specs.Regex.{Regex}
-use Rattle.xs_regex.specs.Reading.{Reads}
-use Rattle.xs_regex.specs.PatternFault.{PatternFault}
-use Rattle.xs_regex.specs.PatternFault.TheVariants.{Syntax, UnsupportedBlock, UnknownClass}
+use Rattle.pattern_syntax.specs.Regex.{Regex}
+use Rattle.pattern_syntax.specs.Reading.{Reads}
+use Rattle.pattern_syntax.specs.declared.fault.PatternFault.{PatternFault}
+use Rattle.pattern_syntax.specs.declared.fault.PatternFault.TheVariants.{Syntax, UnsupportedBlock, UnknownClass}
 use Rattle.xs_regex.specs.Meaning.{MatchesPattern}
 use Rattle.xs_regex.specs.Outcome.{limited}
 use Rattle.xs_codes.specs.declared.code.Code.{Code}

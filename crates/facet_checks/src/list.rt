@@ -6,8 +6,8 @@ ghost use Rattle.facet_checks.specs.List.{no_facets, plain_part};
 use crate::PatternText;
 use simple_values::Value;
 use std::alloc::{AllocError, Global};
-use white_space::WhiteSpace;
 use xs_lists::Listed;
+use xs_names::WhiteSpace;
 
 /// A number that limits a length or a count of digits, and whether the types derived from this one have to keep it
 /// (Datatypes 4.3.1 to 4.3.3, 4.3.11 and 4.3.12).

@@ -4,12 +4,13 @@ ghost use Rattle.std.specs.Str.{chars};
 ghost use Rattle.xs_regex.specs.Meaning.{MatchesPattern};
 ghost use Rattle.facet_checks.specs.Patterns.{IsRefusedPattern, pattern_code, MatchesSome, MatchesEach};
 
+use pattern_syntax::PatternFault;
 use std::alloc::{AllocError, Global};
 use std::marker::Model;
 use xs_codes::Code;
 use xs_lists::Listed;
 use xs_names::Text;
-use xs_regex::{Pattern, PatternFault};
+use xs_regex::Pattern;
 
 /// A pattern as it is written, ready to match texts (Datatypes 4.3.4). Contracts see its text.
 #[derive(Debug, Drop)]

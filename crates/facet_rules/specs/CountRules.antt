@@ -1,7 +1,7 @@
 -- The rules of lengths, digits and white space in a step of restriction: Datatypes 4.3.1 to 4.3.3, 4.3.6, 4.3.11, 4.3.12.
 use Rattle.std.specs.Prelude.{◌≡◌, ℕ, ◌==◌, nat_lt, Bool, true, false, not, ◌&&◌, ◌||◌, List, [], ◌∷◌, ◌++◌, Option, None, Some, refl}
-use Rattle.white_space.specs.declared.handling.WhiteSpace.{WhiteSpace}
-use Rattle.white_space.specs.declared.handling.WhiteSpace.TheVariants.{Preserve, Replace, Collapse}
+use Rattle.xs_names.specs.declared.handling.WhiteSpace.{WhiteSpace}
+use Rattle.xs_names.specs.declared.handling.WhiteSpace.TheVariants.{Preserve, Replace, Collapse}
 use Rattle.xs_codes.specs.declared.code.Code.TheVariants.{StRestrictFacets, WhiteSpaceValidRestriction, LengthValidRestriction, MinLengthValidRestriction, MaxLengthValidRestriction, TotalDigitsValidRestriction, FractionDigitsValidRestriction, LengthMinLengthMaxLength, MinLengthLessThanEqualToMaxLength, FractionDigitsTotalDigits}
 use Rattle.xs_components.specs.declared.simple.FacetKind.TheVariants as kinds
 use Rattle.xs_components.specs.declared.common.Place.{Place}

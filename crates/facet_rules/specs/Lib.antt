@@ -5,10 +5,7 @@ pub mod First
 pub mod Merge
 pub mod Rules
 pub mod Step
+pub mod Applicable
+pub mod Read
+pub mod Texts
 pub mod inside
-pub use Rattle.facet_checks.specs.Check
-pub use Rattle.facet_checks.specs.List
-pub use Rattle.facet_checks.specs.Patterns
-pub use Rattle.facet_checks.specs.declared.list.Bound
-pub use Rattle.facet_checks.specs.declared.list.FacetList
-pub use Rattle.facet_checks.specs.declared.list.Handling

@@ -8,9 +8,9 @@ use crate::first::noted;
 use crate::step::{count_of, first_of, handling_of, place_of};
 use crate::{ReadFacet, Reading};
 use facet_checks::{Count, FacetList, Handling};
-use white_space::WhiteSpace;
 use xs_codes::{Code, Fault};
 use xs_components::FacetKind;
+use xs_names::WhiteSpace;
 
 /// Notes the rules of the facets that count.
 #[tactic(auto, using(crate::proofs::FirstLaws::first_from_append))]

@@ -5,10 +5,10 @@ ghost use Rattle.facet_rules.specs.Step as spec;
 
 use facet_checks::{Alternatives, Count, Handling, ValueList};
 use simple_values::Value;
-use white_space::WhiteSpace;
 use xs_codes::Code;
 use xs_components::{FacetKind, Place};
 use xs_lists::Listed;
+use xs_names::WhiteSpace;
 
 /// What came of reading a facet.
 #[derive(Debug, Drop)]

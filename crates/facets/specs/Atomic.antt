@@ -1,8 +1,8 @@
 -- The literals of the types that are derived from a built-in one by restriction: Datatypes 4.1.4, Structures 3.14.4.
 use Rattle.std.specs.Prelude.{◌≡◌, ℕ, nat_lt, Bool, true, false, List, length, Option, None, Some, Result, Ok, Err}
-use Rattle.white_space.specs.declared.handling.WhiteSpace.{WhiteSpace}
-use Rattle.white_space.specs.declared.handling.WhiteSpace.TheVariants.{Preserve}
-use Rattle.white_space.specs.WhiteSpace.{normalized, items}
+use Rattle.xs_names.specs.declared.handling.WhiteSpace.{WhiteSpace}
+use Rattle.xs_names.specs.declared.handling.WhiteSpace.TheVariants.{Preserve}
+use Rattle.xs_names.specs.WhiteSpace.{normalized, items}
 use Rattle.xs_codes.specs.declared.builtin.Builtin.{Builtin}
 use Rattle.xs_codes.specs.declared.code.Code.{Code}
 use Rattle.xs_codes.specs.declared.code.Code.TheVariants.{CvcDatatypeValid1, XLimitValue, XLimitItems}
@@ -11,9 +11,9 @@ use Rattle.simple_values.specs.declared.fault.ValueFault.TheVariants.{NotLexical
 use Rattle.simple_values.specs.declared.value.Value.{Value}
 use Rattle.simple_values.specs.Reading.{literal_value}
 use Rattle.simple_values.specs.Grammar.{item_type}
-use Rattle.facet_texts.specs.Handling.{Handling}
-use Rattle.facet_texts.specs.FacetList.{FacetList}
-use Rattle.facet_texts.specs.Check.{IsChecked}
+use Rattle.facet_checks.specs.declared.list.Handling.{Handling}
+use Rattle.facet_checks.specs.declared.list.FacetList.{FacetList}
+use Rattle.facet_checks.specs.Check.{IsChecked}
 use Rattle.facets.specs.declared.atomic.Accepted.{Accepted}
 
 abbrev pub way_in : Option Handling → WhiteSpace

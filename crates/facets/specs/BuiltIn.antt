@@ -7,9 +7,9 @@ use Rattle.simple_values.specs.declared.atom.Atom.TheVariants.{Number}
 use Rattle.simple_values.specs.declared.value.Value.TheVariants.{Atom}
 use Rattle.simple_values.specs.Bounds.{bounds_of}
 use Rattle.simple_values.specs.Grammar.{white_space_of}
-use Rattle.facet_texts.specs.Bound.{Bound}
-use Rattle.facet_texts.specs.FacetList.{FacetList}
-use Rattle.facet_texts.specs.List.{no_facets}
+use Rattle.facet_checks.specs.declared.list.Bound.{Bound}
+use Rattle.facet_checks.specs.declared.list.FacetList.{FacetList}
+use Rattle.facet_checks.specs.List.{no_facets}
 
 abbrev pub bound_at : Builtin → Option Decimal → Option Bound
 bound_at kind None = None

@@ -2,10 +2,10 @@
 use Rattle.std.specs.Prelude.{◌≡◌, List, Option, None, Some, Result, Ok, Err}
 use Rattle.xs_codes.specs.declared.fault.Fault.{Fault}
 use Rattle.xs_components.specs.declared.simple.FacetItem.{FacetItem}
-use Rattle.facet_texts.specs.FacetList.{FacetList}
-use Rattle.facet_texts.specs.ReadStep.{ReadStep}
-use Rattle.facet_texts.specs.List.{no_facets}
-use Rattle.facet_texts.specs.Rules.{outcome_of, judged_of}
+use Rattle.facet_checks.specs.declared.list.FacetList.{FacetList}
+use Rattle.facet_rules.specs.declared.step.ReadStep.{ReadStep}
+use Rattle.facet_checks.specs.List.{no_facets}
+use Rattle.facet_rules.specs.Rules.{outcome_of, judged_of}
 use Rattle.facets.specs.declared.facets.Facets.{Facets}
 use Rattle.facets.specs.declared.known.Judged.{Judged}
 use Rattle.facets.specs.declared.known.Known.{Known}

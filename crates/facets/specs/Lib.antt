@@ -6,18 +6,3 @@ pub mod Members
 pub mod Reading
 pub mod Source
 pub mod Trying
-pub use Rattle.facet_texts.specs.Applicable
-pub use Rattle.facet_texts.specs.BoundRules
-pub use Rattle.facet_texts.specs.Check
-pub use Rattle.facet_texts.specs.CountRules
-pub use Rattle.facet_texts.specs.Defects
-pub use Rattle.facet_texts.specs.FacetList
-pub use Rattle.facet_texts.specs.First
-pub use Rattle.facet_texts.specs.Merge
-pub use Rattle.facet_texts.specs.Read
-pub use Rattle.facet_texts.specs.ReadFacet
-pub use Rattle.facet_texts.specs.ReadStep
-pub use Rattle.facet_texts.specs.Reading as FacetRulesReading
-pub use Rattle.facet_texts.specs.Rules
-pub use Rattle.facet_texts.specs.Texts
-pub use Rattle.facet_texts.specs.declared.read.FacetRead

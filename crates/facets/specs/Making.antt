@@ -1,10 +1,10 @@
 -- Lists of a type, and unions of types: Structures 3.14.2 and 3.14.6.
 use Rattle.std.specs.Prelude.{ℕ, false, List, [], ◌∷◌, ◌++◌, length, Option, None, Some}
-use Rattle.white_space.specs.declared.handling.WhiteSpace.TheVariants.{Collapse}
+use Rattle.xs_names.specs.declared.handling.WhiteSpace.TheVariants.{Collapse}
 use Rattle.xs_codes.specs.declared.builtin.Builtin.{Builtin}
 use Rattle.simple_values.specs.Grammar.{item_type}
-use Rattle.facet_texts.specs.FacetList.{FacetList}
-use Rattle.facet_texts.specs.List.{no_facets}
+use Rattle.facet_checks.specs.declared.list.FacetList.{FacetList}
+use Rattle.facet_checks.specs.List.{no_facets}
 use Rattle.facets.specs.declared.members.Plain.{Plain}
 use Rattle.facets.specs.declared.members.Gate.{Gate}
 use Rattle.facets.specs.declared.members.Choices.{Choices}

@@ -2,13 +2,13 @@
 use Rattle.std.specs.Prelude.{ℕ, ◌+◌, List, map}
 use Rattle.xs_codes.specs.declared.builtin.Builtin.{Builtin}
 use Rattle.xs_codes.specs.declared.builtin.Builtin.TheVariants.{AnySimpleType}
-use Rattle.facet_texts.specs.declared.applicable.Family.{Family}
-use Rattle.facet_texts.specs.declared.applicable.Family.TheVariants.{Measured, Unions}
+use Rattle.facet_rules.specs.declared.applicable.Family.{Family}
+use Rattle.facet_rules.specs.declared.applicable.Family.TheVariants.{Measured, Unions}
 use Rattle.facets.specs.declared.members.Gate.{Gate}
 use Rattle.facets.specs.declared.members.Literals.TheVariants.{OfBuiltin, OfList}
 use Rattle.facets.specs.declared.members.Source.{Source}
 use Rattle.facets.specs.declared.members.Source.TheVariants as sources
-use Rattle.facet_texts.specs.Applicable.{family_of}
+use Rattle.facet_rules.specs.Applicable.{family_of}
 
 -- the family of a type: that of the built-in type, of lists, or of unions
 abbrev pub family_of_source : Source → Family

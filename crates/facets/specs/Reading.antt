@@ -5,13 +5,13 @@ use Rattle.xs_codes.specs.declared.code.Code.TheVariants.{XLimitValue, Enumerati
 use Rattle.xs_components.specs.declared.simple.FacetItem.{FacetItem}
 use Rattle.xs_components.specs.declared.simple.FacetKind.{FacetKind}
 use Rattle.xs_components.specs.declared.simple.FacetKind.TheVariants as kinds
-use Rattle.facet_texts.specs.Reading.TheVariants as readings
-use Rattle.facet_texts.specs.ReadStep.{ReadStep}
-use Rattle.facet_texts.specs.declared.read.FacetRead.{FacetRead}
-use Rattle.facet_texts.specs.declared.read.FacetRead.TheVariants as reads
-use Rattle.facet_texts.specs.Applicable.{fits}
-use Rattle.facet_texts.specs.Read.{with_read, no_step}
-use Rattle.facet_texts.specs.Texts.{IsTextRead}
+use Rattle.facet_rules.specs.declared.step.Reading.TheVariants as readings
+use Rattle.facet_rules.specs.declared.step.ReadStep.{ReadStep}
+use Rattle.facet_rules.specs.declared.read.FacetRead.{FacetRead}
+use Rattle.facet_rules.specs.declared.read.FacetRead.TheVariants as reads
+use Rattle.facet_rules.specs.Applicable.{fits}
+use Rattle.facet_rules.specs.Read.{with_read, no_step}
+use Rattle.facet_rules.specs.Texts.{IsTextRead}
 use Rattle.facets.specs.declared.atomic.Accepted.{Accepted}
 use Rattle.facets.specs.declared.facets.Facets.{Facets}
 use Rattle.facets.specs.declared.known.Known.{Known}

@@ -1,13 +1,13 @@
 -- The literals of lists and of unions: Structures 3.14.4, Datatypes 4.1.4 and 2.5.1.
 use Rattle.std.specs.Prelude.{◌≡◌, ℕ, ◌+◌, nat_lt, nat_le, Bool, true, false, ◌||◌, if◌then◌else◌, List, [], ◌∷◌, ◌++◌, length, Option, None, Some, Result, Ok, Err}
-use Rattle.white_space.specs.WhiteSpace.{normalized, items}
+use Rattle.xs_names.specs.WhiteSpace.{normalized, items}
 use Rattle.xs_codes.specs.declared.code.Code.{Code}
 use Rattle.xs_codes.specs.declared.code.Code.TheVariants.{CvcDatatypeValid1, XLimitValue, XLimitItems}
 use Rattle.simple_values.specs.declared.atoms.TypedAtom.{TypedAtom}
 use Rattle.simple_values.specs.declared.value.Value.{Value}
 use Rattle.simple_values.specs.declared.value.Value.TheVariants as values
-use Rattle.facet_texts.specs.FacetList.{FacetList}
-use Rattle.facet_texts.specs.Check.{IsChecked}
+use Rattle.facet_checks.specs.declared.list.FacetList.{FacetList}
+use Rattle.facet_checks.specs.Check.{IsChecked}
 use Rattle.facets.specs.declared.atomic.Accepted.{Accepted}
 use Rattle.facets.specs.declared.members.Plain.{Plain}
 use Rattle.facets.specs.declared.members.Gate.{Gate}

@@ -1,15 +1,14 @@
 //! Literals of the types that are derived from a built-in one by restriction.
 ghost use Rattle.std.specs.Prelude.{◌≡◌, IfOk, Option};
 ghost use Rattle.xs_codes.specs.declared.code.Code.{Code as AnyCode};
-ghost use Rattle.facet_texts.specs.Check.{IsChecked};
+ghost use Rattle.facet_checks.specs.Check.{IsChecked};
 ghost use Rattle.facets.specs.Atomic as spec;
 
-use facet_texts::FacetList;
+use facet_checks::FacetList;
 use simple_values::{Value, ValueFault, item_type, read_normalized};
 use std::alloc::{AllocError, Global};
-use white_space::{WhiteSpace, count_items, normalized};
 use xs_codes::{Builtin, Code};
-use xs_names::{Scope, Text};
+use xs_names::{Scope, Text, WhiteSpace, count_items, normalized};
 
 /// A value, and the text that it was read from, its white space treated.
 #[derive(Debug, Drop)]

@@ -3,7 +3,7 @@ ghost use Rattle.std.specs.Prelude.{◌≡◌};
 ghost use Rattle.facets.specs.BuiltIn as spec;
 
 use dec_value::Dec;
-use facet_texts::{Bound, FacetList, Handling};
+use facet_checks::{Bound, FacetList, Handling};
 use simple_values::{Atom, Value, bounds_of, white_space_of};
 use std::alloc::Global;
 use xs_codes::Builtin;

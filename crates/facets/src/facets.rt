@@ -1,6 +1,6 @@
 //! The facets of a simple type.
 ghost use Rattle.std.specs.Prelude.{◌≡◌, IfOk};
-ghost use Rattle.facet_texts.specs.Check.{IsChecked};
+ghost use Rattle.facet_checks.specs.Check.{IsChecked};
 ghost use Rattle.facets.specs.Facets as spec;
 
 use crate::Accepted;
@@ -11,7 +11,8 @@ use crate::making::{choices_of, list_facets};
 use crate::members::{Literals, Members, Source};
 use crate::reading::read_step;
 use crate::trying::{read_literal, read_union};
-use facet_texts::{FacetList, Family, restricted};
+use facet_checks::FacetList;
+use facet_rules::{Family, restricted};
 use simple_values::Value;
 use std::alloc::{AllocError, Global};
 use xs_codes::{Builtin, Code, Fault};

@@ -1,10 +1,11 @@
 //! What is defined of a type, and what judging a step by it comes to.
 ghost use Rattle.std.specs.Prelude.{◌≡◌, IfOk, None};
-ghost use Rattle.facet_texts.specs.Rules.{judged_of};
+ghost use Rattle.facet_rules.specs.Rules.{judged_of};
 ghost use Rattle.facets.specs.Facets as spec;
 
 use crate::Facets;
-use facet_texts::{FacetList, ReadStep, judge};
+use facet_checks::FacetList;
+use facet_rules::{ReadStep, judge};
 use std::alloc::{AllocError, Global};
 use xs_codes::Fault;
 

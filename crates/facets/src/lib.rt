@@ -12,7 +12,6 @@ mod reading;
 mod trying;
 
 pub use atomic::Accepted;
-pub use facet_texts::{noted, sooner};
 pub use facets::Facets;
 pub use known::{Judged, Known};
 pub use members::Members;

@@ -7,12 +7,12 @@ use crate::members::{
     Choices, Gate, Literals, Member, Members, Plain, Source, copied_gates, copied_literals,
     copied_members,
 };
-use facet_texts::{FacetList, Handling};
+use facet_checks::{FacetList, Handling};
 use simple_values::item_type;
 use std::alloc::{AllocError, Global};
-use white_space::WhiteSpace;
 use xs_codes::Builtin;
 use xs_lists::Listed;
+use xs_names::WhiteSpace;
 
 impl Members {
     /// No members.

@@ -2,7 +2,8 @@
 ghost use Rattle.std.specs.Prelude.{◌≡◌, ◌++◌, IfOk};
 ghost use Rattle.facets.specs.Members as spec;
 
-use facet_texts::{FacetList, Family, family_of};
+use facet_checks::FacetList;
+use facet_rules::{Family, family_of};
 use std::alloc::{AllocError, Global};
 use xs_codes::Builtin;
 use xs_lists::Listed;

@@ -3,9 +3,8 @@ ghost use Rattle.std.specs.Prelude.{◌≡◌, IfOk};
 ghost use Rattle.facets.specs.Reading as spec;
 
 use crate::{Facets, Known};
-use facet_texts::{
-    Alternatives, FacetRead, ReadFacets, ReadStep, Reading, ValueList, fits, push_read, read_text,
-};
+use facet_checks::{Alternatives, ValueList};
+use facet_rules::{FacetRead, ReadFacets, ReadStep, Reading, fits, push_read, read_text};
 use std::alloc::{AllocError, Global};
 use xs_codes::Code;
 use xs_components::{FacetItem, FacetKind};

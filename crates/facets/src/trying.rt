@@ -5,12 +5,11 @@ ghost use Rattle.facets.specs.Trying as spec;
 use crate::Accepted;
 use crate::atomic::{MOST_ITEMS, judged_value, read_atomic, way_of};
 use crate::members::{Choices, Gate, Literals, Member, Members, Plain};
-use facet_texts::FacetList;
+use facet_checks::FacetList;
 use simple_values::{Atoms, TypedAtom, Value};
 use std::alloc::{AllocError, Global};
-use white_space::{count_items, items, normalized};
 use xs_codes::Code;
-use xs_names::{Scope, Text};
+use xs_names::{Scope, Text, count_items, items, normalized};
 
 /// What came of a text.
 pub(crate) type Outcome = Result<Accepted, Code>;

@@ -4,6 +4,12 @@
 #[cfg(test)]
 mod held;
 #[cfg(test)]
+mod list_held;
+#[cfg(test)]
+mod list_tests;
+#[cfg(test)]
 mod lists;
+#[cfg(test)]
+mod nothing;
 #[cfg(test)]
 mod rows;

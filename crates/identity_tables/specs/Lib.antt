@@ -3,3 +3,6 @@ pub mod IdTable
 pub mod KeyTables
 pub mod Tuple
 pub mod Uses
+pub mod Entries
+pub mod Ids
+pub mod Table

@@ -4,8 +4,12 @@
 mod counts;
 mod id_table;
 mod key_tables;
+mod role;
+mod table;
 mod tuple;
 
 pub use id_table::IdTable;
 pub use key_tables::KeyTables;
+pub use role::{IdRole, role_of};
+pub use table::DocumentIds;
 pub use tuple::Tuple;

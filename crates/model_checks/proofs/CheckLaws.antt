@@ -2,17 +2,17 @@
 use Rattle.std.proofs.Common.{◌≡◌, ℕ, List, Option, None, Some, sym, subst}
 use Rattle.xs_names.specs.Names.{NameTable}
 use Rattle.xs_components.specs.Tables.{Tables}
-use Rattle.content_models.specs.Models.{model_of}
-use Rattle.content_models.specs.Accepted.{accepts}
-use Rattle.model_symbols.specs.Symbols.{AreSymbolsOf}
-use Rattle.content_models.specs.Modelled.{IsAmbiguousBy}
+use Rattle.particle_forms.specs.Models.{model_of}
+use Rattle.particle_forms.specs.Accepted.{accepts}
+use Rattle.content_automaton.specs.Symbols.{AreSymbolsOf}
+use Rattle.content_automaton.specs.Modelled.{IsAmbiguousBy}
 use Rattle.content_models.specs.Terms.{model_terms}
 use Rattle.content_models.specs.Built.{IsBuilt, HasRoom, IsRefused, symbols_of, states_of}
 use Rattle.content_models.specs.declared.automaton.ContentAutomaton.{ContentAutomaton}
 use Rattle.content_models.specs.declared.automaton.ContentAutomaton.TheVariants.{States, All}
 use Rattle.content_models.specs.declared.refused.ModelError.{ModelError}
 use Rattle.content_models.specs.declared.refused.ModelError.TheVariants as errors
-use Rattle.element_consistency.specs.Consistency.{IsConsistent}
+use Rattle.model_checks.specs.Consistency.{IsConsistent}
 use Rattle.model_checks.specs.Checks.{KeepsLimits, IsFirstFault, IsChecked, IsJudged}
 use Rattle.model_checks.specs.inside.Found.{IsFaultOf}
 use Rattle.model_checks.specs.declared.fault.ModelFault.{ModelFault}

@@ -1,4 +1,6 @@
+pub mod FoundLaws
+pub mod AgreeLaws
 pub mod CheckLaws
-pub use Rattle.content_models.proofs.Building
-pub use Rattle.content_models.proofs.StateLaws
-pub use Rattle.content_models.proofs.TermLaws
+pub mod Accepting
+pub mod Giving
+pub mod Growing

@@ -5,13 +5,13 @@ use Rattle.xs_components.specs.Tables.{Tables}
 use Rattle.particle_models.specs.Particles.{Place}
 use Rattle.particle_models.specs.Words.{IsAmbiguous}
 use Rattle.particle_models.specs.Unrolled.{positions_of}
-use Rattle.content_models.specs.Models.{model_of}
-use Rattle.content_models.specs.Accepted.{accepts}
-use Rattle.model_symbols.specs.Symbols.{SymbolTable, AreSymbolsOf, count_of}
+use Rattle.particle_forms.specs.Models.{model_of}
+use Rattle.particle_forms.specs.Accepted.{accepts}
+use Rattle.content_automaton.specs.Symbols.{SymbolTable, AreSymbolsOf, count_of}
 use Rattle.content_models.specs.Terms.{model_terms}
 use Rattle.content_models.specs.Built.{IsStateTotal, HasTooManyPositions, HasTooManyStates, HasTooLargeTable, IsBuilt}
 use Rattle.content_models.specs.declared.automaton.ContentAutomaton.{ContentAutomaton}
-use Rattle.element_consistency.specs.Consistency.{IsConsistent}
+use Rattle.model_checks.specs.Consistency.{IsConsistent}
 use Rattle.model_checks.specs.declared.fault.ModelFault.{ModelFault}
 use Rattle.model_checks.specs.declared.fault.ModelFault.TheVariants.{TooManyPositions, TooManyStates, TableTooLarge, Inconsistent, Ambiguous}
 

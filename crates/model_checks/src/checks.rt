@@ -1,13 +1,12 @@
 ghost use Rattle.std.specs.Prelude.{◌<◌, length, IfOk, IfErr, IfSome, MatchOption};
 ghost use Rattle.content_models.specs.Built.{IsSource, IsLimited, IsBuilt, HasRoom, IsRefused};
-ghost use Rattle.content_models.specs.Models.{model_of};
-ghost use Rattle.element_consistency.specs.Consistency.{IsConsistent};
+ghost use Rattle.particle_forms.specs.Models.{model_of};
+ghost use Rattle.model_checks.specs.Consistency.{IsConsistent};
 ghost use Rattle.model_checks.specs.Checks.{IsChecked, IsFirstFault, IsJudged};
 ghost use Rattle.model_checks.specs.inside.Found.{IsFaultOf};
 
-use crate::ModelFault;
+use crate::{ModelFault, consistent};
 use content_models::{ContentAutomaton, ModelError, ModelSource};
-use element_consistency::consistent;
 use std::alloc::{AllocError, Global};
 use xs_components::ParticleId;
 

@@ -1,6 +1,6 @@
 use std::alloc::{AllocError, Global};
+use xs_components::{NsConstraint, NsIdList};
 use xs_names::{Names, NsId};
-use xs_namespaces::{NsConstraint, NsIdList};
 
 // The namespaces of the cases, beside the absent one: two that the constraints name, and one that none names.
 #[derive(Drop)]

@@ -1,11 +1,11 @@
 -- What schema documents come to.
 use Rattle.std.specs.Prelude.{◌≡◌, ◌⊎◌, List, Result, Ok, Err, IfOk, OnOk}
 use Rattle.std.proofs.Common.{arith, inl, inr}
-use Rattle.edit_replies.specs.Compiled.{Compiled}
-use Rattle.edit_replies.specs.Usable.{IsUsable}
+use Rattle.compiled_schema.specs.declared.compiled.Compiled.{Compiled}
+use Rattle.compiled_schema.specs.Usable.{IsUsable}
 use Rattle.schema_compile.specs.Outcomes.{IsOutcome}
-use Rattle.schema_compile.specs.Refusal.TheVariants as refusals
-use Rattle.schema_compile.specs.SchemaInput.{SchemaInput}
+use Rattle.schema_check.specs.declared.documents.Refusal.TheVariants as refusals
+use Rattle.schema_set.specs.declared.inputs.SchemaInput.{SchemaInput}
 use Rattle.schema_compile.specs.declared.outcome.Outcome.{Outcome}
 use Rattle.schema_compile.specs.declared.outcome.Outcome.TheVariants.{Accepted}
 use Rattle.open_document.specs.Answers.{IsCompiled, verdict_of, work_after}

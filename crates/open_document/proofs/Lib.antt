@@ -1,2 +1,4 @@
+mod Entries
+mod Changed
 pub mod Accepted
 pub mod Standing

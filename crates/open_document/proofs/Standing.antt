@@ -7,8 +7,8 @@ use Rattle.tree_edits.specs.declared.edit.EditError.{EditError}
 use Rattle.edit_script.specs.declared.command.Command.{Command}
 use Rattle.edit_script.specs.declared.command.Command.TheVariants as commands
 use Rattle.edit_script.specs.declared.command.ScriptFault.{ScriptFault}
-use Rattle.edit_replies.specs.Replies.{changed, next_state}
-use Rattle.edit_replies.specs.State.{State}
+use Rattle.open_document.specs.Replies.{changed, next_state}
+use Rattle.session_model.specs.State.{State}
 
 changed_closed : (s : State) (r : Result Document EditError) → (changed s r).closed ≡ s.closed
 changed_closed s (Ok d) = refl

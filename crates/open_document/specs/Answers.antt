@@ -2,21 +2,21 @@
 use Rattle.std.specs.Prelude.{◌≡◌, ℕ, List, ◌++◌, Option, Result}
 use Rattle.item_listing.specs.declared.item.Item.{Item}
 use Rattle.tree_rows.specs.Forest.{Document}
-use Rattle.edit_replies.specs.Assessment.{Entry}
-use Rattle.edit_replies.specs.Assessor.{RightAssessor}
-use Rattle.edit_replies.specs.Asking.{code_total, root_validity}
-use Rattle.edit_replies.specs.Compiled.{Compiled}
-use Rattle.edit_replies.specs.Reports as reports
-use Rattle.edit_replies.specs.State as sessions
-use Rattle.edit_replies.specs.State.{State, known}
+use Rattle.assessment.specs.Assessment.{Entry}
+use Rattle.session_model.specs.Assessor.{RightAssessor}
+use Rattle.session_model.specs.Asking.{code_total, root_validity}
+use Rattle.compiled_schema.specs.declared.compiled.Compiled.{Compiled}
+use Rattle.session_model.specs.Reports as reports
+use Rattle.session_model.specs.State as sessions
+use Rattle.session_model.specs.State.{State, known}
 use Rattle.schema_compile.specs.Outcomes.{IsOutcome}
-use Rattle.schema_compile.specs.SchemaInput.{SchemaInput}
+use Rattle.schema_set.specs.declared.inputs.SchemaInput.{SchemaInput}
 use Rattle.schema_compile.specs.declared.outcome.Outcome.{Outcome}
 use Rattle.schema_compile.specs.declared.outcome.Outcome.TheVariants as outcomes
 use Rattle.plain_session.specs.Costs.{edit_cost}
 use Rattle.edit_script.specs.Commands.{command}
-use Rattle.edit_replies.specs.Costs.{command_cost}
-use Rattle.edit_replies.specs.Replies.{made, next_state, reply, total_line}
+use Rattle.open_document.specs.Costs.{command_cost}
+use Rattle.open_document.specs.Replies.{made, next_state, reply, total_line}
 use Rattle.open_document.specs.State.{OpenState, WorkState, ready}
 use Rattle.open_document.specs.declared.verdict.SetVerdict.{SetVerdict}
 use Rattle.open_document.specs.declared.verdict.SetVerdict.TheVariants.{Accepted, Broken, NotYet}

@@ -1,5 +1,5 @@
 -- What a workspace keeps.
-use Rattle.edit_replies.specs.Usable.{IsUsable}
+use Rattle.compiled_schema.specs.Usable.{IsUsable}
 use Rattle.open_document.specs.State.{WorkState, empty, ready, working}
 use Rattle.open_document.specs.declared.held.Held.{Held}
 use Rattle.open_document.specs.declared.held.Held.TheVariants as held

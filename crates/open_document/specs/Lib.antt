@@ -1,13 +1,7 @@
+pub mod Replies
+pub mod Costs
+pub mod Tells
 pub mod State
 pub mod WorkCode
 pub mod Answers
 pub mod Held
-pub use Rattle.edit_replies.specs.Assessor
-pub use Rattle.edit_replies.specs.Compiled
-pub use Rattle.edit_replies.specs.Counting
-pub use Rattle.edit_replies.specs.Tells
-pub use Rattle.edit_replies.specs.Words
-pub use Rattle.schema_compile.specs.Outcomes
-pub use Rattle.schema_compile.specs.SchemaInput
-pub use Rattle.edit_replies.specs.declared.break_off.BreakOff
-pub use Rattle.schema_compile.specs.declared.outcome.Outcome

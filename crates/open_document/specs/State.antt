@@ -1,7 +1,7 @@
 -- What a stream works on.
 use Rattle.std.specs.Prelude.{◌≡◌, false}
-use Rattle.edit_replies.specs.Compiled.{Compiled}
-use Rattle.edit_replies.specs.State.{State}
+use Rattle.compiled_schema.specs.declared.compiled.Compiled.{Compiled}
+use Rattle.session_model.specs.State.{State}
 
 -- A session over a document. What else commands come to need, a history, another set of schemas, a log of authors, has its field here.
 pub record OpenState : Type 0 where

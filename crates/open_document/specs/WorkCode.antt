@@ -2,10 +2,10 @@
 use Rattle.std.specs.Prelude.{◌≡◌, ◌⊎◌, Bool, true, refl}
 use Rattle.std.proofs.Common.{inl, inr}
 use Rattle.std.specs.Coded.{Coded, code_by, coded⊎, coded_bool}
-use Rattle.edit_replies.specs.Compiled.{Compiled}
-use Rattle.edit_replies.specs.CompiledRow as compiled
-use Rattle.edit_replies.specs.State.{State}
-use Rattle.edit_replies.specs.StateCode.{state_code}
+use Rattle.compiled_schema.specs.declared.compiled.Compiled.{Compiled}
+use Rattle.compiled_schema.specs.contracts.compiled.Compiled as compiled
+use Rattle.session_model.specs.State.{State}
+use Rattle.session_model.specs.StateCode.{state_code}
 use Rattle.open_document.specs.State.{WorkState, empty, ready, working}
 
 abbrev cases : WorkState → Bool ⊎ (Compiled ⊎ State)

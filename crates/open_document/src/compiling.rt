@@ -3,15 +3,17 @@
 ghost use Rattle.std.specs.Prelude.{◌≡◌, ◌<◌, List, All, length, IfOk, OnOk};
 ghost use Rattle.tree_rows.specs.Whole.{IsTree};
 ghost use Rattle.schema_compile.specs.Outcomes.{IsOutcome};
-ghost use Rattle.schema_compile.specs.SchemaInput.{SchemaInput as SchemaInputData};
-ghost use Rattle.edit_replies.specs.Usable.{IsUsable};
+ghost use Rattle.schema_set.specs.declared.inputs.SchemaInput.{SchemaInput as SchemaInputData};
+ghost use Rattle.compiled_schema.specs.Usable.{IsUsable};
 ghost use Rattle.open_document.specs.Answers as answers;
 ghost use Rattle.open_document.specs.Held.{work_of, IsKept};
 ghost use Rattle.open_document.specs.State.{ready};
 
 use crate::SetVerdict;
 use crate::held::{Held, make_ready};
-use schema_compile::{Compiled, Outcome, SchemaInput, compile};
+use compiled_schema::Compiled;
+use schema_compile::{Outcome, compile};
+use schema_set::SchemaInput;
 use std::alloc::{AllocError, Global};
 
 // The trees of schema documents are whole: a law.

@@ -1,13 +1,13 @@
 //! What a workspace keeps.
 
 ghost use Rattle.std.specs.Prelude.{◌≡◌, false, IfOk, OnOk};
-ghost use Rattle.edit_replies.specs.Usable.{IsUsable};
+ghost use Rattle.compiled_schema.specs.Usable.{IsUsable};
 ghost use Rattle.open_document.specs.Answers as answers;
 ghost use Rattle.open_document.specs.Held.{work_of, IsKept};
 ghost use Rattle.open_document.specs.State.{working, ready, IsReady, IsOpen};
-ghost use Rattle.edit_replies.specs.Compiled.{Compiled as CompiledData};
+ghost use Rattle.compiled_schema.specs.declared.compiled.Compiled.{Compiled as CompiledData};
 
-use edit_replies::Compiled;
+use compiled_schema::Compiled;
 use plain_session::{PlainSession, let_go};
 use plain_tree::Tree;
 use std::alloc::{AllocError, Global};

@@ -1,14 +1,18 @@
-//! What a stream works on: the schema set that documents are assessed by, then the document that is open.
+//! The replies of a session to the commands of an edit script, written to a sink.
 #![tactic(auto)]
 
+mod break_off;
 mod compiling;
 mod held;
+mod line;
+mod reply;
 mod verdict;
 mod working;
 mod workspace;
 
-pub use edit_replies::{BreakOff, Validity, validity_word, write_answer};
+pub use break_off::BreakOff;
 pub use held::boxed;
-pub use schema_compile::SchemaInput;
+pub use line::answer_line;
+pub use reply::{write_answer, write_made, write_total};
 pub use verdict::{SetVerdict, Verdict};
 pub use workspace::Workspace;

@@ -1,6 +1,6 @@
 //! What is told of schema documents and of a document.
 
-use edit_replies::Validity;
+use assess_records::Validity;
 use xs_codes::Fault;
 
 /// What is told of schema documents.

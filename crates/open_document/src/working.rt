@@ -1,23 +1,23 @@
 //! What is written of the session over an open document.
 
 ghost use Rattle.std.specs.Prelude.{◌≡◌, false, OnOk};
-ghost use Rattle.text_sink.specs.Written.{Written};
+ghost use Rattle.xsv_io.specs.Written.{Written};
 ghost use Rattle.xsv_io.specs.Causes.{HasCause, KeepsCount};
-ghost use Rattle.edit_replies.specs.Assessor.{RightAssessor};
-ghost use Rattle.edit_replies.specs.Asking.{code_total, root_validity};
-ghost use Rattle.edit_replies.specs.Costs.{command_cost};
-ghost use Rattle.edit_replies.specs.Counting.{Counts};
-ghost use Rattle.edit_replies.specs.Replies.{made, next_state, reply, total_of};
-ghost use Rattle.edit_replies.specs.State.{known};
+ghost use Rattle.session_model.specs.Assessor.{RightAssessor};
+ghost use Rattle.session_model.specs.Asking.{code_total, root_validity};
+ghost use Rattle.open_document.specs.Costs.{command_cost};
+ghost use Rattle.session_model.specs.Counting.{Counts};
+ghost use Rattle.open_document.specs.Replies.{made, next_state, reply, total_of};
+ghost use Rattle.session_model.specs.State.{known};
 ghost use Rattle.edit_script.specs.Commands.{command};
 ghost use Rattle.plain_session.specs.Costs.{edit_cost};
-ghost use Rattle.edit_replies.specs.Tells.{Wrote, IsWriteFault};
+ghost use Rattle.open_document.specs.Tells.{Wrote, IsWriteFault};
 ghost use Rattle.open_document.specs.Answers.{records_text};
 
-use crate::Verdict;
-use edit_replies::{BreakOff, Session, answer_line, write_made, write_total};
+use crate::{BreakOff, Verdict, answer_line, write_made, write_total};
 use item_listing::Items;
 use plain_session::PlainSession;
+use session_model::Session;
 use std::alloc::Global;
 use xs_names::Text;
 use xsv_io::{Failed, Sink};

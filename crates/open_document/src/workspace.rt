@@ -1,20 +1,19 @@
 ghost use Rattle.std.specs.Prelude.{◌≡◌, ◌<◌, length, IfOk, OnOk};
 ghost use Rattle.xsv_io.specs.Causes.{KeepsCount};
-ghost use Rattle.edit_replies.specs.Assessor.{RightAssessor};
-ghost use Rattle.edit_replies.specs.Compiled.{Compiled as CompiledData};
-ghost use Rattle.edit_replies.specs.Counting.{Counts};
-ghost use Rattle.edit_replies.specs.Tells.{Wrote, IsWriteFault};
+ghost use Rattle.session_model.specs.Assessor.{RightAssessor};
+ghost use Rattle.compiled_schema.specs.declared.compiled.Compiled.{Compiled as CompiledData};
+ghost use Rattle.session_model.specs.Counting.{Counts};
+ghost use Rattle.open_document.specs.Tells.{Wrote, IsWriteFault};
 ghost use Rattle.open_document.specs.Answers as answers;
 ghost use Rattle.open_document.specs.State.{OpenState, empty, ready, working, IsReady, IsOpen};
 
 use crate::compiling::compile_into;
 use crate::held::{Held, close, open};
 use crate::working::{answer, verdict, write_first, write_report};
-use crate::{SetVerdict, Verdict};
-use edit_replies::BreakOff;
+use crate::{BreakOff, SetVerdict, Verdict};
 use item_listing::Items;
 use plain_tree::Tree;
-use schema_compile::SchemaInput;
+use schema_set::SchemaInput;
 use std::alloc::{AllocError, Global};
 use std::marker::Model;
 use xs_names::Text;

@@ -5,10 +5,10 @@ use Rattle.std.specs.List.{list_any}
 use Rattle.std.proofs.lemmas.Bool.{false≢true}
 use Rattle.xs_names.specs.Names.{NameTable, same_name, absent_space}
 use Rattle.xs_names.proofs.NumberingLaws.{same_name-Decides}
-use Rattle.xs_namespaces.specs.Sets.{admits, has}
-use Rattle.xs_namespaces.specs.declared.constraint.NsConstraint.{NsConstraint}
-use Rattle.xs_namespaces.specs.declared.constraint.NsConstraint.TheVariants.{Any as AnySpace, Not, In}
-use Rattle.xs_members.specs.Heads.{names_of}
+use Rattle.xs_components.specs.Sets.{admits, has}
+use Rattle.xs_components.specs.declared.namespace_constraint.NsConstraint.{NsConstraint}
+use Rattle.xs_components.specs.declared.namespace_constraint.NsConstraint.TheVariants.{Any as AnySpace, Not, In}
+use Rattle.xs_components.specs.Heads.{names_of}
 use Rattle.xs_components.specs.Tables.{Tables}
 use Rattle.xs_components.specs.declared.particle.Particle.{Particle as Part}
 use Rattle.xs_components.specs.declared.particle.Term.{Term}

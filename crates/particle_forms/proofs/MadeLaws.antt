@@ -10,7 +10,7 @@ use Rattle.xs_components.specs.Tables.{Tables}
 use Rattle.xs_components.specs.declared.particle.Particle.{Particle as Part}
 use Rattle.xs_components.specs.declared.particle.Term.{Term}
 use Rattle.xs_components.specs.declared.particle.Term.TheVariants.{Element, Any, Group, Sequence, Choice, All}
-use Rattle.xs_references.specs.Ranked.{held_particles, named_group, IsBelow, IsRanked}
+use Rattle.component_references.specs.Ranked.{held_particles, named_group, IsBelow, IsRanked}
 use Rattle.particle_models.specs.Nodes.{members_of}
 use Rattle.particle_forms.specs.Models.{group_particle, group_model, term_model, part_model, model_of}
 use Rattle.particle_forms.specs.Made.{listed, term_parts, part_parts, parts_of, size, sizes, work, Visits, AreAllParts}

@@ -7,10 +7,10 @@ use Rattle.xs_components.specs.declared.group.GroupDef.{GroupDef}
 use Rattle.xs_components.specs.declared.particle.Particle.{Particle as Part}
 use Rattle.xs_components.specs.declared.particle.Term.{Term}
 use Rattle.xs_components.specs.declared.particle.Term.TheVariants.{Element, Any, Group, Sequence, Choice, All}
-use Rattle.xs_references.specs.Descent.{AsksLower}
-use Rattle.xs_references.specs.Ranked.{held_particles, named_group, IsBelow, IsRanked}
-use Rattle.xs_references.proofs.DescentLaws.{along-is}
-use Rattle.xs_references.proofs.ListLaws.{map-same}
+use Rattle.component_references.specs.Descent.{AsksLower}
+use Rattle.component_references.specs.Ranked.{held_particles, named_group, IsBelow, IsRanked}
+use Rattle.component_references.proofs.DescentLaws.{along-is}
+use Rattle.component_references.proofs.ListLaws.{map-same}
 use Rattle.particle_models.specs.Particles.{Particle, sequence, choice, all_of, occurs}
 use Rattle.particle_models.specs.Nodes.{members_of}
 use Rattle.particle_forms.specs.Models.{no_model, group_particle, group_model, term_model, part_model, model_step, model_of}

@@ -11,7 +11,7 @@ use Rattle.xs_components.specs.declared.group.GroupDef.{GroupDef}
 use Rattle.xs_components.specs.declared.particle.Particle.{Particle as Part}
 use Rattle.xs_components.specs.declared.particle.Term.{Term}
 use Rattle.xs_components.specs.declared.particle.Term.TheVariants.{Group, Sequence, Choice, All}
-use Rattle.xs_references.specs.Ranked.{IsBelow, IsRanked}
+use Rattle.component_references.specs.Ranked.{IsBelow, IsRanked}
 use Rattle.particle_models.specs.Particles.{term, sequence, choice, all_of, occurs, none}
 use Rattle.particle_models.specs.Nodes.{members_of, model_at, model_of as node_model, models_from, model_in, PartsBelow, IsOrdered}
 use Rattle.particle_models.specs.declared.node.Node.{Node}

@@ -8,9 +8,9 @@ use Rattle.xs_components.specs.Tables.{Tables}
 use Rattle.xs_components.specs.declared.particle.Particle.{Particle as Part}
 use Rattle.xs_components.specs.declared.particle.Term.{Term}
 use Rattle.xs_components.specs.declared.particle.Term.TheVariants.{Element, Any, Group, Sequence, Choice, All}
-use Rattle.xs_references.specs.Order.{IsFilledBelow}
-use Rattle.xs_references.specs.Ranked.{held_particles, named_group, IsBelow, IsRanked}
-use Rattle.xs_references.proofs.ListLaws.{map-same}
+use Rattle.component_references.specs.Order.{IsFilledBelow}
+use Rattle.component_references.specs.Ranked.{held_particles, named_group, IsBelow, IsRanked}
+use Rattle.component_references.proofs.ListLaws.{map-same}
 use Rattle.particle_models.specs.Particles.{Particle, term, sequence, choice, all_of, occurs}
 use Rattle.particle_models.specs.Nodes.{members_of}
 use Rattle.particle_forms.specs.Models.{group_particle, group_model, term_model, model_of}

@@ -2,14 +2,14 @@
 use Rattle.std.specs.Prelude.{ℕ, Bool, true, false, List, [], ◌∷◌, Option, None, Some, slice_get, slice_index_or}
 use Rattle.std.specs.List.{list_any}
 use Rattle.xs_names.specs.Names.{NameTable, same_name}
-use Rattle.xs_namespaces.specs.Sets.{admits}
+use Rattle.xs_components.specs.Sets.{admits}
 use Rattle.xs_components.specs.Tables.{Tables}
 use Rattle.xs_components.specs.declared.particle.Particle.{Particle as Part}
 use Rattle.xs_components.specs.declared.particle.Term.{Term}
 use Rattle.xs_components.specs.declared.particle.Term.TheVariants.{Element, Any, Group, Sequence, Choice, All}
-use Rattle.xs_namespaces.specs.declared.constraint.NsConstraint.{NsConstraint}
-use Rattle.xs_namespaces.specs.declared.constraint.NsConstraint.TheVariants.{Any as AnySpace, Not, In}
-use Rattle.xs_members.specs.Heads.{names_of}
+use Rattle.xs_components.specs.declared.namespace_constraint.NsConstraint.{NsConstraint}
+use Rattle.xs_components.specs.declared.namespace_constraint.NsConstraint.TheVariants.{Any as AnySpace, Not, In}
+use Rattle.xs_components.specs.Heads.{names_of}
 
 module _ (names : NameTable) (members : List (List ℕ)) where
   -- An element accepts the names of the members of its substitution group (Structures 3.3.6), a wildcard each name in a namespace

@@ -5,7 +5,7 @@ use Rattle.xs_components.specs.Tables.{Tables}
 use Rattle.xs_components.specs.declared.particle.Particle.{Particle as Part}
 use Rattle.xs_components.specs.declared.particle.Term.{Term}
 use Rattle.xs_components.specs.declared.particle.Term.TheVariants.{Element, Any, Group, Sequence, Choice, All}
-use Rattle.xs_references.specs.Descent.{along}
+use Rattle.component_references.specs.Descent.{along}
 use Rattle.particle_models.specs.Particles.{Particle, term, sequence, choice, all_of, occurs, none}
 use Rattle.particle_models.specs.Nodes.{members_of}
 

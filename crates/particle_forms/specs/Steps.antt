@@ -3,7 +3,7 @@ use Rattle.std.specs.Prelude.{ℕ, ◌<◌, List, Option, None, Some, All as Eac
 use Rattle.xs_components.specs.Tables.{Tables}
 use Rattle.xs_components.specs.declared.particle.Term.{Term}
 use Rattle.xs_components.specs.declared.particle.Term.TheVariants.{Element, Any, Group, Sequence, Choice, All}
-use Rattle.xs_references.specs.Ranked.{held_particles, named_group}
+use Rattle.component_references.specs.Ranked.{held_particles, named_group}
 use Rattle.particle_forms.specs.Models.{group_particle}
 use Rattle.particle_forms.specs.Ranges.{nothing, once, sum_of, widest_of}
 use Rattle.particle_forms.specs.declared.extent.TotalRange.{TotalRange}

@@ -7,8 +7,7 @@ ghost use Rattle.particle_forms.specs.Accepted as spec;
 
 use std::alloc::{AllocError, Global};
 use std::marker::Model;
-use xs_components::{Components, NsConstraint, Term};
-use xs_members::Members;
+use xs_components::{Components, Members, NsConstraint, Term};
 
 /// For each particle of a schema set, whether it is an element or a wildcard that accepts some name.
 #[derive(Debug, Drop)]

@@ -4,12 +4,14 @@
 mod extent;
 mod inhabited;
 mod made;
+mod model;
+mod model_nodes;
+mod node_made;
 mod nodes;
 mod ranges;
 mod unrolling;
 
 pub use inhabited::Inhabited;
-pub use particle_models::{PositionsError, Unrolled};
+pub use model::{ModelNodes, model_nodes};
 pub use ranges::Ranges;
 pub use unrolling::{unroll, unroll_by};
-pub use xs_members::Members;

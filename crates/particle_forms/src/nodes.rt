@@ -3,7 +3,7 @@
 ghost use Rattle.std.specs.Prelude.{◌≡◌, ◌<◌, ◌++◌, ◌∷◌, [], ℕ, All, Contains, IsSome, IfSome, map, length, nat_eq, slice_index, IfOk, OnOk};
 ghost use Rattle.std.specs.HashMap.{get};
 ghost use Rattle.std.specs.List.Sorted.{IsNonDecreasingBy};
-ghost use Rattle.xs_references.specs.Ranked.{named_group, IsRanked};
+ghost use Rattle.component_references.specs.Ranked.{named_group, IsRanked};
 ghost use Rattle.particle_forms.specs.Made.{term_parts, parts_of, number_at, AreNodesOf, IsTermNode};
 
 use particle_models::Node;

@@ -2,16 +2,16 @@
 
 ghost use Rattle.std.specs.Prelude.{◌≡◌, ℕ, ◌<◌, List, All, map, length, IfOk};
 ghost use Rattle.xs_components.specs.Tables.{Tables};
-ghost use Rattle.xs_references.specs.Ranked.{IsRanked};
+ghost use Rattle.component_references.specs.Ranked.{IsRanked};
 ghost use Rattle.particle_forms.specs.Models.{model_of};
 ghost use Rattle.particle_forms.specs.Ranges.{range, is_emptiable, sum_of, widest_of, AreRangesOf};
 ghost use Rattle.particle_forms.specs.Steps.{known, term_range, HasParts};
 
 use crate::extent::TotalRange;
+use component_references::{Rule, fill, order_of};
 use std::alloc::{AllocError, Global};
 use std::marker::Model;
 use xs_components::{Components, ParticleId, Term};
-use xs_references::{Rule, fill, order_of};
 
 /// The effective total ranges of all particles of a schema set (Structures 3.8.6), by the numbers of the particles.
 #[derive(Debug, Drop)]

@@ -1,7 +1,7 @@
 //! Content models unrolled.
 
 ghost use Rattle.std.specs.Prelude.{◌≡◌, ◌<◌, ◌↔◌, ℕ, Bool, false, length, slice_index_or, IfOk, IsErr};
-ghost use Rattle.xs_references.specs.Ranked.{IsRanked};
+ghost use Rattle.component_references.specs.Ranked.{IsRanked};
 ghost use Rattle.particle_models.specs.Model.{IsUnrolled};
 ghost use Rattle.particle_models.specs.Unrolled.{positions_of};
 ghost use Rattle.particle_forms.specs.Models.{model_of};
@@ -10,10 +10,10 @@ ghost use Rattle.particle_forms.specs.Accepted.{is_inhabited};
 use crate::inhabited::Inhabited;
 use crate::made::parts_by_rank;
 use crate::nodes::{nodes_of, number_of};
-use particle_models::{PositionsError, Unrolled, unroll as unroll_nodes};
+use particle_models::{Unrolled, unroll as unroll_nodes};
 use std::alloc::{AllocError, Global};
-use xs_components::{Components, ParticleId};
-use xs_members::Members;
+use xs_components::{Components, Members, ParticleId};
+use xs_positions::PositionsError;
 
 /// The terms and the positions of the content model of a particle. A position is one copy of a term: a particle of bounds n to m
 /// has m copies, of n to unbounded the greater of n and 1; an `all` has none.

@@ -1,7 +1,7 @@
 -- A model unrolled has the words of positions of its expression over particles.
 use Rattle.std.proofs.Common.{◌≡◌, ℕ, zero, suc, ◌+◌, ◌*◌, ◌↔◌, Option, Bool, true, false, List, [], ◌∷◌, ◌++◌, length, refl, sym, ap, subst, ◌∙◌, inl, inr, arith, if◌then◌else◌}
 use Rattle.xs_positions.specs.Tree.{Tree, one, empty, chain, nothing, either, repeat, copies, size, times, symbols}
-use Rattle.xs_positions.specs.Words.{IsWord, Rounds, place}
+use Rattle.xs_positions.specs.PositionWords.{IsWord, Rounds, place}
 use Rattle.xs_positions.specs.Positions.{Table, ArePositionsOf}
 use Rattle.xs_positions.proofs.Spelling.{spelling_is}
 use Rattle.xs_positions.proofs.Walking.{length-symbols}

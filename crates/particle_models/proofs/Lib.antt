@@ -12,3 +12,6 @@ pub mod Entering
 pub mod Alike
 pub mod Rooting
 pub mod Outcome
+pub mod GroupGrowing
+pub mod Gathering
+pub mod Making

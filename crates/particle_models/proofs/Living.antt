@@ -1,7 +1,7 @@
 -- Each text of an unrolled expression can be marked with names.
 use Rattle.std.proofs.Common.{◌≡◌, ℕ, zero, suc, ◌+◌, ◌≤◌, ◌⊎◌, Bool, true, false, IsTrue, List, [], ◌∷◌, ◌++◌, None, Some, refl, sym, ap, ◌∙◌, inl, inr, arith, if◌then◌else◌}
 use Rattle.xs_positions.specs.Tree.{Tree, one}
-use Rattle.xs_positions.specs.Words.{Spells, Rounds}
+use Rattle.xs_positions.specs.PositionWords.{Spells, Rounds}
 use Rattle.particle_models.specs.Particles.{Particle, Particles, term, sequence, choice, all_of, occurs, none, member, Path, Place, Mark}
 use Rattle.particle_models.specs.Unrolled.{count, wordless, unrolled, unrolled_chain, unrolled_either}
 use Rattle.particle_models.specs.Numbered.{AreNumbered, AreNumberedIn, Marks}

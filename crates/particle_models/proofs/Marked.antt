@@ -2,7 +2,7 @@
 use Rattle.std.proofs.Common.{◌≡◌, ℕ, ◌+◌, ◌<◌, ◌↔◌, Bool, List, [], ◌∷◌, ◌++◌, map, length, get_or, refl, sym, ap, subst, arith, append-nil}
 use Rattle.std.specs.Prelude.{slice_index}
 use Rattle.xs_positions.specs.Tree.{size, symbols}
-use Rattle.xs_positions.specs.Words.{IsWord}
+use Rattle.xs_positions.specs.PositionWords.{IsWord}
 use Rattle.xs_positions.specs.Positions.{Table, ArePositionsOf}
 use Rattle.particle_models.specs.Particles.{Particle, Place, Mark}
 use Rattle.particle_models.specs.Words.{Words, names_of, IsWordOfNames, BeginsWord, EndsIn}

@@ -1,6 +1,6 @@
 -- Where prefixes of words may end: name by name, from the positions that begin a word and those that follow each other.
 use Rattle.std.proofs.Common.{◌≡◌, ◌≢◌, ℕ, ◌⊎◌, ◌↔◌, List, [], ◌∷◌, ◌++◌, refl, sym, ap, subst, inl, inr, append_assoc, append-nil}
-use Rattle.xs_positions.specs.Words.{Begins, Ends, Follows, Exchanges}
+use Rattle.xs_positions.specs.PositionWords.{Begins, Ends, Follows, Exchanges}
 use Rattle.particle_models.specs.Reach.{Reads, Reach}
 
 -- a list is empty or has a last element

@@ -2,7 +2,7 @@
 use Rattle.std.proofs.Common.{◌≡◌, ℕ, zero, suc, ◌+◌, ◌≤◌, ◌⊎◌, Bool, true, false, IsTrue, List, [], ◌∷◌, ◌++◌, Option, None, Some, refl, sym, ap, ◌∙◌, inl, inr, arith, if◌then◌else◌}
 use Rattle.std.proofs.lemmas.Bool.{false≢true}
 use Rattle.xs_positions.specs.Tree.{Tree, one, chain, either, repeat}
-use Rattle.xs_positions.specs.Words.{Spells, Rounds, Allows}
+use Rattle.xs_positions.specs.PositionWords.{Spells, Rounds, Allows}
 use Rattle.particle_models.specs.Particles.{Particle, Particles, term, sequence, choice, all_of, occurs, none, member, Path, Place, Mark}
 use Rattle.particle_models.specs.Words.{OneThenOther, Times, Words, WordsInOrder, WordsOfOne}
 use Rattle.particle_models.specs.Unrolled.{count, wordless, unrolled, unrolled_chain, unrolled_either, HasNoAll, HaveNoAll}

@@ -7,3 +7,7 @@ pub mod Model
 pub mod Nodes
 pub mod Sharing
 pub mod Numbering
+pub mod Trees
+pub mod Pointless
+pub mod Parts
+pub mod Forming

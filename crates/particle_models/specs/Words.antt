@@ -1,6 +1,6 @@
 -- The words of a content model, as lists of marked names: Structures 3.8.4 and 3.9.4.
 use Rattle.std.specs.Prelude.{◌≡◌, ℕ, zero, suc, ◌≢◌, Bool, IsTrue, List, [], ◌∷◌, ◌++◌, map, ◌⊎◌}
-use Rattle.xs_positions.specs.Words.{Allows}
+use Rattle.xs_positions.specs.PositionWords.{Allows}
 use Rattle.particle_models.specs.Particles.{Particle, Particles, term, sequence, choice, all_of, occurs, none, member, Path, Place, Mark}
 
 module _ {Name : Type 0} where

@@ -5,11 +5,11 @@ use Rattle.std.proofs.lemmas.Bool.{and_parts, and_from, cases_eq, cases_lt}
 use Rattle.std.proofs.lemmas.List.{get_or_append_left, get_or_push}
 use Rattle.std.proofs.lemmas.List.Elements.{All-get_or}
 use Rattle.xs_components.specs.declared.common.TypeId.{TypeId}
-use Rattle.pointless_groups.specs.Trees.{Tree, Trees, leaf, group, once}
-use Rattle.pointless_groups.specs.Parts.{tree_at, tree_in, tree_of, members_at, trees_from, MembersBelow}
-use Rattle.pointless_groups.specs.declared.part.Bounds.{Bounds}
-use Rattle.pointless_groups.specs.declared.part.Compositor.{Compositor}
-use Rattle.pointless_groups.specs.declared.part.Part.{Part}
+use Rattle.particle_models.specs.Trees.{Tree, Trees, leaf, group, once}
+use Rattle.particle_models.specs.Parts.{tree_at, tree_in, tree_of, members_at, trees_from, MembersBelow}
+use Rattle.particle_models.specs.declared.part.Bounds.{Bounds}
+use Rattle.particle_models.specs.declared.part.Compositor.{Compositor}
+use Rattle.particle_models.specs.declared.part.Part.{Part}
 use Rattle.particle_restrict.specs.Totals.{total, emptiable_members}
 use Rattle.particle_restrict.specs.Occurrence.{IsRangeOk, any_number}
 use Rattle.particle_restrict.specs.Terms.{IsElement, IsWildcard}
@@ -19,7 +19,7 @@ use Rattle.particle_restrict.specs.Tables.{AreOrdered, no_cell, IsCell, AreCells
 use Rattle.particle_restrict.specs.declared.cells.Cell.{Cell}
 use Rattle.particle_restrict.specs.declared.terms.Term.{Term}
 use Rattle.particle_restrict.specs.declared.terms.Term.TheVariants.{Element, Any}
-use Rattle.pointless_groups.proofs.Growing.{tree_is}
+use Rattle.particle_models.proofs.GroupGrowing.{tree_is}
 use Rattle.particle_restrict.proofs.MemberLaws.{count-members, length-emptiable, nth-members, leaf-nth, nth-restricts, all-restrict}
 use Rattle.particle_restrict.proofs.GroupLaws.{group-to}
 

@@ -1,9 +1,9 @@
 -- What is known of the members by another relation that says the same.
 use Rattle.std.proofs.Common.{◌≡◌, ℕ, ◌<◌, ◌↔◌, Bool, List, length, get_or, arith}
-use Rattle.order_maps.specs.Maps.{IsMapping, HasMap, HasLaxMap, HasFirstMap, IsFirst, EachRestrictsSome}
-use Rattle.pointless_groups.specs.declared.part.Bounds.{Bounds}
-use Rattle.pointless_groups.specs.declared.part.Compositor.{Compositor}
-use Rattle.pointless_groups.specs.declared.part.Compositor.TheVariants.{Sequence, Choice, All}
+use Rattle.particle_restrict.specs.Maps.{IsMapping, HasMap, HasLaxMap, HasFirstMap, IsFirst, EachRestrictsSome}
+use Rattle.particle_models.specs.declared.part.Bounds.{Bounds}
+use Rattle.particle_models.specs.declared.part.Compositor.{Compositor}
+use Rattle.particle_models.specs.declared.part.Compositor.TheVariants.{Sequence, Choice, All}
 use Rattle.particle_restrict.specs.Groups.{IsRecurse, IsRecurseLax, IsRecurseUnordered, IsMapAndSum, GroupRestricts}
 
 module _ (R S : ℕ → ℕ → Type 0) (bounds base : Bounds) (members : ℕ) (emptiable : List Bool) (to : (i j : ℕ) → i < members → j < length emptiable → R i j → S i j) (back : (i j : ℕ) → i < members → j < length emptiable → S i j → R i j) where

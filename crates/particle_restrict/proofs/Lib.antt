@@ -1,3 +1,6 @@
+pub mod Rising
+pub mod Mapping
+pub mod Firsts
 pub mod TotalLaws
 pub mod MemberLaws
 pub mod GroupLaws

@@ -4,12 +4,12 @@ use Rattle.std.proofs.lemmas.List.{map-append, take_more, length-map}
 use Rattle.particle_forms.specs.Ranges.{stopped}
 use Rattle.particle_forms.specs.Steps.{known}
 use Rattle.particle_forms.specs.declared.extent.TotalRange.{TotalRange}
-use Rattle.pointless_groups.specs.Trees.{Tree, Trees, leaf, group, none, member}
-use Rattle.pointless_groups.specs.Parts.{tree_at, members_at, tree_of, trees_from}
-use Rattle.pointless_groups.specs.declared.part.Bounds.{Bounds}
-use Rattle.pointless_groups.specs.declared.part.Part.{Part}
-use Rattle.pointless_groups.specs.declared.part.Part.TheVariants.{Leaf, Group}
-use Rattle.pointless_groups.proofs.Growing.{trees_push, length-trees}
+use Rattle.particle_models.specs.Trees.{Tree, Trees, leaf, group, none, member}
+use Rattle.particle_models.specs.Parts.{tree_at, members_at, tree_of, trees_from}
+use Rattle.particle_models.specs.declared.part.Bounds.{Bounds}
+use Rattle.particle_models.specs.declared.part.Part.{Part}
+use Rattle.particle_models.specs.declared.part.Part.TheVariants.{Leaf, Group}
+use Rattle.particle_models.proofs.GroupGrowing.{trees_push, length-trees}
 use Rattle.particle_restrict.specs.Totals.{taken, range_of, total, totals, is_emptiable, emptiable_members}
 use Rattle.particle_restrict.specs.Tables.{part_total}
 

@@ -2,9 +2,9 @@
 use Rattle.std.specs.Prelude.{◌≡◌, List, ⊤, Option, None, Some, slice_get}
 use Rattle.xs_codes.specs.declared.code.Code.{Code}
 use Rattle.xs_codes.specs.declared.code.Code.TheVariants.{CosParticleRestrict2, RcaseNameAndTypeOk, RcaseNsCompat, RcaseRecurseAsIfGroup, RcaseNsSubset, RcaseNsRecurseCheckCardinality, RcaseRecurse, RcaseRecurseUnordered, RcaseRecurseLax, RcaseMapAndSum}
-use Rattle.pointless_groups.specs.Trees.{Tree, leaf, group}
-use Rattle.pointless_groups.specs.declared.part.Compositor.{Compositor}
-use Rattle.pointless_groups.specs.declared.part.Compositor.TheVariants.{Sequence, Choice, All}
+use Rattle.particle_models.specs.Trees.{Tree, leaf, group}
+use Rattle.particle_models.specs.declared.part.Compositor.{Compositor}
+use Rattle.particle_models.specs.declared.part.Compositor.TheVariants.{Sequence, Choice, All}
 use Rattle.particle_restrict.specs.declared.cases.Case.{Case}
 use Rattle.particle_restrict.specs.declared.cases.Case.TheVariants.{Forbidden, NameAndTypeOk, NsCompat, RecurseAsIfGroup, NsSubset, NsRecurseCheckCardinality, Recurse, RecurseUnordered, RecurseLax, MapAndSum}
 use Rattle.particle_restrict.specs.declared.restriction.RestrictFault.{RestrictFault}

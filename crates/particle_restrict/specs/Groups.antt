@@ -1,9 +1,9 @@
 -- When a group restricts a group, where it is known which member restricts which (Structures 3.9.6).
 use Rattle.std.specs.Prelude.{ℕ, ◌*◌, Bool, List, length}
-use Rattle.order_maps.specs.Maps.{HasMap, HasLaxMap, HasFirstMap, EachRestrictsSome}
-use Rattle.pointless_groups.specs.declared.part.Bounds.{Bounds}
-use Rattle.pointless_groups.specs.declared.part.Compositor.{Compositor}
-use Rattle.pointless_groups.specs.declared.part.Compositor.TheVariants.{Sequence, Choice, All}
+use Rattle.particle_restrict.specs.Maps.{HasMap, HasLaxMap, HasFirstMap, EachRestrictsSome}
+use Rattle.particle_models.specs.declared.part.Bounds.{Bounds}
+use Rattle.particle_models.specs.declared.part.Compositor.{Compositor}
+use Rattle.particle_models.specs.declared.part.Compositor.TheVariants.{Sequence, Choice, All}
 use Rattle.particle_restrict.specs.Occurrence.{IsRangeOk, most_by}
 
 -- `Restricts i j`: member i of the group restricts member j of the base, of whose members these are emptiable

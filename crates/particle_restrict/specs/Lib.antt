@@ -1,3 +1,4 @@
+pub mod Maps
 pub mod Totals
 pub mod Occurrence
 pub mod Terms

@@ -1,6 +1,6 @@
 -- Occurrence Range OK (Structures 3.9.6).
 use Rattle.std.specs.Prelude.{ℕ, ◌≤◌, ◌*◌, ⊤, Option, None, Some}
-use Rattle.pointless_groups.specs.declared.part.Bounds.{Bounds}
+use Rattle.particle_models.specs.declared.part.Bounds.{Bounds}
 
 -- the greatest is no greater than the base's, of which there may be none
 abbrev pub NotMore : Option ℕ → Option ℕ → Type 0

@@ -2,8 +2,8 @@
 use Rattle.std.specs.Prelude.{ℕ, zero, suc, Bool, IsTrue, List, ⊤, Option, None, Some, slice_get}
 use Rattle.xs_components.specs.declared.common.TypeId.{TypeId}
 use Rattle.particle_forms.specs.declared.extent.TotalRange.{TotalRange}
-use Rattle.pointless_groups.specs.Trees.{Tree, Trees, leaf, group, none, member, once, no_tree}
-use Rattle.pointless_groups.specs.declared.part.Bounds.{Bounds}
+use Rattle.particle_models.specs.Trees.{Tree, Trees, leaf, group, none, member, once, no_tree}
+use Rattle.particle_models.specs.declared.part.Bounds.{Bounds}
 use Rattle.particle_restrict.specs.Totals.{total, emptiable_members, is_emptiable}
 use Rattle.particle_restrict.specs.Occurrence.{IsRangeOk, any_number}
 use Rattle.particle_restrict.specs.Terms.{IsElement, TermsRestrict}

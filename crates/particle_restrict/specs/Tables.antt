@@ -4,10 +4,10 @@ use Rattle.xs_components.specs.declared.common.TypeId.{TypeId}
 use Rattle.particle_forms.specs.Ranges as ranges
 use Rattle.particle_forms.specs.Steps.{known}
 use Rattle.particle_forms.specs.declared.extent.TotalRange.{TotalRange}
-use Rattle.pointless_groups.specs.Trees.{Tree, leaf, group}
-use Rattle.pointless_groups.specs.Parts.{trees_from, tree_in, MembersBelow}
-use Rattle.pointless_groups.specs.declared.part.Part.{Part}
-use Rattle.pointless_groups.specs.declared.part.Part.TheVariants.{Leaf, Group}
+use Rattle.particle_models.specs.Trees.{Tree, leaf, group}
+use Rattle.particle_models.specs.Parts.{trees_from, tree_in, MembersBelow}
+use Rattle.particle_models.specs.declared.part.Part.{Part}
+use Rattle.particle_models.specs.declared.part.Part.TheVariants.{Leaf, Group}
 use Rattle.particle_restrict.specs.Totals.{taken, range_of, total}
 use Rattle.particle_restrict.specs.Occurrence.{any_number}
 use Rattle.particle_restrict.specs.Restricts.{Restricts}

@@ -1,12 +1,12 @@
 -- When an element or a wildcard restricts one (Structures 3.9.6, Particle Valid (Restriction)).
 use Rattle.std.specs.Prelude.{◌≡◌, ℕ, ◌==◌, Bool, true, IsTrue, ⊤, ◌⊎◌, List, Option, None, Some, IfSome}
 use Rattle.std.specs.List.{list_all, list_any}
-use Rattle.xs_namespaces.specs.Sets.{admits, IsSubset}
+use Rattle.xs_components.specs.Sets.{admits, IsSubset}
 use Rattle.xs_components.specs.declared.common.TypeId.{TypeId}
 use Rattle.xs_components.specs.declared.common.Methods.{Methods}
 use Rattle.xs_components.specs.declared.common.Process.{Process}
 use Rattle.xs_components.specs.declared.common.Process.TheVariants.{Strict, Lax, Skip}
-use Rattle.pointless_groups.specs.declared.part.Bounds.{Bounds}
+use Rattle.particle_models.specs.declared.part.Bounds.{Bounds}
 use Rattle.particle_restrict.specs.Occurrence.{IsRangeOk}
 use Rattle.particle_restrict.specs.declared.terms.Declaration.{Declaration}
 use Rattle.particle_restrict.specs.declared.terms.Space.{Space}

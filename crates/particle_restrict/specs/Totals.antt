@@ -2,10 +2,10 @@
 use Rattle.std.specs.Prelude.{ℕ, ◌==◌, ◌||◌, Bool, List, [], ◌∷◌}
 use Rattle.particle_forms.specs.Ranges as ranges
 use Rattle.particle_forms.specs.declared.extent.TotalRange.{TotalRange}
-use Rattle.pointless_groups.specs.Trees.{Tree, Trees, leaf, group, none, member}
-use Rattle.pointless_groups.specs.declared.part.Bounds.{Bounds}
-use Rattle.pointless_groups.specs.declared.part.Compositor.{Compositor}
-use Rattle.pointless_groups.specs.declared.part.Compositor.TheVariants.{Sequence, Choice, All}
+use Rattle.particle_models.specs.Trees.{Tree, Trees, leaf, group, none, member}
+use Rattle.particle_models.specs.declared.part.Bounds.{Bounds}
+use Rattle.particle_models.specs.declared.part.Compositor.{Compositor}
+use Rattle.particle_models.specs.declared.part.Compositor.TheVariants.{Sequence, Choice, All}
 
 -- the range of a group's members, taken once
 abbrev pub range_of : Compositor → List TotalRange → TotalRange

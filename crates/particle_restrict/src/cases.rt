@@ -1,13 +1,13 @@
 //! The cases of one particle over another.
 
 ghost use Rattle.std.specs.Prelude.{◌≡◌, List, slice_get};
-ghost use Rattle.pointless_groups.specs.Trees.{Tree};
-ghost use Rattle.pointless_groups.specs.Parts.{IsForm, form_in, tree_of};
+ghost use Rattle.particle_models.specs.Trees.{Tree};
+ghost use Rattle.particle_models.specs.Parts.{IsForm, form_in, tree_of};
 ghost use Rattle.particle_restrict.specs.Codes as codes;
 ghost use Rattle.particle_restrict.specs.Codes.{case_of, form_case};
 
 use crate::terms::Term;
-use pointless_groups::{Compositor, Form, Part};
+use particle_models::{Compositor, Form, Part};
 use xs_codes::Code;
 
 /// The cases of Particle Valid (Restriction) (Structures 3.9.6).

@@ -1,20 +1,20 @@
 //! Tables of pairs of particles, each filled once from the pairs of their members.
 
 ghost use Rattle.std.specs.Prelude.{◌≡◌, ◌↔◌, ◌<◌, ◌+◌, ◌*◌, ◌^◌, ◌&&◌, List, [], map, length, All, IsTrue, IfOk, OnOk, slice_index, slice_index_or};
-ghost use Rattle.pointless_groups.specs.Trees.{Tree, leaf, group};
-ghost use Rattle.pointless_groups.specs.Parts.{trees_from, tree_in, members_at};
+ghost use Rattle.particle_models.specs.Trees.{Tree, leaf, group};
+ghost use Rattle.particle_models.specs.Parts.{trees_from, tree_in, members_at};
 ghost use Rattle.particle_restrict.specs.Totals as totals;
 ghost use Rattle.particle_restrict.specs.Totals.{emptiable_members};
 ghost use Rattle.particle_restrict.specs.Occurrence.{any_number};
 ghost use Rattle.particle_restrict.specs.Restricts.{Restricts};
 ghost use Rattle.particle_restrict.specs.Tables.{HasType, IsCell, AreCells, HaveCells, IsSides, no_cell};
 
+use crate::Pairs;
 use crate::groups::group_restricts;
 use crate::leaves::{is_element, is_wildcard, terms_restrict, total_ok};
 use crate::terms::{Derivation, Term};
 use crate::totals::{Total, total_at};
-use order_maps::Pairs;
-use pointless_groups::{Bounds, Compositor, Part};
+use particle_models::{Bounds, Compositor, Part};
 use std::alloc::{AllocError, Global};
 
 /// Whether a particle restricts another, and whether it restricts that other where it is an element or a wildcard that may come

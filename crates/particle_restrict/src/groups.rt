@@ -4,8 +4,8 @@ ghost use Rattle.std.specs.Prelude.{◌≡◌, ◌↔◌, IsTrue, IfOk, length};
 ghost use Rattle.particle_restrict.specs.Groups.{IsRecurse, IsRecurseLax, IsRecurseUnordered, IsMapAndSum, GroupRestricts};
 
 use crate::leaves::{range_ok, sum_ok};
-use order_maps::{Pairs, each_restricts_some, has_first_map, has_lax_map, has_map};
-use pointless_groups::{Bounds, Compositor};
+use crate::{Pairs, each_restricts_some, has_first_map, has_lax_map, has_map};
+use particle_models::{Bounds, Compositor};
 use std::alloc::{AllocError, Global};
 
 /// Whether a group restricts another. `emptiable` says which members of the other are emptiable.

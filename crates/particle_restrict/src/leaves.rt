@@ -9,7 +9,7 @@ ghost use Rattle.particle_restrict.specs.Tables.{HasType};
 
 use crate::terms::{Declaration, Derivation, Space, Term};
 use crate::totals::Total;
-use pointless_groups::Bounds;
+use particle_models::Bounds;
 use xs_components::{ConstraintId, Methods, Process};
 use xs_names::NameId;
 

@@ -1,7 +1,7 @@
 //! Whether a particle restricts another.
 
 ghost use Rattle.std.specs.Prelude.{◌↔◌, All, IfOk, IfErr, IsTrue};
-ghost use Rattle.pointless_groups.specs.Parts.{IsForm, form_in};
+ghost use Rattle.particle_models.specs.Parts.{IsForm, form_in};
 ghost use Rattle.particle_restrict.specs.Restricts.{FormRestricts};
 ghost use Rattle.particle_restrict.specs.Codes.{code_of, form_case, IsFault};
 ghost use Rattle.particle_restrict.specs.Tables.{HasType};
@@ -10,7 +10,7 @@ use crate::cases::case_of_forms;
 use crate::cells::{Sides, cell_at, cells_of};
 use crate::terms::{Derivation, Term};
 use crate::totals::{total_at, totals_of};
-use pointless_groups::Form;
+use particle_models::Form;
 use std::alloc::{AllocError, Global};
 use xs_codes::Code;
 

@@ -3,11 +3,11 @@
 ghost use Rattle.std.specs.Prelude.{◌≡◌, ◌<◌, ◌==◌, [], map, length, All, IfOk};
 ghost use Rattle.particle_forms.specs.Ranges as ranges;
 ghost use Rattle.particle_forms.specs.Steps.{known};
-ghost use Rattle.pointless_groups.specs.Parts.{trees_from, MembersBelow, IsForm};
+ghost use Rattle.particle_models.specs.Parts.{trees_from, MembersBelow, IsForm};
 ghost use Rattle.particle_restrict.specs.Totals as totals;
 ghost use Rattle.particle_restrict.specs.Tables.{AreOrdered, part_total};
 
-use pointless_groups::{Bounds, Compositor, Part};
+use particle_models::{Bounds, Compositor, Part};
 use std::alloc::{AllocError, Global};
 use std::marker::Model;
 

@@ -1,9 +1,9 @@
 -- What the machine holds behind each part of an expression.
 use Rattle.std.proofs.Common.{◌≡◌, ℕ, Bool, true, false, List, [], ◌∷◌, ◌++◌, Option, Some, None, refl, ap, sym, ◌∙◌, append_assoc}
 use Rattle.std.proofs.lemmas.List.{append-nil}
-use Rattle.pattern_terms.specs.declared.class.ClassItem.TheVariants.{One}
-use Rattle.pattern_terms.specs.Classes.{Group}
-use Rattle.pattern_terms.specs.Regex.{Regex, repeated, sequence_of, choice_of}
+use Rattle.pattern_syntax.specs.declared.class.ClassItem.TheVariants.{One}
+use Rattle.pattern_syntax.specs.Classes.{Group}
+use Rattle.pattern_syntax.specs.Regex.{Regex, repeated, sequence_of, choice_of}
 use Rattle.pattern_syntax.specs.declared.fault.Notes.{Notes}
 use Rattle.pattern_syntax.specs.Built.{Frame, Built, with_piece, with_bounds, opened, barred, closed, closed_into, all_branches}
 use Rattle.pattern_syntax.specs.Classed.{Classed, no_group, with_item, with_negation, with_group, whole_class}

@@ -3,7 +3,7 @@ use Rattle.std.proofs.Common.{◌≡◌, ℕ, zero, suc, Bool, true, false, if�
 use Rattle.std.proofs.lemmas.Bool.Decides.{nat_tests}
 use Rattle.std.proofs.lemmas.List.{reverse-append}
 use Rattle.std.specs.List.{list_all}
-use Rattle.pattern_terms.specs.Regex.{Regex, repeated, sequence_of, choice_of, regex_at}
+use Rattle.pattern_syntax.specs.Regex.{Regex, repeated, sequence_of, choice_of, regex_at}
 use Rattle.pattern_syntax.specs.declared.building.OpenGroup.{OpenGroup}
 use Rattle.pattern_syntax.specs.Built.{Built, with_piece, with_bounds, barred, closed, closed_into, all_branches, change_last}
 use Rattle.pattern_syntax.specs.Views.{knows, knows_group, frame_of, built_over}

@@ -1,3 +1,6 @@
+pub mod ClassLaws
+pub mod TreeLaws
+pub mod TermLaws
 pub mod Choosing
 pub mod Comparing
 pub mod Effects

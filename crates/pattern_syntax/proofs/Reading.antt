@@ -2,11 +2,11 @@
 use Rattle.std.proofs.Common.{◌≡◌, ℕ, suc, ◌+◌, ◌≤◌, ◌<◌, Bool, true, false, not, List, [], ◌∷◌, ◌++◌, length, get_or, take, drop, Option, Some, None, Result, Ok, Err, refl, ap, sym, ◌∙◌, subst, arith}
 use Rattle.std.proofs.lemmas.List.{append-nil, take-take, take-append-drop, take_more}
 use Rattle.std.specs.List.{list_any}
-use Rattle.pattern_terms.specs.Regex.{Regex, choice_of}
+use Rattle.pattern_syntax.specs.Regex.{Regex, choice_of}
 use Rattle.pattern_syntax.specs.declared.fault.PatternFault.{PatternFault}
 use Rattle.pattern_syntax.specs.declared.fault.PatternFault.TheVariants.{Syntax, UnsupportedBlock, UnknownClass, TooLarge}
 use Rattle.pattern_syntax.specs.Built.{no_frame, all_branches}
-use Rattle.pattern_terms.specs.declared.set.CharSet.{CharSet}
+use Rattle.pattern_syntax.specs.declared.set.CharSet.{CharSet}
 use Rattle.pattern_syntax.specs.Names.{set_named, begins_is}
 use Rattle.pattern_syntax.specs.Notes.{is_large, name_fault, fault_of, first_of}
 use Rattle.pattern_syntax.specs.Grammar.{RegExp, regexp_text, regexp_names, regexp_numbers, meaning, is_given}

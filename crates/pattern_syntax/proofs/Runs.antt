@@ -3,9 +3,9 @@ use Rattle.std.proofs.Common.{◌≡◌, ℕ, Bool, true, false, ◌==◌, if◌
 use Rattle.std.specs.List.{list_all}
 use Rattle.std.proofs.lemmas.List.{append-nil}
 use Rattle.std.specs.Option.{unwrap_or}
-use Rattle.pattern_terms.specs.declared.class.ClassItem.{ClassItem}
-use Rattle.pattern_terms.specs.declared.class.ClassItem.TheVariants.{In}
-use Rattle.pattern_terms.specs.declared.set.CharSet.TheVariants.{NotLineEnd}
+use Rattle.pattern_syntax.specs.declared.class.ClassItem.{ClassItem}
+use Rattle.pattern_syntax.specs.declared.class.ClassItem.TheVariants.{In}
+use Rattle.pattern_syntax.specs.declared.set.CharSet.TheVariants.{NotLineEnd}
 use Rattle.pattern_syntax.specs.declared.fault.Notes.{Notes}
 use Rattle.pattern_syntax.specs.Built.{Built}
 use Rattle.pattern_syntax.specs.Notes.{with_name}

@@ -1,8 +1,8 @@
 -- The machine reads each class expression of the grammar.
 use Rattle.std.proofs.Common.{◌≡◌, ℕ, zero, suc, Bool, true, false, not, ◌&&◌, ◌||◌, ◌==◌, nat_le, List, [], ◌∷◌, ◌++◌, length, drop, Option, Some, None, refl, ap, ◌∙◌, subst, append_assoc, arith}
 use Rattle.std.specs.List.{list_all}
-use Rattle.pattern_terms.specs.declared.class.ClassItem.TheVariants.{One, Range}
-use Rattle.pattern_terms.specs.Classes.{Group}
+use Rattle.pattern_syntax.specs.declared.class.ClassItem.TheVariants.{One, Range}
+use Rattle.pattern_syntax.specs.Classes.{Group}
 use Rattle.pattern_syntax.specs.declared.fault.Notes.{Notes}
 use Rattle.pattern_syntax.specs.Built.{Built}
 use Rattle.pattern_syntax.specs.Classed.{Classed, no_group, with_item, with_range, with_group}

@@ -2,9 +2,9 @@
 use Rattle.std.proofs.Common.{◌≡◌, ℕ, Bool, true, false, ◌&&◌, nat_le, List, [], ◌∷◌, ◌++◌, drop, Some, None, refl, ap, sym, ◌∙◌, append_assoc}
 use Rattle.std.specs.List.{list_all}
 use Rattle.std.proofs.lemmas.List.{append-nil}
-use Rattle.pattern_terms.specs.declared.class.ClassItem.TheVariants.{One, In}
-use Rattle.pattern_terms.specs.declared.set.CharSet.TheVariants.{NotLineEnd}
-use Rattle.pattern_terms.specs.Regex.{character, choice_of}
+use Rattle.pattern_syntax.specs.declared.class.ClassItem.TheVariants.{One, In}
+use Rattle.pattern_syntax.specs.declared.set.CharSet.TheVariants.{NotLineEnd}
+use Rattle.pattern_syntax.specs.Regex.{character, choice_of}
 use Rattle.pattern_syntax.specs.declared.fault.Notes.{Notes}
 use Rattle.pattern_syntax.specs.Built.{Built, with_piece, opened, barred, closed}
 use Rattle.pattern_syntax.specs.Classed.{no_class}

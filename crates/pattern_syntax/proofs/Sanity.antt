@@ -1,7 +1,7 @@
 -- A state behind a step is sane.
 use Rattle.std.proofs.Common.{◌≡◌, ℕ, zero, suc, ◌-◌, Bool, true, false, ◌==◌, nat_le, if◌then◌else◌, List, [], ◌∷◌, length, Option, Some, None, refl}
-use Rattle.pattern_terms.specs.declared.class.ClassItem.{ClassItem}
-use Rattle.pattern_terms.specs.declared.class.ClassItem.TheVariants.{One}
+use Rattle.pattern_syntax.specs.declared.class.ClassItem.{ClassItem}
+use Rattle.pattern_syntax.specs.declared.class.ClassItem.TheVariants.{One}
 use Rattle.pattern_syntax.specs.Built.{Built, closed}
 use Rattle.pattern_syntax.specs.Classed.{Classed, with_item}
 use Rattle.pattern_syntax.specs.Notes.{with_name}

@@ -1,10 +1,10 @@
 -- What the machine reads to an end is as the grammar says: one character more in front.
 use Rattle.std.proofs.Common.{◌≡◌, ℕ, zero, suc, ◌-◌, Bool, true, false, not, ◌&&◌, ◌||◌, ◌==◌, nat_le, if◌then◌else◌, List, [], ◌∷◌, ◌++◌, length, Option, Some, None, ◌⊎◌, inl, inr, refl, ap, sym, ◌∙◌, subst, append_assoc, arith}
 use Rattle.std.specs.List.{list_all}
-use Rattle.pattern_terms.specs.declared.class.ClassItem.{ClassItem}
+use Rattle.pattern_syntax.specs.declared.class.ClassItem.{ClassItem}
 use Rattle.pattern_syntax.specs.declared.fault.Notes.{Notes}
 use Rattle.pattern_syntax.specs.Built.{Frame, Built, closed, closed_into}
-use Rattle.pattern_terms.specs.Classes.{Group}
+use Rattle.pattern_syntax.specs.Classes.{Group}
 use Rattle.pattern_syntax.specs.Classed.{Classed}
 use Rattle.pattern_syntax.specs.Characters.{is_normal, is_plain, is_single, single_value, several_item, is_ascii_digit, is_word}
 use Rattle.pattern_syntax.specs.Grammar.{RegExp, alone, joined, Branch, no_piece, piece, Atom, normal, wildcard, single, special, bracketed, group, Quantifier, once, optional, any_number, at_least_once, exactly, at_least, between, only, less, Members, Part, one, range, set, Letter, plain, escaped, Escape, several, property, regexp_text, branch_text, atom_text, quantifier_text, bracketed_text, body_text, part_text, parts_text, letter_text, escape_text, sign, is_regexp, is_branch, is_atom, is_quantifier, is_bracketed, is_members, is_part, is_letter, is_escape, letter_value, are_digits, is_given, is_some, begins, number}

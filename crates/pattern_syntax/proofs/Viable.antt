@@ -1,9 +1,9 @@
 -- From where the machine stands some text leads to an end.
 use Rattle.std.proofs.Common.{◌≡◌, ℕ, zero, suc, ◌+◌, ◌-◌, ◌*◌, ◌≤◌, Bool, true, false, nat_le, List, [], ◌∷◌, ◌++◌, length, Option, Some, None, refl, ◌∙◌, arith}
 use Rattle.std.specs.List.{list_all}
-use Rattle.pattern_terms.specs.declared.class.ClassItem.{ClassItem}
-use Rattle.pattern_terms.specs.declared.class.ClassItem.TheVariants.{One}
-use Rattle.pattern_terms.specs.Regex.{character, choice_of}
+use Rattle.pattern_syntax.specs.declared.class.ClassItem.{ClassItem}
+use Rattle.pattern_syntax.specs.declared.class.ClassItem.TheVariants.{One}
+use Rattle.pattern_syntax.specs.Regex.{character, choice_of}
 use Rattle.pattern_syntax.specs.declared.fault.Notes.{Notes}
 use Rattle.pattern_syntax.specs.Built.{Frame, Built, with_piece, with_bounds, all_branches}
 use Rattle.pattern_syntax.specs.Classed.{Classed, with_item, with_range, with_group, whole_class}

@@ -1,6 +1,6 @@
 -- The expressions of a text that is being read.
 use Rattle.std.specs.Prelude.{ℕ, List, [], ◌∷◌, ◌++◌, Option, Some, None}
-use Rattle.pattern_terms.specs.Regex.{Regex, repeated, sequence_of, choice_of}
+use Rattle.pattern_syntax.specs.Regex.{Regex, repeated, sequence_of, choice_of}
 
 -- a group that is open: its branches that are done, and the pieces of the one in hand
 pub record Frame : Type 0 where

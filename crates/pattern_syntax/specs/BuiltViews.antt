@@ -1,5 +1,5 @@
 -- What the open groups of the program stand for.
-use Rattle.pattern_terms.specs.Terms.{regexes_of}
+use Rattle.pattern_syntax.specs.Terms.{regexes_of}
 use Rattle.pattern_syntax.specs.declared.building.Building.{Building}
 use Rattle.pattern_syntax.specs.Built.{Built}
 use Rattle.pattern_syntax.specs.Views.{built_over}

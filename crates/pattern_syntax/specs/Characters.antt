@@ -2,9 +2,9 @@
 use Rattle.std.specs.Prelude.{◌≡◌, ℕ, Bool, true, false, not, ◌&&◌, ◌||◌, ◌==◌, nat_le, if◌then◌else◌, List, [], ◌∷◌, Option, Some, None, refl}
 use Rattle.std.specs.Char.{is_ascii_digit}
 pub use Rattle.std.specs.Char.{is_ascii_digit}
-use Rattle.pattern_terms.specs.declared.set.CharSet.TheVariants.{Space, NameStart, NameChar, Digit, Word}
-use Rattle.pattern_terms.specs.declared.class.ClassItem.{ClassItem}
-use Rattle.pattern_terms.specs.declared.class.ClassItem.TheVariants.{In, NotIn}
+use Rattle.pattern_syntax.specs.declared.set.CharSet.TheVariants.{Space, NameStart, NameChar, Digit, Word}
+use Rattle.pattern_syntax.specs.declared.class.ClassItem.{ClassItem}
+use Rattle.pattern_syntax.specs.declared.class.ClassItem.TheVariants.{In, NotIn}
 
 -- the list has the character
 abbrev pub is_among : List ℕ → ℕ → Bool

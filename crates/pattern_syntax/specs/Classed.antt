@@ -1,8 +1,8 @@
 -- The class that is being read.
 use Rattle.std.specs.Prelude.{ℕ, true, false, List, [], ◌∷◌, ◌++◌}
-use Rattle.pattern_terms.specs.declared.class.ClassItem.{ClassItem}
-use Rattle.pattern_terms.specs.declared.class.ClassItem.TheVariants.{Range}
-use Rattle.pattern_terms.specs.Classes.{Group, Class}
+use Rattle.pattern_syntax.specs.declared.class.ClassItem.{ClassItem}
+use Rattle.pattern_syntax.specs.declared.class.ClassItem.TheVariants.{Range}
+use Rattle.pattern_syntax.specs.Classes.{Group, Class}
 use Rattle.pattern_syntax.specs.Built.{change_last}
 
 -- the class in hand: its groups that are done, and the one in hand

@@ -3,11 +3,11 @@ use Rattle.std.specs.Prelude.{ℕ, min, Bool, true, false, not, ◌&&◌, ◌||�
 use Rattle.std.specs.List.{list_all}
 use Rattle.std.specs.Option.{unwrap_or}
 use Rattle.std.specs.Str.Parse.{digits_value}
-use Rattle.pattern_terms.specs.declared.class.ClassItem.{ClassItem}
-use Rattle.pattern_terms.specs.declared.class.ClassItem.TheVariants.{One, Range, In, NotIn}
-use Rattle.pattern_terms.specs.declared.set.CharSet.TheVariants.{NotLineEnd}
-use Rattle.pattern_terms.specs.Classes.{Group, Class}
-use Rattle.pattern_terms.specs.Regex.{Regex, character, repeated, sequence_of, choice_of}
+use Rattle.pattern_syntax.specs.declared.class.ClassItem.{ClassItem}
+use Rattle.pattern_syntax.specs.declared.class.ClassItem.TheVariants.{One, Range, In, NotIn}
+use Rattle.pattern_syntax.specs.declared.set.CharSet.TheVariants.{NotLineEnd}
+use Rattle.pattern_syntax.specs.Classes.{Group, Class}
+use Rattle.pattern_syntax.specs.Regex.{Regex, character, repeated, sequence_of, choice_of}
 use Rattle.pattern_syntax.specs.Characters.{is_normal, is_plain, is_single, single_value, several_item, is_ascii_digit, is_word}
 use Rattle.pattern_syntax.specs.Names.{set_named}
 

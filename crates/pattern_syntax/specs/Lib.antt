@@ -1,3 +1,8 @@
+pub mod Sets
+pub mod Classes
+pub mod Regex
+pub mod Trees
+pub mod Terms
 pub mod Built
 pub mod BuiltViews
 pub mod Characters
@@ -13,7 +18,3 @@ pub mod ReaderViews
 pub mod Reading
 pub mod Stages
 pub mod Views
-pub use Rattle.pattern_terms.specs.Classes
-pub use Rattle.pattern_terms.specs.Regex
-pub use Rattle.pattern_terms.specs.Terms
-pub use Rattle.pattern_terms.specs.Trees

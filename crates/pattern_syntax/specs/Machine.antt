@@ -1,9 +1,9 @@
 -- What a reader holds behind the characters that it has read, and what each next character makes of it.
 use Rattle.std.specs.Prelude.{ℕ, zero, suc, ◌-◌, Bool, true, false, not, ◌&&◌, ◌==◌, nat_le, if◌then◌else◌, List, [], ◌∷◌, ◌++◌, length, Option, Some, None}
-use Rattle.pattern_terms.specs.declared.class.ClassItem.{ClassItem}
-use Rattle.pattern_terms.specs.declared.class.ClassItem.TheVariants.{One, In}
-use Rattle.pattern_terms.specs.declared.set.CharSet.TheVariants.{NotLineEnd}
-use Rattle.pattern_terms.specs.Regex.{Regex, character}
+use Rattle.pattern_syntax.specs.declared.class.ClassItem.{ClassItem}
+use Rattle.pattern_syntax.specs.declared.class.ClassItem.TheVariants.{One, In}
+use Rattle.pattern_syntax.specs.declared.set.CharSet.TheVariants.{NotLineEnd}
+use Rattle.pattern_syntax.specs.Regex.{Regex, character}
 use Rattle.pattern_syntax.specs.declared.fault.Notes.{Notes}
 use Rattle.pattern_syntax.specs.Built.{Built, no_frame, with_piece, with_bounds, opened, barred, closed}
 use Rattle.pattern_syntax.specs.Classed.{Classed, no_class, with_item, with_range, with_negation, with_group, whole_class}

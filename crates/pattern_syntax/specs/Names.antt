@@ -2,9 +2,9 @@
 use Rattle.std.specs.Prelude.{◌≡◌, ℕ, Bool, false, ◌&&◌, ◌==◌, if◌then◌else◌, List, [], ◌∷◌, Option, Some, None, codes, bytes_eq, refl}
 use Rattle.ucd_category.specs.declared.GeneralCategory.TheVariants as category
 use Rattle.ucd_category.specs.declared.GeneralCategoryGroup.TheVariants as group
-use Rattle.pattern_terms.specs.declared.set.Block.TheVariants.{BasicLatin, LatinOneSupplement, LatinExtendedA, LatinExtendedB}
-use Rattle.pattern_terms.specs.declared.set.CharSet.{CharSet}
-use Rattle.pattern_terms.specs.declared.set.CharSet.TheVariants.{InCategory, InGroup, InBlock}
+use Rattle.pattern_syntax.specs.declared.set.Block.TheVariants.{BasicLatin, LatinOneSupplement, LatinExtendedA, LatinExtendedB}
+use Rattle.pattern_syntax.specs.declared.set.CharSet.{CharSet}
+use Rattle.pattern_syntax.specs.declared.set.CharSet.TheVariants.{InCategory, InGroup, InBlock}
 
 -- a major class: L, M, N, P, Z, S, C
 abbrev pub group_named : ℕ → Option CharSet

@@ -3,7 +3,7 @@ use Rattle.std.specs.Prelude.{ℕ, Bool, ◌||◌, nat_lt, if◌then◌else◌, 
 use Rattle.pattern_syntax.specs.declared.fault.PatternFault.{PatternFault}
 use Rattle.pattern_syntax.specs.declared.fault.PatternFault.TheVariants.{UnsupportedBlock, UnknownClass}
 use Rattle.pattern_syntax.specs.declared.fault.Notes.{Notes}
-use Rattle.pattern_terms.specs.declared.set.CharSet.{CharSet}
+use Rattle.pattern_syntax.specs.declared.set.CharSet.{CharSet}
 use Rattle.pattern_syntax.specs.Names.{set_named, begins_is}
 
 abbrev pub first_of : {A : Type 0} → Option A → Option A → Option A

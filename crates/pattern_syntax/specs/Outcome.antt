@@ -1,7 +1,7 @@
 -- What the program answers.
 use Rattle.std.specs.Prelude.{Result, Ok, Err}
-use Rattle.pattern_terms.specs.Regex.{Regex, regex_at, choice_of}
-use Rattle.pattern_terms.specs.Terms.{regexes_of}
+use Rattle.pattern_syntax.specs.Regex.{Regex, regex_at, choice_of}
+use Rattle.pattern_syntax.specs.Terms.{regexes_of}
 use Rattle.pattern_syntax.specs.declared.building.Term.{Term}
 use Rattle.pattern_syntax.specs.declared.fault.PatternFault.{PatternFault}
 use Rattle.pattern_syntax.specs.Built.{all_branches}

@@ -1,7 +1,7 @@
 -- What a text reads to (Datatypes, appendix F).
 use Rattle.std.specs.Prelude.{◌≡◌, ℕ, ◌≤◌, Bool, if◌then◌else◌, List, [], ◌∷◌, ◌++◌, length, take, Option, Some, None, Result, Ok, Err, IsTrue}
 use Rattle.std.specs.List.{list_any}
-use Rattle.pattern_terms.specs.Regex.{Regex}
+use Rattle.pattern_syntax.specs.Regex.{Regex}
 use Rattle.pattern_syntax.specs.declared.fault.PatternFault.{PatternFault}
 use Rattle.pattern_syntax.specs.declared.fault.PatternFault.TheVariants.{Syntax, UnsupportedBlock, UnknownClass, TooLarge}
 use Rattle.pattern_syntax.specs.Grammar.{RegExp, regexp_text, is_regexp, regexp_names, regexp_numbers, meaning}

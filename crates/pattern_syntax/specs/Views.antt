@@ -1,9 +1,9 @@
 -- What the program's parts stand for.
 use Rattle.std.specs.Prelude.{◌≡◌, ℕ, Bool, true, false, ◌&&◌, nat_lt, List, map, reverse, Some, None}
 use Rattle.std.specs.List.{list_all}
-use Rattle.pattern_terms.specs.Classes.{group_of}
-use Rattle.pattern_terms.specs.Regex.{Regex, regex_at}
-use Rattle.pattern_syntax.specs.declared.class.ClassInHand.{ClassInHand}
+use Rattle.pattern_syntax.specs.Classes.{group_of}
+use Rattle.pattern_syntax.specs.Regex.{Regex, regex_at}
+use Rattle.pattern_syntax.specs.declared.class_syntax.ClassInHand.{ClassInHand}
 use Rattle.pattern_syntax.specs.declared.building.OpenGroup.{OpenGroup}
 use Rattle.pattern_syntax.specs.Classed.{Classed}
 use Rattle.pattern_syntax.specs.Built.{Frame, Built, closed}

@@ -2,16 +2,17 @@
 
 ghost use Rattle.std.specs.Prelude.{◌≡◌, ◌<◌, IfOk, OnOk, length, IsTrue, []};
 ghost use Rattle.std.specs.List.{list_all};
-ghost use Rattle.pattern_terms.specs.Classes.{class_of};
-ghost use Rattle.pattern_terms.specs.Regex.{character, choice_of, regex_at};
-ghost use Rattle.pattern_terms.specs.Terms.{regexes_of};
+ghost use Rattle.pattern_syntax.specs.Classes.{class_of};
+ghost use Rattle.pattern_syntax.specs.Regex.{character, choice_of, regex_at};
+ghost use Rattle.pattern_syntax.specs.Terms.{regexes_of};
 ghost use Rattle.pattern_syntax.specs.Built.{no_frame, with_piece, with_bounds, opened, barred, all_branches};
 ghost use Rattle.pattern_syntax.specs.Grammar.{is_given};
 ghost use Rattle.pattern_syntax.specs.Views.{knows, knows_group, Closes};
 
-use pattern_terms::{CharClass, ExprId, Terms};
+use crate::{CharClass, Terms};
 use std::alloc::{AllocError, Global};
 use std::mem;
+use xs_positions::ExprId;
 
 /// An expression: the one of the root among the terms. Contracts see `regex_of`.
 #[derive(Debug, Drop)]

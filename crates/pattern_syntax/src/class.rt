@@ -1,95 +1,133 @@
-//! The class that is being read.
+//! Classes of characters.
 
-ghost use Rattle.std.specs.Prelude.{◌≡◌, IfOk, OnOk, length};
-ghost use Rattle.pattern_terms.specs.Classes.{class_of, group_of};
-ghost use Rattle.pattern_syntax.specs.Classed.{no_class, no_group, with_item, with_range, with_negation, with_group, whole_class};
-ghost use Rattle.pattern_syntax.specs.Views.{classed_of};
+ghost use Rattle.std.specs.Prelude.{◌≡◌, map, IfOk};
+ghost use Rattle.std.specs.List.{list_any};
+ghost use Rattle.pattern_syntax.specs.Classes.{is_item, in_group, has, group_of, class_of};
 
-use pattern_terms::{CharClass, CharGroup, ClassItem};
+use crate::set::CharSet;
 use std::alloc::{AllocError, Global};
-use std::mem;
 
-/// The groups of a class, each subtracted from the one before it: those that are done, and the one in hand.
+/// An item of a group: a character, a range from one character to another, or a set that an escape names.
+#[derive(Clone, Copy, Debug, PartialEq, Eq)]
+pub enum ClassItem {
+    /// The character itself.
+    One(char),
+    /// The characters from the first to the last.
+    Range(char, char),
+    /// The characters of the set.
+    In(CharSet),
+    /// The characters outside the set.
+    NotIn(CharSet),
+}
+
+/// The characters of the items or, where it is negated, all others (Datatypes, appendix F.1, positive and negative
+/// character groups).
 #[derive(Debug, Drop)]
-pub(crate) struct ClassInHand {
-    alloc: Global,
-    groups: Vec<CharGroup>,
-    hand: CharGroup,
+pub struct CharGroup {
+    /// Whether the group stands for the characters that no item has.
+    pub negated: bool,
+    /// The items.
+    pub items: Vec<ClassItem>,
 }
 
-impl ClassInHand {
-    pub fn new(alloc: Global) -> ClassInHand
-        ensures { classed_of result ≡ no_class }
+/// A class of characters. Contracts see the list of its groups: the characters of the first, less those of the class of
+/// the groups after it.
+#[derive(Debug, Drop)]
+pub enum CharClass {
+    /// The characters of one item.
+    Item(ClassItem),
+    /// The characters of the first group, less those of the class of the groups after it (Datatypes, appendix F.1,
+    /// character class subtraction). Without groups there are none.
+    Groups(Vec<CharGroup>),
+}
+
+impl ClassItem {
+    /// Whether the character is one of the item.
+    pub fn contains(self, c: char) -> bool
+        ensures { result ≡ is_item self c }
     {
-        ClassInHand {
-            alloc,
-            groups: Vec::new(alloc),
-            hand: empty_group(alloc),
+        match self {
+            ClassItem::One(other) => c == other,
+            ClassItem::Range(first, last) => first <= c && c <= last,
+            ClassItem::In(set) => set.contains(c),
+            ClassItem::NotIn(set) => !set.contains(c),
         }
-    }
-
-    pub fn push_item(&mut self, item: ClassItem) -> Result<(), AllocError>
-        ensures { OnOk result (classed_of self.new ≡ with_item (classed_of self.old) item) }
-    {
-        self.hand.items.push(item)?;
-        Ok(())
-    }
-
-    /// The last item is the range instead.
-    #[tactic(auto, using(crate::proofs::Lists::change_last_snoc))]
-    pub fn end_range(&mut self, first: char, last: char) -> Result<(), AllocError>
-        ensures { OnOk result (classed_of self.new ≡ with_range (classed_of self.old) first last) }
-    {
-        match self.hand.items.pop() {
-            None => Ok(()),
-            Some(_) => {
-                self.hand.items.push(ClassItem::Range(first, last))?;
-                Ok(())
-            }
-        }
-    }
-
-    pub fn negate(&mut self)
-        ensures { classed_of self.new ≡ with_negation (classed_of self.old) }
-    {
-        self.hand.negated = true;
-    }
-
-    /// The group in hand is done, and another begins that is subtracted from it.
-    pub fn subtract(&mut self) -> Result<(), AllocError>
-        ensures { OnOk result (classed_of self.new ≡ with_group (classed_of self.old)) }
-    {
-        let group = mem::replace(&mut self.hand, empty_group(self.alloc));
-        self.groups.push(group)?;
-        Ok(())
-    }
-
-    /// How many groups are done.
-    pub fn depth(&self) -> usize
-        ensures { result ≡ length (classed_of self.now).groups }
-    {
-        self.groups.len()
-    }
-
-    /// The class of all groups.
-    pub fn finish(self) -> Result<CharClass, AllocError>
-        ensures { IfOk result (λ class. class_of class ≡ whole_class (classed_of self)) }
-    {
-        let ClassInHand {
-            mut groups,
-            hand,
-            ..
-        } = self;
-        groups.push(hand)?;
-        Ok(CharClass::Groups(groups))
     }
 }
 
-fn empty_group(alloc: Global) -> CharGroup
-    ensures { group_of result ≡ no_group }
+impl CharGroup {
+    /// Whether the character is one of the group.
+    pub fn contains(&self, c: char) -> bool
+        ensures { result ≡ in_group (group_of self.now) c }
+    {
+        some_item(&self.items, c) != self.negated
+    }
+
+    /// A copy with memory of its own.
+    ///
+    /// # Errors
+    /// When memory runs out.
+    pub fn try_clone(&self, alloc: Global) -> Result<CharGroup, AllocError>
+        ensures { IfOk result (λ group. group_of group ≡ group_of self.now) }
+    {
+        Ok(CharGroup {
+            negated: self.negated,
+            items: Vec::from_slice(alloc, &self.items)?,
+        })
+    }
+}
+
+fn some_item(items: &[ClassItem], c: char) -> bool
+    ensures { result ≡ list_any (λ item. is_item item c) items.now }
 {
-    CharGroup {
-        negated: false,
-        items: Vec::new(alloc),
+    items.iter().any(|item| item.contains(c))
+}
+
+impl CharClass {
+    /// Whether the character is one of the class.
+    pub fn contains(&self, c: char) -> bool
+        ensures { result ≡ has (class_of self.now) c }
+    {
+        match self {
+            CharClass::Item(item) => item.contains(c),
+            CharClass::Groups(groups) => groups_contain(groups, c),
+        }
     }
+
+    /// A copy with memory of its own.
+    ///
+    /// # Errors
+    /// When memory runs out.
+    pub fn try_clone(&self, alloc: Global) -> Result<CharClass, AllocError>
+        ensures { IfOk result (λ class. class_of class ≡ class_of self.now) }
+    {
+        match self {
+            CharClass::Item(item) => Ok(CharClass::Item(*item)),
+            CharClass::Groups(groups) => Ok(CharClass::Groups(clone_groups(alloc, groups)?)),
+        }
+    }
+}
+
+/// Whether the first group has the character and the class of those after it lacks it.
+fn groups_contain(groups: &[CharGroup], c: char) -> bool
+    ensures { result ≡ has (map group_of groups.now) c }
+{
+    let mut inside = false;
+    for group in groups {
+        if !group.contains(c) {
+            return inside;
+        }
+        inside = !inside;
+    }
+    inside
+}
+
+fn clone_groups(alloc: Global, groups: &[CharGroup]) -> Result<Vec<CharGroup>, AllocError>
+    ensures { IfOk result (λ copy. map group_of copy.items ≡ map group_of groups.now) }
+{
+    let mut copy = Vec::new(alloc);
+    for group in groups {
+        copy.push(group.try_clone(alloc)?)?;
+    }
+    Ok(copy)
 }

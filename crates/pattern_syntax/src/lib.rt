@@ -1,18 +1,22 @@
-//! Reading the regular expressions of schema types, with exact faults (Datatypes, appendix F).
-//!
-//! [`read_pattern`] answers the terms of a pattern, or why the text is refused.
+//! What a regular expression of schema types is: classes of characters, terms over them, and the texts that match a term
 #![tactic(auto)]
 
 mod building;
 mod class;
+mod class_syntax;
 mod digits;
 mod fault;
 mod mode;
 mod names;
 mod read;
 mod reader;
+mod set;
+mod terms;
 
 pub use building::Term;
+pub use class::{CharClass, CharGroup, ClassItem};
 pub use fault::PatternFault;
-pub use pattern_terms::{ExprId, Terms};
 pub use read::read_pattern;
+pub use set::{Block, CharSet};
+pub use terms::Terms;
+pub use ucd_category::{GeneralCategory, GeneralCategoryGroup};

@@ -4,7 +4,7 @@ ghost use Rattle.std.specs.Prelude.{◌≡◌};
 ghost use Rattle.pattern_syntax.specs.Characters as grammar;
 ghost use Rattle.pattern_syntax.specs.Names as named;
 
-use pattern_terms::{Block, CharSet, ClassItem, GeneralCategory, GeneralCategoryGroup};
+use crate::{Block, CharSet, ClassItem, GeneralCategory, GeneralCategoryGroup};
 
 /// Whether the character stands for itself outside classes.
 pub(crate) fn is_normal(c: char) -> bool

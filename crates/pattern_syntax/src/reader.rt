@@ -12,14 +12,14 @@ ghost use Rattle.pattern_syntax.specs.Views.{classed_of};
 ghost use Rattle.pattern_syntax.specs.Outcome.{answer_at, outcome_of};
 
 use crate::building::{Building, Term};
-use crate::class::ClassInHand;
+use crate::class_syntax::ClassInHand;
 use crate::digits::{bound, is_at_most};
 use crate::fault::{Notes, PatternFault};
 use crate::mode::{Mode, Place};
 use crate::names::{
     is_normal, is_plain, is_single, is_word, set_named, several_item, single_value,
 };
-use pattern_terms::{CharClass, CharSet, ClassItem};
+use crate::{CharClass, CharSet, ClassItem};
 use std::alloc::{AllocError, Global};
 use std::mem;
 

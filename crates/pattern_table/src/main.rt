@@ -2,9 +2,10 @@
 // each what reading the pattern answers, or whether the text matches it.
 #![tactic(auto)]
 
+use pattern_syntax::PatternFault;
 use std::alloc::{AllocError, Global};
 use std::io;
-use xs_regex::{Pattern, PatternFault};
+use xs_regex::Pattern;
 
 fn main(rt: HostRuntime) -> io::Result<()> {
     for line in rt.lines(rt.alloc()) {

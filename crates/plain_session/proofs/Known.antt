@@ -4,16 +4,16 @@ use Rattle.std.specs.Prelude.{All, false}
 use Rattle.tree_rows.specs.Forest.{Document, count}
 use Rattle.tree_rows.specs.Whole.{IsTree}
 use Rattle.tree_rows.specs.declared.limits.TheConstants.{MAX_NODES}
-use Rattle.entry_reports.specs.Asking.{code_total}
-use Rattle.entry_reports.specs.Assessment.{entries}
-use Rattle.entry_reports.specs.Assessor.{RightAssessor}
-use Rattle.entry_reports.specs.Compiled.{Compiled}
-use Rattle.entry_reports.specs.ElementEntry.{ElementEntry}
-use Rattle.entry_reports.specs.Entries.{AreEntries, entry_of}
-use Rattle.entry_reports.specs.Few.{most_codes}
-use Rattle.entry_reports.specs.Reports.{IsEntryNamed, record_lines, report}
-use Rattle.entry_reports.specs.State.{State, known}
-use Rattle.entry_reports.specs.Usable.{set_of}
+use Rattle.session_model.specs.Asking.{code_total}
+use Rattle.assessment.specs.Assessment.{entries}
+use Rattle.session_model.specs.Assessor.{RightAssessor}
+use Rattle.compiled_schema.specs.declared.compiled.Compiled.{Compiled}
+use Rattle.tree_assess.specs.declared.entry.ElementEntry.{ElementEntry}
+use Rattle.tree_assess.specs.Entries.{AreEntries, entry_of}
+use Rattle.session_model.specs.Few.{most_codes}
+use Rattle.session_model.specs.Reports.{IsEntryNamed, record_lines, report}
+use Rattle.session_model.specs.State.{State, known}
+use Rattle.compiled_schema.specs.Usable.{set_of}
 use Rattle.plain_session.specs.Held.{state_of, IsPresent, IsUpToDate}
 use Rattle.plain_session.specs.Stocks.{IsReady}
 use Rattle.plain_session.specs.declared.session.PlainSession.TheInside.{Inside}

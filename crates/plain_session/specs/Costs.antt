@@ -1,7 +1,7 @@
 -- What an edit costs.
 use Rattle.std.specs.Prelude.{ℕ}
 use Rattle.tree_edits.specs.declared.edit.Edit.{Edit}
-use Rattle.entry_reports.specs.State.{State}
+use Rattle.session_model.specs.State.{State}
 
 -- the whole tree is assessed again, and none of that is a step
 abbrev pub edit_cost : State → Edit → ℕ

@@ -1,6 +1,6 @@
 -- A plain session over what it holds.
 use Rattle.std.specs.Prelude.{◌≡◌, false}
-use Rattle.entry_reports.specs.State.{State}
+use Rattle.session_model.specs.State.{State}
 use Rattle.plain_session.specs.Stocks.{IsReady, IsStock}
 use Rattle.plain_session.specs.declared.session.PlainSession.TheInside.{Inside}
 

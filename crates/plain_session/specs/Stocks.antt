@@ -3,11 +3,11 @@ use Rattle.std.specs.Prelude.{◌≡◌, All, map}
 use Rattle.xs_names.specs.Names.{IsSound}
 use Rattle.tree_rows.specs.Forest.{Document}
 use Rattle.tree_rows.specs.Whole.{IsTree}
-use Rattle.entry_reports.specs.Entries.{AreEntries, entry_of}
-use Rattle.entry_reports.specs.Asking.{code_total}
-use Rattle.entry_reports.specs.Compiled.{Compiled}
-use Rattle.entry_reports.specs.Reports.{IsEntryNamed}
-use Rattle.entry_reports.specs.Usable.{IsUsable, set_of}
+use Rattle.tree_assess.specs.Entries.{AreEntries, entry_of}
+use Rattle.session_model.specs.Asking.{code_total}
+use Rattle.compiled_schema.specs.declared.compiled.Compiled.{Compiled}
+use Rattle.session_model.specs.Reports.{IsEntryNamed}
+use Rattle.compiled_schema.specs.Usable.{IsUsable, set_of}
 use Rattle.plain_session.specs.declared.stock.Stock.{Stock}
 
 -- documents may be assessed by the set, and names may be put into its table

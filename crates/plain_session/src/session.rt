@@ -1,18 +1,21 @@
 ghost use Rattle.std.specs.Prelude.{◌≡◌, false, IfOk};
-ghost use Rattle.text_sink.specs.Written.{Written};
+ghost use Rattle.xsv_io.specs.Written.{Written};
 ghost use Rattle.xsv_io.specs.Causes.{HasCause};
-ghost use Rattle.entry_reports.specs.Assessor.{RightAssessor};
-ghost use Rattle.entry_reports.specs.Reports.{report};
-ghost use Rattle.entry_reports.specs.State.{opened};
-ghost use Rattle.entry_reports.specs.Usable.{IsUsable};
+ghost use Rattle.session_model.specs.Assessor.{RightAssessor};
+ghost use Rattle.session_model.specs.Reports.{report};
+ghost use Rattle.session_model.specs.State.{opened};
+ghost use Rattle.compiled_schema.specs.Usable.{IsUsable};
 
 use crate::stock::{Stock, first_stock, take_stock};
-use entry_reports::{
-    Compiled, Records, Session, SessionError, Validity, find_records, root_validity, write_report,
-};
-use plain_tree::{Edit, EditError, NodeKind, Tree};
+use assess_records::Validity;
+use compiled_schema::Compiled;
+use plain_tree::Tree;
+use report_text::Records;
+use session_model::{Session, SessionError, find_records, root_validity, write_report};
 use std::alloc::{AllocError, Global};
 use std::marker::Model;
+use tree_edits::{Edit, EditError};
+use tree_rows::NodeKind;
 use xsv_io::{Failed, Sink};
 use xsv_steps::{Ledger, Steps};
 
@@ -28,8 +31,8 @@ pub struct PlainSession {
 }
 
 impl Model for PlainSession {
-    ghost use Rattle.entry_reports.specs.State.{State};
-    ghost use Rattle.entry_reports.specs.StateCode.{state_code};
+    ghost use Rattle.session_model.specs.State.{State};
+    ghost use Rattle.session_model.specs.StateCode.{state_code};
 
     ghost Value = { State };
 

@@ -14,7 +14,7 @@ use Rattle.tree_rows.specs.declared.row.Row.{Row}
 use Rattle.tree_rows.specs.declared.row.Content.{Content}
 use Rattle.tree_rows.specs.declared.row.Content.TheVariants as contents
 use Rattle.tree_rows.specs.declared.row.NodeKind.TheVariants.{Element}
-use Rattle.tree_edits.specs.Shape.{AreWhole, AreSound, deepest_with, deepest_row}
+use Rattle.tree_building.specs.Shape.{AreWhole, AreSound, deepest_with, deepest_row}
 use Rattle.tree_edits.specs.EditRows.{is_numbered, ends_at}
 use Rattle.tree_edits.specs.Edits.{append, deepest_of, found, replaced}
 use Rattle.tree_edits.proofs.Standing.{element_row, rows-append, IsNode, stands, rows-node}

@@ -8,7 +8,7 @@ use Rattle.tree_rows.specs.declared.name.Expanded.{Expanded}
 use Rattle.tree_rows.specs.declared.row.Attribute.{Attribute}
 use Rattle.tree_rows.specs.declared.row.Binding.{Binding}
 use Rattle.tree_rows.specs.declared.row.Row.{Row}
-use Rattle.tree_edits.specs.Shape.{AreWhole}
+use Rattle.tree_building.specs.Shape.{AreWhole}
 use Rattle.plain_tree.specs.Nodes.{Node, first_of, node_at, number_at}
 use Rattle.plain_tree.specs.Behind.{tail_at, number_in, IsRow, IsNode}
 

@@ -17,7 +17,7 @@ use Rattle.tree_rows.specs.declared.row.Binding.{Binding}
 use Rattle.tree_rows.specs.declared.row.Row.{Row}
 use Rattle.tree_rows.specs.declared.row.Content.TheVariants as contents
 use Rattle.tree_rows.specs.declared.row.NodeKind.TheVariants.{Element}
-use Rattle.tree_edits.specs.Shape.{AreSound}
+use Rattle.tree_building.specs.Shape.{AreSound}
 use Rattle.tree_edits.specs.Edits.{has, Found, found}
 use Rattle.tree_edits.proofs.Lying.{Lies, lies, deepest_here}
 use Rattle.tree_edits.proofs.Keeping.{IsAlone, found_alone, one_if, joins_last, changed_tree, children_put}

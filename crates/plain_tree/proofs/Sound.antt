@@ -1,12 +1,12 @@
 -- A builder of a document keeps to what will be sound.
 use Rattle.std.proofs.Common.{◌≡◌, [], ◌∷◌, Result, Ok, Err, OnOk, OnErr, refl, sym, ◌∙◌, subst}
 use Rattle.item_listing.specs.declared.item.Item.{Item}
-use Rattle.tree_edits.specs.TreeBuildingBuilding.{◌>>=◌, after, ended_all}
-use Rattle.tree_edits.specs.Builder.{end_of}
-use Rattle.tree_edits.specs.Sound.{IsWell, WillBeSound}
-use Rattle.tree_edits.specs.Building.{Building}
-use Rattle.tree_edits.specs.Built.{Built}
-use Rattle.tree_edits.specs.TreeFault.{TreeFault}
+use Rattle.tree_building.specs.Building.{◌>>=◌, after, ended_all}
+use Rattle.tree_building.specs.Builder.{end_of}
+use Rattle.tree_building.specs.Sound.{IsWell, WillBeSound}
+use Rattle.tree_building.specs.declared.building.Building.{Building}
+use Rattle.tree_building.specs.declared.build.Built.{Built}
+use Rattle.tree_building.specs.declared.fault.TreeFault.{TreeFault}
 
 pub after_item : {X E : Type 0} (r : Result X E) (old new : Result Building TreeFault) (item : Item) → OnOk r (new ≡ after old item) → OnErr r (new ≡ old)
     → WillBeSound old → WillBeSound new

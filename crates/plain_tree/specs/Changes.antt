@@ -3,7 +3,7 @@ use Rattle.std.specs.Prelude.{◌≡◌, ℕ, ◌+◌, ◌≤◌, List, ◌++◌
 use Rattle.tree_rows.specs.Forest.{Forest}
 use Rattle.tree_rows.specs.Rows.{rows_of, siblings}
 use Rattle.tree_rows.specs.declared.row.Row.{Row}
-use Rattle.tree_edits.specs.Shape.{AreSound}
+use Rattle.tree_building.specs.Shape.{AreSound}
 use Rattle.tree_edits.specs.Edits.{replaced}
 use Rattle.plain_tree.specs.Putting.{with_last, depth_of}
 use Rattle.plain_tree.specs.declared.putting.End.{End}

@@ -2,7 +2,7 @@
 use Rattle.tree_rows.specs.Forest.{Document}
 use Rattle.tree_rows.specs.Rows.{siblings}
 use Rattle.tree_rows.specs.Whole.{IsTree}
-use Rattle.tree_edits.specs.Shape.{AreSound}
+use Rattle.tree_building.specs.Shape.{AreSound}
 use Rattle.plain_tree.specs.declared.tree.Tree.TheInside.{Inside}
 
 abbrev pub document_of : Inside → Document

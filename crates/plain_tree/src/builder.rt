@@ -1,8 +1,8 @@
 ghost use Rattle.std.specs.Prelude.{◌≡◌, ◌<◌, Ok, All, length, map, IfOk, OnOk, OnErr};
 ghost use Rattle.tag_names.specs.Scopes.{first_scope, binding_in};
-ghost use Rattle.tree_edits.specs.TreeBuildingBuilding as steps;
-ghost use Rattle.tree_edits.specs.Rules.{document_rules};
-ghost use Rattle.tree_edits.specs.Sound.{tree_of as document_of, IsWell};
+ghost use Rattle.tree_building.specs.Building as steps;
+ghost use Rattle.tree_building.specs.Rules.{document_rules};
+ghost use Rattle.tree_building.specs.Sound.{tree_of as document_of, IsWell};
 ghost use Rattle.tree_rows.specs.Whole.{IsTree};
 
 use crate::Tree;
@@ -10,21 +10,21 @@ use item_listing::Item;
 use std::alloc::{AllocError, Global};
 use std::marker::Model;
 use tag_names::Prefixes;
-use tree_edits::{Built, Rules, TreeFault, build_document, build_fragment, documents_are_sound};
+use tree_building::{Built, Rules, TreeFault, build_document, build_fragment, documents_are_sound};
 use xs_names::{Names, Scope};
 
 /// Makes the tree of a document section, item by item. Contracts see what was built, or the fault of the item that was
 /// refused first.
 #[derive(Drop)]
 pub struct Builder {
-    inner: tree_edits::Builder,
+    inner: tree_building::Builder,
 }
 
 impl Model for Builder {
     ghost use Rattle.std.specs.Prelude.{Result};
-    ghost use Rattle.tree_edits.specs.Building.{Building};
-    ghost use Rattle.tree_edits.specs.TreeFault.{TreeFault};
-    ghost use Rattle.tree_edits.specs.Sound.{WillBeSound};
+    ghost use Rattle.tree_building.specs.declared.building.Building.{Building};
+    ghost use Rattle.tree_building.specs.declared.fault.TreeFault.{TreeFault};
+    ghost use Rattle.tree_building.specs.Sound.{WillBeSound};
 
     ghost Value = { Result Building TreeFault };
 
@@ -34,7 +34,7 @@ impl Model for Builder {
 }
 
 impl Builder {
-    ghost use Rattle.tree_edits.specs.Builder.{answer_of, end_of};
+    ghost use Rattle.tree_building.specs.Builder.{answer_of, end_of};
 
     /// A builder that has taken nothing.
     pub fn new(alloc: Global) -> Result<Self, AllocError>
@@ -42,7 +42,7 @@ impl Builder {
     {
         documents_are_sound();
         let scope = Prefixes::new(alloc)?;
-        let inner = tree_edits::Builder::new(alloc, Rules::document(), scope);
+        let inner = tree_building::Builder::new(alloc, Rules::document(), scope);
         Ok(Builder { inner })
     }
 

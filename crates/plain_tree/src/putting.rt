@@ -2,7 +2,7 @@ ghost use Rattle.std.specs.Prelude.{◌≡◌, ◌+◌, ◌≤◌, ◌<◌, [], 
 ghost use Rattle.std.specs.List.{position_or_len};
 ghost use Rattle.plain_tree.specs.Changes.{Changes, IsEnd};
 ghost use Rattle.plain_tree.specs.Putting.{with_last, with_attribute, with_binding, depth_of};
-ghost use Rattle.tree_edits.specs.Shape.{AreSound, AreWhole};
+ghost use Rattle.tree_building.specs.Shape.{AreSound, AreWhole};
 ghost use Rattle.tree_edits.specs.EditRows.{is_numbered};
 ghost use Rattle.tree_edits.specs.Edits.{deepest_of};
 ghost use Rattle.tree_rows.specs.Forest.{none};

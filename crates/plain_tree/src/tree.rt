@@ -6,8 +6,7 @@ use crate::putting::{put_attribute, put_binding, put_last, root_row};
 use std::alloc::{AllocError, Global};
 use std::marker::Model;
 use tree_edits::{Edit, EditError, edit_rows};
-use tree_rows::{Attribute, Binding, Content, Expanded, NodeKind, Row};
-use tree_siblings::TreeIndex;
+use tree_rows::{Attribute, Binding, Content, Expanded, NodeKind, Row, TreeIndex};
 use xs_names::Text;
 
 /// A tree of elements and texts. Contracts see a document whose forest is one root, within the limits, with the next
@@ -35,7 +34,7 @@ impl Model for Tree {
 
 impl Tree {
     ghost use Rattle.tree_rows.specs.Rows.{rows_of, siblings};
-    ghost use Rattle.tree_edits.specs.Shape.{AreSound};
+    ghost use Rattle.tree_building.specs.Shape.{AreSound};
     ghost use Rattle.tree_edits.specs.Edits.{can_be_made};
     ghost use Rattle.tree_edits.specs.Tests.{edited};
     ghost use Rattle.tree_edits.specs.Refusals.{IsWhy};

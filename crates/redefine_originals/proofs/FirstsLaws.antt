@@ -4,8 +4,8 @@ use Rattle.std.specs.Prelude.{All, Contains, reverse}
 use Rattle.std.specs.List.{list_any}
 use Rattle.std.proofs.lemmas.List.{append_assoc, take_more, drop_more, length-reverse}
 use Rattle.std.proofs.lemmas.List.Elements.{All-cons, All-head, All-tail, Contains-push, Contains-push_cases, Contains-append_left}
-use Rattle.set_closure.specs.Available.{Available}
-use Rattle.set_closure.specs.Order.{IsNumber}
+use Rattle.schema_set.specs.declared.documents.Available.{Available}
+use Rattle.schema_set.specs.Order.{IsNumber}
 use Rattle.redefine_originals.specs.declared.versions.Redefinable.{Redefinable}
 use Rattle.redefine_originals.specs.Versions.{Version, inclusions, Finds, again, here, further}
 use Rattle.redefine_originals.specs.inside.Marks.{marked, work}

@@ -6,3 +6,5 @@ pub mod DocumentLaws
 pub mod OrderLaws
 pub mod RedefineLaws
 pub mod FirstsLaws
+pub mod ElementLaws
+pub mod PlaceLaws

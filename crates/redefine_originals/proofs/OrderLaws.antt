@@ -4,8 +4,8 @@ use Rattle.std.specs.Prelude.{All, Contains, reverse, slice_get}
 use Rattle.std.specs.Option.{option_or}
 use Rattle.std.proofs.lemmas.Option.{none-some, same_Some, slice_get-get_or, get_or_from_slice_get, slice_get_read}
 use Rattle.std.proofs.lemmas.List.Elements.{All-cons, All-nil, All-head, All-tail, All-append}
-use Rattle.set_closure.specs.Available.{Available}
-use Rattle.set_closure.specs.Order.{IsNumber}
+use Rattle.schema_set.specs.declared.documents.Available.{Available}
+use Rattle.schema_set.specs.Order.{IsNumber}
 use Rattle.redefine_originals.specs.declared.versions.Redefinable.{Redefinable}
 use Rattle.redefine_originals.specs.Versions.{Version, shapes_of, shapes_at, version_at, inclusions, Finds, nowhere, again, here, further}
 use Rattle.redefine_originals.specs.inside.Marks.{marked}

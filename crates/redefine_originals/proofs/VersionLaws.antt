@@ -8,11 +8,11 @@ use Rattle.std.proofs.lemmas.Option.{none-some, same_Some}
 use Rattle.std.proofs.lemmas.Slice.Eq.{bytes_eq-Decides}
 use Rattle.std.proofs.lemmas.List.Elements.{All-cons, All-nil, All-head, All-tail, All-append, Contains-get_or}
 use Rattle.schema_shape.specs.declared.forms.Shape.{Shape}
-use Rattle.set_closure.specs.Available.{Available}
-use Rattle.set_closure.specs.EffectiveSet.{document_at}
-use Rattle.set_closure.specs.Order.{IsNumber}
-use Rattle.set_closure.proofs.ReachLaws.{in-filter_map}
-use Rattle.set_closure.proofs.LocationLaws.{document_at-within}
+use Rattle.schema_set.specs.declared.documents.Available.{Available}
+use Rattle.schema_set.specs.EffectiveSet.{document_at}
+use Rattle.schema_set.specs.Order.{IsNumber}
+use Rattle.schema_set.proofs.ReachLaws.{in-filter_map}
+use Rattle.schema_set.proofs.LocationLaws.{document_at-within}
 use Rattle.redefine_originals.specs.declared.versions.Redefinable.{Redefinable}
 use Rattle.redefine_originals.specs.declared.versions.Redefinable.TheVariants as kind
 use Rattle.redefine_originals.specs.Versions.{declared_as, same_kind, is_declared, declares, at_top, redefining, included, Child, Version, in_redefine, on_top, version_in, shapes_at, version_at, inclusions, Finds, nowhere, again, here, further, IsOriginal}

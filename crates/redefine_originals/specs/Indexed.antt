@@ -1,7 +1,7 @@
 -- What is known of the documents in whose components originals are found.
 use Rattle.std.specs.Prelude.{List}
-use Rattle.set_closure.specs.Available.{Available}
-use Rattle.set_closure.specs.Sourced.{AreSources}
+use Rattle.schema_set.specs.declared.documents.Available.{Available}
+use Rattle.schema_set.specs.Sourced.{AreSources}
 use Rattle.redefine_originals.specs.Versions.{shapes_at}
 use Rattle.redefine_originals.specs.declared.document_versions.DocumentVersions.{DocumentVersions}
 use Rattle.redefine_originals.specs.declared.index.Originals.{Originals}

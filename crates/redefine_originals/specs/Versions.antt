@@ -7,8 +7,8 @@ use Rattle.std.specs.Str.{bytes_eq}
 use Rattle.schema_shape.specs.declared.forms.Form.{Form}
 use Rattle.schema_shape.specs.declared.forms.Form.TheVariants as forms
 use Rattle.schema_shape.specs.declared.forms.Shape.{Shape}
-use Rattle.set_closure.specs.Available.{Available}
-use Rattle.set_closure.specs.EffectiveSet.{document_at}
+use Rattle.schema_set.specs.declared.documents.Available.{Available}
+use Rattle.schema_set.specs.EffectiveSet.{document_at}
 use Rattle.redefine_originals.specs.declared.versions.Redefinable.{Redefinable}
 use Rattle.redefine_originals.specs.declared.versions.Redefinable.TheVariants as kind
 

@@ -5,3 +5,5 @@ pub mod DocumentVersions
 pub mod Orders
 pub mod Lists
 pub mod Redefines
+pub mod Numbered
+pub mod Places

@@ -2,12 +2,12 @@
 
 ghost use Rattle.std.specs.Prelude.{◌≡◌, ◌++◌, filter_map, option_to_list, IfOk, OnOk};
 ghost use Rattle.std.specs.Option.{option_and_then};
-ghost use Rattle.set_closure.specs.EffectiveSet.{document_at};
-ghost use Rattle.set_closure.specs.Sourced.{AreSources};
+ghost use Rattle.schema_set.specs.EffectiveSet.{document_at};
+ghost use Rattle.schema_set.specs.Sourced.{AreSources};
 ghost use Rattle.redefine_originals.specs.Versions as spec;
 
+use schema_set::Sources;
 use schema_shape::{Form, Shape};
-use set_closure::Sources;
 use std::alloc::AllocError;
 
 // The document that an element includes or redefines.

@@ -1,7 +1,7 @@
 ghost use Rattle.std.specs.Prelude.{◌≡◌, ◌+◌, ◌-◌, ◌<◌, ◌^◌, ℕ, List, ◌∷◌, [], Some, All, length, slice_get, IfOk};
 ghost use Rattle.std.specs.Option.{option_map};
-ghost use Rattle.set_closure.specs.Order.{IsNumber};
-ghost use Rattle.set_closure.specs.Sourced.{AreSources};
+ghost use Rattle.schema_set.specs.Order.{IsNumber};
+ghost use Rattle.schema_set.specs.Sourced.{AreSources};
 ghost use Rattle.redefine_originals.specs.Versions as spec;
 ghost use Rattle.redefine_originals.specs.inside.Entries.{version_entry};
 ghost use Rattle.redefine_originals.specs.inside.Orders as orders;
@@ -10,7 +10,7 @@ ghost use Rattle.redefine_originals.specs.Indexed as indexed;
 use crate::document_versions::DocumentVersions;
 use crate::orders::all_orders;
 use crate::versions::{Redefinable, Version};
-use set_closure::{Available, Sources};
+use schema_set::{Available, Sources};
 use std::alloc::{AllocError, Global};
 
 /// Where the originals of redefined components are found: the versions that all documents have, by kind and name, and in which order

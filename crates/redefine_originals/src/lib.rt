@@ -8,12 +8,15 @@ mod index;
 mod inside;
 mod lists;
 mod named;
+mod numbered;
 mod orders;
+mod originals;
+mod places;
 mod redefines;
 mod versions;
 
 pub use children::redefining;
 pub use index::Originals;
 pub use lists::NumberedLists;
-pub use set_closure::{Available, ClosedSet, EffectiveSet, SetDocument, Sources, close_set};
+pub use originals::set_originals;
 pub use versions::{Child, Declared, Redefinable, Version, declared_as};

@@ -1,11 +1,11 @@
 ghost use Rattle.std.specs.Prelude.{◌≡◌, ◌++◌, ◌∷◌, [], length, reverse, if◌then◌else◌, IfOk, OnOk};
-ghost use Rattle.set_closure.specs.Order.{IsNumber};
-ghost use Rattle.set_closure.specs.Sourced.{AreSources};
+ghost use Rattle.schema_set.specs.Order.{IsNumber};
+ghost use Rattle.schema_set.specs.Sourced.{AreSources};
 ghost use Rattle.redefine_originals.specs.Versions as spec;
 ghost use Rattle.redefine_originals.specs.inside.Orders as inside;
 
 use crate::inclusions::all_included;
-use set_closure::{Available, Sources};
+use schema_set::{Available, Sources};
 use std::alloc::{AllocError, Global};
 use std::collections::HashSet;
 

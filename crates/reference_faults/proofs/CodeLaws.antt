@@ -11,8 +11,8 @@ use Rattle.xs_codes.specs.declared.code.Code.TheVariants.{SchPropsCorrect2, XLim
 use Rattle.xs_codes.specs.declared.fault.Fault.{Fault}
 use Rattle.xs_codes.specs.Codes.{order_of}
 use Rattle.xs_components.specs.declared.common.Place.{Place}
-use Rattle.xs_faults.specs.Least.{is_before, sooner, IsLeast}
-use Rattle.xs_faults.proofs.LeastLaws.{fault_not_itself, least-sum, least-same}
+use Rattle.xs_codes.specs.Least.{is_before, sooner, IsLeast}
+use Rattle.xs_codes.proofs.LeastLaws.{fault_not_itself, least-sum, least-same}
 use Rattle.xs_names.specs.Names.{NameTable}
 use Rattle.representations.specs.declared.parts.Represented.{Represented}
 use Rattle.representations.specs.declared.parts.Representation.{Representation}

@@ -1,6 +1,6 @@
 -- Names that stand twice.
 use Rattle.std.specs.Prelude.{ℕ, Bool, false, ◌||◌, nat_lt, List, Option, None, Some, slice_index_or}
-use Rattle.symbol_spaces.specs.Symbols.{first_place}
+use Rattle.component_tables.specs.Symbols.{first_place}
 use Rattle.representations.specs.declared.source.SymbolSpaces.{SymbolSpaces}
 
 abbrev pub is_before : Option ℕ → ℕ → Bool

@@ -1,7 +1,7 @@
 -- References to other namespaces.
 use Rattle.std.specs.Prelude.{◌≡◌, ℕ, ◌<◌, Bool, true, ◌||◌, ◌==◌, nat_lt, List, [], ◌∷◌, Option, None, Some, length, slice_index_or, bytes_eq, if◌then◌else◌, refl}
 use Rattle.std.specs.List.{list_any, list_all}
-use Rattle.schema_grammar.specs.Names.{schema_namespace}
+use Rattle.schema_values.specs.GrammarNames.{schema_namespace}
 use Rattle.xs_names.specs.Names.{NameTable, space_of}
 use Rattle.representations.specs.declared.origins.Origin.{Origin}
 use Rattle.reference_faults.specs.declared.reference.Reference.{Reference}

@@ -1,6 +1,6 @@
 -- Which references resolve.
 use Rattle.std.specs.Prelude.{ℕ, Bool, false, List, Option, None, Some, map, is_some}
-use Rattle.symbol_spaces.specs.Symbols.{first_place}
+use Rattle.component_tables.specs.Symbols.{first_place}
 use Rattle.representations.specs.declared.parts.Represented.{Represented}
 use Rattle.representations.specs.declared.parts.Represented.TheVariants as forms
 use Rattle.representations.specs.declared.parts.Representation.{Representation}

@@ -1,8 +1,8 @@
 ghost use Rattle.std.specs.Prelude.{◌≡◌};
 ghost use Rattle.reference_faults.specs.Doubles as spec;
 
+use component_tables::Symbols;
 use representations::SymbolSpaces;
-use symbol_spaces::Symbols;
 use xs_names::NameId;
 
 // Whether a name stands before a place.

@@ -3,7 +3,7 @@ ghost use Rattle.std.specs.Option.{option_map};
 ghost use Rattle.representations.specs.Named.{AreNamed};
 ghost use Rattle.representations.specs.Names.{spaces_of};
 ghost use Rattle.xs_codes.specs.declared.code.Code.TheVariants.{XLimitComponents};
-ghost use Rattle.xs_faults.specs.Least.{IsLeast};
+ghost use Rattle.xs_codes.specs.Least.{IsLeast};
 ghost use Rattle.reference_faults.specs.Faults as spec;
 ghost use Rattle.reference_faults.specs.Resolution.{kinds_of};
 ghost use Rattle.reference_faults.specs.inside.Named.{IsNamed};
@@ -16,9 +16,8 @@ use crate::lookup::{Lookup, kinds_of};
 use crate::reference::references;
 use representations::{Origin, Representation, Represented, Source};
 use std::alloc::{AllocError, Global};
-use xs_codes::{Code, Fault};
+use xs_codes::{Code, Fault, sooner};
 use xs_components::Place;
-use xs_faults::sooner;
 use xs_names::Names;
 
 // The phase of compiling that looks at names.

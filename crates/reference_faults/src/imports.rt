@@ -5,7 +5,7 @@ ghost use Rattle.reference_faults.specs.Imports as spec;
 
 use crate::reference::Reference;
 use representations::Origin;
-use schema_grammar::SCHEMA_NAMESPACE;
+use schema_values::SCHEMA_NAMESPACE;
 use xs_names::{NameId, Names, NsId};
 
 /// The origins without those that end at or before a place.

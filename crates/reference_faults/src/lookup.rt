@@ -3,9 +3,9 @@ ghost use Rattle.std.specs.List.{list_all};
 ghost use Rattle.reference_faults.specs.Resolution as spec;
 
 use crate::reference::Reference;
+use component_tables::Symbols;
 use representations::{Representation, Represented, SymbolSpaces};
 use std::alloc::{AllocError, Global};
-use symbol_spaces::Symbols;
 use xs_names::NameId;
 
 /// The names of those kinds of components that share a symbol space with others, by the places of representations.

@@ -3,7 +3,7 @@ use Rattle.std.proofs.Common.{◌≡◌, ◌≢◌, ◌==◌, ℕ, false, List, 
 use Rattle.std.specs.Prelude.{codes, Option}
 use Rattle.std.proofs.lemmas.Bool.Decides.{nat_tests}
 use Rattle.std.proofs.lemmas.Option.{get_or_from_slice_get}
-use Rattle.text_sink.specs.Escaping.{escaped}
+use Rattle.xsv_io.specs.Escaping.{escaped}
 use Rattle.xs_names.specs.Names.{NameTable, space_of}
 use Rattle.xs_codes.specs.declared.fault.Found.{Found}
 use Rattle.xs_components.specs.Tables.{Tables}

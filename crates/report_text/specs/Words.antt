@@ -2,7 +2,7 @@
 use Rattle.std.specs.Prelude.{◌≡◌, ℕ, Bool, List, [], ◌∷◌, ◌++◌, ◌==◌, Option, None, Some, slice_get, slice_index_or, if◌then◌else◌, codes, refl}
 use Rattle.std.specs.List.{before_first}
 use Rattle.std.specs.Fmt.{decimal}
-use Rattle.text_sink.specs.Escaping.{escaped}
+use Rattle.xsv_io.specs.Escaping.{escaped}
 use Rattle.xs_names.specs.Names.{NameTable, absent_space, space_of, local_of}
 use Rattle.xs_codes.specs.Codes.{text_of}
 use Rattle.xs_codes.specs.declared.code.Code.{Code}

@@ -1,10 +1,9 @@
 ghost use Rattle.std.specs.Prelude.{◌∷◌, [], ◌++◌, codes};
-ghost use Rattle.text_sink.specs.Written.{Written};
+ghost use Rattle.xsv_io.specs.Written.{Written};
 ghost use Rattle.report_text.specs.Words as words;
 
-use text_sink::{Part, write_parts, write_text};
 use xs_codes::{Code, Found, code_text};
-use xsv_io::{Failed, Sink};
+use xsv_io::{Failed, Part, Sink, write_parts, write_text};
 
 /// Writes a code, and behind it the place that is printed with it.
 fn write_code<W: Sink>(sink: &mut W, found: Found) -> Result<(), Failed>

@@ -1,18 +1,17 @@
 ghost use Rattle.std.specs.Prelude.{◌≡◌, ◌++◌, Some, slice_get, IfSome, codes};
 ghost use Rattle.simple_values.specs.Builtins.{name_of as name_in};
 ghost use Rattle.xs_components.specs.declared.common.TypeId.TheVariants.{Simple, Complex};
-ghost use Rattle.text_sink.specs.Escaping.{escaped};
-ghost use Rattle.text_sink.specs.Written.{Written};
+ghost use Rattle.xsv_io.specs.Escaping.{escaped};
+ghost use Rattle.xsv_io.specs.Written.{Written};
 ghost use Rattle.xs_names.specs.Names.{space_of};
 ghost use Rattle.report_text.specs.Named.{IsName, IsTypeNamed};
 ghost use Rattle.report_text.specs.Words as words;
 
 use simple_values::name_of;
-use text_sink::{Part, write_parts, write_text};
 use xs_codes::Builtin;
 use xs_components::{ComplexId, Components, Place, SimpleId, TypeId};
 use xs_names::{NameId, Names};
-use xsv_io::{Failed, Sink};
+use xsv_io::{Failed, Part, Sink, write_parts, write_text};
 
 /// Writes a local part in the namespace of a name: `local`, or `{namespace}local`.
 fn write_local<'a, W: Sink>(

@@ -1,6 +1,6 @@
 ghost use Rattle.std.specs.Prelude.{◌≡◌, ◌++◌, IfSome, codes};
 ghost use Rattle.std.specs.Fmt.{decimal};
-ghost use Rattle.text_sink.specs.Written.{Written};
+ghost use Rattle.xsv_io.specs.Written.{Written};
 ghost use Rattle.report_text.specs.Named.{IsTypeNamed, IsNamed, AreNamed};
 ghost use Rattle.report_text.specs.Lines as lines;
 ghost use Rattle.report_text.specs.Words as words;
@@ -9,10 +9,9 @@ use crate::codes::write_codes;
 use crate::names::{write_name, write_type};
 use crate::words::{attempted_word, source_word, validity_word};
 use assess_records::{Attempted, AttrRecord, Codes, ElementRecord, Validity, ValueSource};
-use text_sink::{Part, write_parts, write_text};
 use xs_components::{Components, TypeId};
 use xs_names::{NameId, Names};
-use xsv_io::{Failed, Sink};
+use xsv_io::{Failed, Part, Sink, write_parts, write_text};
 
 /// What is found out about an element and its attributes.
 #[derive(Clone, Copy)]

@@ -1,3 +1,6 @@
+pub mod Naming
+pub mod Forms
+pub mod Documents
 pub mod Names
 pub mod Members
 pub mod Named

@@ -2,8 +2,8 @@ ghost use Rattle.std.specs.Prelude.{◌≡◌, IfOk, OnOk};
 ghost use Rattle.representations.specs.Names as spec;
 
 use crate::parts::{Representation, Represented};
+use component_tables::Symbols;
 use std::alloc::{AllocError, Global};
-use symbol_spaces::Symbols;
 use xs_names::{NameId, Scope};
 
 /// The names of a schema set in each symbol space (Structures 2.5), by the places of representations. Simple and complex types

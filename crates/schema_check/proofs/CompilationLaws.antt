@@ -2,12 +2,12 @@
 use Rattle.std.specs.Prelude.{IfOk}
 use Rattle.std.proofs.Common.{◌≡◌, ◌⊎◌, inl, inr, ℕ, false, List, ◌∷◌, [], Option, None, Some, Result, Ok, Err, subst}
 use Rattle.xs_codes.specs.declared.fault.Fault.{Fault}
-use Rattle.xs_faults.specs.Least.{IsLeast}
-use Rattle.schema_documents.specs.Available.{Available}
-use Rattle.set_originals.specs.Originals.{AreOriginals}
-use Rattle.schema_build.specs.SetDocument.{SetDocument}
-use Rattle.schema_documents.specs.declared.inputs.SchemaInput.{SchemaInput}
-use Rattle.schema_documents.specs.Documents.{available, IsSet, IsShapeFault}
+use Rattle.xs_codes.specs.Least.{IsLeast}
+use Rattle.schema_set.specs.declared.documents.Available.{Available}
+use Rattle.redefine_originals.specs.Originals.{AreOriginals}
+use Rattle.schema_set.specs.declared.documents.SetDocument.{SetDocument}
+use Rattle.schema_set.specs.declared.inputs.SchemaInput.{SchemaInput}
+use Rattle.schema_set.specs.Documents.{available, IsSet, IsShapeFault}
 use Rattle.schema_check.specs.declared.documents.CompiledSet.{CompiledSet}
 use Rattle.schema_check.specs.declared.documents.Refusal.{Refusal}
 use Rattle.schema_check.specs.declared.documents.Refusal.TheVariants.{Broken, NotYet}

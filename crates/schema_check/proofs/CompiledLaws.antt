@@ -3,34 +3,34 @@ use Rattle.std.proofs.Common.{◌≡◌, ℕ, inr, List, Option, None, Ok, All, 
 use Rattle.std.proofs.lemmas.Option.{get_or_from_slice_get, slice_get_within}
 use Rattle.tree_rows.specs.Whole.{IsTree}
 use Rattle.xs_codes.specs.declared.fault.Fault.{Fault}
-use Rattle.xs_faults.specs.Least.{IsLeast}
+use Rattle.xs_codes.specs.Least.{IsLeast}
 use Rattle.xs_names.specs.Names.{NameTable, no_names}
-use Rattle.type_derives.specs.Within.{AreSimple}
-use Rattle.redefined_names.specs.Renamed.{renamed}
+use Rattle.type_derivation.specs.Within.{AreSimple}
+use Rattle.redefine_names.specs.Renamed.{renamed}
 use Rattle.representations.specs.declared.parts.Representation.{Representation}
 use Rattle.xs_components.specs.Tables.{Tables}
-use Rattle.component_circles.specs.Circles.{Ranks, with_all_ranks}
+use Rattle.component_references.specs.Circles.{Ranks, with_all_ranks}
 use Rattle.type_derivation.specs.Cycles.{IsGrown}
-use Rattle.schema_build.specs.SetDocument.{SetDocument}
+use Rattle.schema_set.specs.declared.documents.SetDocument.{SetDocument}
 use Rattle.representations.specs.declared.origins.Origin.{Origin}
 use Rattle.representations.specs.declared.source.Source.{Source}
 use Rattle.representations.specs.Names.{spaces_of}
-use Rattle.schema_build.specs.Documents.{representations, origins, set_table}
-use Rattle.schema_build.specs.Components.{all_names, versions}
+use Rattle.set_representations.specs.Documents.{representations, origins, set_table}
+use Rattle.schema_check.specs.Components.{all_names, versions}
 use Rattle.reference_faults.specs.Faults.{IsBroken}
-use Rattle.schema_build.specs.Built.{built}
-use Rattle.schema_documents.specs.declared.inputs.SchemaInput.{SchemaInput}
-use Rattle.schema_documents.specs.Documents.{IsShapeFault}
-use Rattle.schema_documents.proofs.ShapedLaws.{IsShapedBy, all-shaped}
+use Rattle.build_components.specs.Built.{built}
+use Rattle.schema_set.specs.declared.inputs.SchemaInput.{SchemaInput}
+use Rattle.schema_set.specs.Documents.{IsShapeFault}
+use Rattle.schema_set.proofs.ShapedLaws.{IsShapedBy, all-shaped}
 use Rattle.schema_check.specs.Compilation.{shape_phase, IsCompilation}
 use Rattle.schema_check.specs.SetPhases.{name_phase, AreParts, IsSetCompiled}
 use Rattle.schema_check.specs.declared.documents.CompiledSet.{CompiledSet}
-use Rattle.set_types.specs.OfTree.{IsOfTree}
-use Rattle.set_types.specs.Resolved.{AreResolved}
-use Rattle.set_types.specs.Shaped.{AreShaped}
-use Rattle.set_types.specs.Simple.{AreTypesSimple}
-use Rattle.set_types.specs.SimpleParts.{HasSimpleTypes}
-use Rattle.set_types.proofs.TypeLaws.{of-set}
+use Rattle.schema_check.specs.OfTree.{IsOfTree}
+use Rattle.schema_check.specs.Resolved.{AreResolved}
+use Rattle.schema_check.specs.Shaped.{AreShaped}
+use Rattle.schema_check.specs.Simple.{AreTypesSimple}
+use Rattle.schema_check.specs.SimpleParts.{HasSimpleTypes}
+use Rattle.schema_check.proofs.TypeLaws.{of-set}
 
 module _ (documents : List SchemaInput) (trees : All (λ input. IsTree input.tree) documents) where
   no-faults : shape_phase documents None → (f : Fault) → IsShapeFault documents f → ⊥

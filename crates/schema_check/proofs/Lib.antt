@@ -1,7 +1,24 @@
+pub mod FirstLaws
+pub mod FaultLaws
+pub mod KindLaws
+pub mod SimpleLaws
+pub mod AttributeLaws
+pub mod ContentLaws
+pub mod TagLaws
+pub mod KidLaws
+pub mod SoundLaws
+pub mod WalkLaws
+pub mod FormLaws
+pub mod NameLaws
+pub mod LaidLaws
+pub mod ShapeLaws
+pub mod SetLaws
+pub mod TypeLaws
+pub mod AlikeLaws
+mod NumberLaws
 pub mod PhaseLaws
 pub mod TypedLaws
-pub mod SetLaws
+pub mod CompiledSetLaws
 pub mod CompilationLaws
 pub mod CompiledLaws
 pub mod ReadLaws
-pub use Rattle.set_types.proofs.ListLaws

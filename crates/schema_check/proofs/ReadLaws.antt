@@ -2,12 +2,12 @@
 use Rattle.std.proofs.Common.{◌≡◌, ◌<◌, List, length, ap, subst, ◌∙◌, arith}
 use Rattle.std.specs.Prelude.{All}
 use Rattle.std.proofs.lemmas.List.{length-map}
-use Rattle.schema_documents.specs.Available.{Available}
-use Rattle.schema_documents.specs.SetDocument.{SetDocument}
-use Rattle.schema_documents.specs.declared.inputs.SchemaInput.{SchemaInput}
-use Rattle.schema_documents.specs.EffectiveSet.{IsEffectiveSet}
-use Rattle.schema_documents.specs.Order.{IsInOrder}
-use Rattle.schema_documents.specs.Documents.{available_of, available, IsSet}
+use Rattle.schema_set.specs.declared.documents.Available.{Available}
+use Rattle.schema_set.specs.declared.documents.SetDocument.{SetDocument}
+use Rattle.schema_set.specs.declared.inputs.SchemaInput.{SchemaInput}
+use Rattle.schema_set.specs.EffectiveSet.{IsEffectiveSet}
+use Rattle.schema_set.specs.Order.{IsInOrder}
+use Rattle.schema_set.specs.Documents.{available_of, available, IsSet}
 
 pub some-available : (documents : List SchemaInput) (slice : List Available) → slice ≡ available documents → 0 < length documents → 0 < length slice
 some-available documents slice same some =

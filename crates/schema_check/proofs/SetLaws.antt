@@ -1,72 +1,128 @@
--- The phases of a set from those of its names and of its components.
-use Rattle.std.specs.Prelude.{IfOk}
-use Rattle.std.proofs.Common.{◌≡◌, ℕ, inl, List, [], ◌∷◌, Option, None, Some, Result, Ok, Err, ap, sym, subst, ◌∙◌}
+-- The representations of documents of the right shape.
+use Rattle.std.proofs.Common.{◌≡◌, ℕ, zero, suc, ◌+◌, List, [], ◌∷◌, ◌++◌, Option, None, Some, Result, Ok, All, length, reverse, slice_get, refl, sym, ap, subst, ◌∙◌, append-nil, arith}
+use Rattle.std.proofs.lemmas.List.Elements.{All-head, All-tail}
+use Rattle.std.proofs.lemmas.Option.{none-some, same_Some}
+use Rattle.tag_names.specs.Scopes.{first_scope}
 use Rattle.xs_codes.specs.declared.fault.Fault.{Fault}
-use Rattle.xs_components.specs.Tables.{Tables}
-use Rattle.xs_faults.specs.Least.{IsLeast}
-use Rattle.xs_names.specs.Names.{NameTable, no_names}
-use Rattle.schema_build.specs.Documents.{set_table}
-use Rattle.schema_build.specs.SetDocument.{SetDocument}
-use Rattle.representations.specs.declared.source.Source.{Source}
-use Rattle.schema_build.specs.Built.{built}
-use Rattle.schema_build.specs.Components.{all_names, IsBuilt, IsNameFault, AreComponents, AreRedefining}
-use Rattle.schema_build.specs.declared.building.BuiltSet.{BuiltSet}
-use Rattle.schema_check.specs.Phases.{IsFirstOfPhases}
-use Rattle.schema_check.specs.SetPhases.{names, name_phase, AreParts, AreRedefiningGroups, set_phases, base_phase, type_phase, part_phases, by_components, IsSetCompiled}
-use Rattle.schema_check.specs.declared.documents.CompiledSet.{CompiledSet}
-use Rattle.schema_check.specs.inside.Typed.{ArePartsCompiled}
-use Rattle.schema_check.proofs.PhaseLaws.{after-one, first-implied}
+use Rattle.xs_names.specs.Names.{NameTable}
+use Rattle.schema_values.specs.declared.grammar_kinds.Kind.TheVariants as k
+use Rattle.schema_faults.specs.Constructs.{Construct}
+use Rattle.schema_faults.specs.Faults.{least_fault}
+use Rattle.schema_faults.specs.declared.broken.Broken.{Broken}
+use Rattle.schema_shape.specs.Shapes.{shapes}
+use Rattle.schema_shape.specs.Shaped.{constructs_of, answer, fault_at}
+use Rattle.schema_shape.specs.declared.forms.Shape.{Shape}
+use Rattle.schema_shape.specs.declared.forms.ShapedSchema.{ShapedSchema}
+use Rattle.schema_set.specs.declared.documents.SetDocument.{SetDocument}
+use Rattle.representations.specs.declared.naming.Naming.{Naming}
+use Rattle.representations.specs.Naming.{naming_of}
+use Rattle.representations.specs.declared.parts.Representation.{Representation}
+use Rattle.representation_forms.specs.declared.defaults.Defaults.{Defaults}
+use Rattle.representation_forms.specs.Forms.{represented}
+use Rattle.representation_forms.specs.Methods.{defaults_of}
+use Rattle.set_representations.specs.Documents.{representation, representations_from, document_representations, representations_of, representations, shapes_of}
+use Rattle.set_representations.specs.Members.{places_of}
+use Rattle.set_representations.specs.Scopes.{openings}
+use Rattle.schema_check.specs.Shaped.{IsShaped, AreShaped}
+use Rattle.schema_check.specs.OfTree.{IsOfTree}
+use Rattle.schema_check.proofs.SoundLaws.{all-sound}
+use Rattle.schema_check.proofs.WalkLaws.{EachBehind, IsWalked, walked}
+use Rattle.schema_check.proofs.LaidLaws.{AreLaid, laid-tail}
+use Rattle.schema_check.proofs.ShapeLaws.{element-shaped}
 
-module _ (set : List SetDocument) (originals : List (Option ℕ)) (t : NameTable) (same : t ≡ set_table no_names set) where
-  pub unnamed : (fault : Fault) → IsBuilt t set originals (Err fault) → name_phase set originals (Some fault)
-  unfolding name_phase
-  unnamed fault built = subst (λ (x : NameTable). IsLeast (IsNameFault x set originals) (Some fault)) same built
+-- a document that is of a tree is walked whole
+answered : (number : ℕ) (es : List Construct) (broken : Option Broken) (schema : ShapedSchema) → answer (record { shapes = shapes es }) (fault_at number broken) ≡ Ok schema
+    → (broken ≡ None) × (schema.shapes ≡ shapes es)
+answered number es None schema is =
+    (refl, sym (ap (λ (s : ShapedSchema). s.shapes) (ok-same (record { shapes = shapes es }) schema is)))
+  where
+    ok-same : (one other : ShapedSchema) → ◌≡◌ {A = Result ShapedSchema Fault} (Ok one) (Ok other) → one ≡ other
+    ok-same one other e = cc
+answered number es (Some broken) schema is = absurd (cc)
 
-  named : (made : BuiltSet) → IsBuilt t set originals (Ok made) → name_phase set originals None × AreParts set originals made.parts × AreRedefiningGroups set originals made.redefined
-  unfolding name_phase AreParts AreRedefiningGroups
-  named made built = (
-    subst (λ (x : NameTable). IsLeast (IsNameFault x set originals) None) same built.0,
-    subst (λ (x : NameTable). AreComponents x set originals made.parts) same built.1,
-    subst (λ (x : NameTable). AreRedefining x set originals made.redefined) same built.2,
-  )
+document-walked : (d : SetDocument) → IsOfTree d → EachBehind IsWalked (shapes_of d)
+document-walked d of =
+    let tree = of.1.forest in
+    let es = constructs_of tree in
+    let parts = answered of.0 es (least_fault es) d.shaped.now of.3 in
+    let all = walked tree k.Document 0 first_scope [] of.2.differ (λ key there. refl) (all-sound es parts.0) tt in
+    subst (EachBehind IsWalked) (append-nil (shapes es) ∙ sym parts.1) all
 
-  -- the names of the documents and of originals
-  all-named : (u : NameTable) → u ≡ all_names t set originals → u ≡ names set originals
-  unfolding names
-  all-named u is = is ∙ ap (λ (x : NameTable). all_names x set originals) same
+module _ (t : NameTable) (reps : List Representation) where
+  module _ (naming : Naming) (defaults : Defaults) (document first : ℕ) where
+    -- these stand from a place on
+    abbrev Stand : ℕ → List Representation → Type 0
+    Stand place some = (n : ℕ) (rep : Representation) → slice_get some n ≡ Some rep → slice_get reps (place + n) ≡ Some rep
 
--- the phases that look at the components
-component-phases : (set : List SetDocument) (originals : List (Option ℕ)) (parts : Tables) (found : Option Fault) → AreParts set originals parts → IsFirstOfPhases (part_phases parts) found
-    → IsFirstOfPhases (by_components set originals base_phase ∷ by_components set originals type_phase ∷ []) found
-component-phases set originals parts found are first = first-implied (part_phases parts) (by_components set originals base_phase ∷ by_components set originals type_phase ∷ []) found
-    ((λ f h. (parts, are, h)), ((λ f h. (parts, are, h)), tt)) first
+    from-laid : (before : List Shape) (place start : ℕ) (list : List Shape) → Stand start (representations_from t naming defaults document first before place list) → AreLaid t naming defaults reps start list
+    from-laid before place start [] stand n shape at = absurd (none-some shape at)
+    from-laid before place start (s ∷ list) stand zero shape at =
+        let same = same_Some s shape at in (
+          representation t naming defaults document first before place s list,
+          stand zero (representation t naming defaults document first before place s list) refl,
+          ap (λ (x : Shape). represented t naming defaults x.form) same,
+        )
+    from-laid before place start (s ∷ list) stand (suc n) shape at =
+        let rest = from-laid (s ∷ before) (place + 1) (start + 1) list
+        (λ m rep is. let on : start + suc m ≡ start + 1 + m = omega arith in ap (λ (p : ℕ). slice_get reps p) (sym on) ∙ stand (suc m) rep is) n shape at in
+        let on : start + 1 + n ≡ start + suc n = omega arith in
+        (rest.0, ap (λ (p : ℕ). slice_get reps p) (sym on) ∙ rest.1, rest.2)
 
-all-phases : (set : List SetDocument) (originals : List (Option ℕ)) (parts : Tables) (found : Option Fault) → name_phase set originals None × AreParts set originals parts → IsFirstOfPhases (part_phases parts) found
-    → IsFirstOfPhases (set_phases set originals) found
-all-phases set originals parts found b first =
-    after-one (name_phase set originals) (by_components set originals base_phase ∷ by_components set originals type_phase ∷ []) found b.0 (component-phases set originals parts found b.1 first)
+    document-shaped : (before : List Shape) (place : ℕ) (list : List Shape) → EachBehind IsWalked list → AreLaid t naming defaults reps place list
+        → (n : ℕ) (rep : Representation) → slice_get (representations_from t naming defaults document first before place list) n ≡ Some rep → IsShaped reps rep.members rep.form
+    document-shaped before place [] each laid n rep at = absurd (none-some rep at)
+    document-shaped before place (s ∷ list) each laid zero rep at =
+        let own = representation t naming defaults document first before place s list in
+        let e = each.0.0 in
+        subst (λ (r : Representation). IsShaped reps r.members r.form) (same_Some own rep at)
+        (subst (λ (x : Shape). IsShaped reps (places_of (place + 1) list x.members) (represented t naming defaults x.form)) (sym each.0.1)
+        (element-shaped t naming defaults reps (place + 1) list (laid-tail t naming defaults reps place s list laid) e each.0.2 each.0.3))
+    document-shaped before place (s ∷ list) each laid (suc n) rep at =
+        document-shaped (s ∷ before) (place + 1) list each.1 (laid-tail t naming defaults reps place s list laid) n rep at
 
-parts-compiled : {E : Type 0} (result : Result (Result CompiledSet Fault) E) (set : List SetDocument) (originals : List (Option ℕ)) (u : NameTable) (whole : BuiltSet) → u ≡ names set originals
-    → name_phase set originals None × AreParts set originals whole.parts × AreRedefiningGroups set originals whole.redefined → IfOk result (ArePartsCompiled u whole.redefined whole.parts) → IfOk result (IsSetCompiled set originals)
-parts-compiled (Ok (Ok made)) set originals u whole same b compiled =
-    (all-phases set originals whole.parts None (b.0, b.1) compiled.2.0, (compiled.0 ∙ same, whole.parts, b.1, compiled.2.1, subst (AreRedefiningGroups set originals) (sym compiled.1) b.2))
-parts-compiled (Ok (Err fault)) set originals u whole same b compiled = all-phases set originals whole.parts (Some fault) (b.0, b.1) compiled
-parts-compiled (Err e) set originals u whole same b compiled = compiled
+  -- what is so of each of two lists is so of both together
+  both : (P : Representation → Type 0) (xs ys : List Representation) → ((n : ℕ) (rep : Representation) → slice_get xs n ≡ Some rep → P rep) → ((n : ℕ) (rep : Representation) → slice_get ys n ≡ Some rep → P rep)
+      → (n : ℕ) (rep : Representation) → slice_get (xs ++ ys) n ≡ Some rep → P rep
+  both P [] ys one other n rep at = other n rep at
+  both P (x ∷ xs) ys one other zero rep at = one zero rep at
+  both P (x ∷ xs) ys one other (suc n) rep at = both P xs ys (λ m r is. one (suc m) r is) other n rep at
 
-pub set-compiled : {E : Type 0} (result : Result (Result CompiledSet Fault) E) (set : List SetDocument) (originals : List (Option ℕ)) (t u : NameTable) (whole : BuiltSet) → t ≡ set_table no_names set
-    → u ≡ all_names t set originals → IsBuilt t set originals (Ok whole) → IfOk result (ArePartsCompiled u whole.redefined whole.parts) → IfOk result (IsSetCompiled set originals)
-set-compiled result set originals t u whole same table built compiled =
-    parts-compiled result set originals u whole (all-named set originals t same u table) (named set originals t same whole built) compiled
+  front-stands : (xs ys : List Representation) (n : ℕ) (rep : Representation) → slice_get xs n ≡ Some rep → slice_get (xs ++ ys) n ≡ Some rep
+  front-stands [] ys n rep at = absurd (none-some rep at)
+  front-stands (x ∷ xs) ys zero rep at = at
+  front-stands (x ∷ xs) ys (suc n) rep at = front-stands xs ys n rep at
 
-pub set-unnamed : (set : List SetDocument) (originals : List (Option ℕ)) (t : NameTable) (fault : Fault) → t ≡ set_table no_names set → IsBuilt t set originals (Err fault) → IsSetCompiled set originals (Err fault)
-set-unnamed set originals t fault same built = inl (unnamed set originals t same fault built)
+  back-stands : (xs ys : List Representation) (n : ℕ) → slice_get (xs ++ ys) (length xs + n) ≡ slice_get ys n
+  back-stands [] ys n = let same : 0 + n ≡ n = omega arith in ap (λ (m : ℕ). slice_get ys m) same
+  back-stands (x ∷ xs) ys n =
+      let same : suc (length xs) + n ≡ suc (length xs + n) = omega arith in
+      ap (λ (m : ℕ). slice_get (x ∷ (xs ++ ys)) m) same ∙ back-stands xs ys n
 
--- the names of documents before which no names were there
-pub first-names : (set : List SetDocument) (none : NameTable) → none ≡ no_names → set_table none set ≡ set_table no_names set
-first-names set none empty = ap (λ (x : NameTable). set_table x set) empty
+  length-from : (naming : Naming) (defaults : Defaults) (document first : ℕ) (before : List Shape) (place : ℕ) (list : List Shape)
+      → length (representations_from t naming defaults document first before place list) ≡ length list
+  length-from naming defaults document first before place [] = refl
+  length-from naming defaults document first before place (s ∷ list) = ap suc (length-from naming defaults document first (s ∷ before) (place + 1) list)
 
--- what the components are built from
-pub source-of : (t : NameTable) (set : List SetDocument) (originals : List (Option ℕ)) (whole : BuiltSet) (answer : Result BuiltSet Fault) → answer ≡ Ok whole → IsBuilt t set originals answer → (source : Source) × (whole.parts ≡ built source)
-source-of t set originals whole (Ok other) is b =
-    (b.1.0, (let e : ◌≡◌ {A = Result BuiltSet Fault} (Ok other) (Ok whole) = is in let same : other ≡ whole = cc in ap (λ (w : BuiltSet). w.parts) (sym same) ∙ b.1.4))
-source-of t set originals whole (Err fault) is b = absurd (let e : ◌≡◌ {A = Result BuiltSet Fault} (Err fault) (Ok whole) = is in cc)
+  set-shaped : (place first : ℕ) (ds : List SetDocument) → All IsOfTree ds → ((n : ℕ) (rep : Representation) → slice_get (representations_of t place first ds) n ≡ Some rep → slice_get reps (place + n) ≡ Some rep)
+      → (n : ℕ) (rep : Representation) → slice_get (representations_of t place first ds) n ≡ Some rep → IsShaped reps rep.members rep.form
+  set-shaped place first [] of stand n rep at = absurd (none-some rep at)
+  set-shaped place first (d ∷ ds) of stand n rep at =
+      let list = shapes_of d in
+      let naming = naming_of d.target list in
+      let defaults = defaults_of list in
+      let own = document_representations t place first d in
+      let later = place + length list in
+      let next = first + openings (reverse list) in
+      let more = representations_of t later next ds in
+      let many : length own ≡ length list = length-from naming defaults d.number first [] place list in
+      let laid = from-laid naming defaults d.number first [] place place list (λ m r is. stand m r (front-stands own more m r is)) in
+      let here = document-shaped naming defaults d.number first [] place list (document-walked d (All-head IsOfTree d ds of)) laid in
+      let there = set-shaped later next ds (All-tail IsOfTree d ds of)
+      (λ m r is.
+      let on : place + (length own + m) ≡ place + length list + m = omega (arith, many) in
+      ap (λ (p : ℕ). slice_get reps p) (sym on) ∙ stand (length own + m) r (back-stands own more m ∙ is)) in
+      both (λ (r : Representation). IsShaped reps r.members r.form) own more here there n rep at
+
+pub all-shaped : (t : NameTable) (ds : List SetDocument) → All IsOfTree ds → AreShaped (representations t ds)
+all-shaped t ds of =
+    set-shaped t (representations t ds) 0 1 ds of (λ n rep at. let same : n ≡ 0 + n = omega arith in ap (λ (p : ℕ). slice_get (representations t ds) p) (sym same) ∙ at)

@@ -3,9 +3,9 @@ use Rattle.std.specs.Prelude.{IfNone}
 use Rattle.std.proofs.Common.{◌≡◌, inl, inr, Option, None, Some, Result, Ok, Err}
 use Rattle.xs_codes.specs.declared.fault.Fault.{Fault}
 use Rattle.xs_components.specs.Tables.{Tables}
-use Rattle.xs_faults.specs.Least.{IsLeast}
-use Rattle.xs_references.specs.Ranked.{IsRanked}
-use Rattle.component_circles.specs.Circles.{Ranks, with_all_ranks}
+use Rattle.xs_codes.specs.Least.{IsLeast}
+use Rattle.component_references.specs.Ranked.{IsRanked}
+use Rattle.component_references.specs.Circles.{Ranks, with_all_ranks}
 use Rattle.type_derivation.specs.Cycles.{IsBroken, IsAfter}
 use Rattle.type_derivation.specs.Particles.{AreContentsSet}
 use Rattle.simple_types.specs.declared.types.SimpleTypes.{SimpleTypes}

@@ -2,15 +2,15 @@
 use Rattle.std.specs.Prelude.{◌≡◌, ◌⊎◌, ℕ, Bool, true, false, List, [], ◌∷◌, Option, None, Some, Result, Ok, Err}
 use Rattle.std.specs.List.{list_any}
 use Rattle.xs_codes.specs.declared.fault.Fault.{Fault}
-use Rattle.xs_faults.specs.Least.{IsLeast}
-use Rattle.not_yet.specs.Unassessed.{is_unassessed}
-use Rattle.schema_documents.specs.Available.{Available}
-use Rattle.schema_documents.specs.declared.inputs.SchemaInput.{SchemaInput}
-use Rattle.schema_documents.specs.Documents.{available, IsSet, IsShapeFault}
-use Rattle.schema_documents.specs.Composition.{Broken as IsCompositionFault}
-use Rattle.schema_redefine.specs.Redefinitions.{IsRedefineFault}
-use Rattle.set_originals.specs.Originals.{AreOriginals}
-use Rattle.schema_build.specs.SetDocument.{SetDocument}
+use Rattle.xs_codes.specs.Least.{IsLeast}
+use Rattle.schema_set.specs.Unassessed.{is_unassessed}
+use Rattle.schema_set.specs.declared.documents.Available.{Available}
+use Rattle.schema_set.specs.declared.inputs.SchemaInput.{SchemaInput}
+use Rattle.schema_set.specs.Documents.{available, IsSet, IsShapeFault}
+use Rattle.schema_set.specs.Composition.{Broken as IsCompositionFault}
+use Rattle.redefine_faults.specs.Redefinitions.{IsRedefineFault}
+use Rattle.redefine_originals.specs.Originals.{AreOriginals}
+use Rattle.schema_set.specs.declared.documents.SetDocument.{SetDocument}
 use Rattle.schema_check.specs.declared.documents.CompiledSet.{CompiledSet}
 use Rattle.schema_check.specs.declared.documents.Refusal.{Refusal}
 use Rattle.schema_check.specs.declared.documents.Refusal.TheVariants.{Broken, NotYet}

@@ -3,17 +3,17 @@ use Rattle.std.specs.Prelude.{◌≡◌, ℕ, List, [], ◌∷◌, Option, None,
 use Rattle.xs_codes.specs.declared.fault.Fault.{Fault}
 use Rattle.xs_names.specs.Names.{NameTable, no_names}
 use Rattle.xs_components.specs.Tables.{Tables}
-use Rattle.xs_faults.specs.Least.{IsLeast}
-use Rattle.xs_references.specs.Ranked.{IsRanked}
-use Rattle.component_circles.specs.Circles.{Ranks, with_all_ranks}
+use Rattle.xs_codes.specs.Least.{IsLeast}
+use Rattle.component_references.specs.Ranked.{IsRanked}
+use Rattle.component_references.specs.Circles.{Ranks, with_all_ranks}
 use Rattle.type_derivation.specs.Cycles.{IsBroken, IsGrown}
 use Rattle.type_derivation.specs.Particles.{AreContentsSet}
 use Rattle.simple_types.specs.declared.types.SimpleTypes.{SimpleTypes}
 use Rattle.simple_types.specs.SimpleTypes.{AreTypesOf, AreWhole, first_fault_of}
-use Rattle.redefined_groups.specs.declared.groups.RedefinedGroups.{RedefinedGroups}
-use Rattle.schema_build.specs.SetDocument.{SetDocument}
-use Rattle.schema_build.specs.Documents.{set_table}
-use Rattle.schema_build.specs.Components.{all_names, IsNameFault, AreComponents, AreRedefining}
+use Rattle.redefine_names.specs.declared.groups.RedefinedGroups.{RedefinedGroups}
+use Rattle.schema_set.specs.declared.documents.SetDocument.{SetDocument}
+use Rattle.set_representations.specs.Documents.{set_table}
+use Rattle.schema_check.specs.Components.{all_names, IsNameFault, AreComponents, AreRedefining}
 use Rattle.schema_check.specs.declared.documents.CompiledSet.{CompiledSet}
 use Rattle.schema_check.specs.Phases.{IsFirstOfPhases}
 

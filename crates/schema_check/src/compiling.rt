@@ -1,25 +1,23 @@
 ghost use Rattle.std.specs.Prelude.{◌≡◌, ◌<◌, List, length, IfOk};
-ghost use Rattle.xs_faults.specs.Least.{IsLeast};
-ghost use Rattle.schema_documents.specs.EffectiveSet.{IsEffectiveSet};
-ghost use Rattle.schema_documents.specs.Composition.{Broken as IsCompositionFault};
+ghost use Rattle.xs_codes.specs.Least.{IsLeast};
+ghost use Rattle.schema_set.specs.EffectiveSet.{IsEffectiveSet};
+ghost use Rattle.schema_set.specs.Composition.{Broken as IsCompositionFault};
 ghost use Rattle.schema_check.specs.SetPhases.{IsSetCompiled};
 ghost use Rattle.schema_check.specs.Compilation as spec;
 ghost use Rattle.schema_check.specs.inside.Typed as inside;
 
+use crate::build;
 use crate::documents::{CompiledSet, Refusal};
 use crate::types::compile_parts;
-use not_yet::is_unassessed;
-use schema_build::build;
-use schema_documents::{
+use build_components::tables_are_closed;
+use redefine_faults::first_redefine_fault;
+use redefine_originals::set_originals;
+use schema_set::{
     Available, ClosedSet, EffectiveSet, SchemaInput, SetDocument, close_set, first_shape_fault,
-    read_documents,
+    is_unassessed, read_documents,
 };
-use schema_redefine::first_redefine_fault;
-use set_originals::set_originals;
-use set_types::tables_are_closed;
 use std::alloc::{AllocError, Global};
-use xs_codes::Fault;
-use xs_faults::sooner;
+use xs_codes::{Fault, sooner};
 use xs_names::Names;
 
 // Whether something in the documents of a set is not assessed yet.

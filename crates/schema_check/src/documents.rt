@@ -1,4 +1,4 @@
-use schema_build::RedefinedGroups;
+use redefine_names::RedefinedGroups;
 use simple_types::SimpleTypes;
 use xs_codes::Fault;
 use xs_components::Components;

@@ -1,13 +1,23 @@
-//! Schema documents compiled: the first fault of the first phase that has one, or the components of their set.
+//! The components of a schema set from its documents (Structures 3.15.1).
 #![tactic(auto)]
 
+mod building;
 mod compiling;
 mod documents;
 mod laws;
+mod number_laws;
+mod resolved;
+mod shaped;
+mod type_laws;
 mod types;
+mod version_laws;
 
+pub use building::{BuiltSet, build};
 pub use compiling::compile;
 pub use documents::{CompiledSet, Refusal};
 pub use laws::compiled_types_are_simple;
-pub use schema_documents::SchemaInput;
-pub use set_types::tables_are_closed;
+pub use number_laws::kind_numbers_are_those_of_tables;
+pub use resolved::{components_are_simple, names_resolve};
+pub use shaped::representations_are_shaped;
+pub use type_laws::set_types_are_simple;
+pub use version_laws::versions_are_shaped;

@@ -1,10 +1,11 @@
 ghost use Rattle.std.specs.Prelude.{◌≡◌, All, IfOk};
 ghost use Rattle.xs_components.specs.Tables.{Tables};
-ghost use Rattle.component_circles.specs.References.{IsClosed};
+ghost use Rattle.component_references.specs.References.{IsClosed};
 ghost use Rattle.schema_check.specs.inside.Typed as spec;
 
+use crate::BuiltSet;
 use crate::documents::CompiledSet;
-use schema_build::{BuiltSet, RedefinedGroups};
+use redefine_names::RedefinedGroups;
 use simple_types::SimpleTypes;
 use std::alloc::{AllocError, Global};
 use type_derivation::cycles;

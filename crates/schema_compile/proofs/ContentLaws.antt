@@ -7,9 +7,9 @@ use Rattle.xs_components.specs.declared.common.Place.{Place}
 use Rattle.xs_components.specs.declared.common.TypeId.{TypeId}
 use Rattle.xs_components.specs.declared.common.TypeId.TheVariants.{AnyType, Builtin, Simple, Complex}
 use Rattle.xs_components.specs.declared.complex.ComplexType.{ComplexType}
-use Rattle.xs_references.specs.Heights.{IsLower, first_height}
-use Rattle.xs_references.specs.Ranked.{IsRanked}
-use Rattle.component_circles.specs.References.{effective_of}
+use Rattle.component_references.specs.Heights.{IsLower, first_height}
+use Rattle.component_references.specs.Ranked.{IsRanked}
+use Rattle.component_references.specs.References.{effective_of}
 use Rattle.type_derivation.specs.Particles.{IsBaseContent, IsExtended, IsDerivedContent, goes_on, AreContentsSet}
 
 -- a part that is there

@@ -8,12 +8,12 @@ use Rattle.xs_names.specs.Names.{NameTable}
 use Rattle.schema_shape.specs.declared.forms.Form.{Form}
 use Rattle.schema_shape.specs.declared.forms.Form.TheVariants as forms
 use Rattle.schema_shape.specs.declared.forms.Shape.{Shape}
-use Rattle.schema_check.specs.SetDocument.{SetDocument}
-use Rattle.schema_check.specs.Naming.{Naming}
-use Rattle.schema_check.specs.SchemaNamesNaming.{with_space_of, with_declared, declared_space, naming_of}
-use Rattle.schema_check.specs.SchemaNamesForms.{form_table}
-use Rattle.schema_check.specs.SchemaNamesDocuments.{bindings_table, shape_table, shapes_table, document_table}
-use Rattle.schema_check.specs.Documents.{shapes_of, set_table}
+use Rattle.schema_set.specs.declared.documents.SetDocument.{SetDocument}
+use Rattle.representations.specs.declared.naming.Naming.{Naming}
+use Rattle.representations.specs.Naming.{with_space_of, with_declared, declared_space, naming_of}
+use Rattle.representations.specs.Forms.{form_table}
+use Rattle.representations.specs.Documents.{bindings_table, shape_table, shapes_table, document_table}
+use Rattle.set_representations.specs.Documents.{shapes_of, set_table}
 use Rattle.schema_compile.proofs.TableLaws.{count, some-more, expanded-some, two-more, three-more, shapes-more, set-more}
 
 -- the name that an element, an attribute, a simple type or a complex type declares

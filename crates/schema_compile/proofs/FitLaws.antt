@@ -7,28 +7,28 @@ use Rattle.xs_codes.specs.declared.fault.Fault.{Fault}
 use Rattle.xs_components.specs.Tables.{Tables}
 use Rattle.xs_components.specs.declared.common.TypeId.{TypeId}
 use Rattle.xs_components.specs.declared.complex.ComplexType.{ComplexType}
-use Rattle.xs_references.specs.Heights.{IsType}
-use Rattle.xs_references.specs.Ranked.{IsRanked}
-use Rattle.type_derives.specs.Derives.{is_simple}
-use Rattle.type_derives.specs.Within.{AreSimple}
-use Rattle.base_kinds.specs.Bases.{IsWrongBase}
-use Rattle.component_circles.specs.Circles.{Ranks, with_all_ranks}
-use Rattle.component_circles.specs.References.{IsClosed, effective_of}
+use Rattle.component_references.specs.Heights.{IsType}
+use Rattle.component_references.specs.Ranked.{IsRanked}
+use Rattle.type_derivation.specs.Derives.{is_simple}
+use Rattle.type_derivation.specs.Within.{AreSimple}
+use Rattle.type_derivation.specs.Bases.{IsWrongBase}
+use Rattle.component_references.specs.Circles.{Ranks, with_all_ranks}
+use Rattle.component_references.specs.References.{IsClosed, effective_of}
 use Rattle.type_derivation.specs.Cycles.{IsGrown}
-use Rattle.simple_contents.specs.SimpleTypes.{AreWhole, IsWhole, IsSimpleTree}
-use Rattle.simple_contents.specs.Trees.{type_tree}
-use Rattle.simple_contents.specs.SimpleTypesSimpleTypes.{SimpleTypes}
-use Rattle.content_types.specs.ContentTypes.{content_of}
-use Rattle.simple_contents.specs.Texts.{is_simple_content}
+use Rattle.simple_types.specs.SimpleTypes.{AreWhole, IsWhole, IsSimpleTree}
+use Rattle.simple_types.specs.Trees.{type_tree}
+use Rattle.simple_types.specs.declared.types.SimpleTypes.{SimpleTypes}
+use Rattle.component_tables.specs.ContentTypes.{content_of}
+use Rattle.elem_assess.specs.Texts.{is_simple_content}
 use Rattle.representations.specs.declared.source.Source.{Source}
-use Rattle.schema_check.specs.Built.{built}
-use Rattle.schema_check.specs.There.{AreThere}
-use Rattle.simple_contents.specs.Own.{AreOwnSimple}
+use Rattle.build_components.specs.Built.{built}
+use Rattle.build_components.specs.There.{AreThere}
+use Rattle.elem_assess.specs.Own.{AreOwnSimple}
 use Rattle.schema_check.specs.SimpleParts.{HasSimpleTypes}
-use Rattle.schema_check.specs.SetDocument.{SetDocument}
+use Rattle.schema_set.specs.declared.documents.SetDocument.{SetDocument}
 use Rattle.schema_check.specs.Compilation.{IsCompilation}
 use Rattle.schema_check.specs.OfTree.{IsOfTree}
-use Rattle.schema_check.specs.SchemaInput.{SchemaInput}
+use Rattle.schema_set.specs.declared.inputs.SchemaInput.{SchemaInput}
 use Rattle.schema_check.specs.SetPhases.{AreParts, IsSetCompiled}
 use Rattle.schema_check.specs.declared.documents.CompiledSet.{CompiledSet}
 use Rattle.schema_compile.specs.Fit.{IsFit}

@@ -9,17 +9,17 @@ use Rattle.schema_shape.specs.declared.forms.Form.{Form}
 use Rattle.schema_shape.specs.declared.forms.Form.TheVariants as forms
 use Rattle.schema_shape.specs.declared.forms.IdentityKind.TheVariants as identities
 use Rattle.schema_shape.specs.declared.forms.Shape.{Shape}
-use Rattle.schema_check.specs.SetDocument.{SetDocument}
-use Rattle.schema_check.specs.Naming.{Naming}
-use Rattle.schema_check.specs.SchemaNamesNaming.{declared_number, declared_space, naming_of}
+use Rattle.schema_set.specs.declared.documents.SetDocument.{SetDocument}
+use Rattle.representations.specs.declared.naming.Naming.{Naming}
+use Rattle.representations.specs.Naming.{declared_number, declared_space, naming_of}
 use Rattle.representations.specs.declared.parts.Representation.{Representation}
 use Rattle.representations.specs.declared.parts.Represented.{Represented}
 use Rattle.representations.specs.declared.parts.Represented.TheVariants as parts
-use Rattle.schema_check.specs.Defaults.{Defaults}
-use Rattle.schema_check.specs.Methods.{defaults_of}
-use Rattle.schema_check.specs.Forms.{represented}
-use Rattle.schema_check.specs.Documents.{representation, representations_from, shapes_of, document_representations, representations_of}
-use Rattle.schema_check.specs.Scopes.{openings}
+use Rattle.representation_forms.specs.declared.defaults.Defaults.{Defaults}
+use Rattle.representation_forms.specs.Methods.{defaults_of}
+use Rattle.representation_forms.specs.Forms.{represented}
+use Rattle.set_representations.specs.Documents.{representation, representations_from, shapes_of, document_representations, representations_of}
+use Rattle.set_representations.specs.Scopes.{openings}
 use Rattle.schema_compile.proofs.TableLaws.{count, name-below}
 use Rattle.schema_compile.proofs.FillLaws.{IsFilled, AreFilled}
 

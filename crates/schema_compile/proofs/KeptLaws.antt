@@ -12,16 +12,16 @@ use Rattle.xs_components.specs.declared.complex.ContentForm.TheVariants as forms
 use Rattle.xs_components.specs.declared.element.ElementDecl.{ElementDecl}
 use Rattle.xs_components.specs.declared.simple.FacetItem.{FacetItem}
 use Rattle.xs_components.specs.declared.simple.SimpleType.{SimpleType}
-use Rattle.xs_references.specs.Heights.{IsType}
-use Rattle.type_derives.specs.Derives.{is_simple}
-use Rattle.base_kinds.specs.Bases.{IsWrongBase}
-use Rattle.base_kinds.specs.Contents.{HasContent, of_any, of_built_in, of_simple, own, inherited}
-use Rattle.base_kinds.specs.declared.kinds.ContentKind.{ContentKind}
-use Rattle.component_circles.specs.Circles.{Ranks, with_all_ranks}
+use Rattle.component_references.specs.Heights.{IsType}
+use Rattle.type_derivation.specs.Derives.{is_simple}
+use Rattle.type_derivation.specs.Bases.{IsWrongBase}
+use Rattle.type_derivation.specs.Contents.{HasContent, of_any, of_built_in, of_simple, own, inherited}
+use Rattle.type_derivation.specs.declared.kinds.ContentKind.{ContentKind}
+use Rattle.component_references.specs.Circles.{Ranks, with_all_ranks}
 use Rattle.type_derivation.specs.Cycles.{IsGrown}
-use Rattle.schema_check.specs.There.{AreThere, own_type}
+use Rattle.build_components.specs.There.{AreThere, own_type}
 use Rattle.schema_check.specs.Simple.{AreTypesSimple}
-use Rattle.simple_contents.specs.Own.{AreOwnSimple}
+use Rattle.elem_assess.specs.Own.{AreOwnSimple}
 
 -- two sets of tables have the same types, elements and attributes
 pub record AreAlike (old new : Tables) : Type 0 where

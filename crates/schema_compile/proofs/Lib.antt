@@ -11,3 +11,10 @@ pub mod PhaseLaws
 pub mod UsableLaws
 pub mod OutcomeLaws
 pub mod ValueLaws
+pub mod Numbers
+pub mod Refused
+pub mod Marks
+pub mod Sorted
+pub mod Members
+pub mod Classes
+pub mod Phases

@@ -13,27 +13,27 @@ use Rattle.xs_components.specs.declared.common.TypeId.{TypeId}
 use Rattle.xs_components.specs.declared.complex.ComplexType.{ComplexType}
 use Rattle.xs_components.specs.declared.element.ElementDecl.{ElementDecl}
 use Rattle.xs_components.specs.declared.simple.SimpleType.{SimpleType}
-use Rattle.component_circles.specs.Circles.{Ranks, with_all_ranks}
+use Rattle.component_references.specs.Circles.{Ranks, with_all_ranks}
 use Rattle.type_derivation.specs.Cycles.{IsGrown}
-use Rattle.schema_check.specs.SetDocument.{SetDocument}
+use Rattle.schema_set.specs.declared.documents.SetDocument.{SetDocument}
 use Rattle.representations.specs.declared.parts.AttributeRepresentation.{AttributeRepresentation}
 use Rattle.representations.specs.declared.parts.ElementRepresentation.{ElementRepresentation}
 use Rattle.representations.specs.declared.parts.Representation.{Representation}
 use Rattle.representations.specs.declared.parts.Represented.{Represented}
 use Rattle.representations.specs.declared.parts.Represented.TheVariants as parts
 use Rattle.representations.specs.declared.source.Source.{Source}
-use Rattle.schema_check.specs.Documents.{representations, set_table}
+use Rattle.set_representations.specs.Documents.{representations, set_table}
 use Rattle.build_types.specs.SimpleTypes as simple
-use Rattle.build_attributes.specs.Declarations as attributes
-use Rattle.schema_check.specs.Complexes as complex
-use Rattle.build_elements.specs.Elements.{declared, elements_by, elements_of, head_of}
-use Rattle.build_elements.specs.Elements as elements
-use Rattle.build_elements.specs.declared.constraints.ConstraintNumbers.{ConstraintNumbers}
-use Rattle.schema_check.specs.Built as built
+use Rattle.build_types.specs.Declarations as attributes
+use Rattle.build_components.specs.Complexes as complex
+use Rattle.build_components.specs.Elements.{declared, elements_by, elements_of, head_of}
+use Rattle.build_components.specs.Elements as elements
+use Rattle.build_components.specs.declared.constraints.ConstraintNumbers.{ConstraintNumbers}
+use Rattle.build_components.specs.Built as built
 use Rattle.schema_check.specs.Components.{all_names}
 use Rattle.schema_check.specs.SetPhases.{names, AreParts, IsSetCompiled}
 use Rattle.schema_check.specs.declared.documents.CompiledSet.{CompiledSet}
-use Rattle.schema_check.proofs.ListLaws.{all-one, all-at}
+use Rattle.build_components.proofs.ListLaws.{all-one, all-at}
 use Rattle.compiled_schema.specs.Usable.{AreNamed}
 use Rattle.schema_compile.proofs.VersionLaws.{versions-more, versions-numbered}
 use Rattle.schema_compile.proofs.TableLaws.{count, set-more}

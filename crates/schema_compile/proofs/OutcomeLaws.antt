@@ -2,7 +2,7 @@
 use Rattle.std.proofs.Common.{inr, List, Result, Ok, Err}
 use Rattle.std.specs.Prelude.{IfOk}
 use Rattle.schema_check.specs.Compilation.{IsCompilation}
-use Rattle.schema_check.specs.SchemaInput.{SchemaInput}
+use Rattle.schema_set.specs.declared.inputs.SchemaInput.{SchemaInput}
 use Rattle.schema_check.specs.declared.documents.CompiledSet.{CompiledSet}
 use Rattle.schema_compile.specs.declared.outcome.Outcome.{Outcome}
 use Rattle.schema_compile.specs.Outcomes.{IsSetOutcome, IsOutcome}

@@ -5,17 +5,17 @@ use Rattle.std.specs.Option.{option_and_then}
 use Rattle.std.proofs.lemmas.Option.{none-some, slice_get_within}
 use Rattle.xs_codes.specs.declared.fault.Fault.{Fault}
 use Rattle.xs_components.specs.Tables.{Tables}
-use Rattle.xs_faults.specs.Least.{IsLeast}
+use Rattle.xs_codes.specs.Least.{IsLeast}
 use Rattle.schema_check.specs.Phases.{IsFirstOfPhases}
-use Rattle.attr_faults.specs.AttrFaults.{AreIdMarks}
-use Rattle.attr_faults.specs.Tables.{AreTablesOf}
-use Rattle.attr_faults.specs.AttrTables.{AttrTables}
+use Rattle.derive_faults.specs.AttrFaults.{AreIdMarks}
+use Rattle.attr_uses.specs.Tables.{AreTablesOf}
+use Rattle.attr_uses.specs.declared.tables.AttrTables.{AttrTables}
 use Rattle.particle_forms.specs.Accepted.{is_inhabited}
-use Rattle.model_faults.specs.ModelFaults.{IsFirstModelFault}
-use Rattle.redefined_pairs.specs.declared.pairs.RedefinedPair.{RedefinedPair}
+use Rattle.derive_models.specs.ModelFaults.{IsFirstModelFault}
+use Rattle.redefine_names.specs.declared.pairs.RedefinedPair.{RedefinedPair}
 use Rattle.content_models.specs.Built.{IsSource}
 use Rattle.content_models.specs.declared.automaton.ContentAutomaton.{ContentAutomaton}
-use Rattle.all_limits.specs.SetModels.{content_of, AreModels, IsBroken}
+use Rattle.schema_models.specs.SetModels.{content_of, AreModels, IsBroken}
 use Rattle.schema_check.specs.declared.documents.CompiledSet.{CompiledSet}
 use Rattle.schema_compile.specs.Fit.{IsFit}
 use Rattle.schema_compile.specs.declared.finding.Found.{Found}

@@ -15,12 +15,12 @@ use Rattle.schema_values.specs.declared.spaces.Spaces.TheVariants as spaces
 use Rattle.schema_shape.specs.declared.forms.Form.{Form}
 use Rattle.schema_shape.specs.declared.forms.Form.TheVariants as forms
 use Rattle.schema_shape.specs.declared.forms.Shape.{Shape}
-use Rattle.schema_check.specs.SetDocument.{SetDocument}
-use Rattle.schema_check.specs.Naming.{Naming}
-use Rattle.schema_check.specs.SchemaNamesNaming.{space_text, with_space_of, space_in, with_expanded, with_declared, with_global, with_reference, with_reference_if, declared_space, referred_space, naming_of, name_in}
-use Rattle.schema_check.specs.SchemaNamesForms.{form_table, members_table, token_table, tokens_table, spaces_table}
-use Rattle.schema_check.specs.SchemaNamesDocuments.{bindings_table, shape_table, shapes_table, document_table}
-use Rattle.schema_check.specs.Documents.{shapes_of, set_table}
+use Rattle.schema_set.specs.declared.documents.SetDocument.{SetDocument}
+use Rattle.representations.specs.declared.naming.Naming.{Naming}
+use Rattle.representations.specs.Naming.{space_text, with_space_of, space_in, with_expanded, with_declared, with_global, with_reference, with_reference_if, declared_space, referred_space, naming_of, name_in}
+use Rattle.representations.specs.Forms.{form_table, members_table, token_table, tokens_table, spaces_table}
+use Rattle.representations.specs.Documents.{bindings_table, shape_table, shapes_table, document_table}
+use Rattle.set_representations.specs.Documents.{shapes_of, set_table}
 
 -- so many names a table has
 abbrev pub count : NameTable → ℕ

@@ -4,14 +4,14 @@ use Rattle.std.specs.Prelude.{slice_get, slice_index_or}
 use Rattle.std.proofs.lemmas.Option.{slice_get_within, get_or_from_slice_get}
 use Rattle.xs_codes.specs.declared.code.Code.TheVariants.{CosNonambig}
 use Rattle.xs_codes.specs.declared.fault.Fault.{Fault}
-use Rattle.xs_faults.specs.Least.{IsLeast}
+use Rattle.xs_codes.specs.Least.{IsLeast}
 use Rattle.xs_names.proofs.GrownLaws.{Grown-refl}
 use Rattle.xs_components.specs.Tables.{Tables}
-use Rattle.attr_faults.specs.AttrFaults.{IsAttrFault}
+use Rattle.derive_faults.specs.AttrFaults.{IsAttrFault}
 use Rattle.content_models.specs.declared.automaton.ContentAutomaton.{ContentAutomaton}
-use Rattle.compiled_schema.specs.Checks.{IsAmbiguousModel}
-use Rattle.compiled_schema.specs.ModelFault.TheVariants.{Ambiguous}
-use Rattle.all_limits.specs.SetModels as models
+use Rattle.model_checks.specs.Checks.{IsAmbiguousModel}
+use Rattle.model_checks.specs.declared.fault.ModelFault.TheVariants.{Ambiguous}
+use Rattle.schema_models.specs.SetModels as models
 use Rattle.schema_check.specs.declared.documents.CompiledSet.{CompiledSet}
 use Rattle.compiled_schema.specs.Usable.{HasModelOver, AreModels, IsUsable}
 use Rattle.compiled_schema.specs.declared.compiled.Compiled.{Compiled}

@@ -5,14 +5,14 @@ use Rattle.std.specs.Prelude.{List, Bool, Option, slice_get}
 use Rattle.std.proofs.lemmas.Option.{slice_get_within, get_or_from_slice_get}
 use Rattle.xs_components.specs.Tables.{Tables}
 use Rattle.xs_components.specs.declared.attribute.AttributeDecl.{AttributeDecl}
-use Rattle.xs_faults.specs.Least.{IsLeast, sooner}
-use Rattle.xs_faults.proofs.LeastLaws.{least-sum}
-use Rattle.attr_faults.specs.AttrFaults.{IsAttrFault}
-use Rattle.simple_contents.specs.Texts.{is_simple_content}
+use Rattle.xs_codes.specs.Least.{IsLeast, sooner}
+use Rattle.xs_codes.proofs.LeastLaws.{least-sum}
+use Rattle.derive_faults.specs.AttrFaults.{IsAttrFault}
+use Rattle.elem_assess.specs.Texts.{is_simple_content}
 use Rattle.schema_check.specs.declared.documents.CompiledSet.{CompiledSet}
-use Rattle.value_faults.specs.Given.{AreGiven, AreRead}
-use Rattle.derivation_faults.specs.Compared as restrictions
-use Rattle.value_faults.specs.ValueFaults.{IsValueFault}
+use Rattle.derive_values.specs.Given.{AreGiven, AreRead}
+use Rattle.derive_restriction.specs.Given as restrictions
+use Rattle.derive_values.specs.ValueFaults.{IsValueFault}
 use Rattle.schema_compile.specs.Fit.{IsFit}
 use Rattle.schema_compile.specs.Outcomes.{IsPropertyFault}
 

@@ -9,13 +9,13 @@ use Rattle.xs_names.proofs.NumberingLaws.{same_name-Decides, HasNoRepeats-with_i
 use Rattle.representations.specs.declared.parts.Representation.{Representation}
 use Rattle.representations.specs.declared.parts.Represented.{Represented}
 use Rattle.representations.specs.declared.parts.Represented.TheVariants as parts
-use Rattle.redefined_names.specs.declared.declared.Declared.{Declared}
-use Rattle.redefined_names.specs.declared.redirections.Redirection.{Redirection}
-use Rattle.redefined_names.specs.Components.{declared_at}
-use Rattle.redefined_names.specs.VersionNames.{version_local, with_name_of, with_version, with_versions}
-use Rattle.redefined_names.specs.Redirections.{redirected_by, redirected, redirection_at}
-use Rattle.redefined_names.specs.Renamed.{named_by, named, is_original, original_name, renamed_as, renamed_from, renamed}
-use Rattle.redefined_names.proofs.StayLaws.{name-if}
+use Rattle.redefine_names.specs.declared.declared.Declared.{Declared}
+use Rattle.redefine_names.specs.declared.redirections.Redirection.{Redirection}
+use Rattle.redefine_names.specs.Components.{declared_at}
+use Rattle.redefine_names.specs.VersionNames.{version_local, with_name_of, with_version, with_versions}
+use Rattle.redefine_names.specs.Redirections.{redirected_by, redirected, redirection_at}
+use Rattle.redefine_names.specs.Renamed.{named_by, named, is_original, original_name, renamed_as, renamed_from, renamed}
+use Rattle.redefine_names.proofs.StayLaws.{name-if}
 use Rattle.schema_compile.proofs.TableLaws.{IsMore, count, same, then-more}
 use Rattle.schema_compile.proofs.FormLaws.{HasNumber, HaveNumbers}
 

@@ -4,14 +4,14 @@ use Rattle.xs_names.specs.Numbering.{HasNoRepeats}
 use Rattle.xs_components.specs.declared.attribute.AttributeDecl.{AttributeDecl}
 use Rattle.xs_components.specs.declared.common.TypeId.{TypeId}
 use Rattle.xs_components.specs.declared.element.ElementDecl.{ElementDecl}
-use Rattle.xs_references.specs.Heights.{IsType}
-use Rattle.xs_references.specs.Ranked.{IsRanked}
-use Rattle.type_derives.specs.Within.{AreSimple}
-use Rattle.simple_contents.specs.Own.{AreOwnSimple}
-use Rattle.simple_contents.specs.Trees.{type_tree}
-use Rattle.simple_contents.specs.SimpleTypes.{AreTypesOf, AreWhole, IsWhole, IsSimpleTree}
-use Rattle.content_types.specs.ContentTypes.{content_of}
-use Rattle.simple_contents.specs.Texts.{is_simple_content}
+use Rattle.component_references.specs.Heights.{IsType}
+use Rattle.component_references.specs.Ranked.{IsRanked}
+use Rattle.type_derivation.specs.Within.{AreSimple}
+use Rattle.elem_assess.specs.Own.{AreOwnSimple}
+use Rattle.simple_types.specs.Trees.{type_tree}
+use Rattle.simple_types.specs.SimpleTypes.{AreTypesOf, AreWhole, IsWhole, IsSimpleTree}
+use Rattle.component_tables.specs.ContentTypes.{content_of}
+use Rattle.elem_assess.specs.Texts.{is_simple_content}
 use Rattle.schema_check.specs.declared.documents.CompiledSet.{CompiledSet}
 use Rattle.compiled_schema.specs.Usable.{AreNamed}
 

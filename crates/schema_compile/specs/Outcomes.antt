@@ -2,20 +2,20 @@
 use Rattle.std.specs.Prelude.{◌≡◌, ◌⊎◌, ℕ, ◌<◌, Bool, List, [], ◌∷◌, Option, None, Some, Ok, Err, length}
 use Rattle.xs_codes.specs.declared.fault.Fault.{Fault}
 use Rattle.xs_components.specs.Tables.{Tables}
-use Rattle.xs_faults.specs.Least.{IsLeast}
+use Rattle.xs_codes.specs.Least.{IsLeast}
 use Rattle.subst_groups.specs.Groups.{AreGroups}
-use Rattle.attr_faults.specs.AttrFaults.{AreIdMarks, IsAttrFault, HasUses}
-use Rattle.derivation_faults.specs.DerivationFaults.{IsDerivationFault}
-use Rattle.model_faults.specs.ModelFaults.{IsFirstModelFault}
-use Rattle.value_faults.specs.ValueFaults.{IsValueFault}
-use Rattle.element_classes.specs.Classes.{AreClassesOf}
-use Rattle.all_limits.specs.SetModels.{IsBroken}
+use Rattle.derive_faults.specs.AttrFaults.{AreIdMarks, IsAttrFault, HasUses}
+use Rattle.derive_restriction.specs.DerivationFaults.{IsDerivationFault}
+use Rattle.derive_models.specs.ModelFaults.{IsFirstModelFault}
+use Rattle.derive_values.specs.ValueFaults.{IsValueFault}
+use Rattle.component_tables.specs.Classes.{AreClassesOf}
+use Rattle.schema_models.specs.SetModels.{IsBroken}
 use Rattle.schema_check.specs.Compilation.{IsCompilation}
 use Rattle.schema_check.specs.Phases.{IsFirstOfPhases}
 use Rattle.schema_check.specs.declared.documents.CompiledSet.{CompiledSet}
 use Rattle.schema_check.specs.declared.documents.Refusal.{Refusal}
 use Rattle.schema_check.specs.declared.documents.Refusal.TheVariants as refusals
-use Rattle.schema_check.specs.SchemaInput.{SchemaInput}
+use Rattle.schema_set.specs.declared.inputs.SchemaInput.{SchemaInput}
 use Rattle.compiled_schema.specs.Usable.{IsUsable}
 use Rattle.compiled_schema.specs.declared.compiled.Compiled.{Compiled}
 use Rattle.schema_compile.specs.declared.outcome.Outcome.{Outcome}

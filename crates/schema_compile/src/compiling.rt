@@ -10,10 +10,11 @@ use crate::Outcome;
 use crate::finding::Found;
 use crate::judging::judge;
 use crate::laws::compiled_parts_are_fit;
-use all_limits::Models;
-use attr_faults::faultless_types_have_uses;
 use compiled_schema::Compiled;
-use schema_check::{CompiledSet, Refusal, SchemaInput};
+use derive_faults::faultless_types_have_uses;
+use schema_check::{CompiledSet, Refusal};
+use schema_models::Models;
+use schema_set::SchemaInput;
 use std::alloc::{AllocError, Global};
 use xs_codes::Fault;
 

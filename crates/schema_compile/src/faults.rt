@@ -1,22 +1,21 @@
 //! The first fault of phases 6 and 7: attributes and value constraints, and derivation.
 
 ghost use Rattle.std.specs.Prelude.{◌≡◌, IfOk, IfNone};
-ghost use Rattle.xs_faults.specs.Least.{IsLeast};
-ghost use Rattle.all_limits.specs.SetModels.{AreContentsLimited};
+ghost use Rattle.xs_codes.specs.Least.{IsLeast};
+ghost use Rattle.schema_models.specs.SetModels.{AreContentsLimited};
 ghost use Rattle.schema_check.specs.Phases.{IsFirstOfPhases};
-ghost use Rattle.value_faults.specs.ValueFaults.{IsValueFault};
+ghost use Rattle.derive_values.specs.ValueFaults.{IsValueFault};
 ghost use Rattle.schema_compile.specs.Fit.{IsFit};
 ghost use Rattle.schema_compile.specs.Outcomes as phases;
 ghost use Rattle.schema_compile.specs.inside.Finding as spec;
 
 use crate::finding::Found;
-use attr_faults::first_attr_fault;
-use derivation_faults::{DerivedSet, first_derivation_fault};
+use derive_faults::first_attr_fault;
+use derive_restriction::{DerivedSet, first_derivation_fault};
+use derive_values::first_value_fault;
 use schema_check::CompiledSet;
 use std::alloc::{AllocError, Global};
-use value_faults::first_value_fault;
-use xs_codes::Fault;
-use xs_faults::sooner;
+use xs_codes::{Fault, sooner};
 
 // The first fault of value constraints.
 fn value_fault(

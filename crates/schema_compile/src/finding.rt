@@ -4,15 +4,13 @@ ghost use Rattle.std.specs.Prelude.{IfOk};
 ghost use Rattle.schema_compile.specs.Fit.{IsFit};
 ghost use Rattle.schema_compile.specs.inside.Finding as spec;
 
-use attr_faults::{AttrTables, id_marks};
-use component_names::ComponentNames;
-use content_types::ContentTypes;
-use element_classes::classes_of;
-use element_types::Declarations;
+use attr_uses::AttrTables;
+use component_tables::{ComponentNames, ContentTypes, Declarations, classes_of};
+use derive_faults::id_marks;
 use schema_check::CompiledSet;
 use std::alloc::{AllocError, Global};
 use subst_groups::groups;
-use xs_members::Members;
+use xs_components::Members;
 
 /// What is found of the components of a set.
 #[derive(Drop)]

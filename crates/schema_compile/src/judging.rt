@@ -1,7 +1,7 @@
 //! A set judged: what is found of it with the automata of its content models, or its first fault.
 
 ghost use Rattle.std.specs.Prelude.{◌≡◌, IfOk, None, Ok};
-ghost use Rattle.all_limits.specs.SetModels.{AreContentsLimited};
+ghost use Rattle.schema_models.specs.SetModels.{AreContentsLimited};
 ghost use Rattle.schema_check.specs.Phases.{IsFirstOfPhases};
 ghost use Rattle.schema_compile.specs.Fit.{IsFit};
 ghost use Rattle.schema_compile.specs.Outcomes as phases;
@@ -9,11 +9,11 @@ ghost use Rattle.schema_compile.specs.inside.Finding as spec;
 
 use crate::faults::first_fault;
 use crate::finding::{Found, contents_are_there, find};
-use all_limits::{Models, build_models};
 use content_models::ModelSource;
-use model_faults::{ModelSet, first_model_fault};
+use derive_models::{ModelSet, first_model_fault};
 use particle_forms::Inhabited;
 use schema_check::CompiledSet;
+use schema_models::{Models, build_models};
 use std::alloc::{AllocError, Global};
 use xs_codes::Fault;
 

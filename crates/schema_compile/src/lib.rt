@@ -7,9 +7,9 @@ mod finding;
 mod judging;
 mod laws;
 mod outcome;
+mod phase_laws;
 
-pub use compiled_schema::Compiled;
 pub use compiling::compile;
 pub use laws::compiled_parts_are_fit;
 pub use outcome::Outcome;
-pub use schema_check::SchemaInput;
+pub use phase_laws::the_first_late_fault_is_the_only_one;

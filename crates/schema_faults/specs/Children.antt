@@ -3,10 +3,10 @@ use Rattle.std.specs.Prelude.{ℕ, Bool, true, false, not, ◌&&◌, ◌||◌, n
 use Rattle.std.specs.List.{prefix_len}
 use Rattle.xs_names.specs.White.{is_white}
 use Rattle.tree_rows.specs.Forest.{Forest, none, text, element}
-use Rattle.schema_grammar.specs.Names.{tag_of}
-use Rattle.schema_grammar.specs.Table.{is_in}
-use Rattle.schema_grammar.specs.declared.kinds.Step.{Step}
-use Rattle.schema_grammar.specs.declared.kinds.Tag.{Tag}
+use Rattle.schema_values.specs.GrammarNames.{tag_of}
+use Rattle.schema_values.specs.Table.{is_in}
+use Rattle.schema_values.specs.declared.grammar_kinds.Step.{Step}
+use Rattle.schema_values.specs.declared.grammar_kinds.Tag.{Tag}
 
 -- the elements among the siblings by their names, in order
 abbrev pub child_tags : Forest → List Tag

@@ -3,9 +3,9 @@ use Rattle.std.specs.Prelude.{ℕ, List, [], ◌∷◌, ◌++◌}
 use Rattle.tree_rows.specs.Forest.{Forest, none, text, element}
 use Rattle.tree_rows.specs.declared.row.Attribute.{Attribute}
 use Rattle.tree_rows.specs.declared.row.Binding.{Binding}
-use Rattle.schema_grammar.specs.Names.{tag_of}
-use Rattle.schema_grammar.specs.Places.{kind_below}
-use Rattle.schema_grammar.specs.declared.kinds.Kind.{Kind}
+use Rattle.schema_values.specs.GrammarNames.{tag_of}
+use Rattle.schema_values.specs.Places.{kind_below}
+use Rattle.schema_values.specs.declared.grammar_kinds.Kind.{Kind}
 
 -- an element: its number, what it is, the nearest element above that has bindings, its own bindings, all in scope, its
 -- attributes, and what is below it

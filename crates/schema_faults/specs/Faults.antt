@@ -8,9 +8,9 @@ use Rattle.tree_rows.specs.declared.row.Attribute.{Attribute}
 use Rattle.tree_rows.specs.declared.row.Binding.{Binding}
 use Rattle.xs_codes.specs.declared.code.Code.{Code}
 use Rattle.xs_codes.specs.declared.code.Code.TheVariants as code
-use Rattle.schema_grammar.specs.declared.kinds.Kind.{Kind}
-use Rattle.schema_grammar.specs.declared.kinds.Kind.TheVariants as k
-use Rattle.schema_grammar.specs.declared.kinds.Tag.{Tag}
+use Rattle.schema_values.specs.declared.grammar_kinds.Kind.{Kind}
+use Rattle.schema_values.specs.declared.grammar_kinds.Kind.TheVariants as k
+use Rattle.schema_values.specs.declared.grammar_kinds.Tag.{Tag}
 use Rattle.schema_values.specs.Occurrences.{is_past_limit, has_crossed_bounds}
 use Rattle.schema_faults.specs.Children.{child_tags}
 use Rattle.schema_faults.specs.Constructs.{Construct}

@@ -2,12 +2,12 @@
 use Rattle.std.specs.Prelude.{ℕ, Bool, true, false, ◌&&◌, nat_lt, List, length, filter, Option, Some, None}
 use Rattle.std.specs.Option.{option_and_then}
 use Rattle.tree_rows.specs.declared.row.Attribute.{Attribute}
-use Rattle.schema_grammar.specs.Table.{is_in}
-use Rattle.schema_grammar.specs.declared.kinds.AttributeName.TheVariants as an
-use Rattle.schema_grammar.specs.declared.kinds.Class.TheVariants as c
-use Rattle.schema_grammar.specs.declared.kinds.Kind.{Kind}
-use Rattle.schema_grammar.specs.declared.kinds.Kind.TheVariants as k
-use Rattle.schema_grammar.specs.declared.kinds.Tag.{Tag}
+use Rattle.schema_values.specs.Table.{is_in}
+use Rattle.schema_values.specs.declared.grammar_kinds.AttributeName.TheVariants as an
+use Rattle.schema_values.specs.declared.grammar_kinds.Class.TheVariants as c
+use Rattle.schema_values.specs.declared.grammar_kinds.Kind.{Kind}
+use Rattle.schema_values.specs.declared.grammar_kinds.Kind.TheVariants as k
+use Rattle.schema_values.specs.declared.grammar_kinds.Tag.{Tag}
 use Rattle.schema_values.specs.Attributes.{raw_of}
 use Rattle.schema_values.specs.Values.{digits_of}
 use Rattle.schema_faults.specs.declared.limit_faults.TheConstants.{MAX_FIELDS, MAX_FACET_NUMBER}

@@ -3,15 +3,15 @@ use Rattle.std.specs.Prelude.{ℕ, Bool, true, false, not, ◌&&◌, ◌||◌, �
 use Rattle.std.specs.List.{list_any}
 use Rattle.std.specs.Option.{unwrap_or}
 use Rattle.std.specs.Str.{bytes_eq}
-use Rattle.white_space.specs.WhiteSpace.{items}
+use Rattle.xs_names.specs.WhiteSpace.{items}
 use Rattle.tree_rows.specs.declared.row.Attribute.{Attribute}
-use Rattle.schema_grammar.specs.Table.{is_in}
-use Rattle.schema_grammar.specs.declared.kinds.AttributeName.{AttributeName}
-use Rattle.schema_grammar.specs.declared.kinds.AttributeName.TheVariants as an
-use Rattle.schema_grammar.specs.declared.kinds.Class.TheVariants as c
-use Rattle.schema_grammar.specs.declared.kinds.Kind.{Kind}
-use Rattle.schema_grammar.specs.declared.kinds.Kind.TheVariants as k
-use Rattle.schema_grammar.specs.declared.kinds.Tag.{Tag}
+use Rattle.schema_values.specs.Table.{is_in}
+use Rattle.schema_values.specs.declared.grammar_kinds.AttributeName.{AttributeName}
+use Rattle.schema_values.specs.declared.grammar_kinds.AttributeName.TheVariants as an
+use Rattle.schema_values.specs.declared.grammar_kinds.Class.TheVariants as c
+use Rattle.schema_values.specs.declared.grammar_kinds.Kind.{Kind}
+use Rattle.schema_values.specs.declared.grammar_kinds.Kind.TheVariants as k
+use Rattle.schema_values.specs.declared.grammar_kinds.Tag.{Tag}
 use Rattle.schema_values.specs.Attributes.{has, value_of}
 
 abbrev pub is_element : Kind → Bool

@@ -5,12 +5,12 @@ use Rattle.std.specs.Str.{bytes_eq}
 use Rattle.tree_rows.specs.Forest.{Forest}
 use Rattle.tree_rows.specs.declared.row.Attribute.{Attribute}
 use Rattle.tree_rows.specs.declared.row.Binding.{Binding}
-use Rattle.schema_grammar.specs.Names.{schema_namespace}
-use Rattle.schema_grammar.specs.Table.{rules, contents}
-use Rattle.schema_grammar.specs.declared.kinds.Kind.{Kind}
-use Rattle.schema_grammar.specs.declared.kinds.Kind.TheVariants as k
-use Rattle.schema_grammar.specs.declared.kinds.Rule.{Rule}
-use Rattle.schema_grammar.specs.declared.kinds.Tag.{Tag}
+use Rattle.schema_values.specs.GrammarNames.{schema_namespace}
+use Rattle.schema_values.specs.Table.{rules, contents}
+use Rattle.schema_values.specs.declared.grammar_kinds.Kind.{Kind}
+use Rattle.schema_values.specs.declared.grammar_kinds.Kind.TheVariants as k
+use Rattle.schema_values.specs.declared.grammar_kinds.Rule.{Rule}
+use Rattle.schema_values.specs.declared.grammar_kinds.Tag.{Tag}
 use Rattle.schema_values.specs.Attributes.{is_named, has}
 use Rattle.schema_values.specs.Fits.{fits}
 use Rattle.schema_faults.specs.Children.{has_characters, follows}

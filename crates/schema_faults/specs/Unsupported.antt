@@ -7,10 +7,10 @@ use Rattle.tree_rows.specs.Naming.{same_name}
 use Rattle.tree_rows.specs.declared.name.Expanded.{Expanded}
 use Rattle.tree_rows.specs.declared.row.Attribute.{Attribute}
 use Rattle.tree_rows.specs.declared.row.Binding.{Binding}
-use Rattle.schema_grammar.specs.Names.{schema_namespace}
-use Rattle.schema_grammar.specs.declared.kinds.AttributeName.TheVariants as an
-use Rattle.schema_grammar.specs.declared.kinds.Kind.{Kind}
-use Rattle.schema_grammar.specs.declared.kinds.Kind.TheVariants as k
+use Rattle.schema_values.specs.GrammarNames.{schema_namespace}
+use Rattle.schema_values.specs.declared.grammar_kinds.AttributeName.TheVariants as an
+use Rattle.schema_values.specs.declared.grammar_kinds.Kind.{Kind}
+use Rattle.schema_values.specs.declared.grammar_kinds.Kind.TheVariants as k
 use Rattle.schema_values.specs.Attributes.{value_of, name_of, names_of}
 use Rattle.schema_faults.specs.declared.unsupported.TypeNames.{TypeNames}
 

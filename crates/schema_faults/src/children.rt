@@ -1,12 +1,11 @@
 ghost use Rattle.std.specs.Prelude.{◌≡◌, ◌≤◌, length, IfOk};
 ghost use Rattle.std.specs.List.{prefix_len, list_any};
-ghost use Rattle.schema_grammar.specs.Table as table;
+ghost use Rattle.schema_values.specs.Table as table;
 ghost use Rattle.schema_faults.specs.Children as spec;
 
-use schema_grammar::{Class, Step, Tag, is_in, tag_of};
+use schema_values::{Class, Step, Tag, is_in, tag_of};
 use std::alloc::{AllocError, Global};
-use tree_rows::Content;
-use tree_siblings::{Sibling, Siblings};
+use tree_rows::{Content, Sibling, Siblings};
 use xs_names::is_white_space;
 
 /// The elements among the siblings by their names, in order.

@@ -1,7 +1,6 @@
-use schema_grammar::Kind;
+use schema_values::Kind;
 use tag_names::Prefixes;
-use tree_rows::{Attribute, Binding};
-use tree_siblings::Siblings;
+use tree_rows::{Attribute, Binding, Siblings};
 
 /// An element of a schema document, with what it is and the bindings in scope.
 #[derive(Drop)]

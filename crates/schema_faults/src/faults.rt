@@ -12,7 +12,7 @@ use crate::shape_faults::{
     has_text, has_wrong_attribute, has_wrong_children, has_wrong_value, is_no_schema,
 };
 use crate::unsupported::{type_names, unsupported_type};
-use schema_grammar::{Kind, Tag};
+use schema_values::{Kind, Tag};
 use std::alloc::{AllocError, Global};
 use xs_codes::Code;
 

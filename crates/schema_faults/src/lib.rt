@@ -14,7 +14,3 @@ pub use broken::Broken;
 pub use element::Element;
 pub use faults::{fault_of, lesser};
 pub use limit_faults::{MAX_FACET_NUMBER, MAX_FIELDS};
-pub use schema_values::{
-    Occurs, SpaceToken, Spaces, flag_of, methods_of, name_of, names_of, occurs_of, raw_of,
-    spaces_of, value_of,
-};

@@ -3,8 +3,7 @@ ghost use Rattle.schema_faults.specs.Faults.{first_broken, limit_tests};
 ghost use Rattle.schema_faults.specs.Limits as spec;
 
 use crate::unsupported::has_schema_target;
-use schema_grammar::{AttributeName, Class, Kind, Tag, is_in};
-use schema_values::{digits_of, is_past_limit, raw_of};
+use schema_values::{AttributeName, Class, Kind, Tag, digits_of, is_in, is_past_limit, raw_of};
 use std::alloc::{AllocError, Global};
 use tree_rows::Attribute;
 use xs_codes::Code;

@@ -3,12 +3,11 @@ ghost use Rattle.schema_faults.specs.Faults.{first_broken, element_tests, attrib
 ghost use Rattle.schema_faults.specs.Representation as spec;
 
 use crate::children::has_child;
-use schema_grammar::{AttributeName, Class, Kind, Tag, is_in};
-use schema_values::{has, has_crossed_bounds, value_of};
+use schema_values::{AttributeName, Class, Kind, Tag, has, has_crossed_bounds, is_in, value_of};
 use std::alloc::{AllocError, Global};
 use tree_rows::Attribute;
-use white_space::count_items;
 use xs_codes::Code;
+use xs_names::count_items;
 
 /// Whether one of these attributes is there.
 fn has_any(names: &[AttributeName], attributes: &[Attribute]) -> bool

@@ -3,12 +3,10 @@ ghost use Rattle.std.specs.List.{list_all};
 ghost use Rattle.schema_faults.specs.ShapeFaults as spec;
 
 use crate::children::{follows, has_characters};
-use schema_grammar::{Kind, Rule, SCHEMA_NAMESPACE, Tag, contents, rules};
-use schema_values::{fits, has, is_named};
+use schema_values::{Kind, Rule, SCHEMA_NAMESPACE, Tag, contents, fits, has, is_named, rules};
 use std::alloc::{AllocError, Global};
 use tag_names::Prefixes;
-use tree_rows::Attribute;
-use tree_siblings::Siblings;
+use tree_rows::{Attribute, Siblings};
 
 /// Whether the root is no schema.
 pub(crate) fn is_no_schema(kind: Kind) -> bool

@@ -3,8 +3,7 @@ ghost use Rattle.std.specs.List.{list_any};
 ghost use Rattle.schema_faults.specs.Faults.{first_broken, unsupported_tests};
 ghost use Rattle.schema_faults.specs.Unsupported as spec;
 
-use schema_grammar::{AttributeName, Kind, SCHEMA_NAMESPACE};
-use schema_values::{name_of, names_of, value_of};
+use schema_values::{AttributeName, Kind, SCHEMA_NAMESPACE, name_of, names_of, value_of};
 use std::alloc::{AllocError, Global};
 use tag_names::Prefixes;
 use tree_rows::{Attribute, Expanded};

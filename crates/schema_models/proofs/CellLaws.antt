@@ -9,11 +9,11 @@ use Rattle.std.proofs.lemmas.List.{length-map, length-set, get_or-map, get_or-se
 use Rattle.std.proofs.lemmas.List.Sums.{sum_by-cons, sum_by-set}
 use Rattle.xs_names.specs.Names.{NameTable}
 use Rattle.xs_components.specs.Tables.{Tables}
-use Rattle.model_symbols.specs.Symbols.{AreSymbolsOf}
-use Rattle.model_checks.specs.Terms.{model_terms}
-use Rattle.model_checks.specs.Built.{IsBuilt, symbols_of, states_of, cells_of}
-use Rattle.model_checks.specs.ContentAutomaton.{ContentAutomaton}
-use Rattle.model_checks.specs.ContentAutomaton.TheVariants.{States, All}
+use Rattle.content_automaton.specs.Symbols.{AreSymbolsOf}
+use Rattle.content_models.specs.Terms.{model_terms}
+use Rattle.content_models.specs.Built.{IsBuilt, symbols_of, states_of, cells_of}
+use Rattle.content_models.specs.declared.automaton.ContentAutomaton.{ContentAutomaton}
+use Rattle.content_models.specs.declared.automaton.ContentAutomaton.TheVariants.{States, All}
 use Rattle.schema_models.specs.SetModels.{by_place, content_of, most_cells, IsTableSize, IsCellCount, AreCellsUpTo, IsPastCells}
 use Rattle.schema_models.specs.inside.Steps.{model_at, taken, IsMade}
 use Rattle.schema_models.proofs.OrderLaws.{less-greater, equal-greater, not-greater-itself}

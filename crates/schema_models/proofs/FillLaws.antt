@@ -12,16 +12,16 @@ use Rattle.xs_codes.specs.declared.code.Code.{Code}
 use Rattle.xs_codes.specs.declared.code.Code.TheVariants.{XLimitTable}
 use Rattle.xs_codes.specs.declared.fault.Fault.{Fault}
 use Rattle.xs_codes.specs.Codes.{order_of}
-use Rattle.xs_faults.specs.Least.{sooner, is_before}
+use Rattle.xs_codes.specs.Least.{sooner, is_before}
 use Rattle.xs_names.specs.Names.{NameTable}
 use Rattle.xs_components.specs.Tables.{Tables}
 use Rattle.particle_models.specs.Unrolled.{positions_of}
 use Rattle.particle_forms.specs.Models.{model_of}
-use Rattle.model_symbols.specs.Symbols.{count_of}
-use Rattle.model_checks.specs.Built.{IsStateTotal, IsBuilt, HasRoom, IsRefused, states_of, cells_of}
-use Rattle.model_checks.specs.ContentAutomaton.{ContentAutomaton}
-use Rattle.model_checks.specs.ModelError.{ModelError}
-use Rattle.model_checks.specs.ModelError.TheVariants as errors
+use Rattle.content_automaton.specs.Symbols.{count_of}
+use Rattle.content_models.specs.Built.{IsStateTotal, IsBuilt, HasRoom, IsRefused, states_of, cells_of}
+use Rattle.content_models.specs.declared.automaton.ContentAutomaton.{ContentAutomaton}
+use Rattle.content_models.specs.declared.refused.ModelError.{ModelError}
+use Rattle.content_models.specs.declared.refused.ModelError.TheVariants as errors
 use Rattle.model_checks.specs.declared.fault.ModelFault.{ModelFault}
 use Rattle.model_checks.specs.declared.fault.ModelFault.TheVariants.{TooManyPositions, TooManyStates, TableTooLarge, Inconsistent, Ambiguous}
 use Rattle.schema_models.specs.SetModels.{place_of, by_place, content_of, type_fault, code_of, most_cells, IsCellCount, IsPastCells, IsBrokenOf, IsBrokenAt}

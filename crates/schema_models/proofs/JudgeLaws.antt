@@ -7,12 +7,12 @@ use Rattle.std.proofs.lemmas.Bool.{cases_eq}
 use Rattle.std.proofs.lemmas.Option.{none-some, same_Some}
 use Rattle.xs_codes.specs.declared.fault.Fault.{Fault}
 use Rattle.xs_codes.specs.Codes.{order_of}
-use Rattle.xs_faults.specs.Least.{IsLeast, sooner, is_before}
-use Rattle.xs_faults.proofs.LeastLaws.{least-sum, least-same}
+use Rattle.xs_codes.specs.Least.{IsLeast, sooner, is_before}
+use Rattle.xs_codes.proofs.LeastLaws.{least-sum, least-same}
 use Rattle.xs_names.specs.Names.{NameTable}
 use Rattle.xs_components.specs.Tables.{Tables}
-use Rattle.model_checks.specs.Built.{IsBuilt}
-use Rattle.model_checks.specs.ContentAutomaton.{ContentAutomaton}
+use Rattle.content_models.specs.Built.{IsBuilt}
+use Rattle.content_models.specs.declared.automaton.ContentAutomaton.{ContentAutomaton}
 use Rattle.model_checks.specs.Checks.{IsJudged}
 use Rattle.model_checks.specs.declared.fault.ModelFault.{ModelFault}
 use Rattle.model_checks.specs.declared.fault.ModelFault.TheVariants.{TooManyPositions, TooManyStates, TableTooLarge, Inconsistent, Ambiguous}

@@ -4,3 +4,7 @@ pub mod PlaceLaws
 pub mod CellLaws
 pub mod FillLaws
 pub mod JudgeLaws
+pub mod FindLaws
+pub mod MarkLaws
+pub mod FaultLaws
+pub mod LimitLaws

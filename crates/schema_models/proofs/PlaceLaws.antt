@@ -11,8 +11,8 @@ use Rattle.std.proofs.lemmas.Option.{none-some}
 use Rattle.xs_codes.specs.declared.code.Code.{Code}
 use Rattle.xs_codes.specs.declared.fault.Fault.{Fault}
 use Rattle.xs_codes.specs.Codes.{order_of}
-use Rattle.xs_faults.specs.Least.{is_before, sooner, IsLeast}
-use Rattle.xs_faults.proofs.LeastLaws.{fault_not_past, fault_not_trans}
+use Rattle.xs_codes.specs.Least.{is_before, sooner, IsLeast}
+use Rattle.xs_codes.proofs.LeastLaws.{fault_not_past, fault_not_trans}
 use Rattle.xs_components.specs.Tables.{Tables}
 use Rattle.model_checks.specs.declared.fault.ModelFault.{ModelFault}
 use Rattle.model_checks.specs.declared.fault.ModelFault.TheVariants.{TooManyPositions, TooManyStates, TableTooLarge, Inconsistent, Ambiguous}

@@ -14,16 +14,16 @@ use Rattle.particle_models.specs.Particles.{Particle}
 use Rattle.particle_models.specs.Unrolled.{HasNoAll}
 use Rattle.particle_forms.specs.Models.{model_of}
 use Rattle.particle_forms.specs.Accepted.{accepts, is_inhabited}
-use Rattle.model_symbols.specs.declared.terms.Accepts.{Accepts}
-use Rattle.model_symbols.specs.Terms.{ExpandedName}
-use Rattle.model_symbols.specs.Symbols.{SymbolTable, AreSymbolsOf, count_of}
-use Rattle.all_states.specs.declared.member.AllMember.{AllMember}
-use Rattle.all_states.specs.Shape.{all_within}
-use Rattle.content_states.proofs.Counting.{no_more_than}
+use Rattle.content_automaton.specs.declared.symbol_terms.Accepts.{Accepts}
+use Rattle.content_automaton.specs.Terms.{ExpandedName}
+use Rattle.content_automaton.specs.Symbols.{SymbolTable, AreSymbolsOf, count_of}
+use Rattle.content_models.specs.declared.member.AllMember.{AllMember}
+use Rattle.content_models.specs.Shape.{all_within}
+use Rattle.content_automaton.proofs.Counting.{no_more_than}
 use Rattle.content_automaton.specs.Counted.{IsStateCountOf}
-use Rattle.model_checks.specs.Terms.{model_terms}
-use Rattle.model_checks.specs.Built.{IsLimitedAll, IsStateTotal}
-use Rattle.model_checks.proofs.StateLaws.{count-moved}
+use Rattle.content_models.specs.Terms.{model_terms}
+use Rattle.content_models.specs.Built.{IsLimitedAll, IsStateTotal}
+use Rattle.content_models.proofs.StateLaws.{count-moved}
 use Rattle.schema_models.specs.SetModels.{IsTableSize}
 
 -- ---- lists of numbers, none twice

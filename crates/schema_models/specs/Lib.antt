@@ -1,6 +1,3 @@
 pub mod SetModels
+pub mod AllLimits
 pub mod inside
-pub use Rattle.model_checks.specs.Built
-pub use Rattle.model_checks.specs.Checks
-pub use Rattle.model_checks.specs.ContentAutomaton
-pub use Rattle.model_checks.specs.declared.fault.ModelFault

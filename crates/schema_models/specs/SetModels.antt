@@ -13,10 +13,10 @@ use Rattle.xs_components.specs.Tables.{Tables}
 use Rattle.xs_components.specs.declared.common.Place.{Place}
 use Rattle.xs_components.specs.declared.complex.ComplexType.{ComplexType}
 use Rattle.particle_forms.specs.Models.{model_of}
-use Rattle.model_symbols.specs.Symbols.{SymbolTable, AreSymbolsOf, count_of}
-use Rattle.model_checks.specs.Terms.{model_terms}
-use Rattle.model_checks.specs.Built.{IsStateTotal, HasTooManyPositions, HasTooManyStates, IsBuilt, IsLimited}
-use Rattle.model_checks.specs.ContentAutomaton.{ContentAutomaton}
+use Rattle.content_automaton.specs.Symbols.{SymbolTable, AreSymbolsOf, count_of}
+use Rattle.content_models.specs.Terms.{model_terms}
+use Rattle.content_models.specs.Built.{IsStateTotal, HasTooManyPositions, HasTooManyStates, IsBuilt, IsLimited}
+use Rattle.content_models.specs.declared.automaton.ContentAutomaton.{ContentAutomaton}
 use Rattle.model_checks.specs.Consistency.{IsConsistent}
 use Rattle.model_checks.specs.Checks.{IsAmbiguousModel}
 use Rattle.model_checks.specs.declared.fault.ModelFault.{ModelFault}

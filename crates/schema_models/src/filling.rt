@@ -1,20 +1,20 @@
 //! Automata one after another, as far as there are cells for them.
 
 ghost use Rattle.std.specs.Prelude.{◌≡◌, ◌<◌, ℕ, length, Some, IfOk, IfSome, OnOk};
-ghost use Rattle.model_checks.specs.Built.{IsSource, IsLimited};
+ghost use Rattle.content_models.specs.Built.{IsSource, IsLimited};
 ghost use Rattle.particle_forms.specs.Models.{model_of};
-ghost use Rattle.xs_faults.specs.Least.{IsLeast};
+ghost use Rattle.xs_codes.specs.Least.{IsLeast};
 ghost use Rattle.schema_models.specs.SetModels.{AreContentsLimited};
 ghost use Rattle.schema_models.specs.inside.Steps.{AreNone, IsFilled, IsNext, IsVisit, IsKindOf};
 
 use crate::models::Models;
 use crate::order::in_order;
 use crate::places::{is_elsewhere, type_fault};
-use model_checks::{ContentAutomaton, ModelError, ModelFault, ModelSource};
+use content_models::{ContentAutomaton, ModelError, ModelSource};
+use model_checks::ModelFault;
 use std::alloc::{AllocError, Global};
-use xs_codes::Fault;
+use xs_codes::{Fault, sooner};
 use xs_components::{ComplexId, ParticleId};
-use xs_faults::sooner;
 
 // The cells that the tables of a schema set may have together.
 const MOST_CELLS: u32 = 1 << 24;

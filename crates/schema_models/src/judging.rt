@@ -1,18 +1,18 @@
 //! What is broken of content models that have automata.
 
 ghost use Rattle.std.specs.Prelude.{◌≡◌, ◌<◌, ℕ, length, Some, IfOk};
-ghost use Rattle.model_checks.specs.Built.{IsSource, IsBuilt};
-ghost use Rattle.xs_faults.specs.Least.{IsLeast};
+ghost use Rattle.content_models.specs.Built.{IsSource, IsBuilt};
+ghost use Rattle.xs_codes.specs.Least.{IsLeast};
 ghost use Rattle.schema_models.specs.SetModels.{content_of, AreContentsLimited};
 ghost use Rattle.schema_models.specs.inside.Steps.{AreMade, IsMisjudged, IsMisjudgedIn, IsMisjudgedAt};
 
 use crate::models::Models;
 use crate::places::type_fault;
-use model_checks::{ContentAutomaton, ModelSource, judge};
+use content_models::{ContentAutomaton, ModelSource};
+use model_checks::judge;
 use std::alloc::{AllocError, Global};
-use xs_codes::Fault;
+use xs_codes::{Fault, sooner};
 use xs_components::{ComplexId, ParticleId};
-use xs_faults::sooner;
 
 // The fault of a complex type with this content and this automaton, if there is one.
 fn judge_model(

@@ -3,7 +3,7 @@
 ghost use Rattle.std.specs.Prelude.{◌≡◌, ◌<◌, length, slice_index_or, slice_set, option_map, None, Some, IfOk};
 ghost use Rattle.schema_models.specs.inside.Steps.{AreNone};
 
-use model_checks::ContentAutomaton;
+use content_models::ContentAutomaton;
 use std::alloc::{AllocError, Global};
 use std::marker::Model;
 use xs_components::{ComplexId, Components};
@@ -17,7 +17,7 @@ pub struct Models {
 
 impl Model for Models {
     ghost use Rattle.std.specs.Prelude.{List, Option};
-    ghost use Rattle.model_checks.specs.ContentAutomaton.{ContentAutomaton};
+    ghost use Rattle.content_models.specs.declared.automaton.ContentAutomaton.{ContentAutomaton};
 
     ghost Value = { List (Option ContentAutomaton) };
 

@@ -1,18 +1,17 @@
 //! The automata of a schema set.
 
 ghost use Rattle.std.specs.Prelude.{◌≡◌, Some, None, length, IfOk, IfErr};
-ghost use Rattle.model_checks.specs.Built.{IsSource};
-ghost use Rattle.xs_faults.specs.Least.{IsLeast};
+ghost use Rattle.content_models.specs.Built.{IsSource};
+ghost use Rattle.xs_codes.specs.Least.{IsLeast};
 ghost use Rattle.schema_models.specs.SetModels.{AreContentsLimited, AreModels, IsBroken};
 ghost use Rattle.schema_models.specs.inside.Steps.{AreNone, AreModelsIfNone};
 
 use crate::filling::fill;
 use crate::judging::judge_all;
 use crate::models::Models;
-use model_checks::ModelSource;
+use content_models::ModelSource;
 use std::alloc::{AllocError, Global};
-use xs_codes::Fault;
-use xs_faults::sooner;
+use xs_codes::{Fault, sooner};
 
 // Builds all automata, and answers the first fault of a content model.
 fn build_and_judge(

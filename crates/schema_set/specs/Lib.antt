@@ -1,1 +1,7 @@
 pub mod EffectiveSet
+pub mod Order
+pub mod Composition
+pub mod Sourced
+pub mod Documents
+pub mod Unassessed
+pub mod inside

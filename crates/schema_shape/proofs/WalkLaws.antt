@@ -8,9 +8,9 @@ use Rattle.tree_rows.specs.declared.row.Content.{Content}
 use Rattle.tree_rows.specs.declared.row.Content.TheVariants as contents
 use Rattle.tree_rows.specs.declared.row.Attribute.{Attribute}
 use Rattle.tree_rows.specs.declared.row.Row.{Row}
-use Rattle.schema_grammar.specs.Names.{tag_of}
-use Rattle.schema_grammar.specs.Places.{kind_below}
-use Rattle.schema_grammar.specs.declared.kinds.Kind.{Kind}
+use Rattle.schema_values.specs.GrammarNames.{tag_of}
+use Rattle.schema_values.specs.Places.{kind_below}
+use Rattle.schema_values.specs.declared.grammar_kinds.Kind.{Kind}
 use Rattle.schema_faults.specs.Constructs.{Construct, constructs, nearest}
 use Rattle.schema_shape.specs.declared.walk.Findings.{Findings}
 use Rattle.schema_shape.specs.inside.Walks.{with_construct, with_constructs, element_constructs}

@@ -6,7 +6,7 @@ use Rattle.tree_rows.specs.Forest.{Forest, none, element}
 use Rattle.tree_rows.specs.declared.name.Expanded.{Expanded}
 use Rattle.tree_rows.specs.declared.row.Attribute.{Attribute}
 use Rattle.xs_codes.specs.declared.code.Code.TheVariants.{XShapeRoot, XShapeAttribute, XShapeValue, PPropsCorrect2_1}
-use Rattle.schema_grammar.specs.Names.{schema_namespace}
+use Rattle.schema_values.specs.GrammarNames.{schema_namespace}
 use Rattle.schema_faults.specs.Faults.{least_fault, code_of, first_code, shape_tests, unsupported_tests, limit_tests, element_tests, attribute_tests, simple_tests}
 use Rattle.schema_shape.specs.Shaped.{constructs_of}
 

@@ -1,4 +1,4 @@
 pub mod Shapes
 pub mod Shaped
-pub mod inside
 pub mod Examples
+pub mod inside

@@ -3,7 +3,7 @@ use Rattle.std.specs.Prelude.{ℕ, List, Option, Some, None, Result, Ok, Err}
 use Rattle.tag_names.specs.Scopes.{first_scope}
 use Rattle.tree_rows.specs.Forest.{Forest}
 use Rattle.xs_codes.specs.declared.fault.Fault.{Fault}
-use Rattle.schema_grammar.specs.declared.kinds.Kind.TheVariants as k
+use Rattle.schema_values.specs.declared.grammar_kinds.Kind.TheVariants as k
 use Rattle.schema_faults.specs.Constructs.{Construct, constructs}
 use Rattle.schema_faults.specs.Faults.{least_fault}
 use Rattle.schema_shape.specs.Shapes.{shapes}

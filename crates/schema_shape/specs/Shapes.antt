@@ -11,18 +11,18 @@ use Rattle.xs_components.specs.declared.common.Process.{Process}
 use Rattle.xs_components.specs.declared.common.Process.TheVariants as process
 use Rattle.xs_components.specs.declared.simple.FacetKind.{FacetKind}
 use Rattle.xs_components.specs.declared.simple.FacetKind.TheVariants as facets
-use Rattle.schema_grammar.specs.Names.{tag_of}
-use Rattle.schema_grammar.specs.Table.{is_in}
-use Rattle.schema_grammar.specs.declared.kinds.AttributeName.{AttributeName}
-use Rattle.schema_grammar.specs.declared.kinds.AttributeName.TheVariants as an
-use Rattle.schema_grammar.specs.declared.kinds.Class.TheVariants as c
-use Rattle.schema_grammar.specs.declared.kinds.Kind.{Kind}
-use Rattle.schema_grammar.specs.declared.kinds.Kind.TheVariants as k
-use Rattle.schema_faults.specs.Attributes.{raw_of, value_of, name_of, names_of, flag_of, methods_of}
-use Rattle.schema_faults.specs.Occurrences.{occurs_of}
-use Rattle.schema_faults.specs.SchemaValuesSpaces.{spaces_of}
-use Rattle.schema_faults.specs.Spaces.{Spaces}
-use Rattle.schema_faults.specs.Spaces.TheVariants as spaces
+use Rattle.schema_values.specs.GrammarNames.{tag_of}
+use Rattle.schema_values.specs.Table.{is_in}
+use Rattle.schema_values.specs.declared.grammar_kinds.AttributeName.{AttributeName}
+use Rattle.schema_values.specs.declared.grammar_kinds.AttributeName.TheVariants as an
+use Rattle.schema_values.specs.declared.grammar_kinds.Class.TheVariants as c
+use Rattle.schema_values.specs.declared.grammar_kinds.Kind.{Kind}
+use Rattle.schema_values.specs.declared.grammar_kinds.Kind.TheVariants as k
+use Rattle.schema_values.specs.Attributes.{raw_of, value_of, name_of, names_of, flag_of, methods_of}
+use Rattle.schema_values.specs.Occurrences.{occurs_of}
+use Rattle.schema_values.specs.Spaces.{spaces_of}
+use Rattle.schema_values.specs.declared.spaces.Spaces.{Spaces}
+use Rattle.schema_values.specs.declared.spaces.Spaces.TheVariants as spaces
 use Rattle.schema_faults.specs.Constructs.{Construct}
 use Rattle.schema_shape.specs.declared.forms.AttributeForm.{AttributeForm}
 use Rattle.schema_shape.specs.declared.forms.ComplexTypeForm.{ComplexTypeForm}

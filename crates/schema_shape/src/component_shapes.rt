@@ -1,14 +1,15 @@
 ghost use Rattle.std.specs.Prelude.{◌≡◌, IfOk, bytes_eq, codes};
 ghost use Rattle.std.specs.Option.{option_map};
-ghost use Rattle.schema_grammar.specs.declared.kinds.AttributeName.TheVariants as an;
+ghost use Rattle.schema_values.specs.declared.grammar_kinds.AttributeName.TheVariants as an;
 ghost use Rattle.schema_shape.specs.Shapes as spec;
 
 use crate::content_shapes::{content_form, required_of};
 use crate::forms::{
     AttributeForm, ComplexTypeForm, ElementForm, Form, IdentityKind, Use, ValueForm,
 };
-use schema_faults::{flag_of, methods_of, name_of, occurs_of, raw_of, value_of};
-use schema_grammar::{AttributeName, Kind};
+use schema_values::{
+    AttributeName, Kind, flag_of, methods_of, name_of, occurs_of, raw_of, value_of,
+};
 use std::alloc::{AllocError, Global};
 use tag_names::Prefixes;
 use tree_rows::Attribute;

@@ -3,8 +3,9 @@ ghost use Rattle.schema_shape.specs.Shapes as spec;
 
 use crate::forms::{Compositor, Form, WildcardForm};
 use crate::simple_shapes::simple_form;
-use schema_faults::{Spaces, flag_of, name_of, occurs_of, spaces_of, value_of};
-use schema_grammar::{AttributeName, Kind};
+use schema_values::{
+    AttributeName, Kind, Spaces, flag_of, name_of, occurs_of, spaces_of, value_of,
+};
 use std::alloc::{AllocError, Global};
 use tag_names::Prefixes;
 use tree_rows::Attribute;

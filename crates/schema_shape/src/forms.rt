@@ -1,4 +1,4 @@
-use schema_faults::{Occurs, Spaces};
+use schema_values::{Occurs, Spaces};
 use tree_rows::{Binding, Expanded};
 use xs_codes::Fault;
 use xs_components::{FacetKind, Methods, Process};

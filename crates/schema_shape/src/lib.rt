@@ -12,5 +12,4 @@ pub use forms::{
     AttributeForm, ComplexTypeForm, Compositor, ElementForm, Form, IdentityKind, Reading,
     SchemaForm, Shape, ShapeList, ShapedSchema, Use, ValueForm, WildcardForm,
 };
-pub use schema_faults::{Occurs, SpaceToken, Spaces};
 pub use walk::{read, shape};

@@ -6,12 +6,11 @@ ghost use Rattle.schema_faults.specs.Elements.{construct_of};
 use crate::component_shapes::{component_form, qualified_of};
 use crate::content_shapes::required_of;
 use crate::forms::{Form, SchemaForm, Shape};
-use schema_faults::{Element, methods_of, value_of};
-use schema_grammar::{AttributeName, Class, Kind, is_in, tag_of};
+use schema_faults::Element;
+use schema_values::{AttributeName, Class, Kind, is_in, methods_of, tag_of, value_of};
 use std::alloc::{AllocError, Global};
 use tag_names::Prefixes;
-use tree_rows::{Attribute, Binding, Content};
-use tree_siblings::{Sibling, Siblings};
+use tree_rows::{Attribute, Binding, Content, Sibling, Siblings};
 use xs_lists::Listed;
 use xs_names::Text;
 

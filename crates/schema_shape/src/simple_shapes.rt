@@ -2,8 +2,7 @@ ghost use Rattle.std.specs.Prelude.{◌≡◌, IfOk};
 ghost use Rattle.schema_shape.specs.Shapes as spec;
 
 use crate::forms::Form;
-use schema_faults::{flag_of, name_of, names_of, raw_of};
-use schema_grammar::{AttributeName, Kind};
+use schema_values::{AttributeName, Kind, flag_of, name_of, names_of, raw_of};
 use std::alloc::{AllocError, Global};
 use tag_names::Prefixes;
 use tree_rows::Attribute;

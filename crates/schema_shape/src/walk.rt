@@ -10,11 +10,10 @@ use crate::forms::{Reading, ShapeList, ShapedSchema};
 use crate::shaped::{declares, shape_of};
 use plain_tree::Tree;
 use schema_faults::{Broken, Element, fault_of, lesser};
-use schema_grammar::{Kind, kind_below, tag_of};
+use schema_values::{Kind, kind_below, tag_of};
 use std::alloc::{AllocError, Global};
 use tag_names::Prefixes;
-use tree_rows::{Binding, Content, Row};
-use tree_siblings::{Sibling, Siblings};
+use tree_rows::{Binding, Content, Row, Sibling, Siblings};
 use xs_codes::Fault;
 use xs_lists::Listed;
 

@@ -3,12 +3,12 @@ use Rattle.std.specs.Prelude.{ℕ, Bool, ◌&&◌, List, [], Option, is_some, is
 use Rattle.std.specs.List.{find}
 use Rattle.std.specs.Option.{option_map, option_and_then, unwrap_or}
 use Rattle.std.specs.Str.{bytes_eq}
-use Rattle.white_space.specs.WhiteSpace.{collapsed, items}
+use Rattle.xs_names.specs.WhiteSpace.{collapsed, items}
 use Rattle.tree_rows.specs.declared.name.Expanded.{Expanded}
 use Rattle.tree_rows.specs.declared.row.Attribute.{Attribute}
 use Rattle.tree_rows.specs.declared.row.Binding.{Binding}
-use Rattle.schema_grammar.specs.Names.{attribute_text}
-use Rattle.schema_grammar.specs.declared.kinds.AttributeName.{AttributeName}
+use Rattle.schema_values.specs.GrammarNames.{attribute_text}
+use Rattle.schema_values.specs.declared.grammar_kinds.AttributeName.{AttributeName}
 use Rattle.xs_components.specs.declared.common.Methods.{Methods}
 use Rattle.schema_values.specs.Values.{boolean_of}
 use Rattle.schema_values.specs.Names.{qname_of, names_in}

@@ -2,10 +2,10 @@
 use Rattle.std.specs.Prelude.{ℕ, Bool, true, ◌||◌, List, is_some, codes}
 use Rattle.std.specs.Str.{bytes_eq, chars}
 use Rattle.xs_names.specs.Characters.{is_ncname}
-use Rattle.white_space.specs.WhiteSpace.{collapsed, items}
+use Rattle.xs_names.specs.WhiteSpace.{collapsed, items}
 use Rattle.tree_rows.specs.declared.row.Binding.{Binding}
-use Rattle.schema_grammar.specs.declared.kinds.ValueKind.{ValueKind}
-use Rattle.schema_grammar.specs.declared.kinds.ValueKind.TheVariants as v
+use Rattle.schema_values.specs.declared.grammar_kinds.ValueKind.{ValueKind}
+use Rattle.schema_values.specs.declared.grammar_kinds.ValueKind.TheVariants as v
 use Rattle.schema_values.specs.Values.{boolean_of, is_digits, digits_of, is_positive}
 use Rattle.schema_values.specs.Names.{qname_of, are_qnames}
 use Rattle.schema_values.specs.Words.{is_word, is_set}

@@ -1,3 +1,6 @@
+pub mod GrammarNames
+pub mod Table
+pub mod Places
 pub mod Values
 pub mod Names
 pub mod Words

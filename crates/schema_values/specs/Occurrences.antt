@@ -3,7 +3,7 @@ use Rattle.std.specs.Prelude.{ℕ, Bool, true, false, ◌||◌, nat_lt, List, mi
 use Rattle.std.specs.Option.{option_and_then, unwrap_or}
 use Rattle.std.specs.Str.{bytes_eq}
 use Rattle.tree_rows.specs.declared.row.Attribute.{Attribute}
-use Rattle.schema_grammar.specs.declared.kinds.AttributeName.TheVariants as an
+use Rattle.schema_values.specs.declared.grammar_kinds.AttributeName.TheVariants as an
 use Rattle.schema_values.specs.Values.{digits_of}
 use Rattle.schema_values.specs.Attributes.{value_of}
 use Rattle.schema_values.specs.declared.occurs.TheConstants.{MAX_OCCURS}

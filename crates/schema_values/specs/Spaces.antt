@@ -1,7 +1,7 @@
 -- The namespaces that a wildcard admits, as they are written (Structures 3.10.2).
 use Rattle.std.specs.Prelude.{ℕ, List, map, if◌then◌else◌, codes}
 use Rattle.std.specs.Str.{bytes_eq}
-use Rattle.white_space.specs.WhiteSpace.{items}
+use Rattle.xs_names.specs.WhiteSpace.{items}
 use Rattle.schema_values.specs.declared.spaces.SpaceToken.{SpaceToken}
 use Rattle.schema_values.specs.declared.spaces.SpaceToken.TheVariants as tokens
 use Rattle.schema_values.specs.declared.spaces.Spaces.{Spaces}

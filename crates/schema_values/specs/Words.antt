@@ -2,9 +2,9 @@
 use Rattle.std.specs.Prelude.{ℕ, Bool, true, false, ◌||◌, List, [], ◌∷◌, codes}
 use Rattle.std.specs.List.{list_all, list_any}
 use Rattle.std.specs.Str.{bytes_eq}
-use Rattle.white_space.specs.WhiteSpace.{items}
-use Rattle.schema_grammar.specs.declared.kinds.ValueKind.{ValueKind}
-use Rattle.schema_grammar.specs.declared.kinds.ValueKind.TheVariants as v
+use Rattle.xs_names.specs.WhiteSpace.{items}
+use Rattle.schema_values.specs.declared.grammar_kinds.ValueKind.{ValueKind}
+use Rattle.schema_values.specs.declared.grammar_kinds.ValueKind.TheVariants as v
 use Rattle.xs_components.specs.declared.common.Methods.{Methods}
 
 -- the words that a value of this kind may be, or of which it may be a list

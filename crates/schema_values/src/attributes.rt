@@ -3,15 +3,13 @@ ghost use Rattle.std.specs.Option.{option_copied};
 ghost use Rattle.schema_values.specs.Attributes as spec;
 
 use crate::names::names_in;
-use crate::{boolean_of, qname_of, set_of};
-use schema_grammar::{AttributeName, attribute_text};
+use crate::{AttributeName, attribute_text, boolean_of, qname_of, set_of};
 use std::alloc::{AllocError, Global};
 use tag_names::Prefixes;
 use tree_rows::{Attribute, Expanded};
-use white_space::{WhiteSpace, items, normalized};
 use xs_components::Methods;
 use xs_lists::Listed;
-use xs_names::Text;
+use xs_names::{Text, WhiteSpace, items, normalized};
 
 /// Whether the attribute has no namespace and this name.
 pub fn is_named(name: AttributeName, attribute: &Attribute) -> bool

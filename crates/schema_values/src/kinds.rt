@@ -1,17 +1,15 @@
 ghost use Rattle.std.specs.Prelude.{◌≡◌, IfOk};
-ghost use Rattle.white_space.specs.WhiteSpace.{items};
+ghost use Rattle.xs_names.specs.WhiteSpace.{items};
 ghost use Rattle.schema_values.specs.Fits as spec;
 ghost use Rattle.schema_values.specs.Names.{are_qnames};
 
 use crate::names::are_qnames;
 use crate::values::is_positive;
 use crate::words::{is_set, is_word};
-use crate::{boolean_of, digits_of, qname_of};
-use schema_grammar::ValueKind;
+use crate::{ValueKind, boolean_of, digits_of, qname_of};
 use std::alloc::{AllocError, Global};
 use tag_names::Prefixes;
-use white_space::{WhiteSpace, items, normalized};
-use xs_names::is_ncname;
+use xs_names::{WhiteSpace, is_ncname, items, normalized};
 
 /// Whether the text is a list of QNames whose prefixes are bound.
 fn are_names(alloc: Global, scope: &Prefixes, text: &str) -> Result<bool, AllocError>

@@ -2,8 +2,7 @@ ghost use Rattle.std.specs.Prelude.{◌≡◌, IfOk, min};
 ghost use Rattle.std.specs.Option.{option_map};
 ghost use Rattle.schema_values.specs.Occurrences as spec;
 
-use crate::{CAP, digits_of, value_of};
-use schema_grammar::AttributeName;
+use crate::{AttributeName, CAP, digits_of, value_of};
 use std::alloc::{AllocError, Global};
 use tree_rows::Attribute;
 use xs_names::Text;

@@ -2,9 +2,8 @@ ghost use Rattle.std.specs.Prelude.{◌≡◌, IfOk, map};
 ghost use Rattle.schema_values.specs.Spaces as spec;
 
 use std::alloc::{AllocError, Global};
-use white_space::items;
 use xs_lists::Listed;
-use xs_names::Text;
+use xs_names::{Text, items};
 
 /// A namespace in the list of a wildcard (Structures 3.10.2).
 #[derive(Debug, Drop)]

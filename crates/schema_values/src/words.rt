@@ -2,11 +2,10 @@ ghost use Rattle.std.specs.Prelude.{◌≡◌, IfOk, bytes_eq};
 ghost use Rattle.std.specs.List.{list_any};
 ghost use Rattle.schema_values.specs.Words as spec;
 
-use schema_grammar::ValueKind;
+use crate::ValueKind;
 use std::alloc::{AllocError, Global};
-use white_space::items;
 use xs_components::Methods;
-use xs_names::Text;
+use xs_names::{Text, items};
 
 /// Whether a value of the kind may be this word, or a list of such words.
 pub(crate) fn is_word(kind: ValueKind, word: &str) -> bool

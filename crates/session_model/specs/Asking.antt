@@ -3,7 +3,7 @@ use Rattle.std.specs.Prelude.{ℕ, ◌+◌, List, [], ◌∷◌, ◌==◌, Optio
 use Rattle.assess_records.specs.declared.outcome.Validity.{Validity}
 use Rattle.assess_records.specs.declared.outcome.Validity.TheVariants.{NotKnown}
 use Rattle.assess_records.specs.declared.record.AttrRecord.{AttrRecord}
-use Rattle.compiled_schema.specs.Assessment.{Entry}
+use Rattle.assessment.specs.Assessment.{Entry}
 
 -- the entry of a number
 abbrev pub entry_at : ℕ → List Entry → Option Entry

@@ -3,9 +3,9 @@ use Rattle.std.specs.Prelude.{◌≡◌}
 use Rattle.xs_names.specs.Names.{IsSound}
 use Rattle.tree_rows.specs.Forest.{Forest, Document}
 use Rattle.tree_rows.specs.Whole.{IsTree}
-use Rattle.compiled_schema.specs.Attribution.{SchemaSet}
-use Rattle.compiled_schema.specs.Assessment.{Assessed, IsAssessment}
-use Rattle.compiled_schema.specs.Joined.{beside_of}
+use Rattle.assessment.specs.Attribution.{SchemaSet}
+use Rattle.assessment.specs.Assessment.{Assessed, IsAssessment}
+use Rattle.assessment.specs.Joined.{beside_of}
 use Rattle.compiled_schema.specs.Usable.{AreNamed}
 
 -- It answers of each document that has an assessment by a schema set (Structures 5.2) that assessment, with the codes of its IDs

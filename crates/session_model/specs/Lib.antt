@@ -5,17 +5,4 @@ pub mod Asking
 pub mod Reports
 pub mod Applying
 pub mod Counting
-pub use Rattle.document_names.specs.Numbered
-pub use Rattle.compiled_schema.specs.Assessment
-pub use Rattle.compiled_schema.specs.Attribution
-pub use Rattle.compiled_schema.specs.Ids
-pub use Rattle.compiled_schema.specs.Joined
-pub use Rattle.compiled_schema.specs.Bearings
-pub use Rattle.document_names.specs.Table
-pub use Rattle.document_names.specs.Found
-pub use Rattle.compiled_schema.specs.Usable
-pub use Rattle.compiled_schema.specs.declared.compiled.Compiled
-pub use Rattle.compiled_schema.specs.contracts.compiled.Compiled as CompiledRow
-pub use Rattle.report_text.specs.Words
-pub use Rattle.report_text.specs.Named
-pub use Rattle.report_text.specs.Lines
+pub mod Few

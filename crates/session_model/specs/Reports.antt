@@ -2,7 +2,7 @@
 use Rattle.std.specs.Prelude.{List, [], ◌∷◌, ◌++◌, ℕ, All}
 use Rattle.xs_names.specs.Names.{NameTable}
 use Rattle.compiled_schema.specs.declared.compiled.Compiled.{Compiled}
-use Rattle.compiled_schema.specs.Assessment.{Entry}
+use Rattle.assessment.specs.Assessment.{Entry}
 use Rattle.report_text.specs.Lines.{records_text}
 use Rattle.report_text.specs.Named.{IsNamed, AreNamed as AreAttrsNamed}
 use Rattle.session_model.specs.Assessor.{RightAssessor}

@@ -1,10 +1,14 @@
 //! What a session over one document answers, however it finds its answers.
 #![tactic(auto)]
 
+mod count;
+mod find;
+mod laws;
+mod report;
 mod session;
 
-pub use assess_records::{AttrRecord, ElementRecord, Validity};
-pub use compiled_schema::{Compiled, usable_with_more_names};
-pub use document_names::{add_names, document_names_are_found};
-pub use report_text::{Records, validity_word, write_records};
+pub use count::count_codes;
+pub use find::{find_records, root_validity};
+pub use laws::{entries_are_named, entries_have_few_codes};
+pub use report::write_report;
 pub use session::{Session, SessionError};

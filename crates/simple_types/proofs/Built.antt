@@ -2,7 +2,7 @@
 use Rattle.std.proofs.Common.{◌≡◌, List, None, Some, Ok, Err}
 use Rattle.xs_codes.specs.declared.fault.Fault.{Fault}
 use Rattle.xs_components.specs.Tables.{Tables}
-use Rattle.xs_references.specs.Ranked.{IsRanked}
+use Rattle.component_references.specs.Ranked.{IsRanked}
 use Rattle.simple_types.specs.declared.judged.JudgedType.{JudgedType}
 use Rattle.simple_types.specs.declared.types.SimpleTypes.{SimpleTypes}
 use Rattle.simple_types.specs.Judging.{AreSimplesJudged, AreContentsJudged}

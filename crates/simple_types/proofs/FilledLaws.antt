@@ -5,7 +5,7 @@ use Rattle.std.proofs.lemmas.Bool.{cases_eq, cases_lt}
 use Rattle.std.proofs.lemmas.Option.{slice_get-get_or}
 use Rattle.std.proofs.lemmas.List.{get_or_default, get_or-take, get_or-set_same, length-take-le}
 use Rattle.std.proofs.lemmas.List.Elements.{All-more, All-get_or, All-from_get_or, All-contains}
-use Rattle.xs_references.specs.Order.{IsOrder}
+use Rattle.component_references.specs.Order.{IsOrder}
 use Rattle.simple_types.specs.Judging.{Holds}
 
 slice_get-set_same : {V : Type 0} (table : List V) (x : ℕ) (v : V) → x < length table → slice_get (set table x v) x ≡ Some v

@@ -16,18 +16,18 @@ use Rattle.xs_components.specs.declared.simple.SimpleType.{SimpleType}
 use Rattle.xs_components.specs.declared.complex.ContentForm.{ContentForm}
 use Rattle.xs_components.specs.declared.complex.ContentForm.TheVariants as contents
 use Rattle.xs_components.specs.declared.complex.ComplexType.{ComplexType}
-use Rattle.xs_references.specs.Heights.{first_height, type_height, IsLower}
-use Rattle.xs_references.specs.Ranked.{named_types, IsRanked}
-use Rattle.simple_validity.specs.FacetsFacets.{Facets}
-use Rattle.simple_validity.specs.Known.{Known}
-use Rattle.simple_validity.specs.Known.TheVariants.{Whole}
-use Rattle.simple_validity.specs.Members.{Members}
-use Rattle.simple_validity.specs.Making.{no_members, with_member}
-use Rattle.simple_validity.specs.Source.{list_of}
-use Rattle.simple_validity.specs.TypeTree.{TypeTree, not_simple, built_in, restriction, list_type, union_type, members_of}
-use Rattle.simple_validity.specs.Trees.{form_tree, part_tree, simple_tree, content_form, content_part, restricted_tree, type_tree}
-use Rattle.simple_validity.specs.SimpleValidity.{AreInForce, IsMade, AreMembers, IsListKnown, made_from_both, known_behind}
-use Rattle.simple_validity.proofs.TreeLaws.{simple_tree_is, type_tree_is}
+use Rattle.component_references.specs.Heights.{first_height, type_height, IsLower}
+use Rattle.component_references.specs.Ranked.{named_types, IsRanked}
+use Rattle.facets.specs.declared.facets.Facets.{Facets}
+use Rattle.facets.specs.declared.known.Known.{Known}
+use Rattle.facets.specs.declared.known.Known.TheVariants.{Whole}
+use Rattle.facets.specs.declared.members.Members.{Members}
+use Rattle.facets.specs.Making.{no_members, with_member}
+use Rattle.facets.specs.Source.{list_of}
+use Rattle.simple_types.specs.TypeTree.{TypeTree, not_simple, built_in, restriction, list_type, union_type, members_of}
+use Rattle.simple_types.specs.Trees.{form_tree, part_tree, simple_tree, content_form, content_part, restricted_tree, type_tree}
+use Rattle.simple_types.specs.SimpleValidity.{AreInForce, IsMade, AreMembers, IsListKnown, made_from_both, known_behind}
+use Rattle.simple_types.proofs.TreeLaws.{simple_tree_is, type_tree_is}
 use Rattle.simple_types.specs.declared.judged.TypeFacets.{TypeFacets}
 use Rattle.simple_types.specs.declared.judged.JudgedType.{JudgedType}
 use Rattle.simple_types.specs.Lookup.{unknown, entry_of, entry_at, looked_up, content_of}

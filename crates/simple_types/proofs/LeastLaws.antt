@@ -4,7 +4,7 @@ use Rattle.std.specs.Prelude.{nat_lt}
 use Rattle.std.proofs.lemmas.Bool.{false≢true}
 use Rattle.std.proofs.lemmas.Bool.Decides.{nat_tests}
 use Rattle.xs_codes.specs.declared.fault.Fault.{Fault}
-use Rattle.simple_validity.specs.First.{Rule, fault_at, code_place, is_before, sooner, noted, first_from, first_fault}
+use Rattle.facet_rules.specs.First.{Rule, fault_at, code_place, is_before, sooner, noted, first_from, first_fault}
 use Rattle.simple_types.specs.declared.judged.JudgedType.{JudgedType}
 use Rattle.simple_types.specs.declared.types.SimpleTypes.{SimpleTypes}
 use Rattle.simple_types.specs.SimpleTypes.{sooner_if, first_of, first_fault_of}

@@ -1,3 +1,8 @@
+pub mod Codes
+pub mod Trials
+pub mod Framing
+pub mod TreeLaws
+pub mod ReadLaws
 pub mod Built
 pub mod Defined
 pub mod FilledLaws
@@ -5,3 +10,6 @@ pub mod InForce
 pub mod LeastLaws
 pub mod Stable
 pub mod Whole
+pub mod Tried
+pub mod Steps
+pub mod Valid

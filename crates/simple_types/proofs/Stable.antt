@@ -12,14 +12,14 @@ use Rattle.xs_components.specs.declared.simple.SimpleType.{SimpleType}
 use Rattle.xs_components.specs.declared.complex.ContentForm.{ContentForm}
 use Rattle.xs_components.specs.declared.complex.ContentForm.TheVariants as contents
 use Rattle.xs_components.specs.declared.complex.ComplexType.{ComplexType}
-use Rattle.xs_references.specs.Heights.{first_height, IsLower}
-use Rattle.xs_references.specs.Ranked.{named_types, IsRanked}
-use Rattle.simple_validity.specs.Known.{Known}
-use Rattle.simple_validity.specs.Known.TheVariants.{Whole}
-use Rattle.simple_validity.specs.Members.{Members}
-use Rattle.simple_validity.specs.Making.{no_members, with_member}
-use Rattle.simple_validity.specs.Source.{union_of}
-use Rattle.simple_validity.specs.SimpleValidity.{made_from_both}
+use Rattle.component_references.specs.Heights.{first_height, IsLower}
+use Rattle.component_references.specs.Ranked.{named_types, IsRanked}
+use Rattle.facets.specs.declared.known.Known.{Known}
+use Rattle.facets.specs.declared.known.Known.TheVariants.{Whole}
+use Rattle.facets.specs.declared.members.Members.{Members}
+use Rattle.facets.specs.Making.{no_members, with_member}
+use Rattle.facets.specs.Source.{union_of}
+use Rattle.simple_types.specs.SimpleValidity.{made_from_both}
 use Rattle.simple_types.specs.declared.judged.TypeFacets.{TypeFacets}
 use Rattle.simple_types.specs.declared.judged.JudgedType.{JudgedType}
 use Rattle.simple_types.specs.Lookup.{entry_of, looked_up, content_of}

@@ -17,19 +17,19 @@ use Rattle.xs_components.specs.declared.simple.SimpleType.{SimpleType}
 use Rattle.xs_components.specs.declared.complex.ContentForm.{ContentForm}
 use Rattle.xs_components.specs.declared.complex.ContentForm.TheVariants as contents
 use Rattle.xs_components.specs.declared.complex.ComplexType.{ComplexType}
-use Rattle.xs_references.specs.Heights.{first_height, IsLower}
-use Rattle.xs_references.specs.Ranked.{named_types, IsRanked}
-use Rattle.simple_validity.specs.First.{Rule, rule, sooner, noted, first_from, is_before, fault_at}
-use Rattle.simple_validity.specs.FacetsFacets.{Facets}
-use Rattle.simple_validity.specs.Judged.{Judged}
-use Rattle.simple_validity.specs.Known.{Known}
-use Rattle.simple_validity.specs.Known.TheVariants.{Whole}
-use Rattle.simple_validity.specs.Facets.{IsStepJudged}
-use Rattle.simple_validity.specs.Source.{list_of}
-use Rattle.simple_validity.specs.TypeTree.{TypeTree, not_simple, restriction, list_type, union_type, members_of}
-use Rattle.simple_validity.specs.Trees.{form_tree, part_tree, simple_tree, content_form, content_part, type_tree}
-use Rattle.simple_validity.specs.SimpleValidity.{made_from, made_from_both}
-use Rattle.simple_validity.proofs.TreeLaws.{simple_tree_is, type_tree_is}
+use Rattle.component_references.specs.Heights.{first_height, IsLower}
+use Rattle.component_references.specs.Ranked.{named_types, IsRanked}
+use Rattle.facet_rules.specs.First.{Rule, rule, sooner, noted, first_from, is_before, fault_at}
+use Rattle.facets.specs.declared.facets.Facets.{Facets}
+use Rattle.facets.specs.declared.known.Judged.{Judged}
+use Rattle.facets.specs.declared.known.Known.{Known}
+use Rattle.facets.specs.declared.known.Known.TheVariants.{Whole}
+use Rattle.facets.specs.Facets.{IsStepJudged}
+use Rattle.facets.specs.Source.{list_of}
+use Rattle.simple_types.specs.TypeTree.{TypeTree, not_simple, restriction, list_type, union_type, members_of}
+use Rattle.simple_types.specs.Trees.{form_tree, part_tree, simple_tree, content_form, content_part, type_tree}
+use Rattle.simple_types.specs.SimpleValidity.{made_from, made_from_both}
+use Rattle.simple_types.proofs.TreeLaws.{simple_tree_is, type_tree_is}
 use Rattle.simple_types.specs.declared.judged.TypeFacets.{TypeFacets}
 use Rattle.simple_types.specs.declared.judged.JudgedType.{JudgedType}
 use Rattle.simple_types.specs.Lookup.{unknown, entry_of, entry_at, looked_up, content_of}

@@ -8,16 +8,16 @@ use Rattle.xs_components.specs.declared.simple.SimpleForm.{SimpleForm}
 use Rattle.xs_components.specs.declared.simple.SimpleForm.TheVariants.{Restrict, ListOf, UnionOf}
 use Rattle.xs_components.specs.declared.complex.ContentForm.{ContentForm}
 use Rattle.xs_components.specs.declared.complex.ContentForm.TheVariants as contents
-use Rattle.simple_validity.specs.First.{first_from}
-use Rattle.simple_validity.specs.FacetsFacets.{Facets}
-use Rattle.simple_validity.specs.Judged.{Judged}
-use Rattle.simple_validity.specs.Known.{Known}
-use Rattle.simple_validity.specs.Known.TheVariants as knowns
-use Rattle.simple_validity.specs.Members.{Members}
-use Rattle.simple_validity.specs.Facets.{IsStepJudged}
-use Rattle.simple_validity.specs.Making.{no_members, with_member}
-use Rattle.simple_validity.specs.Source.{list_of, union_of}
-use Rattle.simple_validity.specs.SimpleValidity.{made_from, made_from_both, list_of_any}
+use Rattle.facet_rules.specs.First.{first_from}
+use Rattle.facets.specs.declared.facets.Facets.{Facets}
+use Rattle.facets.specs.declared.known.Judged.{Judged}
+use Rattle.facets.specs.declared.known.Known.{Known}
+use Rattle.facets.specs.declared.known.Known.TheVariants as knowns
+use Rattle.facets.specs.declared.members.Members.{Members}
+use Rattle.facets.specs.Facets.{IsStepJudged}
+use Rattle.facets.specs.Making.{no_members, with_member}
+use Rattle.facets.specs.Source.{list_of, union_of}
+use Rattle.simple_types.specs.SimpleValidity.{made_from, made_from_both, list_of_any}
 use Rattle.simple_types.specs.declared.judged.TypeFacets.{TypeFacets}
 use Rattle.simple_types.specs.declared.judged.JudgedType.{JudgedType}
 use Rattle.simple_types.specs.Lookup.{unknown}

@@ -1,7 +1,7 @@
 -- What the first of some faults is: the least of them by document, item and place of the code.
 use Rattle.std.specs.Prelude.{◌≡◌, Bool, true, false, if◌then◌else◌, List, [], ◌∷◌, ◌++◌, ◌⊎◌, Option, None, Some}
 use Rattle.xs_codes.specs.declared.fault.Fault.{Fault}
-use Rattle.simple_validity.specs.First.{Rule, fault_at, is_before}
+use Rattle.facet_rules.specs.First.{Rule, fault_at, is_before}
 use Rattle.simple_types.specs.declared.judged.JudgedType.{JudgedType}
 use Rattle.simple_types.specs.declared.types.SimpleTypes.{SimpleTypes}
 

@@ -1,9 +1,11 @@
+pub mod SimpleValidity
+pub mod Trees
+pub mod TypeTree
 pub mod Forms
 pub mod Judging
 pub mod Least
 pub mod Lookup
 pub mod SimpleTypes
 pub mod TypeRules
+pub mod Determined
 pub mod inside
-pub use Rattle.simple_validity.specs.Trees
-pub use Rattle.simple_validity.specs.Trying

@@ -3,8 +3,8 @@ use Rattle.std.specs.Prelude.{ℕ, List, Option, None, Some, slice_get}
 use Rattle.xs_codes.specs.declared.builtin.Builtin.TheVariants.{AnySimpleType}
 use Rattle.xs_components.specs.declared.common.TypeId.{TypeId}
 use Rattle.xs_components.specs.declared.common.TypeId.TheVariants as types
-use Rattle.simple_validity.specs.Known.TheVariants.{Whole, Neither}
-use Rattle.simple_validity.specs.Source.{of_builtin}
+use Rattle.facets.specs.declared.known.Known.TheVariants.{Whole, Neither}
+use Rattle.facets.specs.Source.{of_builtin}
 use Rattle.simple_types.specs.declared.judged.TypeFacets.{TypeFacets}
 use Rattle.simple_types.specs.declared.judged.JudgedType.{JudgedType}
 

@@ -5,13 +5,13 @@ use Rattle.xs_codes.specs.declared.fault.Fault.{Fault}
 use Rattle.xs_components.specs.Tables.{Tables}
 use Rattle.xs_components.specs.declared.common.TypeId.{TypeId}
 use Rattle.simple_values.specs.declared.value.Value.{Value}
-use Rattle.simple_validity.specs.First.{sooner}
-use Rattle.simple_validity.specs.Accepted.{Accepted}
-use Rattle.simple_validity.specs.Known.TheVariants.{Whole}
-use Rattle.simple_validity.specs.Trying.{Scope}
-use Rattle.simple_validity.specs.TypeTree.{TypeTree, not_simple, built_in, restriction, list_type, union_type, MemberTrees, no_member, member}
-use Rattle.simple_validity.specs.Trees.{type_tree}
-use Rattle.simple_validity.specs.SimpleValidity.{IsValid}
+use Rattle.facet_rules.specs.First.{sooner}
+use Rattle.facets.specs.declared.atomic.Accepted.{Accepted}
+use Rattle.facets.specs.declared.known.Known.TheVariants.{Whole}
+use Rattle.facets.specs.Trying.{Scope}
+use Rattle.simple_types.specs.TypeTree.{TypeTree, not_simple, built_in, restriction, list_type, union_type, MemberTrees, no_member, member}
+use Rattle.simple_types.specs.Trees.{type_tree}
+use Rattle.simple_types.specs.SimpleValidity.{IsValid}
 use Rattle.simple_types.specs.declared.judged.JudgedType.{JudgedType}
 use Rattle.simple_types.specs.declared.types.SimpleTypes.{SimpleTypes}
 use Rattle.simple_types.specs.Lookup.{content_of}

@@ -10,7 +10,7 @@ use Rattle.xs_components.specs.declared.common.Place.{Place}
 use Rattle.xs_components.specs.declared.common.TypeId.{TypeId}
 use Rattle.xs_components.specs.declared.common.TypeId.TheVariants as types
 use Rattle.xs_components.specs.declared.simple.SimpleType.{SimpleType}
-use Rattle.simple_validity.specs.First.{Rule, rule}
+use Rattle.facet_rules.specs.First.{Rule, rule}
 
 abbrev pub no_fault : Option Fault
 no_fault = None

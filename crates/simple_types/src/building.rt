@@ -3,7 +3,7 @@ ghost use Rattle.std.specs.Prelude.{◌≡◌};
 ghost use Rattle.simple_types.specs.SimpleTypes as spec;
 
 use crate::JudgedType;
-use simple_validity::sooner;
+use facet_rules::sooner;
 use xs_codes::Fault;
 
 /// The first of the faults of these types, and of one that is known.

@@ -1,7 +1,7 @@
 //! The simple content of complex types, judged in the order of their ranks.
 ghost use Rattle.std.specs.Prelude.{◌≡◌, ◌<◌, true, false, length, IfOk, OnOk};
-ghost use Rattle.xs_references.specs.Order.{IsOrder};
-ghost use Rattle.xs_references.specs.Ranked.{IsRanked};
+ghost use Rattle.component_references.specs.Order.{IsOrder};
+ghost use Rattle.component_references.specs.Ranked.{IsRanked};
 ghost use Rattle.simple_types.specs.Forms.{IsContentMade};
 ghost use Rattle.simple_types.specs.Forms as forms;
 ghost use Rattle.simple_types.specs.Judging as spec;
@@ -11,9 +11,9 @@ use crate::filling::{put_at, unknown_types};
 use crate::forms::judged_step;
 use crate::lookup::{entry_at, looked_up};
 use crate::{JudgedType, TypeFacets};
+use component_references::order_of;
 use std::alloc::{AllocError, Global};
 use xs_components::{ComplexType, Components, ContentForm, TypeId};
-use xs_references::order_of;
 
 /// What is in force for a simple type, or for the content of a complex one.
 pub(crate) fn content_of(

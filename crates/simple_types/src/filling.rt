@@ -1,14 +1,14 @@
 //! The simple types, judged in the order of their ranks.
 ghost use Rattle.std.specs.Prelude.{◌≡◌, ◌<◌, length, set, IfOk, OnOk};
-ghost use Rattle.xs_references.specs.Order.{IsOrder};
-ghost use Rattle.xs_references.specs.Ranked.{IsRanked};
+ghost use Rattle.component_references.specs.Order.{IsOrder};
+ghost use Rattle.component_references.specs.Ranked.{IsRanked};
 ghost use Rattle.simple_types.specs.Judging as spec;
 
 use crate::forms::judged_part;
 use crate::{JudgedType, TypeFacets};
+use component_references::order_of;
 use std::alloc::{AllocError, Global};
 use xs_components::Components;
-use xs_references::order_of;
 
 /// So many types, of which nothing is known yet.
 pub(crate) fn unknown_types(alloc: Global, count: usize) -> Result<Vec<JudgedType>, AllocError>

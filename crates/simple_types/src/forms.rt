@@ -1,16 +1,16 @@
 //! A simple type, judged by those that it is made of.
 ghost use Rattle.std.specs.Prelude.{◌≡◌, IfOk, unwrap_or};
-ghost use Rattle.simple_validity.specs.Making as making;
-ghost use Rattle.simple_validity.specs.Source.{list_of};
-ghost use Rattle.simple_validity.specs.Known.TheVariants as knowns;
-ghost use Rattle.simple_validity.specs.SimpleValidity as validity;
+ghost use Rattle.facets.specs.Making as making;
+ghost use Rattle.facets.specs.Source.{list_of};
+ghost use Rattle.facets.specs.declared.known.Known.TheVariants as knowns;
+ghost use Rattle.simple_types.specs.SimpleValidity as validity;
 ghost use Rattle.simple_types.specs.Lookup.{looked_up as spec_looked_up};
 ghost use Rattle.simple_types.specs.Forms as spec;
 
 use crate::lookup::looked_up;
 use crate::rules::{note_base, note_item, note_members};
 use crate::{JudgedType, TypeFacets};
-use simple_validity::{Facets, Judged, Known, Members};
+use facets::{Facets, Judged, Known, Members};
 use std::alloc::{AllocError, Global};
 use xs_codes::{Builtin, Fault};
 use xs_components::{Components, FacetStep, Place, SimpleForm, SimpleType, TypeId};

@@ -2,7 +2,7 @@
 ghost use Rattle.std.specs.Prelude.{◌≡◌, IfOk};
 ghost use Rattle.simple_types.specs.Lookup as spec;
 
-use simple_validity::{Facets, Known};
+use facets::{Facets, Known};
 use std::alloc::{AllocError, Global};
 use xs_codes::{Builtin, Fault};
 

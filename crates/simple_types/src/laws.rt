@@ -1,6 +1,6 @@
 //! What the first of some faults is.
 ghost use Rattle.std.specs.Prelude.{List};
-ghost use Rattle.simple_validity.specs.First.{Rule, first_fault};
+ghost use Rattle.facet_rules.specs.First.{Rule, first_fault};
 ghost use Rattle.simple_types.specs.Least as spec;
 ghost use Rattle.simple_types.specs.SimpleTypes.{first_fault_of};
 ghost use Rattle.simple_types.specs.declared.types.SimpleTypes.{SimpleTypes as AnyTypes};

@@ -1,5 +1,4 @@
-//! The simple types of a schema set: the first fault among them, and what a text comes to by each (Structures 3.14; Datatypes
-//! 4.1.4 and 4.3).
+//! Simple validity: what a simple type is made of, and what a text comes to by it (Structures 3.14.4; Datatypes 4.1.4).
 #![tactic(auto)]
 
 mod building;
@@ -11,7 +10,11 @@ mod laws;
 mod lookup;
 mod rules;
 mod types;
+mod validity;
+mod validity_laws;
 
 pub use judged::{JudgedType, TypeFacets};
 pub use laws::first_is_least;
 pub use types::{Built, SimpleTypes};
+pub use validity::validated;
+pub use validity_laws::simple_validity_has_one_outcome;

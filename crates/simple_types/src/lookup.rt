@@ -3,7 +3,7 @@ ghost use Rattle.std.specs.Prelude.{◌≡◌, IfOk};
 ghost use Rattle.simple_types.specs.Lookup as spec;
 
 use crate::{JudgedType, TypeFacets};
-use simple_validity::{Facets, Known};
+use facets::{Facets, Known};
 use std::alloc::{AllocError, Global};
 use xs_components::TypeId;
 

@@ -1,9 +1,9 @@
 //! The rules of a simple type and of those that it is made of.
 ghost use Rattle.std.specs.Prelude.{◌≡◌};
-ghost use Rattle.simple_validity.specs.First.{first_from};
+ghost use Rattle.facet_rules.specs.First.{first_from};
 ghost use Rattle.simple_types.specs.TypeRules as spec;
 
-use simple_validity::noted;
+use facet_rules::noted;
 use xs_codes::{Builtin, Code, Fault};
 use xs_components::{Components, Methods, Place, TypeId};
 

@@ -1,18 +1,18 @@
 //! The simple types of a schema set.
 ghost use Rattle.std.specs.Prelude.{◌≡◌, IfOk};
 ghost use Rattle.xs_components.specs.Tables.{Tables};
-ghost use Rattle.xs_references.specs.Ranked.{IsRanked};
-ghost use Rattle.simple_validity.specs.Trees.{type_tree};
-ghost use Rattle.simple_validity.specs.SimpleValidity.{IsMade};
-ghost use Rattle.simple_validity.specs.TypeTree.{TypeTree};
+ghost use Rattle.component_references.specs.Ranked.{IsRanked};
+ghost use Rattle.simple_types.specs.Trees.{type_tree};
+ghost use Rattle.simple_types.specs.SimpleValidity.{IsMade};
+ghost use Rattle.simple_types.specs.TypeTree.{TypeTree};
 ghost use Rattle.simple_types.specs.SimpleTypes as spec;
 ghost use Rattle.simple_types.specs.inside.Numbers as inside;
 
-use crate::JudgedType;
 use crate::building::first_of;
 use crate::content::judged_contents;
 use crate::filling::judged_simples;
-use simple_validity::{Accepted, Facets, validated};
+use crate::{JudgedType, validated};
+use facets::{Accepted, Facets};
 use simple_values::Value;
 use std::alloc::{AllocError, Global};
 use xs_codes::{Code, Fault};

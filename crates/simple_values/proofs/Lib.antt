@@ -1,3 +1,4 @@
+pub mod HexPairs
 pub mod Integers
 pub mod Keys
 pub mod LanguageParts

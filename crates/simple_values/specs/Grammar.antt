@@ -3,8 +3,8 @@ use Rattle.std.specs.Prelude.{Option, Some, None}
 use Rattle.xs_codes.specs.declared.builtin.Builtin.{Builtin}
 use Rattle.xs_codes.specs.declared.builtin.Builtin.TheVariants as types
 use Rattle.time_value.specs.declared.literal.MomentKind.TheVariants as kinds
-use Rattle.white_space.specs.declared.handling.WhiteSpace.{WhiteSpace}
-use Rattle.white_space.specs.declared.handling.WhiteSpace.TheVariants.{Preserve, Replace, Collapse}
+use Rattle.xs_names.specs.declared.handling.WhiteSpace.{WhiteSpace}
+use Rattle.xs_names.specs.declared.handling.WhiteSpace.TheVariants.{Preserve, Replace, Collapse}
 use Rattle.simple_values.specs.declared.grammar.Grammar.{Grammar}
 use Rattle.simple_values.specs.declared.grammar.Grammar.TheVariants as forms
 

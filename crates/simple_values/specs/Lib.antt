@@ -1,3 +1,6 @@
+pub mod Binary
+pub mod Held
+pub mod Strings
 pub mod Bounds
 pub mod Builtins
 pub mod Grammar

@@ -14,7 +14,7 @@ use Rattle.time_value.specs.Moment as moments
 use Rattle.time_value.specs.Moment.{MomentValue}
 use Rattle.time_value.specs.Span as spans
 use Rattle.time_value.specs.Span.{SpanValue}
-use Rattle.value_strings.specs.Binary.{hex_octets, base64_octets}
+use Rattle.simple_values.specs.Binary.{hex_octets, base64_octets}
 use Rattle.xs_names.specs.Characters as names
 use Rattle.xs_names.specs.QName.{qname}
 use Rattle.xs_names.specs.Scope.{resolved}

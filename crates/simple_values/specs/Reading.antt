@@ -1,7 +1,7 @@
 -- What a text reads to as a literal of a built-in type: Datatypes 3.2, 3.3 and 4.3.6.
 use Rattle.std.specs.Prelude.{ℕ, List, [], ◌∷◌, ◌++◌, Option, Some, None, Result, Ok, Err}
 use Rattle.xs_codes.specs.declared.builtin.Builtin.{Builtin}
-use Rattle.white_space.specs.WhiteSpace.{normalized, items}
+use Rattle.xs_names.specs.WhiteSpace.{normalized, items}
 use Rattle.simple_values.specs.declared.fault.ValueFault.{ValueFault}
 use Rattle.simple_values.specs.declared.fault.ValueFault.TheVariants.{NotLexical}
 use Rattle.simple_values.specs.declared.atom.Atom.{Atom}

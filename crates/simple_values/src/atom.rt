@@ -1,10 +1,10 @@
 //! The values of atomic types.
 ghost use Rattle.std.specs.Prelude.{◌≡◌};
 
+use crate::{Characters, Octets};
 use dec_value::Dec;
 use std::alloc::AllocError;
 use time_value::{Moment, MomentKind, Span};
-use value_strings::{Characters, Octets};
 use xs_names::NsId;
 
 /// A value of an atomic type. Each primitive type has its own variant, or its own kind of moment, so that values of

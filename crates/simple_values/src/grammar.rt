@@ -3,8 +3,8 @@ ghost use Rattle.std.specs.Prelude.{◌≡◌};
 ghost use Rattle.simple_values.specs.Grammar as spec;
 
 use time_value::MomentKind;
-use white_space::WhiteSpace;
 use xs_codes::Builtin;
+use xs_names::WhiteSpace;
 
 /// The literals of an atomic type, or of the items of a list type.
 #[derive(Debug, Clone, Copy, PartialEq, Eq)]

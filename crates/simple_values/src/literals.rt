@@ -4,11 +4,10 @@ ghost use Rattle.simple_values.specs.Literals as spec;
 
 use crate::language::is_language;
 use crate::numbers::{read_decimal, read_integer};
-use crate::{Atom, ExpandedName, Grammar, ValueFault};
+use crate::{Atom, Characters, ExpandedName, Grammar, Octets, ValueFault, read_base64, read_hex};
 use dec_value::Dec;
 use std::alloc::{AllocError, Global};
 use time_value::{Moment, MomentKind, Span, TimeFault};
-use value_strings::{Characters, Octets, read_base64, read_hex};
 use xs_names::{Scope, is_name, is_ncname, is_nmtoken, split_qname};
 
 /// The value of a literal, or why it has none.

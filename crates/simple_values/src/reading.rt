@@ -1,7 +1,7 @@
 //! From a text to a value.
 ghost use Rattle.std.specs.Prelude.{◌≡◌, IfOk};
-ghost use Rattle.white_space.specs.WhiteSpace.{normalized};
-ghost use Rattle.white_space.specs.declared.handling.WhiteSpace.{WhiteSpace};
+ghost use Rattle.xs_names.specs.WhiteSpace.{normalized};
+ghost use Rattle.xs_names.specs.declared.handling.WhiteSpace.{WhiteSpace};
 ghost use Rattle.simple_values.specs.Grammar.{white_space_of};
 ghost use Rattle.simple_values.specs.Reading as spec;
 
@@ -9,9 +9,8 @@ use crate::grammar::{grammar_of, item_type, white_space_of};
 use crate::literals::read_atom;
 use crate::{Atoms, TypedAtom, Value, ValueFault};
 use std::alloc::{AllocError, Global};
-use white_space::{items, normalized};
 use xs_codes::Builtin;
-use xs_names::Scope;
+use xs_names::{Scope, items, normalized};
 
 /// What a text reads to, or why it has no value.
 pub type ReadValue = Result<Value, ValueFault>;

@@ -1,12 +1,12 @@
 -- Schema documents were compiled, and what follows their outcome was done.
 use Rattle.std.proofs.Common.{◌≡◌, ◌⊎◌, inr, ℕ, List, Option, Some, None, Result, IfOk, refl, sym, subst}
 use Rattle.open_document.specs.Answers.{IsCompiled, verdict_of, work_after}
-use Rattle.open_document.specs.BreakOff.{BreakOff}
-use Rattle.open_document.specs.Compiled.{Compiled}
-use Rattle.open_document.specs.Outcomes.{IsOutcome}
-use Rattle.open_document.specs.Outcome.{Outcome}
-use Rattle.open_document.specs.Outcome.TheVariants as outcomes
-use Rattle.open_document.specs.SchemaInput.{SchemaInput}
+use Rattle.open_document.specs.declared.break_off.BreakOff.{BreakOff}
+use Rattle.compiled_schema.specs.declared.compiled.Compiled.{Compiled}
+use Rattle.schema_compile.specs.Outcomes.{IsOutcome}
+use Rattle.schema_compile.specs.declared.outcome.Outcome.{Outcome}
+use Rattle.schema_compile.specs.declared.outcome.Outcome.TheVariants as outcomes
+use Rattle.schema_set.specs.declared.inputs.SchemaInput.{SchemaInput}
 use Rattle.open_document.specs.State.{WorkState, ready}
 use Rattle.open_document.specs.Tells.{Wrote}
 use Rattle.open_document.specs.declared.verdict.SetVerdict.{SetVerdict}

@@ -2,10 +2,10 @@
 use Rattle.std.proofs.Common.{◌≡◌, ℕ, ◌+◌, ◌≤◌, List, [], Option, Result, Ok, Err, IfOk, IsErrAnd, refl, sym, ap, ◌∙◌, subst, le_refl, arith}
 use Rattle.std.proofs.lemmas.Result.{err_from_is_err_and}
 use Rattle.std.proofs.KnownBytes.{Appends-nil}
-use Rattle.open_document.specs.BreakOff.{BreakOff}
-use Rattle.open_document.specs.BreakOff.TheVariants.{Memory}
-use Rattle.open_document.specs.Compiled.{Compiled}
-use Rattle.open_document.specs.Counting.{Counts}
+use Rattle.open_document.specs.declared.break_off.BreakOff.{BreakOff}
+use Rattle.open_document.specs.declared.break_off.BreakOff.TheVariants.{Memory}
+use Rattle.compiled_schema.specs.declared.compiled.Compiled.{Compiled}
+use Rattle.session_model.specs.Counting.{Counts}
 use Rattle.open_document.specs.State.{OpenState, WorkState, empty, ready, working, IsReady, IsOpen as IsDocumentOpen}
 use Rattle.open_document.specs.Tells.{Wrote}
 use Rattle.stream_sections.specs.declared.commands.CommandReader.{CommandReader}

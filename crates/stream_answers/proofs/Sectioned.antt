@@ -1,10 +1,10 @@
 -- What is told spot by spot is what is told section by section.
 use Rattle.std.proofs.Common.{◌≡◌, ℕ, ◌+◌, List, Option, Some, None, refl, ap, ◌∙◌}
 use Rattle.item_listing.specs.Listed as listed
-use Rattle.open_document.specs.Assessor.{RightAssessor}
-use Rattle.open_document.specs.Compiled.{Compiled}
-use Rattle.open_document.specs.Outcome.{Outcome}
-use Rattle.open_document.specs.Outcome.TheVariants as outcomes
+use Rattle.session_model.specs.Assessor.{RightAssessor}
+use Rattle.compiled_schema.specs.declared.compiled.Compiled.{Compiled}
+use Rattle.schema_compile.specs.declared.outcome.Outcome.{Outcome}
+use Rattle.schema_compile.specs.declared.outcome.Outcome.TheVariants as outcomes
 use Rattle.open_document.specs.State.{OpenState}
 use Rattle.open_document.specs.Answers.{opened, next_of, verdict}
 use Rattle.open_document.specs.declared.verdict.Verdict.{Verdict}

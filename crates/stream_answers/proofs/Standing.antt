@@ -1,8 +1,8 @@
 -- What is to be done where the stream stands at a place, by what its reader has to do.
 use Rattle.std.proofs.Common.{◌≡◌, ℕ, ap, ◌∙◌}
 use Rattle.item_listing.specs.declared.item.Item.{Item}
-use Rattle.open_document.specs.Assessor.{RightAssessor}
-use Rattle.open_document.specs.Compiled.{Compiled}
+use Rattle.session_model.specs.Assessor.{RightAssessor}
+use Rattle.compiled_schema.specs.declared.compiled.Compiled.{Compiled}
 use Rattle.open_document.specs.State.{OpenState, WorkState, ready, working}
 use Rattle.stream_sections.specs.inside.CommandTurns as command_turns
 use Rattle.stream_sections.specs.inside.DocumentTurns as document_turns

@@ -2,13 +2,3 @@ pub mod Refusals
 pub mod Faults
 pub mod Output
 pub mod inside
-pub use Rattle.open_document.specs.Assessor
-pub use Rattle.open_document.specs.Counting
-pub use Rattle.open_document.specs.Tells
-pub use Rattle.open_document.specs.BreakOff
-pub use Rattle.open_document.specs.State
-pub use Rattle.open_document.specs.Answers
-pub use Rattle.open_document.specs.Compiled
-pub use Rattle.open_document.specs.Outcomes
-pub use Rattle.open_document.specs.Outcome
-pub use Rattle.open_document.specs.SchemaInput

@@ -6,13 +6,13 @@ use Rattle.item_listing.specs.Listed.{Listed}
 use Rattle.item_listing.specs.declared.item.Item.{Item}
 use Rattle.assess_records.specs.declared.outcome.Validity.{Validity}
 use Rattle.assess_records.specs.declared.outcome.Validity.TheVariants as validities
-use Rattle.open_document.specs.Assessor.{RightAssessor}
-use Rattle.open_document.specs.Compiled.{Compiled}
-use Rattle.open_document.specs.SchemaInput.{SchemaInput}
-use Rattle.open_document.specs.Outcomes.{IsOutcome}
-use Rattle.open_document.specs.Outcome.{Outcome}
-use Rattle.open_document.specs.Outcome.TheVariants as outcomes
-use Rattle.open_document.specs.Words.{validity_word}
+use Rattle.session_model.specs.Assessor.{RightAssessor}
+use Rattle.compiled_schema.specs.declared.compiled.Compiled.{Compiled}
+use Rattle.schema_set.specs.declared.inputs.SchemaInput.{SchemaInput}
+use Rattle.schema_compile.specs.Outcomes.{IsOutcome}
+use Rattle.schema_compile.specs.declared.outcome.Outcome.{Outcome}
+use Rattle.schema_compile.specs.declared.outcome.Outcome.TheVariants as outcomes
+use Rattle.report_text.specs.Words.{validity_word}
 use Rattle.open_document.specs.State.{OpenState}
 use Rattle.open_document.specs.Answers.{opened, report, first_line, reply_of, next_of, cost_of, verdict}
 use Rattle.open_document.specs.declared.verdict.Verdict.{Verdict}

@@ -1,10 +1,10 @@
 ghost use Rattle.std.specs.Prelude.{◌≡◌, ◌≤◌, ℕ, List, [], Option, Some, IfOk};
 ghost use Rattle.xsv_io.specs.Causes.{KeepsCount};
-ghost use Rattle.open_document.specs.Assessor.{RightAssessor};
+ghost use Rattle.session_model.specs.Assessor.{RightAssessor};
 ghost use Rattle.open_document.specs.Answers.{reply_of, next_of, cost_of, verdict};
 ghost use Rattle.open_document.specs.State.{OpenState, IsOpen, working};
 ghost use Rattle.open_document.specs.Tells.{Wrote, IsWriteFault};
-ghost use Rattle.open_document.specs.Counting.{Counts};
+ghost use Rattle.session_model.specs.Counting.{Counts};
 ghost use Rattle.stream_sections.specs.declared.asked.Asked.{Asked};
 ghost use Rattle.stream_answers.specs.inside.Turns.{turned};
 ghost use Rattle.stream_answers.specs.inside.Turning.{spot_of, Takes, MovesTo, MovesOpen, GoesTo};

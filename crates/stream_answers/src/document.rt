@@ -1,8 +1,8 @@
 ghost use Rattle.std.specs.Prelude.{◌≡◌, ℕ, Some, IfOk};
 ghost use Rattle.xsv_io.specs.Causes.{KeepsCount};
 ghost use Rattle.open_document.specs.Answers.{verdict};
-ghost use Rattle.open_document.specs.Assessor.{RightAssessor};
-ghost use Rattle.open_document.specs.Compiled.{Compiled};
+ghost use Rattle.session_model.specs.Assessor.{RightAssessor};
+ghost use Rattle.compiled_schema.specs.declared.compiled.Compiled.{Compiled};
 ghost use Rattle.open_document.specs.State.{OpenState, IsReady, IsOpen, ready, working};
 ghost use Rattle.open_document.specs.Tells.{Wrote, IsWriteFault};
 ghost use Rattle.stream_answers.specs.Output as output;

@@ -6,9 +6,8 @@ ghost use Rattle.stream_answers.specs.Faults as faults;
 
 use crate::Ending;
 use open_document::{BreakOff, write_answer};
-use text_sink::Part;
 use xs_codes::{Code, Fault, code_text};
-use xsv_io::Sink;
+use xsv_io::{Part, Sink};
 
 /// Whether a code's text begins so.
 fn begins(code: Code, front: &str) -> bool

@@ -1,6 +1,6 @@
 ghost use Rattle.std.specs.Prelude.{◌≡◌};
 ghost use Rattle.item_listing.specs.Listed.{Listed};
-ghost use Rattle.open_document.specs.Assessor.{RightAssessor};
+ghost use Rattle.session_model.specs.Assessor.{RightAssessor};
 ghost use Rattle.stream_sections.specs.declared.asked.Asked.{Asked};
 ghost use Rattle.stream_answers.specs.Output.{sections_told};
 ghost use Rattle.stream_answers.specs.inside.Turns.{told, unbegun};

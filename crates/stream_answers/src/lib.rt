@@ -14,7 +14,6 @@ mod turn;
 
 pub use ending::Ending;
 pub use laws::places_answer_sections;
-pub use open_document::{BreakOff, Workspace};
 pub use place::Place;
 pub use refusal::write_refusal;
 pub use turn::{answer_item, write_end};

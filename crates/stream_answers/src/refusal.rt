@@ -7,9 +7,8 @@ use item_listing::Reason;
 use open_document::{BreakOff, write_answer};
 use stream_sections::{Refusal, RefusedLine};
 use tag_names::NameReason;
-use text_sink::Part;
 use tree_building::TreeReason;
-use xsv_io::Sink;
+use xsv_io::{Part, Sink};
 
 fn line_name(reason: Reason) -> &'static str
     ensures { result.now ≡ refusals.line_name reason }

@@ -1,6 +1,6 @@
 ghost use Rattle.std.specs.Prelude.{◌≡◌, ◌<◌, ℕ, length, IfOk};
 ghost use Rattle.xsv_io.specs.Causes.{KeepsCount};
-ghost use Rattle.open_document.specs.Assessor.{RightAssessor};
+ghost use Rattle.session_model.specs.Assessor.{RightAssessor};
 ghost use Rattle.open_document.specs.State.{WorkState};
 ghost use Rattle.open_document.specs.Tells.{Tells, IsWriteFault};
 ghost use Rattle.stream_answers.specs.Faults as faults;
@@ -13,14 +13,14 @@ use crate::Place;
 use crate::fault::write_fault;
 use crate::turn::{Turn, not_yet, refuse};
 use item_listing::Item;
-use open_document::{BreakOff, SchemaInput, SetVerdict, Workspace, boxed, write_answer};
+use open_document::{BreakOff, SetVerdict, Workspace, boxed, write_answer};
+use schema_set::SchemaInput;
 use std::alloc::{AllocError, Global};
 use stream_sections::{
     Asked, DocumentReader, SchemaReader, SchemaSection, SchemaSections, SchemaTurn,
 };
-use text_sink::Part;
 use xs_codes::Fault;
-use xsv_io::Sink;
+use xsv_io::{Part, Sink};
 
 /// The documents of schema sections.
 fn inputs_of(alloc: Global, sections: SchemaSections) -> Result<Vec<SchemaInput>, AllocError>

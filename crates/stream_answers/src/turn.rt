@@ -1,6 +1,6 @@
 ghost use Rattle.std.specs.Prelude.{◌≡◌, ◌≤◌, None, Some, IfOk};
 ghost use Rattle.xsv_io.specs.Causes.{KeepsCount};
-ghost use Rattle.open_document.specs.Assessor.{RightAssessor};
+ghost use Rattle.session_model.specs.Assessor.{RightAssessor};
 ghost use Rattle.open_document.specs.Tells.{Tells, IsWriteFault};
 ghost use Rattle.open_document.specs.State.{WorkState};
 ghost use Rattle.stream_sections.specs.Sections as sections;
@@ -15,12 +15,12 @@ use crate::refusal::write_refusal;
 use crate::schemas::answer_schemas;
 use crate::{Ending, Place};
 use item_listing::{Item, Reason};
-use open_document::{BreakOff, Verdict, Workspace, validity_word, write_answer};
+use open_document::{BreakOff, Verdict, Workspace, write_answer};
+use report_text::validity_word;
 use std::alloc::Global;
 use std::mem;
 use stream_sections::{Asked, Refusal, RefusedLine};
-use text_sink::Part;
-use xsv_io::Sink;
+use xsv_io::{Part, Sink};
 use xsv_steps::{Ledger, Steps};
 
 /// What an item has done.

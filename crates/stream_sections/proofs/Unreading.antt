@@ -11,8 +11,8 @@ use Rattle.tree_building.specs.Building.{built, document, tree}
 use Rattle.tree_building.specs.Rules.{document_rules}
 use Rattle.tree_building.specs.declared.building.Building.{Building}
 use Rattle.tree_building.specs.declared.fault.TreeFault.{TreeFault}
-use Rattle.tree_spelling.specs.Refusals.{AreListed}
-use Rattle.tree_spelling.specs.Spelling.{IsDocument, SpellsDocument}
+use Rattle.tree_building.specs.Refusals.{AreListed}
+use Rattle.tree_building.specs.Spelling.{IsDocument, SpellsDocument}
 use Rattle.stream_sections.specs.Lines.{is_listing, is_end, is_document, ends_schemas, may_edit, opens_block}
 use Rattle.stream_sections.specs.Sections as sections
 use Rattle.stream_sections.specs.Sections.{Stop, refused, Stream, schemas, unfinished, Opened, undocumented, Commands, Closing, command, closes, uncommanded, ended, unclosed, OpenBlock, OpenSection, section_begun, whole_section, misplaced, bad_tree, built_so_far, grown_by, with_tree, at_command, in_block, among_commands, in_document, in_schemas, schema_sections}

@@ -5,8 +5,8 @@ use Rattle.item_listing.specs.declared.item.Item.{Item}
 use Rattle.item_listing.specs.declared.item.Item.TheVariants as items
 use Rattle.tag_names.specs.Scopes.{first_scope}
 use Rattle.tree_rows.specs.Forest.{Document, count}
-use Rattle.tree_spelling.specs.Spelling.{IsDocument, SpellsDocument}
-use Rattle.tree_spelling.specs.Refusals.{AreListed}
+use Rattle.tree_building.specs.Spelling.{IsDocument, SpellsDocument}
+use Rattle.tree_building.specs.Refusals.{AreListed}
 use Rattle.stream_sections.specs.Lines.{opens_block, may_edit}
 use Rattle.stream_sections.specs.Sections.{Stop, refused, goes_on, Closing, ended, unclosed, Commands, command, closes, uncommanded, Opened, document, undocumented, Stream, schemas, unfinished}
 use Rattle.stream_sections.specs.declared.asked.Asked.{Asked}

@@ -5,8 +5,9 @@ use crate::item::is_listing;
 use crate::refusal::{bad_tree, misplaced};
 use crate::{Asked, RefusedLine};
 use item_listing::Item;
-use plain_tree::{Builder, Tree, TreeFault};
+use plain_tree::{Builder, Tree};
 use std::alloc::{AllocError, Global};
+use tree_building::TreeFault;
 
 /// Reads the document section of a stream.
 #[derive(Drop)]

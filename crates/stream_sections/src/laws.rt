@@ -13,7 +13,7 @@ ghost use Rattle.stream_sections.specs.declared.asked.Asked.TheVariants.{Check};
 ghost use Rattle.stream_sections.specs.declared.refusal.RefusedLine.{RefusedLine};
 ghost use Rattle.stream_sections.specs.declared.schemas.SchemaSection.{SchemaSection};
 
-use tree_spelling::documents_are_spelled;
+use tree_building::documents_are_spelled;
 
 /// A reader that takes the items of a stream one by one comes to what they give by the lists of the items.
 pub fn readers_give_sections()

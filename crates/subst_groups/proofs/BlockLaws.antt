@@ -7,12 +7,12 @@ use Rattle.xs_components.specs.declared.common.Methods.{Methods}
 use Rattle.xs_components.specs.declared.common.TypeId.{TypeId}
 use Rattle.xs_components.specs.declared.common.TypeId.TheVariants.{Complex}
 use Rattle.xs_components.specs.declared.complex.ComplexType.{ComplexType}
-use Rattle.xs_references.specs.Heights.{IsType}
-use Rattle.xs_references.specs.Ranked.{IsRanked}
-use Rattle.xs_references.proofs.RankedLaws.{base-lower}
+use Rattle.component_references.specs.Heights.{IsType}
+use Rattle.component_references.specs.Ranked.{IsRanked}
+use Rattle.component_references.proofs.RankedLaws.{base-lower}
 use Rattle.subst_groups.specs.Groups.{IsBetween, right_above, further_above, IsProhibitedBetween, prohibited, complex_base, part_base, disallowed, IsBlocked, AreBlocked, no_methods}
 use Rattle.subst_groups.specs.inside.Steps.{AreProhibited, IsNext}
-use Rattle.element_types.specs.Types.{type_of}
+use Rattle.component_tables.specs.Types.{type_of}
 
 some-same : {X : Type 0} (a b : X) → Some a ≡ Some b → a ≡ b
 some-same a b e = cc

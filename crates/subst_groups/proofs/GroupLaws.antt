@@ -7,7 +7,7 @@ use Rattle.std.proofs.lemmas.List.{take_all, take_more, map-append, length-map}
 use Rattle.std.proofs.lemmas.List.Elements.{All-weaker, All-contains, All-contains_itself, recursion_from_All, Contains-append_left, Contains-push, Contains-push_cases}
 use Rattle.xs_components.specs.Tables.{Tables}
 use Rattle.xs_components.specs.declared.element.ElementDecl.{ElementDecl}
-use Rattle.xs_members.specs.Heads.{names_of}
+use Rattle.xs_components.specs.Heads.{names_of}
 use Rattle.subst_groups.specs.Groups.{IsMember, IsGroup, AreGroups, by_place, name_of, part_name}
 use Rattle.subst_groups.specs.inside.Steps.{IsGroupSoFar, IsPutIf, IsInOrder, IsJoined}
 use Rattle.subst_groups.proofs.OrderLaws.{sorted-push, before-place}

@@ -7,8 +7,8 @@ use Rattle.std.proofs.lemmas.List.{length-set}
 use Rattle.std.proofs.lemmas.Option.{none-some, slice_get_within, unwrap_or-slice_get}
 use Rattle.xs_components.specs.Tables.{Tables}
 use Rattle.xs_components.specs.declared.element.ElementDecl.{ElementDecl}
-use Rattle.xs_references.specs.Ranked.{IsRanked, IsBelow}
-use Rattle.xs_members.specs.Heads.{names_of}
+use Rattle.component_references.specs.Ranked.{IsRanked, IsBelow}
+use Rattle.xs_components.specs.Heads.{names_of}
 use Rattle.subst_groups.specs.Groups.{head_of, HasHead, named, through, IsMember, MayStand, name_of}
 use Rattle.subst_groups.specs.inside.Steps.{IsPutIf, IsOffered, IsJoined}
 

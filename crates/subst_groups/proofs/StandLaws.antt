@@ -9,12 +9,12 @@ use Rattle.xs_components.specs.declared.common.Methods.{Methods}
 use Rattle.xs_components.specs.declared.common.TypeId.{TypeId}
 use Rattle.xs_components.specs.declared.common.TypeId.TheVariants.{AnyType, Builtin, Simple, Complex}
 use Rattle.xs_components.specs.declared.element.ElementDecl.{ElementDecl}
-use Rattle.xs_references.specs.Heights.{IsType}
-use Rattle.xs_references.specs.Ranked.{IsRanked, IsBelow}
-use Rattle.element_types.specs.Types.{own_type, declared_type, type_of}
-use Rattle.element_types.proofs.TypeLaws.{type_of_is}
-use Rattle.type_derives.specs.Derives.{above, unless, builtin_base, simple_base}
-use Rattle.type_derives.specs.Chains.{Derives, same, by_base, by_member}
+use Rattle.component_references.specs.Heights.{IsType}
+use Rattle.component_references.specs.Ranked.{IsRanked, IsBelow}
+use Rattle.component_tables.specs.Types.{own_type, declared_type, type_of}
+use Rattle.component_tables.proofs.TypeLaws.{type_of_is}
+use Rattle.type_derivation.specs.Derives.{above, unless, builtin_base, simple_base}
+use Rattle.type_derivation.specs.Chains.{Derives, same, by_base, by_member}
 use Rattle.subst_groups.specs.Groups.{AreBlocked, MayStand, disallowed, element_blocks}
 
 -- derivation asks for two methods alone

@@ -11,9 +11,9 @@ use Rattle.xs_components.specs.declared.common.TypeId.{TypeId}
 use Rattle.xs_components.specs.declared.common.TypeId.TheVariants.{AnyType, Builtin, Simple, Complex}
 use Rattle.xs_components.specs.declared.complex.ComplexType.{ComplexType}
 use Rattle.xs_components.specs.declared.element.ElementDecl.{ElementDecl}
-use Rattle.xs_members.specs.Heads.{names_of}
-use Rattle.element_types.specs.Types.{type_of}
-use Rattle.type_derives.specs.Chains.{Derives}
+use Rattle.xs_components.specs.Heads.{names_of}
+use Rattle.component_tables.specs.Types.{type_of}
+use Rattle.type_derivation.specs.Chains.{Derives}
 
 -- the head that a declaration names: its {substitution group affiliation} (Structures 3.3.1)
 abbrev pub head_of : Tables → ℕ → Option ℕ

@@ -3,8 +3,8 @@
 ghost use Rattle.std.specs.Prelude.{◌≡◌, ◌||◌, MatchOption};
 ghost use Rattle.xs_components.specs.Tables.{Tables};
 ghost use Rattle.xs_components.specs.declared.common.TypeId.{TypeId};
-ghost use Rattle.xs_references.specs.Heights.{IsType};
-ghost use Rattle.xs_references.specs.Ranked.{IsRanked};
+ghost use Rattle.component_references.specs.Heights.{IsType};
+ghost use Rattle.component_references.specs.Ranked.{IsRanked};
 ghost use Rattle.subst_groups.specs.Groups as spec;
 ghost use Rattle.subst_groups.specs.inside.Steps.{AreProhibited, IsNext};
 

@@ -1,20 +1,19 @@
 ghost use Rattle.std.specs.Prelude.{◌≡◌, ◌<◌, ◌∷◌, ◌++◌, [], ℕ, length, map, slice_get, slice_set, IfOk, IfSome, OnOk, Some};
 ghost use Rattle.xs_components.specs.Tables.{Tables};
 ghost use Rattle.xs_components.specs.declared.element.ElementDecl.{ElementDecl};
-ghost use Rattle.xs_members.specs.Heads.{names_of};
-ghost use Rattle.xs_references.specs.Heights.{IsType};
-ghost use Rattle.xs_references.specs.Ranked.{IsRanked};
-ghost use Rattle.element_types.specs.Types.{AreDeclarationsOf};
-ghost use Rattle.type_derives.specs.Within.{AreSimple};
+ghost use Rattle.xs_components.specs.Heads.{names_of};
+ghost use Rattle.component_references.specs.Heights.{IsType};
+ghost use Rattle.component_references.specs.Ranked.{IsRanked};
+ghost use Rattle.component_tables.specs.Types.{AreDeclarationsOf};
+ghost use Rattle.type_derivation.specs.Within.{AreSimple};
 ghost use Rattle.subst_groups.specs.Groups as spec;
 ghost use Rattle.subst_groups.specs.inside.Steps.{IsOffered, IsJoined, IsGroupSoFar};
 
 use crate::order::in_order;
 use crate::standing::may_stand;
-use element_types::Declarations;
+use component_tables::Declarations;
 use std::alloc::{AllocError, Global};
-use xs_components::{Components, ElementId, NameIdList};
-use xs_members::Members;
+use xs_components::{Components, ElementId, Members, NameIdList};
 use xs_names::NameId;
 
 // A list of one name.

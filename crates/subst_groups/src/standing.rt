@@ -3,16 +3,16 @@
 ghost use Rattle.std.specs.Prelude.{◌≡◌, ◌<◌, ◌↔◌, ℕ, length, slice_get, IfOk, IfSome, IsTrue, Some};
 ghost use Rattle.xs_components.specs.Tables.{Tables};
 ghost use Rattle.xs_components.specs.declared.element.ElementDecl.{ElementDecl};
-ghost use Rattle.xs_references.specs.Heights.{IsType};
-ghost use Rattle.xs_references.specs.Ranked.{IsRanked};
-ghost use Rattle.element_types.specs.Types.{AreDeclarationsOf, type_of};
-ghost use Rattle.type_derives.specs.Within.{AreSimple};
+ghost use Rattle.component_references.specs.Heights.{IsType};
+ghost use Rattle.component_references.specs.Ranked.{IsRanked};
+ghost use Rattle.component_tables.specs.Types.{AreDeclarationsOf, type_of};
+ghost use Rattle.type_derivation.specs.Within.{AreSimple};
 ghost use Rattle.subst_groups.specs.Groups as spec;
 
 use crate::blocking::{between, both, prohibited};
-use element_types::Declarations;
+use component_tables::Declarations;
 use std::alloc::{AllocError, Global};
-use type_derives::derives;
+use type_derivation::derives;
 use xs_components::{Components, ElementId, Methods, TypeId};
 
 // The methods of derivation that are blocked between a head and an element with these types.

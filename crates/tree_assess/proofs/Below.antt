@@ -14,11 +14,11 @@ use Rattle.assess_records.specs.declared.shape.ElementShape.{ElementShape}
 use Rattle.elem_governing.specs.declared.pairs.Governing.{Governing}
 use Rattle.compiled_schema.specs.Usable.{set_of}
 use Rattle.compiled_schema.specs.declared.compiled.Compiled.{Compiled}
-use Rattle.compiled_schema.specs.Numbered.{Scope, Head, head_of, heads, names_of, named_texts, characters, scope_in, shape_of}
-use Rattle.compiled_schema.specs.Attribution.{SchemaSet, content_particle, AreTerms}
-use Rattle.compiled_schema.specs.Assessment.{nothing, entry, governed, sibling_records, AreAssessed, AreJudged, IsEntry}
-use Rattle.compiled_schema.specs.Plain.{plain_beside}
-use Rattle.compiled_schema.specs.Bearings.{Bearing, bearings_below}
+use Rattle.assess_records.specs.Numbered.{Scope, Head, head_of, heads, names_of, named_texts, characters, scope_in, shape_of}
+use Rattle.assessment.specs.Attribution.{SchemaSet, content_particle, AreTerms}
+use Rattle.assessment.specs.Assessment.{nothing, entry, governed, sibling_records, AreAssessed, AreJudged, IsEntry}
+use Rattle.assessment.specs.Plain.{plain_beside}
+use Rattle.assessment.specs.Bearings.{Bearing, bearings_below}
 use Rattle.tree_assess.specs.Entries.{entry_of}
 use Rattle.tree_assess.specs.declared.entry.ElementEntry.{ElementEntry}
 use Rattle.tree_assess.specs.declared.entry.ChildOutcome.{ChildOutcome}

@@ -7,11 +7,11 @@ use Rattle.tree_rows.specs.declared.name.Expanded.{Expanded}
 use Rattle.tree_rows.specs.declared.row.Content.TheVariants as contents
 use Rattle.tree_rows.specs.declared.row.Row.{Row}
 use Rattle.xs_names.specs.Names.{NameTable}
-use Rattle.compiled_schema.specs.Numbered.{Scope, Head, head_of, heads, names_of}
+use Rattle.assess_records.specs.Numbered.{Scope, Head, head_of, heads, names_of}
 use Rattle.compiled_schema.specs.declared.compiled.Compiled.{Compiled}
-use Rattle.element_heads.specs.Found.{HasNames, HasTag}
-use Rattle.element_heads.specs.Heads.{IsHead}
-use Rattle.element_heads.specs.declared.head.ElementHead.{ElementHead}
+use Rattle.assess_records.specs.Found.{HasNames, HasTag}
+use Rattle.elem_governing.specs.Heads.{IsHead}
+use Rattle.elem_governing.specs.declared.head.ElementHead.{ElementHead}
 use Rattle.tree_assess.specs.inside.Steps.{CanAssess, alone}
 
 -- how many elements there are

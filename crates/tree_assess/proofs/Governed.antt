@@ -6,12 +6,12 @@ use Rattle.xs_names.specs.Names.{NameTable}
 use Rattle.xs_components.specs.Tables.{Tables}
 use Rattle.elem_governing.specs.Governing.{govern_root, govern_child}
 use Rattle.elem_governing.specs.declared.pairs.Governing.{Governing}
-use Rattle.governed_types.proofs.There.{root-there}
+use Rattle.elem_governing.proofs.There.{root-there}
 use Rattle.compiled_schema.specs.Usable.{IsUsable, set_of}
 use Rattle.compiled_schema.specs.declared.compiled.Compiled.{Compiled}
-use Rattle.compiled_schema.specs.Numbered.{Head}
-use Rattle.element_heads.specs.Heads.{head_by}
-use Rattle.element_heads.specs.declared.head.ElementHead.{ElementHead}
+use Rattle.assess_records.specs.Numbered.{Head}
+use Rattle.elem_governing.specs.Heads.{head_by}
+use Rattle.elem_governing.specs.declared.head.ElementHead.{ElementHead}
 use Rattle.tree_assess.specs.inside.Steps.{IsThere, pair_of, root_pair_of}
 use Rattle.tree_assess.proofs.Same.{names_same}
 

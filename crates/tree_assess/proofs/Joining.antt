@@ -7,12 +7,12 @@ use Rattle.std.proofs.lemmas.Grind.{flat_map-append}
 use Rattle.tree_rows.specs.Forest.{Document}
 use Rattle.tree_rows.specs.Whole.{IsTree}
 use Rattle.xs_codes.specs.declared.fault.Found.{Found}
-use Rattle.compiled_schema.specs.Attribution.{SchemaSet}
-use Rattle.compiled_schema.specs.Assessment.{Entry, Assessed, nothing, entry, entries, IsAssessment}
-use Rattle.compiled_schema.specs.Plain.{plain_beside}
-use Rattle.compiled_schema.specs.Ids.{BorneAtom, borne_in, borne_in_all, id_codes}
-use Rattle.compiled_schema.specs.Bearings.{Bearing, bearings_below, bearings, borne_of, borne_values}
-use Rattle.compiled_schema.specs.Joined.{beside_of, marked_entry, marked_record, marked, with_codes}
+use Rattle.assessment.specs.Attribution.{SchemaSet}
+use Rattle.assessment.specs.Assessment.{Entry, Assessed, nothing, entry, entries, IsAssessment}
+use Rattle.assessment.specs.Plain.{plain_beside}
+use Rattle.identity_tables.specs.Ids.{BorneAtom, borne_in, borne_in_all, id_codes}
+use Rattle.assessment.specs.Bearings.{Bearing, bearings_below, bearings, borne_of, borne_values}
+use Rattle.assessment.specs.Joined.{beside_of, marked_entry, marked_record, marked, with_codes}
 use Rattle.tree_assess.specs.Entries.{entry_of, AreEntries}
 use Rattle.tree_assess.specs.declared.entry.ElementEntry.{ElementEntry}
 use Rattle.tree_assess.specs.inside.Marking.{codes_in, with_marks}

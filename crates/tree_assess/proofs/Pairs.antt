@@ -14,17 +14,17 @@ use Rattle.tree_rows.specs.declared.row.Content.TheVariants as contents
 use Rattle.tree_rows.specs.declared.row.Row.{Row}
 use Rattle.elem_governing.specs.View.{IsView}
 use Rattle.elem_governing.specs.declared.pairs.Governing.{Governing}
-use Rattle.element_types.specs.Types.{DeclarationTable}
-use Rattle.component_names.specs.Named.{Spaces}
-use Rattle.governed_types.proofs.There.{child-there}
+use Rattle.component_tables.specs.Types.{DeclarationTable}
+use Rattle.component_tables.specs.Named.{Spaces}
+use Rattle.elem_governing.proofs.There.{child-there}
 use Rattle.content_models.specs.declared.automaton.ContentAutomaton.{ContentAutomaton}
 use Rattle.compiled_schema.specs.Usable.{IsUsable, AreModels, IsModelOver, set_of}
 use Rattle.compiled_schema.specs.declared.compiled.Compiled.{Compiled}
-use Rattle.compiled_schema.specs.Fitting.{Fits}
-use Rattle.element_heads.proofs.RowLaws.{drop_next}
-use Rattle.compiled_schema.specs.Numbered.{Scope, Head, head_of, heads, names_of}
-use Rattle.compiled_schema.specs.Attribution.{SchemaSet, content_particle, AreTerms}
-use Rattle.compiled_schema.specs.Assessment.{governed}
+use Rattle.assessment.specs.Fitting.{Fits}
+use Rattle.assess_records.proofs.RowLaws.{drop_next}
+use Rattle.assess_records.specs.Numbered.{Scope, Head, head_of, heads, names_of}
+use Rattle.assessment.specs.Attribution.{SchemaSet, content_particle, AreTerms}
+use Rattle.assessment.specs.Assessment.{governed}
 use Rattle.tree_assess.specs.inside.Steps.{IsThere, AreInner, pair_of}
 use Rattle.tree_assess.proofs.Forests.{heads_here}
 

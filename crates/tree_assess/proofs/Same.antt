@@ -4,12 +4,12 @@ use Rattle.std.specs.Prelude.{All}
 use Rattle.xs_names.specs.Names.{NameTable}
 use Rattle.assess_records.specs.declared.shape.NamedText.{NamedText}
 use Rattle.xs_components.specs.Tables.{Tables}
-use Rattle.element_types.specs.Types.{DeclarationTable}
-use Rattle.component_names.specs.Named.{Spaces}
+use Rattle.component_tables.specs.Types.{DeclarationTable}
+use Rattle.component_tables.specs.Named.{Spaces}
 use Rattle.elem_governing.specs.View.{IsView, AreKnown}
 use Rattle.compiled_schema.specs.Usable.{IsUsable}
 use Rattle.compiled_schema.specs.declared.compiled.Compiled.{Compiled}
-use Rattle.compiled_schema.specs.Numbered.{Scope}
+use Rattle.assess_records.specs.Numbered.{Scope}
 
 module _ (c : Compiled) (names : NameTable) (e : names ≡ c.names) where
   pub names_same : record c { names = names } ≡ c

@@ -10,12 +10,12 @@ use Rattle.tree_rows.specs.declared.row.Row.{Row}
 use Rattle.assess_records.specs.Counts.{no_children, with_child}
 use Rattle.assess_records.specs.declared.counts.ChildCounts.{ChildCounts}
 use Rattle.elem_governing.specs.declared.pairs.Governing.{Governing}
-use Rattle.element_heads.proofs.RowLaws.{drop_next}
-use Rattle.compiled_schema.specs.Numbered.{Scope}
-use Rattle.compiled_schema.specs.Attribution.{SchemaSet}
-use Rattle.compiled_schema.specs.Assessment.{Assessed, nothing, entry, sibling_records, AreAssessed}
-use Rattle.compiled_schema.specs.Plain.{plain_beside}
-use Rattle.compiled_schema.specs.Bearings.{bearings_below}
+use Rattle.assess_records.proofs.RowLaws.{drop_next}
+use Rattle.assess_records.specs.Numbered.{Scope}
+use Rattle.assessment.specs.Attribution.{SchemaSet}
+use Rattle.assessment.specs.Assessment.{Assessed, nothing, entry, sibling_records, AreAssessed}
+use Rattle.assessment.specs.Plain.{plain_beside}
+use Rattle.assessment.specs.Bearings.{bearings_below}
 use Rattle.tree_assess.specs.declared.entry.ElementEntry.{ElementEntry}
 use Rattle.tree_assess.specs.declared.entry.ChildOutcome.{ChildOutcome}
 use Rattle.tree_assess.specs.inside.Steps.{IsThere, IsSoFar, AreDone, IsDone, counted_onto, pairs_in, bearing_of}

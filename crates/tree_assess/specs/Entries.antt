@@ -1,9 +1,9 @@
 -- The entries of a document's elements.
 use Rattle.std.specs.Prelude.{◌≡◌, List, map}
 use Rattle.tree_rows.specs.Forest.{Forest}
-use Rattle.compiled_schema.specs.Attribution.{SchemaSet}
-use Rattle.compiled_schema.specs.Assessment.{Entry, Assessed, entries, IsAssessment}
-use Rattle.compiled_schema.specs.Joined.{beside_of}
+use Rattle.assessment.specs.Attribution.{SchemaSet}
+use Rattle.assessment.specs.Assessment.{Entry, Assessed, entries, IsAssessment}
+use Rattle.assessment.specs.Joined.{beside_of}
 use Rattle.tree_assess.specs.declared.entry.ElementEntry.{ElementEntry}
 
 -- the entry that is kept of an element

@@ -6,8 +6,8 @@ ghost use Rattle.xs_names.specs.Scope.{first_scope};
 ghost use Rattle.tree_rows.specs.Whole.{IsTree};
 ghost use Rattle.elem_governing.specs.View.{AreKnown};
 ghost use Rattle.compiled_schema.specs.Usable.{IsUsable, set_of};
-ghost use Rattle.element_heads.specs.Found.{HasNames};
-ghost use Rattle.compiled_schema.specs.Numbered.{heads};
+ghost use Rattle.assess_records.specs.Found.{HasNames};
+ghost use Rattle.assess_records.specs.Numbered.{heads};
 ghost use Rattle.tree_assess.specs.Entries.{AreEntries};
 ghost use Rattle.tree_assess.specs.declared.entry.ElementEntry.{ElementEntry as ElementEntryData};
 ghost use Rattle.tree_assess.specs.inside.Steps.{CanAssess, IsThere, AreBorne, AreDone, IsDone, alone, pairs_in};
@@ -18,12 +18,12 @@ use crate::elements::{Entered, enter, leave, root_of};
 use crate::entry::{ChildOutcome, begun, outcome_of};
 use crate::ids::join_ids;
 use assess_records::ChildCounts;
-use compiled_schema::{Compiled, codes_of_ids_join_the_assessment};
+use assessment::codes_of_ids_join_the_assessment;
+use compiled_schema::Compiled;
 use elem_governing::Governing;
 use plain_tree::Tree;
 use std::alloc::{AllocError, Global};
-use tree_rows::{Content, Expanded, Row};
-use tree_siblings::{Sibling, Siblings};
+use tree_rows::{Content, Expanded, Row, Sibling, Siblings};
 use xs_names::Scope;
 
 // Keeps a place for the entry of an element behind those that are there, since it stands before those below it.

@@ -4,21 +4,22 @@ ghost use Rattle.std.specs.Prelude.{◌≡◌, ◌<◌, ◌∷◌, ◌++◌, [],
 ghost use Rattle.std.specs.Option.{option_map};
 ghost use Rattle.elem_governing.specs.View.{AreKnown};
 ghost use Rattle.compiled_schema.specs.Usable.{IsUsable, set_of};
-ghost use Rattle.element_heads.specs.Found.{HasTag};
-ghost use Rattle.compiled_schema.specs.Numbered.{head_of as head_in, heads, names_of};
-ghost use Rattle.compiled_schema.specs.Attribution.{content_particle, AreTerms};
-ghost use Rattle.compiled_schema.specs.Assessment.{governed};
-ghost use Rattle.element_heads.specs.Heads.{head_by};
+ghost use Rattle.assess_records.specs.Found.{HasTag};
+ghost use Rattle.assess_records.specs.Numbered.{head_of as head_in, heads, names_of};
+ghost use Rattle.assessment.specs.Attribution.{content_particle, AreTerms};
+ghost use Rattle.assessment.specs.Assessment.{governed};
+ghost use Rattle.elem_governing.specs.Heads.{head_by};
 ghost use Rattle.tree_assess.specs.inside.Steps.{CanAssess, IsThere, AreInner, pair_of, root_pair_of, pairs_in};
 
 use crate::entry::{ElementEntry, begun};
-use compiled_schema::{ChildTerms, Compiled, child_terms};
-use elem_governing::{Governing, SchemaView, govern_child, govern_root};
-use element_heads::{ElementHead, child_names, read_head};
-use instance_names::{InstanceAttribute, instance_text};
+use assess_records::{InstanceAttribute, instance_text};
+use assessment::{ChildTerms, child_terms};
+use compiled_schema::Compiled;
+use elem_governing::{
+    ElementHead, Governing, SchemaView, child_names, govern_child, govern_root, read_head,
+};
 use std::alloc::{AllocError, Global};
-use tree_rows::{Content, Expanded, Row};
-use tree_siblings::{Sibling, Siblings};
+use tree_rows::{Content, Expanded, Row, Sibling, Siblings};
 use xs_components::TermId;
 use xs_names::{Scope, Text};
 

@@ -4,7 +4,8 @@ ghost use Rattle.std.specs.Prelude.{◌≡◌, IfOk, OnOk};
 ghost use Rattle.tree_assess.specs.inside.Marking.{codes_in, with_marks};
 
 use crate::ElementEntry;
-use compiled_schema::{DocumentIds, mark};
+use assessment::mark;
+use identity_tables::DocumentIds;
 use std::alloc::{AllocError, Global};
 use xs_codes::Found;
 use xs_lists::Listed;

@@ -3,13 +3,14 @@
 ghost use Rattle.std.specs.Prelude.{◌≡◌, ◌<◌, All, length, IfOk};
 ghost use Rattle.elem_governing.specs.View.{AreKnown};
 ghost use Rattle.compiled_schema.specs.Usable.{IsUsable, set_of};
-ghost use Rattle.compiled_schema.specs.Assessment.{AreJudged};
+ghost use Rattle.assessment.specs.Assessment.{AreJudged};
 ghost use Rattle.tree_assess.specs.Entries.{entry_of};
 ghost use Rattle.tree_assess.specs.inside.Steps.{IsThere};
 
 use crate::ElementEntry;
 use assess_records::ElementShape;
-use compiled_schema::{AssessSet, Compiled, Judged, local};
+use compiled_schema::Compiled;
+use elem_assess::{AssessSet, Judged, local};
 use elem_governing::{Governing, SchemaView};
 use std::alloc::{AllocError, Global};
 

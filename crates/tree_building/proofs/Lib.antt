@@ -8,3 +8,13 @@ pub mod RowCounts
 pub mod Numbers
 pub mod NamedLaws
 pub mod Trees
+pub mod States
+pub mod Runs
+pub mod Reading
+pub mod Rests
+pub mod Unreading
+pub mod FrontLaws
+pub mod Begun
+pub mod Refusing
+pub mod Stepping
+pub mod Refused

@@ -10,3 +10,6 @@ pub mod Sound
 pub mod Blocks
 pub mod Tags
 pub mod Examples
+pub mod Spelling
+pub mod Fronts
+pub mod Refusals

@@ -10,6 +10,7 @@ mod laws;
 mod nest;
 mod pending;
 mod rules;
+mod spelling_laws;
 
 pub use block::is_one_element;
 pub use build::{Built, Rows, build_block, build_document, build_fragment};
@@ -20,3 +21,4 @@ pub use laws::{documents_are_sound, documents_are_trees};
 pub use nest::Nest;
 pub use pending::{Joined, Pending};
 pub use rules::Rules;
+pub use spelling_laws::documents_are_spelled;

@@ -14,3 +14,4 @@ pub mod Lying
 pub mod BlockNaming
 pub mod Keeping
 pub mod Testing
+pub mod Naming

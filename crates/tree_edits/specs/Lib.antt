@@ -10,11 +10,4 @@ pub mod Spots
 pub mod Examples
 pub mod Keeping
 pub mod Tests
-pub use Rattle.tree_building.specs.Builder
-pub use Rattle.tree_building.specs.Building as TreeBuildingBuilding
-pub use Rattle.tree_building.specs.Rules
-pub use Rattle.tree_building.specs.Shape
-pub use Rattle.tree_building.specs.Sound
-pub use Rattle.tree_building.specs.declared.build.Built
-pub use Rattle.tree_building.specs.declared.building.Building
-pub use Rattle.tree_building.specs.declared.fault.TreeFault
+pub mod Names

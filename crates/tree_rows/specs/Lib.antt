@@ -5,3 +5,8 @@ pub mod RowLaws
 pub mod Kinds
 pub mod Code
 pub mod Whole
+pub mod Steps
+pub mod Sizes
+pub mod Cuts
+pub mod SiblingCode
+pub mod Held

@@ -3,10 +3,10 @@ use Rattle.std.proofs.Common.{◌≡◌, Bool, true, false, if◌then◌else◌,
 use Rattle.std.proofs.lemmas.Option.{none-some}
 use Rattle.xs_codes.specs.declared.fault.Fault.{Fault}
 use Rattle.xs_components.specs.Tables.{Tables}
-use Rattle.xs_faults.specs.Least.{is_before, sooner, IsLeast}
-use Rattle.xs_faults.proofs.LeastLaws.{least-sum}
-use Rattle.base_kinds.specs.Bases.{IsWrongBase}
-use Rattle.component_circles.specs.Circles.{IsCircular}
+use Rattle.xs_codes.specs.Least.{is_before, sooner, IsLeast}
+use Rattle.xs_codes.proofs.LeastLaws.{least-sum}
+use Rattle.type_derivation.specs.Bases.{IsWrongBase}
+use Rattle.component_references.specs.Circles.{IsCircular}
 use Rattle.type_derivation.specs.Cycles.{IsBroken}
 
 -- where neither is there, the first is not

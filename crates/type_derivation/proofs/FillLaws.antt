@@ -9,12 +9,12 @@ use Rattle.xs_components.specs.Tables.{Tables}
 use Rattle.xs_components.specs.declared.common.TypeId.{TypeId}
 use Rattle.xs_components.specs.declared.common.TypeId.TheVariants.{AnyType, Builtin, Simple, Complex}
 use Rattle.xs_components.specs.declared.complex.ComplexType.{ComplexType}
-use Rattle.xs_references.specs.Order.{IsOrder}
-use Rattle.xs_references.specs.Heights.{first_height, IsLower}
-use Rattle.xs_references.specs.Ranked.{IsRanked}
-use Rattle.component_circles.specs.References.{effective_of, IsPart, Each}
-use Rattle.component_circles.specs.inside.Parts.{AreTypesRanked}
-use Rattle.component_circles.proofs.RankLaws.{types-kept}
+use Rattle.component_references.specs.Order.{IsOrder}
+use Rattle.component_references.specs.Heights.{first_height, IsLower}
+use Rattle.component_references.specs.Ranked.{IsRanked}
+use Rattle.component_references.specs.References.{effective_of, IsPart, Each}
+use Rattle.component_references.specs.inside.Parts.{AreTypesRanked}
+use Rattle.component_references.proofs.RankLaws.{types-kept}
 use Rattle.type_derivation.specs.Particles.{IsContentOf, IsContentAt, AreContentsSet}
 use Rattle.type_derivation.specs.Cycles.{IsGrown}
 use Rattle.type_derivation.specs.inside.Filling.{Adds, IsDone, IsBaseDone, IsFilling, Sets}

@@ -13,10 +13,10 @@ use Rattle.xs_components.specs.declared.complex.ComplexType.{ComplexType}
 use Rattle.xs_components.specs.declared.complex.ContentForm.{ContentForm}
 use Rattle.xs_components.specs.declared.particle.Particle.{Particle}
 use Rattle.xs_components.specs.declared.particle.Term.TheVariants.{Sequence}
-use Rattle.xs_references.specs.Ranked.{IsBelow, IsRanked, held_particles, named_group}
-use Rattle.component_circles.specs.References.{IsPart, effective_of}
-use Rattle.component_circles.specs.inside.Parts.{AreTypesRanked}
-use Rattle.component_circles.proofs.RankLaws.{types-kept}
+use Rattle.component_references.specs.Ranked.{IsBelow, IsRanked, held_particles, named_group}
+use Rattle.component_references.specs.References.{IsPart, effective_of}
+use Rattle.component_references.specs.inside.Parts.{AreTypesRanked}
+use Rattle.component_references.proofs.RankLaws.{types-kept}
 use Rattle.type_derivation.specs.Cycles.{IsGrown}
 use Rattle.type_derivation.specs.Particles.{once, any_elements, IsAnything, IsBaseContent, IsExtended, IsDerivedContent, IsContentOf, goes_on}
 use Rattle.type_derivation.specs.inside.Filling.{with_particle, AreMore, Adds, AreContentsThere}

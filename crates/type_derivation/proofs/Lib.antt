@@ -1,3 +1,9 @@
+pub mod KindLaws
+pub mod FaultLaws
 pub mod GrowLaws
 pub mod FillLaws
 pub mod CycleLaws
+pub mod BaseLaws
+pub mod MemberLaws
+pub mod ChainLaws
+pub mod SpreadLaws

@@ -3,8 +3,8 @@ use Rattle.std.specs.Prelude.{◌≡◌, ℕ, ◌⊎◌, ◌++◌, List, Option,
 use Rattle.xs_codes.specs.declared.fault.Fault.{Fault}
 use Rattle.xs_components.specs.Tables.{Tables}
 use Rattle.xs_components.specs.declared.particle.Particle.{Particle}
-use Rattle.base_kinds.specs.Bases.{IsWrongBase}
-use Rattle.component_circles.specs.Circles.{IsCircular}
+use Rattle.type_derivation.specs.Bases.{IsWrongBase}
+use Rattle.component_references.specs.Circles.{IsCircular}
 
 -- a circular definition, or a base of the wrong kind
 abbrev pub IsBroken : Tables → Fault → Type 0

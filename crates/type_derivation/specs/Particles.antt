@@ -1,6 +1,6 @@
 -- The particle of the content of a complex type (Structures 3.4.2, {content type}).
 use Rattle.std.specs.Prelude.{◌≡◌, ℕ, Bool, true, false, [], ◌∷◌, Option, None, Some, slice_get}
-use Rattle.xs_namespaces.specs.declared.constraint.NsConstraint.TheVariants as namespaces
+use Rattle.xs_components.specs.declared.namespace_constraint.NsConstraint.TheVariants as namespaces
 use Rattle.xs_components.specs.Tables.{Tables}
 use Rattle.xs_components.specs.declared.common.Place.{Place}
 use Rattle.xs_components.specs.declared.common.Process.TheVariants.{Lax}
@@ -13,7 +13,7 @@ use Rattle.xs_components.specs.declared.complex.ContentForm.TheVariants as forms
 use Rattle.xs_components.specs.declared.particle.Particle.{Particle}
 use Rattle.xs_components.specs.declared.particle.Term.{Term}
 use Rattle.xs_components.specs.declared.particle.Term.TheVariants.{Any, Sequence}
-use Rattle.component_circles.specs.References.{effective_of}
+use Rattle.component_references.specs.References.{effective_of}
 
 -- the particle of a term that comes once
 abbrev pub once : Place → Term → Particle

@@ -1,13 +1,14 @@
 ghost use Rattle.std.specs.Prelude.{◌≡◌, ◌<◌, ◌∷◌, [], None, Some, length, slice_get, slice_index, IfOk, OnOk};
 ghost use Rattle.xs_components.specs.declared.particle.Term.TheVariants.{Sequence};
-ghost use Rattle.xs_references.specs.Ranked.{IsRanked};
+ghost use Rattle.component_references.specs.Ranked.{IsRanked};
 ghost use Rattle.type_derivation.specs.Particles as spec;
 ghost use Rattle.type_derivation.specs.inside.Filling.{with_particle, Adds};
 
 use std::alloc::{AllocError, Global};
-use xs_components::{Components, Particle, ParticleId, Place, Process, Term, Wildcard};
+use xs_components::{
+    Components, NsConstraint, Particle, ParticleId, Place, Process, Term, Wildcard,
+};
 use xs_lists::Listed;
-use xs_namespaces::NsConstraint;
 
 // A rank above that of a particle. Ranks end where memory does.
 fn rank_above(parts: &Components, id: ParticleId) -> Result<u32, AllocError>

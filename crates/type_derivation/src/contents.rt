@@ -1,8 +1,8 @@
 ghost use Rattle.std.specs.Prelude.{◌≡◌, ◌<◌, Some, length, slice_get, IfOk, IfSome};
 ghost use Rattle.xs_components.specs.declared.complex.ComplexType.{ComplexType as ComplexTypeValue};
-ghost use Rattle.xs_references.specs.Heights.{IsType};
-ghost use Rattle.xs_references.specs.Ranked.{IsRanked};
-ghost use Rattle.component_circles.specs.References.{effective_of, IsPart};
+ghost use Rattle.component_references.specs.Heights.{IsType};
+ghost use Rattle.component_references.specs.Ranked.{IsRanked};
+ghost use Rattle.component_references.specs.References.{effective_of, IsPart};
 ghost use Rattle.type_derivation.specs.Particles as spec;
 ghost use Rattle.type_derivation.specs.inside.Filling.{Adds, AreContentsThere};
 

@@ -1,18 +1,17 @@
 ghost use Rattle.std.specs.Prelude.{◌≡◌, None, All, IfOk, IfNone};
-ghost use Rattle.xs_faults.specs.Least.{IsLeast};
-ghost use Rattle.xs_references.specs.Ranked.{IsRanked};
-ghost use Rattle.component_circles.specs.References.{IsClosed};
-ghost use Rattle.component_circles.specs.Circles.{Ranks, with_all_ranks};
+ghost use Rattle.xs_codes.specs.Least.{IsLeast};
+ghost use Rattle.component_references.specs.Ranked.{IsRanked};
+ghost use Rattle.component_references.specs.References.{IsClosed};
+ghost use Rattle.component_references.specs.Circles.{Ranks, with_all_ranks};
 ghost use Rattle.type_derivation.specs.Cycles as spec;
 ghost use Rattle.type_derivation.specs.Particles.{AreContentsSet};
 
+use crate::first_base;
 use crate::setting::set_contents;
-use base_kinds::first_base;
-use component_circles::rank_components;
+use component_references::rank_components;
 use std::alloc::{AllocError, Global};
-use xs_codes::Fault;
+use xs_codes::{Fault, sooner};
 use xs_components::Components;
-use xs_faults::sooner;
 
 /// The first circular definition or base of the wrong kind (Structures 3.3.6, 3.4.3, 3.4.6, 3.6.3, 3.8.6, 3.14.6), if there
 /// is one. Else every component has a rank by which every reference goes lower, and the particle of each complex type's

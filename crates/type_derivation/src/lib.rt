@@ -1,9 +1,20 @@
-//! Circular definitions, bases of the wrong kind, and the particles of contents along bases.
+//! The kinds of the contents of complex types, and bases of the wrong kind (Structures 3.4.2, 3.4.3).
 #![tactic(auto)]
 
 mod adding;
+mod bases;
+mod chains;
 mod contents;
 mod cycling;
+mod kinds;
+mod rounds;
 mod setting;
+mod steps;
+mod within;
 
+pub use bases::first_base;
+pub use chains::derives;
 pub use cycling::cycles;
+pub use kinds::ContentKind;
+pub use steps::{above, members_of};
+pub use within::Within;

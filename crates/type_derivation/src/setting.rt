@@ -1,16 +1,16 @@
 ghost use Rattle.std.specs.Prelude.{◌≡◌, ◌<◌, ℕ, None, Some, All, length, slice_get, OnOk, IfSome};
 ghost use Rattle.xs_components.specs.declared.complex.ComplexType.{ComplexType as ComplexTypeValue};
-ghost use Rattle.xs_references.specs.Order.{IsOrder};
-ghost use Rattle.xs_references.specs.Ranked.{IsRanked};
-ghost use Rattle.component_circles.specs.References.{effective_of, IsPart, Each};
+ghost use Rattle.component_references.specs.Order.{IsOrder};
+ghost use Rattle.component_references.specs.Ranked.{IsRanked};
+ghost use Rattle.component_references.specs.References.{effective_of, IsPart, Each};
 ghost use Rattle.type_derivation.specs.Cycles.{IsGrown};
 ghost use Rattle.type_derivation.specs.Particles.{AreContentsSet};
 ghost use Rattle.type_derivation.specs.inside.Filling.{IsFilling, IsDone, IsBaseDone, Sets};
 
 use crate::contents::content_of;
+use component_references::order_of;
 use std::alloc::{AllocError, Global};
 use xs_components::{ComplexId, Components, ParticleId};
-use xs_references::order_of;
 
 // Writes the particle of the content of a complex type, if it has one.
 fn write_content(parts: &mut Components, id: ComplexId, content: Option<ParticleId>)

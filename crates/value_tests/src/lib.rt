@@ -2,4 +2,8 @@
 #![tactic(auto)]
 
 #[cfg(test)]
+mod ids;
+#[cfg(test)]
+mod keys;
+#[cfg(test)]
 mod values;

@@ -1,6 +1,7 @@
-use crate::{ComplexId, SimpleId};
+use crate::{ComplexId, NsConstraint, SimpleId};
 use xs_codes::Builtin;
-use xs_namespaces::{Listed, NameId, NsConstraint, Scope, Text};
+use xs_lists::Listed;
+use xs_names::{NameId, Scope, Text};
 
 /// The rules that a schema set is read by: those of XML Schema 1.0, or with those of 1.1 that are known here.
 #[derive(Clone, Copy, Debug, PartialEq, Eq)]

@@ -7,7 +7,7 @@ use crate::{
 };
 use std::alloc::AllocError;
 use std::marker::Model;
-use xs_namespaces::NameId;
+use xs_names::NameId;
 
 /// The number of a complex type in its table, counted from 0 in the order of adding. Contracts see the number.
 #[derive(Clone, Copy, Debug, PartialEq, Eq)]

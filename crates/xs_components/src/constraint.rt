@@ -4,7 +4,8 @@ ghost use Rattle.xs_components.specs.Table.{with_part, with_rank};
 use crate::{Components, Place};
 use std::alloc::AllocError;
 use std::marker::Model;
-use xs_namespaces::{Listed, NameId, Scope, Text};
+use xs_lists::Listed;
+use xs_names::{NameId, Scope, Text};
 
 /// The number of an identity constraint in its table, counted from 0 in the order of adding. Contracts see the number.
 #[derive(Clone, Copy, Debug, PartialEq, Eq)]

@@ -5,7 +5,7 @@ ghost use Rattle.xs_components.specs.Changes.{with_head, with_constraints};
 use crate::{Components, ConstraintIdList, Methods, Place, TypeId, ValueConstraint};
 use std::alloc::AllocError;
 use std::marker::Model;
-use xs_namespaces::NameId;
+use xs_names::NameId;
 
 /// The number of an element declaration in its table, counted from 0 in the order of adding. Contracts see the number.
 #[derive(Clone, Copy, Debug, PartialEq, Eq)]

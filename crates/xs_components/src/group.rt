@@ -5,7 +5,7 @@ ghost use Rattle.xs_components.specs.Changes.{with_particle};
 use crate::{Components, ParticleId, Place};
 use std::alloc::AllocError;
 use std::marker::Model;
-use xs_namespaces::NameId;
+use xs_names::NameId;
 
 /// The number of a model group definition in its table, counted from 0 in the order of adding. Contracts see the number.
 #[derive(Clone, Copy, Debug, PartialEq, Eq)]

@@ -1,4 +1,4 @@
-//! The components of a compiled schema set, in tables by typed numbers, with their ranks.
+//! Namespace constraints of wildcards, as sets of namespaces.
 #![tactic(auto)]
 
 mod attr_group;
@@ -9,6 +9,8 @@ mod components;
 mod constraint;
 mod element;
 mod group;
+mod members;
+mod namespace_constraint;
 mod particle;
 mod simple;
 mod table;
@@ -25,7 +27,7 @@ pub use constraint::{
 };
 pub use element::{ElementDecl, ElementId};
 pub use group::{GroupDef, GroupId};
+pub use members::Members;
+pub use namespace_constraint::{NsConstraint, NsIdList};
 pub use particle::{Particle, ParticleId, ParticleIdList, Term, TermId};
 pub use simple::{FacetItem, FacetKind, FacetStep, SimpleForm, SimpleId, SimpleType};
-pub use xs_codes::Builtin;
-pub use xs_namespaces::{NsConstraint, NsIdList};

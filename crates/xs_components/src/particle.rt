@@ -5,7 +5,7 @@ ghost use Rattle.xs_components.specs.Terms.{term_of};
 use crate::{Components, ElementId, GroupId, Place, Wildcard};
 use std::alloc::AllocError;
 use std::marker::Model;
-use xs_namespaces::Listed;
+use xs_lists::Listed;
 
 /// The number of a particle in its table, counted from 0 in the order of adding. Contracts see the number.
 #[derive(Clone, Copy, Debug, PartialEq, Eq)]

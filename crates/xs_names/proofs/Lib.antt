@@ -6,3 +6,6 @@ pub mod NumberingLaws
 mod PoolLaws
 mod QNameLaws
 mod ScopeLaws
+pub mod Again
+pub mod Joining
+pub mod Spacing

@@ -6,3 +6,4 @@ pub mod QName
 pub mod Scope
 pub mod Text
 pub mod White
+pub mod WhiteSpace

@@ -2,6 +2,7 @@
 #![tactic(auto)]
 
 mod characters;
+mod handling;
 mod ids;
 mod names;
 mod numbered;
@@ -13,6 +14,7 @@ mod texts;
 mod white;
 
 pub use characters::{is_name, is_ncname, is_nmtoken};
+pub use handling::{WhiteSpace, count_items, items, normalized};
 pub use ids::{NameId, NsId};
 pub use names::{Names, XML_NAMESPACE, XMLNS_NAMESPACE};
 pub use pool::TextPool;

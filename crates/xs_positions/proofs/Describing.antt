@@ -3,7 +3,7 @@ use Rattle.std.proofs.Common.{◌≡◌, ℕ, zero, suc, ◌+◌, ◌-◌, ◌<�
 use Rattle.std.specs.List.Sorted.{IsStrictlyIncreasing}
 use Rattle.std.proofs.lemmas.Bool.{cases_lt, false≢true}
 use Rattle.std.proofs.lemmas.List.{get_or_append_left, get_or-append_right, get_or-replicate, get_or_past, length-replicate}
-use Rattle.xs_positions.specs.Words.{Begins, Ends, Follows, Passes, HasWord}
+use Rattle.xs_positions.specs.PositionWords.{Begins, Ends, Follows, Passes, HasWord}
 use Rattle.xs_positions.specs.Sets.{Sets, row, Describes}
 use Rattle.xs_positions.specs.Parts.{one_position, unused, beside, IsJoined, IsLooped}
 use Rattle.xs_positions.proofs.Languages.{Joins, begins_join, join_begins, ends_join, join_ends, follows_join, join_follows, passes_join, join_passes}

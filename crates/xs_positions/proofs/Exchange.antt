@@ -2,7 +2,7 @@
 use Rattle.std.proofs.Common.{◌≡◌, ℕ, zero, suc, ◌+◌, ◌-◌, ◌*◌, ◌<◌, ◌≤◌, min, ◌⊎◌, List, [], ◌∷◌, ◌++◌, Option, Some, None, sym, refl, ap, inl, inr, arith, append-nil, append_assoc, add-zero, suc-mul, mul-le-mul_right}
 use Rattle.std.proofs.lemmas.Bool.{cases_order}
 use Rattle.xs_positions.specs.Tree.{Tree, one, empty, chain, nothing, either, repeat, copies, size}
-use Rattle.xs_positions.specs.Words.{IsWord, Allows, Rounds, place, Passes, Exchanges}
+use Rattle.xs_positions.specs.PositionWords.{IsWord, Allows, Rounds, place, Passes, Exchanges}
 use Rattle.xs_positions.proofs.Languages.{Joins, cut}
 use Rattle.xs_positions.proofs.Rounds.{rounds_append}
 use Rattle.xs_positions.proofs.Worded.{words_within}

@@ -1,6 +1,6 @@
 -- Where the words of a language begin, end and go on, for a word of one language and then one of another.
 use Rattle.std.proofs.Common.{◌≡◌, ℕ, ◌⊎◌, List, [], ◌∷◌, ◌++◌, sym, refl, inl, inr, append_assoc, append-nil}
-use Rattle.xs_positions.specs.Words.{Begins, Ends, Follows, Passes, HasWord}
+use Rattle.xs_positions.specs.PositionWords.{Begins, Ends, Follows, Passes, HasWord}
 
 -- a word of the one and then a word of the other
 abbrev pub Joins : (List ℕ → Type 0) → (List ℕ → Type 0) → List ℕ → Type 0

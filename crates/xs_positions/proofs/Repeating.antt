@@ -3,7 +3,7 @@ use Rattle.std.proofs.Common.{◌≡◌, ℕ, zero, suc, ◌+◌, ◌-◌, ◌*�
 use Rattle.std.specs.List.Sorted.{IsStrictlyIncreasing}
 use Rattle.std.proofs.lemmas.Bool.{cases_lt, or_cases, or_left, or_right}
 use Rattle.xs_positions.specs.Tree.{Tree, repeat, size}
-use Rattle.xs_positions.specs.Words.{IsWord, Rounds, place, Ends, Passes, HasWord}
+use Rattle.xs_positions.specs.PositionWords.{IsWord, Rounds, place, Ends, Passes, HasWord}
 use Rattle.xs_positions.specs.Measures.{has_empty, has_word}
 use Rattle.xs_positions.specs.Sets.{Sets, Describes}
 use Rattle.xs_positions.specs.Walk.{CopyOf, WithinRounds}

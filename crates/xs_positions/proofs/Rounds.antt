@@ -1,6 +1,6 @@
 -- Words in a row: how rounds split, how they go on, and what one part gives over and over.
 use Rattle.std.proofs.Common.{◌≡◌, ℕ, zero, suc, ◌+◌, ◌-◌, ◌<◌, ◌≤◌, ◌⊎◌, ◌↔◌, List, [], ◌∷◌, ◌++◌, sym, refl, inl, inr, append_assoc, append-nil, arith, suc-add, zero-add, add-zero}
-use Rattle.xs_positions.specs.Words.{Begins, Ends, Follows, Passes, HasWord, Rounds}
+use Rattle.xs_positions.specs.PositionWords.{Begins, Ends, Follows, Passes, HasWord, Rounds}
 use Rattle.xs_positions.proofs.Languages.{Joins, begins_join, ends_join, follows_join, passes_join, empty_join}
 
 no_more : (w u v x y : List ℕ) → w ≡ u ++ v → v ≡ x ++ y → y ≡ [] → w ≡ u ++ x

@@ -2,7 +2,7 @@
 use Rattle.std.proofs.Common.{◌≡◌, ℕ, zero, suc, ◌+◌, ◌-◌, ◌*◌, ◌<◌, ◌≤◌, min, ◌↔◌, List, [], ◌∷◌, ◌++◌, Option, map, length, get_or, slice_index, sym, refl, ap, ◌∙◌, inl, inr, arith, zero-add, suc-mul, zero-mul}
 use Rattle.std.proofs.lemmas.List.{map-append, get_or_append_left, get_or-append_right}
 use Rattle.xs_positions.specs.Tree.{Tree, one, empty, chain, nothing, either, repeat, copies, size, symbols, times}
-use Rattle.xs_positions.specs.Words.{IsWord, Allows, Rounds, place, Spells}
+use Rattle.xs_positions.specs.PositionWords.{IsWord, Allows, Rounds, place, Spells}
 use Rattle.xs_positions.proofs.Walking.{length-symbols}
 use Rattle.xs_positions.proofs.Worded.{some_copy}
 

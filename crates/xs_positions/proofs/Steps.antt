@@ -5,7 +5,7 @@ use Rattle.std.proofs.lemmas.Bool.{and_parts, false≢true}
 use Rattle.std.proofs.lemmas.List.{length-map, take_more, take_all}
 use Rattle.std.proofs.lemmas.List.Elements.{Contains-get_or}
 use Rattle.xs_positions.specs.Tree.{Tree, nothing, repeat, copies, size, sequence_of, choice_of}
-use Rattle.xs_positions.specs.Words.{IsWord, Rounds, place, Ends, Passes}
+use Rattle.xs_positions.specs.PositionWords.{IsWord, Rounds, place, Ends, Passes}
 use Rattle.xs_positions.specs.Measures.{has_rounds, has_empty, has_word, measure_of}
 use Rattle.xs_positions.specs.Sets.{Describes}
 use Rattle.xs_positions.specs.Parts.{sets_of, unused, beside, IsJoined, IsLooped, IsPartOf, AreParts}

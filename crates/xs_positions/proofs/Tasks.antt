@@ -5,7 +5,7 @@ use Rattle.std.proofs.lemmas.Bool.{and_parts}
 use Rattle.std.proofs.lemmas.List.Elements.{All-nil}
 use Rattle.xs_positions.specs.Tree.{Tree, one, empty, chain, nothing, either, repeat, size, copies, sequence_of, choice_of}
 use Rattle.xs_positions.specs.Nodes.{tree_at, tree_of, trees_of, ids_of, ids_at, PartsBelow, IsOrdered}
-use Rattle.xs_positions.specs.Words.{IsWord, Passes}
+use Rattle.xs_positions.specs.PositionWords.{IsWord, Passes}
 use Rattle.xs_positions.specs.Measures.{has_word, has_rounds, measure_of}
 use Rattle.xs_positions.specs.Sets.{Describes}
 use Rattle.xs_positions.specs.Parts.{IsPartOf, AreParts, sets_of, unused}

@@ -2,7 +2,7 @@
 use Rattle.std.proofs.Common.{◌≡◌, ℕ, zero, suc, ◌+◌, ◌-◌, ◌*◌, ◌<◌, ◌≤◌, min, ◌⊎◌, ◌↔◌, ◌&&◌, ◌||◌, ◌==◌, IsTrue, List, [], ◌∷◌, ◌++◌, Option, Some, None, sym, refl, ap, ◌∙◌, inl, inr, arith, append-nil, append_assoc, leb-true, le-leb, eqb-true, eq-eqb, mul-le-mul_right, suc-mul}
 use Rattle.std.proofs.lemmas.Bool.{false≢true, and_parts, and_from, or_cases, or_left, or_right}
 use Rattle.xs_positions.specs.Tree.{Tree, one, empty, chain, nothing, either, repeat, copies, size, sequence_of, choice_of}
-use Rattle.xs_positions.specs.Words.{IsWord, Allows, Rounds, place, Passes, HasWord}
+use Rattle.xs_positions.specs.PositionWords.{IsWord, Allows, Rounds, place, Passes, HasWord}
 use Rattle.xs_positions.specs.Measures.{has_rounds, has_empty, has_word}
 use Rattle.xs_positions.proofs.Languages.{Joins, empty_join, passes_join}
 use Rattle.xs_positions.proofs.Rounds.{some_rounds, empty_rounds}

@@ -2,7 +2,7 @@
 use Rattle.std.specs.Prelude.{◌≡◌, ℕ, ◌+◌, ◌*◌, ◌<◌, ◌^◌, ◌↔◌, ◌||◌, ◌==◌, IsTrue, List, Option, replicate, Contains}
 use Rattle.std.specs.List.Sorted.{IsStrictlyIncreasing}
 use Rattle.xs_positions.specs.Tree.{Tree, size, copies}
-use Rattle.xs_positions.specs.Words.{Rounds, Ends}
+use Rattle.xs_positions.specs.PositionWords.{Rounds, Ends}
 use Rattle.xs_positions.specs.Measures.{has_empty, has_word, has_rounds}
 use Rattle.xs_positions.specs.Sets.{Describes}
 use Rattle.xs_positions.specs.Parts.{sets_of, AreParts}

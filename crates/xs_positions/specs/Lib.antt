@@ -1,5 +1,7 @@
-pub mod Tree
+pub mod Expressions
 pub mod Words
+pub mod Tree
+pub mod PositionWords
 pub mod TreeCode
 pub mod Sets
 pub mod Nodes

@@ -1,7 +1,7 @@
 -- The sets that a `Part` holds, and what its calls make of them.
 use Rattle.std.specs.Prelude.{◌≡◌, ℕ, ◌+◌, Bool, true, false, List, [], ◌∷◌, ◌++◌, map, replicate, if◌then◌else◌, ⊤}
 use Rattle.xs_positions.specs.Tree.{Tree, size}
-use Rattle.xs_positions.specs.Words.{IsWord}
+use Rattle.xs_positions.specs.PositionWords.{IsWord}
 use Rattle.xs_positions.specs.Measures.{has_empty}
 use Rattle.xs_positions.specs.Sets.{Sets, IsLinked, Describes}
 use Rattle.xs_positions.specs.declared.sets.Part.{Part}

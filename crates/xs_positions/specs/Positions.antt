@@ -2,7 +2,7 @@
 use Rattle.std.specs.Prelude.{◌≡◌, ℕ, ◌<◌, ◌↔◌, Bool, false, IsTrue, List, [], map, length, slice_index, slice_index_or, Contains}
 use Rattle.std.specs.List.Sorted.{IsStrictlyIncreasing}
 use Rattle.xs_positions.specs.Tree.{Tree, size, symbols}
-use Rattle.xs_positions.specs.Words.{IsWord, Begins, Ends, Follows, Passes, Exchanges, Spells}
+use Rattle.xs_positions.specs.PositionWords.{IsWord, Begins, Ends, Follows, Passes, Exchanges, Spells}
 use Rattle.xs_positions.specs.Sets.{row}
 
 -- The symbol of each position, the positions that begin a word and those that end one, for each position those that

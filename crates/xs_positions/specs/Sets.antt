@@ -1,7 +1,7 @@
 -- Which positions begin the words of a language, end them, follow each other, and lie in them.
 use Rattle.std.specs.Prelude.{◌≡◌, ℕ, ◌+◌, ◌<◌, ◌≤◌, ◌↔◌, ◌⊎◌, Bool, false, IsTrue, List, [], length, slice_index_or, Contains}
 use Rattle.std.specs.List.Sorted.{IsStrictlyIncreasing}
-use Rattle.xs_positions.specs.Words.{Begins, Ends, Follows, Passes}
+use Rattle.xs_positions.specs.PositionWords.{Begins, Ends, Follows, Passes}
 
 -- the sets of a row of positions: the first positions, the last ones, those after each, and whether each is useful
 pub record Sets : Type 0 where

@@ -1,7 +1,7 @@
 -- Expressions over numbered symbols, and the symbols of their positions.
 use Rattle.std.specs.Prelude.{◌≡◌, ℕ, zero, suc, List, [], ◌∷◌, ◌++◌, None, refl}
-use Rattle.xs_words.specs.Expressions.{Expression, one, empty, chain, nothing, either, repeat, choice_of, copies}
-pub use Rattle.xs_words.specs.Expressions.{one, empty, chain, nothing, either, repeat, sequence_of, choice_of, copies, size}
+use Rattle.xs_positions.specs.Expressions.{Expression, one, empty, chain, nothing, either, repeat, choice_of, copies}
+pub use Rattle.xs_positions.specs.Expressions.{one, empty, chain, nothing, either, repeat, sequence_of, choice_of, copies, size}
 
 abbrev pub Tree : Type 0
 Tree = Expression ℕ

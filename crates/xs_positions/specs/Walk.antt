@@ -1,7 +1,7 @@
 -- What the walk over an expression speaks of: the tree of a node, and copies of a part in a row.
 use Rattle.std.specs.Prelude.{ℕ, ◌+◌, ◌*◌, ◌≤◌, List, map}
 use Rattle.xs_positions.specs.Tree.{Tree, size}
-use Rattle.xs_positions.specs.Words.{IsWord, Rounds}
+use Rattle.xs_positions.specs.PositionWords.{IsWord, Rounds}
 use Rattle.xs_positions.specs.Nodes.{tree_at, trees_of}
 use Rattle.xs_positions.specs.declared.expr.Node.{Node}
 

@@ -1,7 +1,4 @@
-//! Positions of an expression over numbered symbols.
-//!
-//! An [`Expr`] holds expressions made of symbols, sequences, choices and repeats. [`find_positions`] unrolls one of them
-//! and says which copies of its symbols may begin a word, end one, and come right after each other.
+//! Expressions over symbols of any type, and their words: definitions alone, which contracts of other crates cite.
 #![tactic(auto)]
 
 mod expr;

@@ -3,7 +3,7 @@
 ghost use Rattle.std.specs.Prelude.{◌≡◌, ℕ, ◌+◌, ◌*◌, ◌<◌, ◌≤◌, ◌^◌, ◌↔◌, ◌++◌, ◌∷◌, [], List, map, length, replicate, reverse, drop, Contains, None, IfOk, OnOk, IsTrue, if◌then◌else◌};
 ghost use Rattle.std.specs.List.Sorted.{IsStrictlyIncreasing};
 ghost use Rattle.xs_positions.specs.Tree.{Tree, size, repeat, sequence_of, choice_of, copies};
-ghost use Rattle.xs_positions.specs.Words.{IsWord, Ends, Rounds};
+ghost use Rattle.xs_positions.specs.PositionWords.{IsWord, Ends, Rounds};
 ghost use Rattle.xs_positions.specs.Sets.{Describes};
 ghost use Rattle.xs_positions.specs.Measures.{AreMeasured, has_word, has_rounds};
 ghost use Rattle.xs_positions.specs.Parts.{sets_of, IsPartOf, AreParts};

@@ -1,7 +1,7 @@
 -- The positions of an expression over classes are those of its tree.
 use Rattle.std.proofs.Common.{◌≡◌, ℕ, zero, suc, ◌+◌, ◌*◌, ◌<◌, ◌↔◌, List, [], ◌∷◌, map, refl, ap}
 use Rattle.std.specs.Prelude.{Result, IsErr}
-use Rattle.xs_words.specs.Expressions.{renamed}
+use Rattle.xs_positions.specs.Expressions.{renamed}
 use Rattle.xs_positions.specs.Tree.{Tree, one, empty, chain, nothing, either, repeat, copies, size}
 use Rattle.xs_positions.specs.Nodes.{tree_at}
 use Rattle.pattern_syntax.specs.Classes.{Class}

@@ -1,7 +1,7 @@
 -- A text against words of positions, a character at a time.
 use Rattle.std.proofs.Common.{◌≡◌, ℕ, Bool, List, [], ◌∷◌, ◌++◌, append_assoc}
 use Rattle.std.specs.Prelude.{IsTrue}
-use Rattle.xs_positions.specs.Words.{Begins, Ends, Follows, Exchanges}
+use Rattle.xs_positions.specs.PositionWords.{Begins, Ends, Follows, Exchanges}
 use Rattle.xs_regex.specs.Words.{Reads}
 
 module _ (Word : List ℕ → Type 0) (takes : ℕ → ℕ → Bool) where

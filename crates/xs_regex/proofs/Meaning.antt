@@ -1,7 +1,7 @@
 -- What a pattern that was read matches, by its text.
 use Rattle.std.proofs.Common.{◌≡◌, ℕ, ◌↔◌, Bool, true, false, if◌then◌else◌, List, Option, Some, None, refl, ap, ◌∙◌}
 use Rattle.std.specs.Prelude.{Result, Ok, Err, IfOk, nat_lt}
-use Rattle.xs_words.specs.Expressions.{size}
+use Rattle.xs_positions.specs.Expressions.{size}
 use Rattle.pattern_syntax.specs.Regex.{Regex, Matches}
 use Rattle.pattern_syntax.specs.declared.fault.PatternFault.{PatternFault}
 use Rattle.pattern_syntax.specs.declared.fault.PatternFault.TheVariants.{TooLarge}

@@ -3,7 +3,7 @@ use Rattle.std.proofs.Common.{◌≡◌, ℕ, zero, suc, ◌+◌, ◌<◌, ◌�
 use Rattle.std.specs.Prelude.{Contains, IsTrue, slice_index}
 use Rattle.std.proofs.Math.Seq.{drop-cons}
 use Rattle.xs_positions.specs.Tree.{Tree, size}
-use Rattle.xs_positions.specs.Words.{IsWord, Begins}
+use Rattle.xs_positions.specs.PositionWords.{IsWord, Begins}
 use Rattle.xs_positions.specs.Sets.{row}
 use Rattle.xs_positions.specs.Positions.{Table, ArePositionsOf}
 use Rattle.pattern_syntax.specs.Classes.{Class}

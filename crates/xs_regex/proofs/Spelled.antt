@@ -2,7 +2,7 @@
 use Rattle.std.proofs.Common.{◌≡◌, ℕ, zero, suc, Bool, List, [], ◌∷◌, ◌++◌, map, refl, ap, ◌∙◌, inl, inr}
 use Rattle.std.specs.Prelude.{IsTrue}
 use Rattle.xs_positions.specs.Tree.{Tree, one, empty, chain, nothing, either, repeat}
-use Rattle.xs_positions.specs.Words.{Spells, Rounds}
+use Rattle.xs_positions.specs.PositionWords.{Spells, Rounds}
 use Rattle.pattern_syntax.specs.Classes.{Class, has}
 use Rattle.pattern_syntax.specs.Regex.{Matches}
 use Rattle.pattern_syntax.specs.Trees.{class_at, regex_of}

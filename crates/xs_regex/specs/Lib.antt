@@ -6,6 +6,3 @@ pub mod Expression
 pub mod Ready
 pub mod Outcome
 pub mod Meaning
-pub use Rattle.pattern_syntax.specs.Reading
-pub use Rattle.pattern_syntax.specs.Regex
-pub use Rattle.pattern_syntax.specs.declared.fault.PatternFault

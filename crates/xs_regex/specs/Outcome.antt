@@ -3,7 +3,7 @@ use Rattle.std.specs.Prelude.{nat_lt, if◌then◌else◌, Result, Ok, Err}
 use Rattle.pattern_syntax.specs.Regex.{Regex}
 use Rattle.pattern_syntax.specs.declared.fault.PatternFault.{PatternFault}
 use Rattle.pattern_syntax.specs.declared.fault.PatternFault.TheVariants.{TooLarge}
-use Rattle.xs_words.specs.Expressions.{size}
+use Rattle.xs_positions.specs.Expressions.{size}
 use Rattle.xs_regex.specs.Expression.{regex}
 use Rattle.xs_regex.specs.declared.pattern.Pattern.{Pattern}
 

@@ -6,4 +6,3 @@ mod program;
 mod set;
 
 pub use pattern::Pattern;
-pub use pattern_syntax::PatternFault;

@@ -7,15 +7,15 @@ ghost use Rattle.xs_positions.specs.Nodes.{tree_at};
 ghost use Rattle.pattern_syntax.specs.Regex.{Matches, regex_at};
 ghost use Rattle.pattern_syntax.specs.Terms.{regexes_of, classes_of, trees_of};
 ghost use Rattle.xs_regex.specs.Sets.{Has};
-ghost use Rattle.xs_words.specs.Expressions.{size};
+ghost use Rattle.xs_positions.specs.Expressions.{size};
 ghost use Rattle.xs_regex.specs.Expression.{regex};
 ghost use Rattle.xs_regex.specs.Program.{expression_of, takes, SomeTakes, IsProgram};
 
 use crate::set::PositionSet;
-use pattern_syntax::{ExprId, Terms};
+use pattern_syntax::Terms;
 use std::alloc::{AllocError, Global};
 use std::mem;
-use xs_positions::{Positions, PositionsError, find_positions};
+use xs_positions::{ExprId, Positions, PositionsError, find_positions};
 
 /// How many positions a pattern may have.
 const MOST_POSITIONS: u32 = 4_096;

@@ -3,3 +3,6 @@ pub mod Writing
 pub mod Bounds
 pub mod BoundLaws
 pub mod Memory
+pub mod Escaping
+pub mod Parts
+pub mod Written

@@ -5,14 +5,14 @@ use Rattle.item_listing.specs.declared.past.Past.{Past}
 use Rattle.item_listing.specs.declared.limits.TheConstants.{MOST_BYTES}
 use Rattle.item_listing.specs.Listing.{bytes_taken, fed}
 use Rattle.item_listing.specs.Listed.{listed, Waits}
-use Rattle.stream_answers.specs.Assessor.{RightAssessor}
-use Rattle.stream_answers.specs.State.{WorkState}
+use Rattle.session_model.specs.Assessor.{RightAssessor}
+use Rattle.open_document.specs.State.{WorkState}
 use Rattle.stream_answers.specs.Output.{Told, over, joined, before, Leads}
 use Rattle.stream_answers.specs.inside.Turns.{Spot, silent, told, finished}
 use Rattle.stream_answers.specs.inside.Turning.{IsOpen}
 use Rattle.stream_sections.specs.declared.asked.Asked.{Asked}
 use Rattle.stream_answers.specs.declared.place.Place.{Place}
-use Rattle.stream_answers.specs.BreakOff.{BreakOff}
+use Rattle.open_document.specs.declared.break_off.BreakOff.{BreakOff}
 use Rattle.stream_answers.specs.declared.ending.Ending.{Ending}
 use Rattle.xsv_run.specs.Traces.{Trace}
 use Rattle.xsv_run.specs.inside.Progress.{EndsAs, GoesOn, HasEnded, TakesNext, Progresses, Feeds, EndsFed, FeedsOn, Pauses, PausesBy, PausesFedBy, to_tell}

@@ -6,11 +6,11 @@ use Rattle.item_listing.specs.Listing.{after, bytes_taken, Leaves}
 use Rattle.item_listing.specs.Listed.{gives, refused, listed, ReadsOn}
 use Rattle.item_listing.specs.declared.item.Item.{Item}
 use Rattle.item_listing.specs.declared.past.ListingFault.{ListingFault}
-use Rattle.stream_answers.specs.BreakOff.{BreakOff}
-use Rattle.stream_answers.specs.BreakOff.TheVariants.{Memory}
-use Rattle.stream_answers.specs.Tells.{Wrote}
-use Rattle.stream_answers.specs.Assessor.{RightAssessor}
-use Rattle.stream_answers.specs.Counting.{Counts}
+use Rattle.open_document.specs.declared.break_off.BreakOff.{BreakOff}
+use Rattle.open_document.specs.declared.break_off.BreakOff.TheVariants.{Memory}
+use Rattle.open_document.specs.Tells.{Wrote}
+use Rattle.session_model.specs.Assessor.{RightAssessor}
+use Rattle.session_model.specs.Counting.{Counts}
 use Rattle.stream_sections.specs.Sections.{bad_line}
 use Rattle.stream_answers.specs.inside.Turning.{TurnsTo, Takes, said_of}
 use Rattle.stream_answers.specs.Output.{Told, over, before, Leads, stop_last, stop_told}
@@ -18,7 +18,7 @@ use Rattle.stream_answers.specs.inside.Turns.{Spot, Turned, goes, stops, compile
 use Rattle.stream_answers.specs.Refusals.{refusal_ending}
 use Rattle.stream_answers.specs.declared.ending.Ending.{Ending}
 use Rattle.stream_answers.specs.declared.place.Place.{Place}
-use Rattle.stream_answers.specs.State.{WorkState}
+use Rattle.open_document.specs.State.{WorkState}
 use Rattle.stream_answers.proofs.Leading.{leads_here, turn_leads}
 use Rattle.stream_sections.specs.declared.asked.Asked.{Asked}
 use Rattle.stream_sections.specs.declared.refusal.Refusal.TheVariants as refusals

@@ -6,13 +6,13 @@ use Rattle.item_listing.specs.State.{Reading, unread}
 use Rattle.item_listing.specs.declared.limits.TheConstants.{MOST_BYTES}
 use Rattle.item_listing.specs.Listing.{bytes_taken}
 use Rattle.item_listing.specs.Listed.{Listed, listed, Waits}
-use Rattle.stream_answers.specs.Assessor.{RightAssessor}
-use Rattle.stream_answers.specs.Counting.{Counts}
+use Rattle.session_model.specs.Assessor.{RightAssessor}
+use Rattle.session_model.specs.Counting.{Counts}
 use Rattle.stream_answers.specs.Output.{Said, Last, Told, over, joined, before, Leads, sections_told}
 use Rattle.stream_answers.specs.inside.Turns.{Spot, silent, told, unbegun}
 use Rattle.stream_answers.specs.inside.Turning.{spot_of}
 use Rattle.stream_sections.specs.declared.asked.Asked.{Asked}
-use Rattle.stream_answers.specs.BreakOff.{BreakOff}
+use Rattle.open_document.specs.declared.break_off.BreakOff.{BreakOff}
 use Rattle.stream_answers.specs.declared.ending.Ending.{Ending}
 use Rattle.xsv_run.specs.Taking.{TakesAtMost}
 use Rattle.xsv_run.specs.Traces.{Trace}
@@ -21,7 +21,7 @@ use Rattle.xsv_run.specs.inside.Progress.{BrokeOff, EndsAs, EndsFed, Feeds, Take
 use Rattle.xsv_run.proofs.Tracing.{writes_none, writes_both, front_whole}
 use Rattle.xsv_run.proofs.Telling.{before_nil, leads_same, leads_further, ends_leading, ends_behind}
 use Rattle.stream_answers.specs.declared.place.Place.{Place}
-use Rattle.stream_answers.specs.State.{WorkState}
+use Rattle.open_document.specs.State.{WorkState}
 
 pub unread_waits : Waits unread
 unread_waits = (λ e. refl, λ e. cc)

@@ -2,11 +2,11 @@
 use Rattle.std.proofs.Common.{◌≡◌, ◌≤◌, ℕ, List, [], ◌++◌, ◌+◌, Option, Some, None, IfSome, IfOk, true, Result, Ok, Err, refl, sym, ap, ◌∙◌, arith, subst, append-nil}
 use Rattle.std.specs.Option.{option_map}
 use Rattle.xsv_io.specs.Causes.{Rose}
-use Rattle.stream_answers.specs.Assessor.{RightAssessor}
-use Rattle.stream_answers.specs.Counting.{Counts}
-use Rattle.stream_answers.specs.BreakOff.{BreakOff}
-use Rattle.stream_answers.specs.BreakOff.TheVariants as breaks
-use Rattle.stream_answers.specs.Tells.{Wrote, IsWriteFault}
+use Rattle.session_model.specs.Assessor.{RightAssessor}
+use Rattle.session_model.specs.Counting.{Counts}
+use Rattle.open_document.specs.declared.break_off.BreakOff.{BreakOff}
+use Rattle.open_document.specs.declared.break_off.BreakOff.TheVariants as breaks
+use Rattle.open_document.specs.Tells.{Wrote, IsWriteFault}
 use Rattle.stream_answers.specs.Output.{Said, Last, Told, over, asks, joined, before, Leads}
 use Rattle.stream_answers.specs.inside.Turns.{silent}
 use Rattle.stream_answers.specs.declared.ending.Ending.{Ending}

@@ -4,11 +4,11 @@ use Rattle.std.specs.Io.KnownBytes.{Appends}
 use Rattle.std.proofs.KnownBytes.{Appends-nil, Appends-trans}
 use Rattle.std.proofs.lemmas.List.{take_all}
 use Rattle.xsv_io.specs.Writing.{AppendsFront}
-use Rattle.text_sink.proofs.Fronts.{front_behind}
-use Rattle.stream_answers.specs.Counting.{Counts}
-use Rattle.stream_answers.specs.BreakOff.{BreakOff}
-use Rattle.stream_answers.specs.BreakOff.TheVariants as breaks
-use Rattle.stream_answers.specs.Tells.{Wrote}
+use Rattle.xsv_io.proofs.Fronts.{front_behind}
+use Rattle.session_model.specs.Counting.{Counts}
+use Rattle.open_document.specs.declared.break_off.BreakOff.{BreakOff}
+use Rattle.open_document.specs.declared.break_off.BreakOff.TheVariants as breaks
+use Rattle.open_document.specs.Tells.{Wrote}
 use Rattle.stream_answers.specs.Output.{Said, joined}
 use Rattle.stream_answers.specs.inside.Turns.{silent}
 use Rattle.xsv_run.specs.Traces.{Trace, Writes, WritesFront}

@@ -5,11 +5,11 @@ use Rattle.std.specs.Io.KnownBytes.{Appends, Consumes}
 use Rattle.xsv_io.specs.Writing.{AppendsFront}
 use Rattle.item_listing.specs.State.{unread}
 use Rattle.item_listing.specs.Listed.{listed}
-use Rattle.run_words.specs.Requests.{request}
-use Rattle.run_words.specs.declared.request.Request.{Request}
-use Rattle.run_words.specs.declared.request.Request.TheVariants.{Read, Generate, Trial}
-use Rattle.run_words.specs.declared.request.Task.TheVariants as tasks
-use Rattle.stream_answers.specs.Assessor.{RightAssessor}
+use Rattle.xsv_run.specs.Requests.{request}
+use Rattle.xsv_run.specs.declared.request.Request.{Request}
+use Rattle.xsv_run.specs.declared.request.Request.TheVariants.{Read, Generate, Trial}
+use Rattle.xsv_run.specs.declared.request.Task.TheVariants as tasks
+use Rattle.session_model.specs.Assessor.{RightAssessor}
 use Rattle.stream_answers.specs.Output.{Said, free, Last, Told, over, before, Leads, sections_told}
 use Rattle.stream_sections.specs.declared.asked.Asked.{Asked}
 use Rattle.stream_sections.specs.declared.asked.Asked.TheVariants.{Check, Assess, Session}

@@ -2,7 +2,7 @@
 use Rattle.std.specs.Prelude.{ℕ, List, Option}
 use Rattle.std.specs.Io.KnownBytes.{Appends}
 use Rattle.xsv_io.specs.Writing.{AppendsFront}
-use Rattle.stream_answers.specs.Counting.{Counts}
+use Rattle.session_model.specs.Counting.{Counts}
 use Rattle.stream_answers.specs.Output.{Said}
 
 -- what a sink took, and how many steps were counted

@@ -1,8 +1,8 @@
 ghost use Rattle.std.specs.Prelude.{◌≡◌, ◌≤◌, IfOk};
 ghost use Rattle.xsv_io.specs.Causes.{KeepsCount};
 ghost use Rattle.item_listing.specs.Listing.{bytes_taken};
-ghost use Rattle.stream_answers.specs.Tells.{Tells, IsWriteFault};
-ghost use Rattle.stream_answers.specs.Assessor.{RightAssessor};
+ghost use Rattle.open_document.specs.Tells.{Tells, IsWriteFault};
+ghost use Rattle.session_model.specs.Assessor.{RightAssessor};
 ghost use Rattle.stream_answers.specs.Refusals.{refusal_line, refusal_ending};
 ghost use Rattle.stream_answers.specs.inside.Turns.{turned};
 ghost use Rattle.stream_answers.specs.inside.Turning.{IsOpen, spot_of};
@@ -11,8 +11,9 @@ ghost use Rattle.xsv_run.specs.inside.Progress.{TakesItem, IsTaken, TakesNext, H
 ghost use Rattle.xsv_run.specs.declared.next.Next.TheVariants as nexts;
 
 use item_listing::{Item, Listing, ListingFault};
+use open_document::{BreakOff, Workspace};
 use std::alloc::Global;
-use stream_answers::{BreakOff, Ending, Place, Workspace, answer_item, write_refusal};
+use stream_answers::{Ending, Place, answer_item, write_refusal};
 use stream_sections::{Asked, Refusal, RefusedLine};
 use xsv_io::Sink;
 use xsv_steps::{Ledger, Steps};

@@ -1,16 +1,17 @@
 ghost use Rattle.std.specs.Prelude.{◌≡◌, ◌<◌, ◌≤◌, ◌+◌, length, false, IfOk};
 ghost use Rattle.xsv_io.specs.Causes.{KeepsCount};
 ghost use Rattle.item_listing.specs.Listing.{bytes_taken};
-ghost use Rattle.stream_answers.specs.Tells.{IsWriteFault};
-ghost use Rattle.stream_answers.specs.Assessor.{RightAssessor};
+ghost use Rattle.open_document.specs.Tells.{IsWriteFault};
+ghost use Rattle.session_model.specs.Assessor.{RightAssessor};
 ghost use Rattle.stream_answers.specs.inside.Turning.{IsOpen, spot_of};
 ghost use Rattle.xsv_run.specs.Traces.{trace};
 ghost use Rattle.xsv_run.specs.inside.Progress.{FeedsOn, PausesFedBy, Pieces, StaysOpen, FailsRead, FailsWrite};
 
 use crate::lines::take_lines;
 use item_listing::{Listing, MOST_BYTES};
+use open_document::{BreakOff, Workspace};
 use std::alloc::Global;
-use stream_answers::{BreakOff, Ending, Place, Workspace};
+use stream_answers::{Ending, Place};
 use stream_sections::Asked;
 use xsv_io::{Sink, Source};
 use xsv_steps::{Ledger, Steps};

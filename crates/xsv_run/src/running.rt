@@ -1,7 +1,7 @@
 ghost use Rattle.std.specs.Prelude.{◌≡◌, ◌+◌, ◌≤◌, None, Err, IfOk, IfSome};
 ghost use Rattle.item_listing.specs.declared.limits.TheConstants.{MOST_BYTES};
 ghost use Rattle.xsv_io.specs.Causes.{KeepsCount};
-ghost use Rattle.stream_answers.specs.Assessor.{RightAssessor};
+ghost use Rattle.session_model.specs.Assessor.{RightAssessor};
 ghost use Rattle.xsv_run.specs.Taking.{TakesAtMost};
 ghost use Rattle.xsv_run.specs.Traces.{trace};
 ghost use Rattle.xsv_run.specs.Output.{Answers, BreaksOff, RefusesWords, asked};
@@ -10,9 +10,8 @@ use crate::stream::answer_stream;
 use crate::words::read_words;
 use crate::{Status, WordsFault};
 use std::alloc::Global;
-use text_sink::write_text;
 use xs_names::Text;
-use xsv_io::{Sink, Source};
+use xsv_io::{Sink, Source, write_text};
 use xsv_steps::{Ledger, Steps};
 
 const USAGE: &str =

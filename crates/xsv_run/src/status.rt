@@ -1,6 +1,7 @@
 ghost use Rattle.std.specs.Prelude.{◌≡◌};
 
-use stream_answers::{BreakOff, Ending};
+use open_document::BreakOff;
+use stream_answers::Ending;
 
 /// How a run ended. The last three of its kinds are no answer to the stream.
 #[derive(Clone, Copy, Debug, PartialEq, Eq)]

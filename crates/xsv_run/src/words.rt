@@ -1,7 +1,7 @@
 ghost use Rattle.std.specs.Prelude.{◌≡◌};
 ghost use Rattle.xsv_run.specs.Output.{asked};
 
-use run_words::{Request, Task};
+use crate::{Request, Task};
 use stream_sections::Asked;
 use xs_names::Text;
 
@@ -18,7 +18,7 @@ pub enum WordsFault {
 pub fn read_words(words: &[Text]) -> Option<Asked>
     ensures { result ≡ asked words.now }
 {
-    match run_words::read_words(words) {
+    match crate::read_words(words) {
         Some(Request::Read(Task::Check, _)) => Some(Asked::Check),
         Some(Request::Read(Task::Assess, _)) => Some(Asked::Assess),
         Some(Request::Read(Task::Session, _)) => Some(Asked::Session),

@@ -3,15 +3,15 @@ use Rattle.std.specs.Prelude.{◌≡◌, ℕ, ◌^◌, List, ◌++◌, Some, map
 use Rattle.std.specs.List.{AllZip}
 use Rattle.xs_names.specs.Names.{NameTable}
 use Rattle.xs_components.specs.Tables.{Tables}
-use Rattle.use_maps.specs.declared.entry.UseAt.{UseAt}
+use Rattle.attr_uses.specs.declared.entry.UseAt.{UseAt}
 use Rattle.assess_records.specs.declared.shape.NamedText.{NamedText}
 use Rattle.assess_records.specs.declared.outcome.ValueSource.TheVariants.{Schema}
-use Rattle.attr_codes.specs.AttrGoverning.TheVariants.{Declared}
-use Rattle.attr_added.specs.Lacking.{is_missing, AreThose}
-use Rattle.attr_added.specs.Added.{AreAddedNames}
-use Rattle.attr_added.specs.declared.added.AddedUse.{AddedUse}
-use Rattle.attr_codes.specs.Records.{IsAttrJudged}
-use Rattle.attr_codes.specs.declared.judged.JudgedAttr.{JudgedAttr}
+use Rattle.attr_assess.specs.declared.governing.AttrGoverning.TheVariants.{Declared}
+use Rattle.attr_assess.specs.Lacking.{is_missing, AreThose}
+use Rattle.attr_assess.specs.Added.{AreAddedNames}
+use Rattle.attr_assess.specs.declared.added.AddedUse.{AddedUse}
+use Rattle.attr_assess.specs.Records.{IsAttrJudged}
+use Rattle.attr_assess.specs.declared.judged.JudgedAttr.{JudgedAttr}
 use Rattle.attr_assess.specs.Assessed.{record_of, value_of, IsAddedJudged}
 use Rattle.attr_assess.specs.declared.assessed.AssessedAttrs.{AssessedAttrs}
 

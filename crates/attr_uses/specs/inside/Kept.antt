@@ -2,16 +2,16 @@
 use Rattle.std.specs.Prelude.{◌≡◌, ℕ, Bool, false, ◌<◌, List, Option, None, Some, Result, Ok, Err, ⊤, map, length, slice_get, slice_index}
 use Rattle.std.specs.Option.{option_map}
 use Rattle.xs_codes.specs.declared.fault.Fault.{Fault}
-use Rattle.xs_namespaces.specs.Sets.{admits}
-use Rattle.xs_namespaces.specs.declared.constraint.NsConstraint.{NsConstraint}
+use Rattle.xs_components.specs.Sets.{admits}
+use Rattle.xs_components.specs.declared.namespace_constraint.NsConstraint.{NsConstraint}
 use Rattle.xs_components.specs.Tables.{Tables}
 use Rattle.xs_components.specs.declared.common.Wildcard.{Wildcard}
 use Rattle.xs_components.specs.declared.common.TypeId.{TypeId}
 use Rattle.xs_components.specs.declared.common.TypeId.TheVariants.{AnyType, Builtin, Simple, Complex}
-use Rattle.use_maps.specs.Maps.{KeepsMaps}
-use Rattle.use_maps.specs.declared.entry.Entry.{Entry}
-use Rattle.use_maps.specs.declared.entry.UseAt.{UseAt}
-use Rattle.use_maps.specs.declared.entry.UseHolder.{UseHolder}
+use Rattle.attr_uses.specs.Maps.{KeepsMaps}
+use Rattle.attr_uses.specs.declared.entry.Entry.{Entry}
+use Rattle.attr_uses.specs.declared.entry.UseAt.{UseAt}
+use Rattle.attr_uses.specs.declared.entry.UseHolder.{UseHolder}
 use Rattle.attr_uses.specs.Wildcards.{intersection, union}
 use Rattle.attr_uses.specs.Written.{OwnParts, use_name}
 use Rattle.attr_uses.specs.Uses.{AttrUses, no_uses, own_uses, with_group, with_groups, accepted_groups, or_fault, group_uses, uses_of}

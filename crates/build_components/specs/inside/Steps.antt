@@ -5,14 +5,14 @@ use Rattle.xs_components.specs.Table.{no_parts}
 use Rattle.xs_components.specs.Tables.{Tables}
 use Rattle.xs_components.specs.declared.common.TypeId.{TypeId}
 use Rattle.representations.specs.declared.source.Source.{Source}
-use Rattle.component_numbers.specs.Numbers.{numbers_of, with_parts}
+use Rattle.set_representations.specs.Numbers.{numbers_of, with_parts}
 use Rattle.build_types.specs.SimpleTypes.{simple_types}
-use Rattle.build_attributes.specs.Declarations.{attributes_of}
-use Rattle.build_attributes.specs.Groups.{empty_groups, attr_groups}
-use Rattle.build_elements.specs.Constraints.{constraints, constraint_numbers}
-use Rattle.build_elements.specs.Elements.{elements, element_numbers}
-use Rattle.build_complex.specs.Models.{particles_for, with_models}
-use Rattle.build_complex.specs.Complexes.{complex_types}
+use Rattle.build_types.specs.Declarations.{attributes_of}
+use Rattle.build_types.specs.Groups.{empty_groups, attr_groups}
+use Rattle.build_components.specs.Constraints.{constraints, constraint_numbers}
+use Rattle.build_components.specs.Elements.{elements, element_numbers}
+use Rattle.build_components.specs.Models.{particles_for, with_models}
+use Rattle.build_components.specs.Complexes.{complex_types}
 use Rattle.build_components.specs.declared.steps.AttributeNumbers.{AttributeNumbers}
 
 -- where types have these numbers by place

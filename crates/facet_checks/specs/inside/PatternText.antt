@@ -1,7 +1,7 @@
 -- What a pattern keeps beside its text.
 use Rattle.std.specs.Prelude.{ℕ, List, ◌↔◌}
 use Rattle.std.specs.Str.{chars}
-use Rattle.xs_regex.specs.Regex.{Matches}
+use Rattle.pattern_syntax.specs.Regex.{Matches}
 use Rattle.xs_regex.specs.Expression.{regex}
 use Rattle.xs_regex.specs.Meaning.{MatchesPattern}
 use Rattle.facet_checks.specs.declared.pattern.PatternText.TheInside.{Inside}

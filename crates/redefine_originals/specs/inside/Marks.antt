@@ -1,7 +1,7 @@
 -- Which documents were looked at, by marks of their places.
 use Rattle.std.specs.Prelude.{◌≡◌, ℕ, ◌+◌, ◌-◌, ◌↔◌, List, [], ◌∷◌, Bool, true, false, Contains, length, slice_index_or, if◌then◌else◌}
-use Rattle.set_closure.specs.Available.{Available}
-use Rattle.set_closure.specs.Order.{IsNumber}
+use Rattle.schema_set.specs.declared.documents.Available.{Available}
+use Rattle.schema_set.specs.Order.{IsNumber}
 use Rattle.redefine_originals.specs.Versions.{inclusions}
 
 abbrev pub marked : List Bool → ℕ → Bool

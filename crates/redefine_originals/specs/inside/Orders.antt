@@ -3,8 +3,8 @@ use Rattle.std.specs.Prelude.{◌≡◌, ℕ, ◌+◌, ◌==◌, ◌++◌, if◌
 use Rattle.std.specs.List.{list_any}
 use Rattle.std.specs.Option.{option_or}
 use Rattle.std.specs.Global.{Vec}
-use Rattle.set_closure.specs.Available.{Available}
-use Rattle.set_closure.specs.Order.{IsNumber}
+use Rattle.schema_set.specs.declared.documents.Available.{Available}
+use Rattle.schema_set.specs.Order.{IsNumber}
 use Rattle.redefine_originals.specs.declared.versions.Redefinable.{Redefinable}
 use Rattle.redefine_originals.specs.Versions.{Version, version_at, inclusions, Finds}
 use Rattle.redefine_originals.specs.inside.Marks.{AreSeen}

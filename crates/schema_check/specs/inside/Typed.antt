@@ -2,13 +2,13 @@
 use Rattle.std.specs.Prelude.{◌≡◌, ◌⊎◌, ℕ, true, false, List, Option, None, Some, Result, Ok, Err}
 use Rattle.xs_codes.specs.declared.fault.Fault.{Fault}
 use Rattle.xs_components.specs.Tables.{Tables}
-use Rattle.xs_faults.specs.Least.{IsLeast}
+use Rattle.xs_codes.specs.Least.{IsLeast}
 use Rattle.xs_names.specs.Names.{NameTable}
 use Rattle.simple_types.specs.declared.types.SimpleTypes.{SimpleTypes}
-use Rattle.redefined_groups.specs.declared.groups.RedefinedGroups.{RedefinedGroups}
-use Rattle.schema_documents.specs.Available.{Available}
-use Rattle.set_originals.specs.Originals.{AreOriginals}
-use Rattle.schema_build.specs.SetDocument.{SetDocument}
+use Rattle.redefine_names.specs.declared.groups.RedefinedGroups.{RedefinedGroups}
+use Rattle.schema_set.specs.declared.documents.Available.{Available}
+use Rattle.redefine_originals.specs.Originals.{AreOriginals}
+use Rattle.schema_set.specs.declared.documents.SetDocument.{SetDocument}
 use Rattle.schema_check.specs.declared.documents.CompiledSet.{CompiledSet}
 use Rattle.schema_check.specs.declared.documents.Refusal.{Refusal}
 use Rattle.schema_check.specs.declared.documents.Refusal.TheVariants.{Broken, NotYet}

@@ -2,17 +2,17 @@
 use Rattle.std.specs.Prelude.{◌≡◌, ◌⊎◌, ℕ, ◌<◌, Bool, List, [], ◌∷◌, Option, None, Some, Result, Ok, Err, length}
 use Rattle.xs_codes.specs.declared.fault.Fault.{Fault}
 use Rattle.xs_components.specs.Tables.{Tables}
-use Rattle.xs_faults.specs.Least.{IsLeast}
-use Rattle.attr_faults.specs.AttrFaults.{AreIdMarks}
-use Rattle.attr_faults.specs.Tables.{AreTablesOf}
-use Rattle.attr_faults.specs.AttrTables.{AttrTables}
-use Rattle.element_types.specs.Types.{AreDeclarationsOf}
+use Rattle.xs_codes.specs.Least.{IsLeast}
+use Rattle.derive_faults.specs.AttrFaults.{AreIdMarks}
+use Rattle.attr_uses.specs.Tables.{AreTablesOf}
+use Rattle.attr_uses.specs.declared.tables.AttrTables.{AttrTables}
+use Rattle.component_tables.specs.Types.{AreDeclarationsOf}
 use Rattle.subst_groups.specs.Groups.{AreGroups}
-use Rattle.element_classes.specs.Classes.{AreClassesOf}
-use Rattle.component_names.specs.Named.{spaces_of}
-use Rattle.content_types.specs.ContentTypes.{AreContentsOf}
+use Rattle.component_tables.specs.Classes.{AreClassesOf}
+use Rattle.component_tables.specs.Named.{spaces_of}
+use Rattle.component_tables.specs.ContentTypes.{AreContentsOf}
 use Rattle.content_models.specs.declared.automaton.ContentAutomaton.{ContentAutomaton}
-use Rattle.all_limits.specs.SetModels.{content_of, AreModels, IsBroken}
+use Rattle.schema_models.specs.SetModels.{content_of, AreModels, IsBroken}
 use Rattle.schema_check.specs.Phases.{IsFirstOfPhases}
 use Rattle.schema_check.specs.declared.documents.CompiledSet.{CompiledSet}
 use Rattle.compiled_schema.specs.declared.compiled.Compiled.{Compiled}

@@ -3,14 +3,14 @@ use Rattle.std.specs.Prelude.{◌≡◌, ℕ, ◌+◌, ◌<◌, ◌==◌, ◌⊎
 use Rattle.std.specs.List.{sum_by}
 use Rattle.std.specs.List.Sorted.{IsStrictlySortedBy}
 use Rattle.xs_codes.specs.declared.fault.Fault.{Fault}
-use Rattle.xs_faults.specs.Least.{is_before, sooner}
+use Rattle.xs_codes.specs.Least.{is_before, sooner}
 use Rattle.xs_names.specs.Names.{NameTable}
 use Rattle.xs_components.specs.Tables.{Tables}
 use Rattle.xs_components.specs.declared.common.Place.{Place}
-use Rattle.model_checks.specs.Built.{IsStateTotal, IsBuilt, HasRoom, IsRefused, states_of, cells_of}
-use Rattle.model_checks.specs.ContentAutomaton.{ContentAutomaton}
-use Rattle.model_checks.specs.ModelError.{ModelError}
-use Rattle.model_checks.specs.ModelError.TheVariants as errors
+use Rattle.content_models.specs.Built.{IsStateTotal, IsBuilt, HasRoom, IsRefused, states_of, cells_of}
+use Rattle.content_models.specs.declared.automaton.ContentAutomaton.{ContentAutomaton}
+use Rattle.content_models.specs.declared.refused.ModelError.{ModelError}
+use Rattle.content_models.specs.declared.refused.ModelError.TheVariants as errors
 use Rattle.model_checks.specs.Consistency.{IsConsistent}
 use Rattle.model_checks.specs.Checks.{IsAmbiguousModel}
 use Rattle.model_checks.specs.declared.fault.ModelFault.{ModelFault}

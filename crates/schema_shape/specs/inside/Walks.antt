@@ -3,7 +3,7 @@ use Rattle.std.specs.Prelude.{ℕ, List, ◌∷◌, ◌++◌}
 use Rattle.tree_rows.specs.Forest.{Forest}
 use Rattle.tree_rows.specs.declared.row.Binding.{Binding}
 use Rattle.tree_rows.specs.declared.row.Row.{Row}
-use Rattle.schema_grammar.specs.declared.kinds.Kind.{Kind}
+use Rattle.schema_values.specs.declared.grammar_kinds.Kind.{Kind}
 use Rattle.schema_faults.specs.Constructs.{Construct, constructs, nearest}
 use Rattle.schema_faults.specs.Faults.{fault_of, least_fault, lesser}
 use Rattle.schema_shape.specs.Shapes.{shapes, shapes_of}

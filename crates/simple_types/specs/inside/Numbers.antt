@@ -1,7 +1,7 @@
 -- The type of a number.
 use Rattle.std.specs.Prelude.{ℕ, List, slice_get}
-use Rattle.simple_validity.specs.TypeTree.{TypeTree}
-use Rattle.simple_validity.specs.SimpleValidity.{IsMade}
+use Rattle.simple_types.specs.TypeTree.{TypeTree}
+use Rattle.simple_types.specs.SimpleValidity.{IsMade}
 use Rattle.simple_types.specs.declared.judged.JudgedType.{JudgedType}
 use Rattle.simple_types.specs.Judging.{Holds}
 

@@ -1,9 +1,9 @@
 -- What a turn of the code has done.
 use Rattle.std.specs.Prelude.{◌≡◌, ℕ, List, Option, Some, None, Result, IfOk}
-use Rattle.open_document.specs.Assessor.{RightAssessor}
-use Rattle.open_document.specs.Counting.{Counts}
+use Rattle.session_model.specs.Assessor.{RightAssessor}
+use Rattle.session_model.specs.Counting.{Counts}
 use Rattle.open_document.specs.Tells.{Wrote}
-use Rattle.open_document.specs.BreakOff.{BreakOff}
+use Rattle.open_document.specs.declared.break_off.BreakOff.{BreakOff}
 use Rattle.open_document.specs.State.{WorkState, empty, ready, working, IsReady, IsOpen as IsDocumentOpen}
 use Rattle.stream_sections.specs.inside.DocumentTurns as document_turns
 use Rattle.stream_sections.specs.declared.asked.Asked.{Asked}

@@ -3,12 +3,12 @@ use Rattle.std.specs.Prelude.{◌≡◌, ◌⊎◌, ℕ, ◌+◌, List, [], Opti
 use Rattle.item_listing.specs.Listed as listed
 use Rattle.item_listing.specs.declared.item.Item.{Item}
 use Rattle.tree_rows.specs.Forest.{Document}
-use Rattle.open_document.specs.Assessor.{RightAssessor}
-use Rattle.open_document.specs.Compiled.{Compiled}
-use Rattle.open_document.specs.SchemaInput.{SchemaInput}
-use Rattle.open_document.specs.Outcomes.{IsOutcome}
-use Rattle.open_document.specs.Outcome.{Outcome}
-use Rattle.open_document.specs.Outcome.TheVariants as outcomes
+use Rattle.session_model.specs.Assessor.{RightAssessor}
+use Rattle.compiled_schema.specs.declared.compiled.Compiled.{Compiled}
+use Rattle.schema_set.specs.declared.inputs.SchemaInput.{SchemaInput}
+use Rattle.schema_compile.specs.Outcomes.{IsOutcome}
+use Rattle.schema_compile.specs.declared.outcome.Outcome.{Outcome}
+use Rattle.schema_compile.specs.declared.outcome.Outcome.TheVariants as outcomes
 use Rattle.open_document.specs.State.{OpenState}
 use Rattle.open_document.specs.Answers.{opened, next_of, verdict}
 use Rattle.open_document.specs.declared.verdict.Verdict.{Verdict}

@@ -4,8 +4,8 @@ use Rattle.std.specs.List.Sorted.{IsStrictlySortedBy}
 use Rattle.xs_components.specs.Tables.{Tables}
 use Rattle.xs_components.specs.declared.common.Methods.{Methods}
 use Rattle.xs_components.specs.declared.common.TypeId.{TypeId}
-use Rattle.xs_references.specs.Heights.{IsLower, type_height}
-use Rattle.xs_members.specs.Heads.{names_of}
+use Rattle.component_references.specs.Heights.{IsLower, type_height}
+use Rattle.xs_components.specs.Heads.{names_of}
 use Rattle.subst_groups.specs.Groups.{IsProhibitedBetween, complex_base, IsMember, MayStand, by_place, name_of}
 
 -- these are the methods that types between two prohibit

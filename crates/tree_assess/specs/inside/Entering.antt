@@ -8,10 +8,10 @@ use Rattle.assess_records.specs.declared.shape.ElementShape.{ElementShape}
 use Rattle.elem_governing.specs.declared.pairs.Governing.{Governing}
 use Rattle.compiled_schema.specs.Usable.{set_of}
 use Rattle.compiled_schema.specs.declared.compiled.Compiled.{Compiled}
-use Rattle.compiled_schema.specs.Numbered.{Scope, characters}
-use Rattle.compiled_schema.specs.Attribution.{SchemaSet}
-use Rattle.compiled_schema.specs.Assessment.{AreJudged}
-use Rattle.element_heads.specs.Heads.{IsHead}
+use Rattle.assess_records.specs.Numbered.{Scope, characters}
+use Rattle.assessment.specs.Attribution.{SchemaSet}
+use Rattle.assessment.specs.Assessment.{AreJudged}
+use Rattle.elem_governing.specs.Heads.{IsHead}
 use Rattle.tree_assess.specs.Entries.{entry_of}
 use Rattle.tree_assess.specs.declared.entry.ChildOutcome.{ChildOutcome}
 use Rattle.tree_assess.specs.declared.entry.ElementEntry.{ElementEntry}

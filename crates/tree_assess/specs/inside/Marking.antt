@@ -2,9 +2,9 @@
 use Rattle.std.specs.Prelude.{List, [], ◌∷◌, map}
 use Rattle.std.specs.List.{flat_map}
 use Rattle.xs_codes.specs.declared.fault.Found.{Found}
-use Rattle.compiled_schema.specs.Ids.{id_codes}
-use Rattle.compiled_schema.specs.Bearings.{borne_of}
-use Rattle.compiled_schema.specs.Joined.{marked_record}
+use Rattle.identity_tables.specs.Ids.{id_codes}
+use Rattle.assessment.specs.Bearings.{borne_of}
+use Rattle.assessment.specs.Joined.{marked_record}
 use Rattle.tree_assess.specs.declared.entry.ElementEntry.{ElementEntry}
 use Rattle.tree_assess.specs.inside.Steps.{bearing_of}
 

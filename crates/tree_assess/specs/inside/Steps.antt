@@ -1,7 +1,7 @@
 -- What is assessed so far.
 use Rattle.std.specs.Prelude.{◌≡◌, ℕ, ◌<◌, ◌^◌, List, [], ◌∷◌, ◌++◌, All, IfSome, Option, length, map, drop}
 use Rattle.xs_components.specs.Tables.{Tables}
-use Rattle.xs_references.specs.Heights.{IsType}
+use Rattle.component_references.specs.Heights.{IsType}
 use Rattle.tree_rows.specs.Forest.{Forest, none, element, count}
 use Rattle.tree_rows.specs.declared.name.Expanded.{Expanded}
 use Rattle.tree_rows.specs.declared.row.Row.{Row}
@@ -13,12 +13,12 @@ use Rattle.elem_governing.specs.View.{AreKnown}
 use Rattle.elem_governing.specs.declared.pairs.Governing.{Governing}
 use Rattle.compiled_schema.specs.Usable.{IsUsable}
 use Rattle.compiled_schema.specs.declared.compiled.Compiled.{Compiled}
-use Rattle.element_heads.specs.Found.{HasNames}
-use Rattle.compiled_schema.specs.Numbered.{Scope, Head, head_of, heads, names_of, scope_in}
-use Rattle.compiled_schema.specs.Attribution.{SchemaSet, content_particle, AreTerms}
-use Rattle.compiled_schema.specs.Assessment.{Entry, Assessed, governed, sibling_records, IsEntry, AreAssessed, IsAssessment}
-use Rattle.compiled_schema.specs.Plain.{plain_beside}
-use Rattle.compiled_schema.specs.Bearings.{Bearing, bearings_below, bearings}
+use Rattle.assess_records.specs.Found.{HasNames}
+use Rattle.assess_records.specs.Numbered.{Scope, Head, head_of, heads, names_of, scope_in}
+use Rattle.assessment.specs.Attribution.{SchemaSet, content_particle, AreTerms}
+use Rattle.assessment.specs.Assessment.{Entry, Assessed, governed, sibling_records, IsEntry, AreAssessed, IsAssessment}
+use Rattle.assessment.specs.Plain.{plain_beside}
+use Rattle.assessment.specs.Bearings.{Bearing, bearings_below, bearings}
 use Rattle.tree_assess.specs.Entries.{entry_of}
 use Rattle.tree_assess.specs.declared.entry.ElementEntry.{ElementEntry}
 use Rattle.tree_assess.specs.declared.entry.ChildOutcome.{ChildOutcome}

@@ -5,8 +5,8 @@ use Rattle.xs_components.specs.declared.common.TypeId.{TypeId}
 use Rattle.xs_components.specs.declared.common.TypeId.TheVariants.{AnyType, Builtin, Simple, Complex}
 use Rattle.xs_components.specs.declared.complex.ComplexType.{ComplexType}
 use Rattle.xs_components.specs.declared.particle.Particle.{Particle}
-use Rattle.xs_references.specs.Ranked.{IsRanked}
-use Rattle.component_circles.specs.References.{effective_of, IsPart, Each}
+use Rattle.component_references.specs.Ranked.{IsRanked}
+use Rattle.component_references.specs.References.{effective_of, IsPart, Each}
 use Rattle.type_derivation.specs.Particles.{IsContentAt}
 
 -- the tables with a particle more, of this rank

@@ -5,10 +5,10 @@ use Rattle.item_listing.specs.State.{Reading}
 use Rattle.item_listing.specs.declared.limits.TheConstants.{MOST_BYTES}
 use Rattle.item_listing.specs.Listing.{bytes_taken}
 use Rattle.item_listing.specs.Listed.{listed, Waits}
-use Rattle.stream_answers.specs.BreakOff.{BreakOff}
-use Rattle.stream_answers.specs.Tells.{IsWriteFault}
-use Rattle.stream_answers.specs.Assessor.{RightAssessor}
-use Rattle.stream_answers.specs.State.{WorkState}
+use Rattle.open_document.specs.declared.break_off.BreakOff.{BreakOff}
+use Rattle.open_document.specs.Tells.{IsWriteFault}
+use Rattle.session_model.specs.Assessor.{RightAssessor}
+use Rattle.open_document.specs.State.{WorkState}
 use Rattle.stream_answers.specs.Output.{Said, Last, Told, over, before, Leads}
 use Rattle.stream_answers.specs.inside.Turns.{Spot, Turned, goes, stops, compiles, LeadsTo, told}
 use Rattle.stream_answers.specs.inside.Turning.{IsOpen, said_of, spot_of}

@@ -1,6 +1,6 @@
 use Rattle.std.proofs.Common.{sym, subst}
 use Rattle.tree_rows.specs.Forest.{Document}
-use Rattle.tree_changes.specs.Stands.{StandsFor}
+use Rattle.doc_changes.specs.Stands.{StandsFor}
 use Rattle.arena_tests.proofs.calls.plain_of.Goals as goal
 
 pub returns-in-Ok : goal.returns-in-Ok

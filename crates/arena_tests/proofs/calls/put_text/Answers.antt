@@ -1,5 +1,5 @@
 use Rattle.std.proofs.Common.{ℕ, List, subst}
-use Rattle.tree_changes.specs.Stands.{StandsFor}
+use Rattle.doc_changes.specs.Stands.{StandsFor}
 use Rattle.tree_edits.specs.Tests.{made}
 use Rattle.tree_edits.specs.declared.edit.Edit.TheVariants as edits
 use Rattle.arena_tests.proofs.Fitting.{stands_by}

@@ -1,4 +1,4 @@
-use Rattle.tree_changes.specs.Held.{attributes_at}
+use Rattle.doc_changes.specs.Held.{attributes_at}
 use Rattle.arena_tests.proofs.Fitting.{pair_is_there}
 use Rattle.arena_tests.proofs.elements.take_attribute.Goals as goal
 

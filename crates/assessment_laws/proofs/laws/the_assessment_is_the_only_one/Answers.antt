@@ -1,4 +1,4 @@
-use Rattle.validity_laws.proofs.Valid.{one-outcome}
+use Rattle.simple_types.proofs.Valid.{one-outcome}
 use Rattle.assessment_laws.proofs.Only.{only-assessment}
 use Rattle.assessment_laws.proofs.laws.the_assessment_is_the_only_one.Goals as goal
 

@@ -1,7 +1,7 @@
 use Rattle.std.proofs.Common.{sym, ap, ◌∙◌}
-use Rattle.validity_laws.proofs.Valid.{one-outcome}
-use Rattle.assessed_ids.specs.Joined.{with_codes}
-use Rattle.assessed_ids.specs.Plain.{plain_beside}
+use Rattle.simple_types.proofs.Valid.{one-outcome}
+use Rattle.assessment.specs.Joined.{with_codes}
+use Rattle.assessment.specs.Plain.{plain_beside}
 use Rattle.assessment_laws.proofs.Only.{only-assessment}
 use Rattle.assessment_laws.proofs.laws.the_assessment_with_ids_is_the_only_one.Goals as goal
 

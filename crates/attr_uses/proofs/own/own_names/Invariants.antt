@@ -1,5 +1,5 @@
 use Rattle.std.proofs.Common.{◌≡◌, take}
-use Rattle.use_maps.specs.Maps.{KeepsMaps}
+use Rattle.attr_uses.specs.Maps.{KeepsMaps}
 use Rattle.attr_uses.specs.Tables.{IsSetOf}
 use Rattle.attr_uses.proofs.own.own_names.Given as goal
 

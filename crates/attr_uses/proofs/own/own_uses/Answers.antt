@@ -1,5 +1,5 @@
 use Rattle.std.proofs.Common.{take, take_all, arith, subst, ◌∙◌}
-use Rattle.use_maps.specs.Maps.{IsMapOf}
+use Rattle.attr_uses.specs.Maps.{IsMapOf}
 use Rattle.attr_uses.specs.Written.{places}
 use Rattle.attr_uses.specs.Tables.{entry_for}
 use Rattle.attr_uses.proofs.EntryLaws.{places-more}

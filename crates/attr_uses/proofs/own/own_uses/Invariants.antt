@@ -1,5 +1,5 @@
 use Rattle.std.proofs.Common.{◌≡◌, take}
-use Rattle.use_maps.specs.Maps.{IsMapOf, KeepsMaps}
+use Rattle.attr_uses.specs.Maps.{IsMapOf, KeepsMaps}
 use Rattle.attr_uses.specs.Written.{places}
 use Rattle.attr_uses.specs.Tables.{entry_for}
 use Rattle.attr_uses.proofs.own.own_uses.Given as goal

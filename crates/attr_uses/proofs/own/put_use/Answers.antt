@@ -1,9 +1,9 @@
 use Rattle.std.proofs.Common.{nat_eq, [], ◌∷◌, ◌++◌, Some, sym, ap, ◌∙◌}
 use Rattle.std.specs.Prelude.{if◌then◌else◌}
 use Rattle.std.proofs.lemmas.Result.{IfOk-weaker}
-use Rattle.use_maps.specs.Entries.{joined}
-use Rattle.use_maps.specs.Maps.{IsMapOf, KeepsMaps}
-use Rattle.use_maps.specs.declared.join.Join.TheVariants.{Union}
+use Rattle.attr_uses.specs.Entries.{joined}
+use Rattle.attr_uses.specs.Maps.{IsMapOf, KeepsMaps}
+use Rattle.attr_uses.specs.declared.join.Join.TheVariants.{Union}
 use Rattle.attr_uses.specs.Tables.{entry_for}
 use Rattle.attr_uses.proofs.EntryLaws.{entry-named, entry-nameless, entry-more, entry-unnamed}
 use Rattle.attr_uses.proofs.KeptLaws.{maps-itself, map-same}

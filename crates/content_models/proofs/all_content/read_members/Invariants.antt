@@ -1,6 +1,6 @@
 use Rattle.std.proofs.Common.{◌≡◌, map, take}
 use Rattle.std.specs.List.{flat_map}
-use Rattle.all_states.specs.declared.member.AllMember.{AllMember}
+use Rattle.content_models.specs.declared.member.AllMember.{AllMember}
 use Rattle.content_models.specs.Ways.{member_at}
 use Rattle.content_models.proofs.all_content.read_members.Given as goal
 

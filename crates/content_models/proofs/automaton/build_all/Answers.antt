@@ -1,5 +1,5 @@
 use Rattle.std.proofs.Common.{map, arith, sym, ap, ◌∙◌}
-use Rattle.all_states.specs.declared.member.AllMember.{AllMember}
+use Rattle.content_models.specs.declared.member.AllMember.{AllMember}
 use Rattle.content_models.proofs.Building.{all-there, all-few, all-within, all-built, all-room, all-passed}
 use Rattle.content_models.proofs.automaton.build_all.Goals as goal
 

@@ -1,5 +1,5 @@
 use Rattle.std.proofs.Common.{◌≡◌, map, take}
-use Rattle.particle_forms.specs.Heads.{names_of}
+use Rattle.xs_components.specs.Heads.{names_of}
 use Rattle.content_models.specs.Terms.{given_by}
 use Rattle.content_models.proofs.reading.read_names.Given as goal
 

@@ -1,10 +1,10 @@
 use Rattle.std.proofs.Common.{◌≡◌, ◌<◌, ◌++◌, List, ℕ, All, Some, length, map, sym, ap, ◌∙◌, subst, arith}
 use Rattle.std.proofs.lemmas.Result.{on_ok_weaker}
-use Rattle.node_links.specs.Nodes.{node}
+use Rattle.doc_nodes.specs.Nodes.{node}
 use Rattle.tag_names.specs.Scopes.{binding_in}
 use Rattle.tree_edits.specs.Edits.{scope_in}
-use Rattle.tree_changes.specs.Held.{bindings_at}
-use Rattle.tree_changes.specs.Stands.{binding_of}
+use Rattle.doc_changes.specs.Held.{bindings_at}
+use Rattle.doc_changes.specs.Stands.{binding_of}
 use Rattle.doc_tree.proofs.Answering.{by_bindings}
 use Rattle.doc_tree.proofs.Walking.{above_depth, scope_under, scope_outmost, scope_made, within_made}
 use Rattle.doc_tree.proofs.above.+bind_above.Goals as goal

@@ -1,5 +1,5 @@
 use Rattle.std.proofs.Common.{◌≡◌, ◌≤◌, ◌++◌, length, map, drop}
-use Rattle.node_links.specs.declared.content.NameBinding.{NameBinding}
+use Rattle.doc_nodes.specs.declared.content.NameBinding.{NameBinding}
 use Rattle.doc_tree.proofs.above.bind_all.Given as goal
 
 abbrev pub invariant-loop-left : goal.invariant-loop-left

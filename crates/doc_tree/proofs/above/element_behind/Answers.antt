@@ -1,7 +1,7 @@
 use Rattle.std.proofs.Common.{◌+◌, length, drop, sym, ap, ◌∙◌, arith}
 use Rattle.std.specs.Prelude.{find}
 use Rattle.std.proofs.lemmas.Option.{same_Some, none-some, slice_get_past}
-use Rattle.node_links.specs.Nodes.{node, is_element_at, children_by}
+use Rattle.doc_nodes.specs.Nodes.{node, is_element_at, children_by}
 use Rattle.doc_tree.proofs.above.element_behind.Goals as goal
 
 pub returns-in-None-clause-element : goal.returns-in-None-clause-element

@@ -1,5 +1,5 @@
 use Rattle.std.proofs.Common.{◌<◌, sym, ◌∙◌, arith}
-use Rattle.node_links.specs.Nodes.{node, depth_by}
+use Rattle.doc_nodes.specs.Nodes.{node, depth_by}
 use Rattle.doc_tree.proofs.Walking.{above_depth, past_found, past_on, past_none}
 use Rattle.doc_tree.proofs.above.element_past.Goals as goal
 

@@ -1,8 +1,8 @@
 use Rattle.std.proofs.Common.{◌≡◌}
 use Rattle.xs_names.specs.Names.{NameTable}
 use Rattle.tree_rows.specs.Forest.{Document}
-use Rattle.node_links.specs.Nodes.{node, depth_by}
-use Rattle.tree_changes.specs.Stands.{StandsFor}
+use Rattle.doc_nodes.specs.Nodes.{node, depth_by}
+use Rattle.doc_changes.specs.Stands.{StandsFor}
 use Rattle.doc_tree.specs.Following.{past_of}
 use Rattle.doc_tree.proofs.above.element_past.Given as goal
 

@@ -1,9 +1,9 @@
 use Rattle.std.proofs.Common.{List, ℕ, refl, subst}
 use Rattle.assess_records.specs.declared.record.AttrRecord.{AttrRecord}
 use Rattle.assess_records.specs.declared.shape.NamedText.{NamedText}
-use Rattle.element_judging.specs.XsiType.{XsiType}
+use Rattle.elem_governing.specs.declared.local_types.XsiType.{XsiType}
 use Rattle.attr_assess.specs.Assessed.{AreAttrsAssessed}
-use Rattle.element_judging.specs.Judged.{IsElementJudged}
+use Rattle.elem_assess.specs.Judged.{IsElementJudged}
 use Rattle.elem_assess.specs.Local.{said_on}
 use Rattle.elem_assess.proofs.records.local.Goals as goal
 

@@ -1,6 +1,6 @@
 use Rattle.std.proofs.Common.{◌≡◌, drop}
-use Rattle.facet_texts.specs.ReadStep.{ReadStep}
-use Rattle.facet_texts.specs.Read.{no_step}
+use Rattle.facet_rules.specs.declared.step.ReadStep.{ReadStep}
+use Rattle.facet_rules.specs.Read.{no_step}
 use Rattle.facets.specs.Reading.{IsReadBehind}
 use Rattle.facets.proofs.reading.read_step.Given as goal
 

@@ -2,7 +2,7 @@ use Rattle.std.proofs.Common.{All, subst}
 use Rattle.std.proofs.lemmas.List.{take_all}
 use Rattle.std.proofs.lemmas.List.Elements.{All-more}
 use Rattle.tree_rows.specs.Whole.{IsTree}
-use Rattle.schema_compile.specs.SchemaInput.{SchemaInput}
+use Rattle.schema_set.specs.declared.inputs.SchemaInput.{SchemaInput}
 use Rattle.open_document.proofs.compiling.are_whole.Goals as goal
 
 abbrev IsWhole : SchemaInput → Type 0

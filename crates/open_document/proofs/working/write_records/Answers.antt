@@ -1,9 +1,9 @@
 use Rattle.std.proofs.Common.{◌++◌, ap, refl}
-use Rattle.text_sink.proofs.Sequence.{written_then, written_short}
-use Rattle.edit_replies.specs.Asking.{code_total}
-use Rattle.edit_replies.specs.Replies.{total_line}
-use Rattle.edit_replies.specs.Reports.{report}
-use Rattle.edit_replies.specs.State.{known}
+use Rattle.xsv_io.proofs.Sequence.{written_then, written_short}
+use Rattle.session_model.specs.Asking.{code_total}
+use Rattle.open_document.specs.Replies.{total_line}
+use Rattle.session_model.specs.Reports.{report}
+use Rattle.session_model.specs.State.{known}
 use Rattle.open_document.proofs.working.write_records.Goals as goal
 
 pub returns-in_err-write_report-clause-written : goal.returns-in_err-write_report-clause-written

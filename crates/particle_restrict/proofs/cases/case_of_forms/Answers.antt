@@ -1,5 +1,5 @@
 use Rattle.std.proofs.Common.{[], refl}
-use Rattle.pointless_groups.specs.Parts.{trees_from}
+use Rattle.particle_models.specs.Parts.{trees_from}
 use Rattle.particle_restrict.proofs.CellLaws.{part-read}
 use Rattle.particle_restrict.proofs.cases.case_of_forms.Goals as goal
 

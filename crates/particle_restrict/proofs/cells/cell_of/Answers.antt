@@ -1,5 +1,5 @@
 use Rattle.std.proofs.Common.{◌∙◌}
-use Rattle.pointless_groups.specs.declared.part.Part.TheVariants.{Leaf, Group}
+use Rattle.particle_models.specs.declared.part.Part.TheVariants.{Leaf, Group}
 use Rattle.particle_restrict.proofs.CellLaws.{part-read}
 use Rattle.particle_restrict.proofs.cells.cell_of.Goals as goal
 

@@ -1,6 +1,6 @@
 use Rattle.std.proofs.Common.{◌≡◌, List, map, take}
-use Rattle.pointless_groups.specs.Trees.{Tree}
-use Rattle.pointless_groups.specs.Parts.{members_at}
+use Rattle.particle_models.specs.Trees.{Tree}
+use Rattle.particle_models.specs.Parts.{members_at}
 use Rattle.particle_restrict.specs.Totals.{total, emptiable_members}
 use Rattle.particle_restrict.proofs.cells.emptiable_of.Given as goal
 

@@ -1,8 +1,8 @@
 use Rattle.std.proofs.Common.{[], ℕ, ◌+◌, ◌*◌, ◌<◌, length, get_or, sym, ap, ◌∙◌, arith}
 use Rattle.std.proofs.lemmas.Bool.{false≢true}
 use Rattle.std.proofs.lemmas.List.Elements.{All-get_or}
-use Rattle.pointless_groups.specs.Parts.{trees_from}
-use Rattle.pointless_groups.specs.declared.part.Part.TheVariants.{Leaf, Group}
+use Rattle.particle_models.specs.Parts.{trees_from}
+use Rattle.particle_models.specs.declared.part.Part.TheVariants.{Leaf, Group}
 use Rattle.particle_restrict.proofs.TotalLaws.{totals-length}
 use Rattle.particle_restrict.proofs.MemberLaws.{length-emptiable}
 use Rattle.particle_restrict.proofs.CellLaws.{row_below, have-below, part-read, members-read, leaf-group, group-group}

@@ -1,7 +1,7 @@
 use Rattle.std.proofs.Common.{ap, ◌∙◌, [], ◌<◌, length, arith}
 use Rattle.particle_forms.specs.Steps.{known}
-use Rattle.pointless_groups.specs.Parts.{trees_from}
-use Rattle.pointless_groups.specs.declared.part.Part.TheVariants.{Leaf, Group}
+use Rattle.particle_models.specs.Parts.{trees_from}
+use Rattle.particle_models.specs.declared.part.Part.TheVariants.{Leaf, Group}
 use Rattle.particle_restrict.proofs.TotalLaws.{known-total, totals-length}
 use Rattle.particle_restrict.proofs.CellLaws.{part-read, members-read, group-cell}
 use Rattle.particle_restrict.proofs.cells.over_leaf.Goals as goal

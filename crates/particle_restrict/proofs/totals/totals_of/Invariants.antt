@@ -1,5 +1,5 @@
 use Rattle.std.proofs.Common.{◌≡◌, [], map, length, take}
-use Rattle.pointless_groups.specs.Parts.{trees_from}
+use Rattle.particle_models.specs.Parts.{trees_from}
 use Rattle.particle_restrict.specs.Totals.{total}
 use Rattle.particle_restrict.proofs.totals.totals_of.Given as goal
 

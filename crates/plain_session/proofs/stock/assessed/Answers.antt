@@ -1,7 +1,7 @@
 use Rattle.std.proofs.Common.{sym, subst, ap, ◌∙◌, ◌<◌, ◌^◌, map}
-use Rattle.entry_reports.specs.Asking.{code_total}
-use Rattle.entry_reports.specs.Entries.{entry_of}
-use Rattle.entry_reports.specs.Joined.{beside_of}
+use Rattle.session_model.specs.Asking.{code_total}
+use Rattle.tree_assess.specs.Entries.{entry_of}
+use Rattle.assessment.specs.Joined.{beside_of}
 use Rattle.plain_session.proofs.Known.{are_named, can_count}
 use Rattle.plain_session.proofs.stock.assessed.Goals as goal
 

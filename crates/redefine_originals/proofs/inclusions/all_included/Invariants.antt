@@ -1,7 +1,7 @@
 use Rattle.std.proofs.Common.{◌≡◌, ◌++◌, drop}
 use Rattle.std.specs.Prelude.{filter_map}
 use Rattle.std.specs.Option.{option_and_then}
-use Rattle.set_closure.specs.EffectiveSet.{document_at}
+use Rattle.schema_set.specs.EffectiveSet.{document_at}
 use Rattle.redefine_originals.specs.Versions.{included}
 use Rattle.redefine_originals.proofs.inclusions.all_included.Given as goal
 

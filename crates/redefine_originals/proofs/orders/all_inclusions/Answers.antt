@@ -3,7 +3,7 @@ use Rattle.std.specs.Prelude.{filter_map}
 use Rattle.std.specs.Global.{Vec}
 use Rattle.std.specs.Option.{option_and_then}
 use Rattle.schema_shape.specs.declared.forms.Shape.{Shape}
-use Rattle.set_closure.specs.EffectiveSet.{document_at}
+use Rattle.schema_set.specs.EffectiveSet.{document_at}
 use Rattle.redefine_originals.specs.Versions.{included, inclusions}
 use Rattle.redefine_originals.specs.inside.Orders.{firsts}
 use Rattle.redefine_originals.proofs.OrderLaws.{numbered-more, shapes-read}

@@ -1,7 +1,7 @@
 use Rattle.std.proofs.Common.{◌≡◌, ◌++◌, ◌-◌, ◌∙◌, [], ℕ, true, false, refl, ap, arith}
 use Rattle.std.specs.Prelude.{reverse}
 use Rattle.std.specs.Global.{Vec}
-use Rattle.set_closure.specs.Order.{IsNumber}
+use Rattle.schema_set.specs.Order.{IsNumber}
 use Rattle.redefine_originals.specs.Versions.{inclusions}
 use Rattle.redefine_originals.specs.inside.Orders.{firsts}
 use Rattle.redefine_originals.proofs.FirstsLaws.{work-thin}

@@ -1,5 +1,5 @@
 use Rattle.std.proofs.Common.{sym, ap, ◌∙◌, subst}
-use Rattle.xs_faults.specs.Least.{sooner, IsLeast}
+use Rattle.xs_codes.specs.Least.{sooner, IsLeast}
 use Rattle.reference_faults.specs.Faults.{IsBroken}
 use Rattle.reference_faults.proofs.CodeLaws.{all-least}
 use Rattle.reference_faults.proofs.faults.first_fault.Goals as goal

@@ -1,5 +1,5 @@
 use Rattle.std.proofs.Common.{◌≡◌, ◌≤◌, ℕ}
-use Rattle.xs_faults.specs.Least.{IsLeast}
+use Rattle.xs_codes.specs.Least.{IsLeast}
 use Rattle.reference_faults.specs.Imports.{origin_at}
 use Rattle.reference_faults.proofs.CodeLaws.{FaultBelow}
 use Rattle.reference_faults.proofs.faults.first_of.Given as goal

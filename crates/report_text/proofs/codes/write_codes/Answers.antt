@@ -1,5 +1,5 @@
 use Rattle.std.proofs.Common.{[], ◌∷◌, ◌++◌, sym, ap, ◌∙◌, append_assoc}
-use Rattle.text_sink.proofs.Sequence.{written_then, written_short}
+use Rattle.xsv_io.proofs.Sequence.{written_then, written_short}
 use Rattle.report_text.specs.Words as words
 use Rattle.report_text.proofs.codes.write_codes.Goals as goal
 

@@ -1,7 +1,7 @@
 use Rattle.std.specs.Prelude.{codes}
 use Rattle.std.proofs.Common.{[], ◌∷◌, ◌++◌, ap, ◌∙◌, subst, arith, append_assoc}
-use Rattle.text_sink.proofs.Failing.{failed, rose-later}
-use Rattle.text_sink.proofs.Sequence.{IsBegun, then_more, then_front, written_then}
+use Rattle.xsv_io.proofs.Failing.{failed, rose-later}
+use Rattle.xsv_io.proofs.Sequence.{IsBegun, then_more, then_front, written_then}
 use Rattle.report_text.specs.Words as words
 use Rattle.report_text.proofs.Lines.{no_length}
 use Rattle.report_text.proofs.codes.write_more_codes.Goals as goal

@@ -1,6 +1,6 @@
 use Rattle.std.proofs.Common.{◌≡◌, ◌≤◌, [], ◌∷◌, ◌++◌, length}
 use Rattle.report_text.specs.Words.{more_codes}
-use Rattle.text_sink.proofs.Sequence.{IsBegun}
+use Rattle.xsv_io.proofs.Sequence.{IsBegun}
 use Rattle.report_text.proofs.codes.write_more_codes.Given as goal
 
 abbrev pub invariant-codes : goal.invariant-codes

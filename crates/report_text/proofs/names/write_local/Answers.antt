@@ -1,5 +1,5 @@
 use Rattle.std.proofs.Common.{true≢false, subst}
-use Rattle.text_sink.specs.Written.{Written}
+use Rattle.xsv_io.specs.Written.{Written}
 use Rattle.report_text.proofs.Lines.{named_text}
 use Rattle.report_text.proofs.names.write_local.Goals as goal
 

@@ -2,7 +2,7 @@ use Rattle.std.specs.Prelude.{codes}
 use Rattle.std.specs.Fmt.{decimal}
 use Rattle.std.proofs.Common.{◌++◌, ap}
 use Rattle.report_text.proofs.Lines.{same_text}
-use Rattle.text_sink.proofs.Sequence.{written_then, written_short}
+use Rattle.xsv_io.proofs.Sequence.{written_then, written_short}
 use Rattle.report_text.proofs.record.write_attr.Goals as goal
 
 pub returns-in_err-write_number_of : goal.returns-in_err-write_number_of

@@ -1,6 +1,6 @@
 use Rattle.std.proofs.Common.{ap, ◌∙◌, subst, arith}
-use Rattle.text_sink.proofs.Failing.{failed, rose-later}
-use Rattle.text_sink.proofs.Sequence.{IsBegun, then_more, then_front, to_the_end}
+use Rattle.xsv_io.proofs.Failing.{failed, rose-later}
+use Rattle.xsv_io.proofs.Sequence.{IsBegun, then_more, then_front, to_the_end}
 use Rattle.std.proofs.lemmas.List.Elements.{All-head, All-tail}
 use Rattle.assess_records.specs.declared.record.AttrRecord.{AttrRecord}
 use Rattle.report_text.specs.Lines.{attr_line, attr_lines}

@@ -1,7 +1,7 @@
 use Rattle.std.proofs.Common.{◌≡◌, ◌≤◌, length}
 use Rattle.report_text.specs.Lines.{attr_lines}
 use Rattle.report_text.specs.Named.{AreNamed}
-use Rattle.text_sink.proofs.Sequence.{IsBegun}
+use Rattle.xsv_io.proofs.Sequence.{IsBegun}
 use Rattle.report_text.proofs.record.write_attrs.Given as goal
 
 abbrev pub invariant-records : goal.invariant-records

@@ -1,7 +1,7 @@
 use Rattle.std.proofs.Common.{ap, refl}
 use Rattle.report_text.specs.Words as words
 use Rattle.report_text.proofs.Lines.{known_line}
-use Rattle.text_sink.proofs.Sequence.{written_then, written_short}
+use Rattle.xsv_io.proofs.Sequence.{written_then, written_short}
 use Rattle.report_text.proofs.record.write_known.Goals as goal
 
 pub returns-in_err-write_parts : goal.returns-in_err-write_parts

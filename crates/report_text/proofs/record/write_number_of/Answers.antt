@@ -1,6 +1,6 @@
 use Rattle.std.specs.Fmt.{decimal}
 use Rattle.std.proofs.Common.{subst}
-use Rattle.text_sink.specs.Written.{Written}
+use Rattle.xsv_io.specs.Written.{Written}
 use Rattle.report_text.proofs.Lines.{number_parts}
 use Rattle.report_text.proofs.record.write_number_of.Goals as goal
 

@@ -1,6 +1,6 @@
 use Rattle.std.proofs.Common.{refl}
 use Rattle.report_text.specs.Words.{type_text}
-use Rattle.text_sink.proofs.Sequence.{written_then, written_short}
+use Rattle.xsv_io.proofs.Sequence.{written_then, written_short}
 use Rattle.report_text.proofs.record.write_spaced_type.Goals as goal
 
 pub returns-in_err-write_text : goal.returns-in_err-write_text

@@ -1,7 +1,7 @@
 use Rattle.std.specs.Prelude.{codes}
 use Rattle.std.proofs.Common.{◌++◌, sym, append_assoc}
 use Rattle.report_text.specs.Words.{name_text, type_text}
-use Rattle.text_sink.proofs.Sequence.{written_then, written_short}
+use Rattle.xsv_io.proofs.Sequence.{written_then, written_short}
 use Rattle.report_text.proofs.record.write_typed.Goals as goal
 
 pub returns-in_err-write_name : goal.returns-in_err-write_name

@@ -1,9 +1,9 @@
 use Rattle.std.proofs.Common.{List, Option, None, Some, ◌<◌, sym, subst, ◌∙◌}
 use Rattle.std.specs.Prelude.{All}
 use Rattle.xs_codes.specs.declared.fault.Fault.{Fault}
-use Rattle.xs_faults.specs.Least.{IsLeast}
-use Rattle.schema_documents.specs.SetDocument.{SetDocument}
-use Rattle.schema_documents.specs.Documents.{IsSet, IsShapeFault}
+use Rattle.xs_codes.specs.Least.{IsLeast}
+use Rattle.schema_set.specs.declared.documents.SetDocument.{SetDocument}
+use Rattle.schema_set.specs.Documents.{IsSet, IsShapeFault}
 use Rattle.schema_check.proofs.ReadLaws.{some-available, numbers, read-set}
 use Rattle.schema_check.proofs.CompilationLaws.{shape-phase, shape-refused, closed-compiled}
 use Rattle.schema_check.proofs.compiling.compile.Goals as goal

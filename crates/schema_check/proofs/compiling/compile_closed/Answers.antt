@@ -1,6 +1,6 @@
 use Rattle.std.proofs.Common.{◌≡◌, Bool, false, inl, List, Option, ap, sym, subst, ◌∙◌}
 use Rattle.xs_codes.specs.declared.fault.Fault.{Fault}
-use Rattle.schema_build.specs.SetDocument.{SetDocument}
+use Rattle.schema_set.specs.declared.documents.SetDocument.{SetDocument}
 use Rattle.schema_check.specs.Compilation.{are_unassessed}
 use Rattle.schema_check.specs.inside.Typed.{IsComposed}
 use Rattle.schema_check.proofs.CompilationLaws.{composed}

@@ -1,10 +1,10 @@
 use Rattle.std.proofs.Common.{List, Option, ℕ, Result, sym, subst}
-use Rattle.schema_build.specs.SetDocument.{SetDocument}
+use Rattle.schema_set.specs.declared.documents.SetDocument.{SetDocument}
 use Rattle.schema_check.specs.declared.documents.CompiledSet.{CompiledSet}
 use Rattle.schema_check.specs.declared.documents.Refusal.{Refusal}
 use Rattle.schema_check.specs.inside.Typed.{IsComposedCompiled}
 use Rattle.schema_check.specs.SetPhases.{IsSetCompiled}
-use Rattle.set_originals.specs.Originals.{AreOriginals}
+use Rattle.redefine_originals.specs.Originals.{AreOriginals}
 use Rattle.schema_check.proofs.CompilationLaws.{as-refusal}
 use Rattle.schema_check.proofs.compiling.compile_composed.Goals as goal
 

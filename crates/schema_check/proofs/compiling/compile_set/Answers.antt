@@ -1,9 +1,9 @@
 use Rattle.std.proofs.Common.{Result, subst}
 use Rattle.xs_codes.specs.declared.fault.Fault.{Fault}
-use Rattle.schema_build.specs.declared.building.BuiltSet.{BuiltSet}
-use Rattle.schema_build.specs.Documents.{set_table}
-use Rattle.schema_build.specs.Components.{IsBuilt}
-use Rattle.schema_check.proofs.SetLaws.{source-of, first-names, set-compiled, set-unnamed}
+use Rattle.schema_check.specs.declared.building.BuiltSet.{BuiltSet}
+use Rattle.set_representations.specs.Documents.{set_table}
+use Rattle.schema_check.specs.Components.{IsBuilt}
+use Rattle.schema_check.proofs.CompiledSetLaws.{source-of, first-names, set-compiled, set-unnamed}
 use Rattle.schema_check.proofs.compiling.compile_set.Goals as goal
 
 pub compile_parts-requires-clause-closed : goal.compile_parts-requires-clause-closed

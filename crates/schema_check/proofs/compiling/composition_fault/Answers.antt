@@ -1,10 +1,10 @@
 use Rattle.std.proofs.Common.{List, Option, sym, subst}
 use Rattle.xs_codes.specs.declared.fault.Fault.{Fault}
-use Rattle.xs_faults.proofs.LeastLaws.{least-sum}
-use Rattle.schema_documents.specs.SetDocument.{SetDocument}
-use Rattle.schema_documents.specs.EffectiveSet.{IsEffectiveSet}
-use Rattle.schema_documents.specs.Composition.{Broken as IsCompositionFault}
-use Rattle.schema_redefine.specs.Redefinitions.{IsRedefineFault}
+use Rattle.xs_codes.proofs.LeastLaws.{least-sum}
+use Rattle.schema_set.specs.declared.documents.SetDocument.{SetDocument}
+use Rattle.schema_set.specs.EffectiveSet.{IsEffectiveSet}
+use Rattle.schema_set.specs.Composition.{Broken as IsCompositionFault}
+use Rattle.redefine_faults.specs.Redefinitions.{IsRedefineFault}
 use Rattle.schema_check.specs.inside.Typed.{IsComposed}
 use Rattle.schema_check.proofs.compiling.composition_fault.Goals as goal
 

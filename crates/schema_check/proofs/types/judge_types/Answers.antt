@@ -1,8 +1,8 @@
 use Rattle.std.proofs.Common.{Option, inl, subst}
 use Rattle.std.specs.Prelude.{IfNone}
 use Rattle.xs_codes.specs.declared.fault.Fault.{Fault}
-use Rattle.xs_faults.specs.Least.{IsLeast}
-use Rattle.xs_references.specs.Ranked.{IsRanked}
+use Rattle.xs_codes.specs.Least.{IsLeast}
+use Rattle.component_references.specs.Ranked.{IsRanked}
 use Rattle.type_derivation.specs.Cycles.{IsBroken}
 use Rattle.schema_check.proofs.TypedLaws.{types-judged}
 use Rattle.schema_check.proofs.types.judge_types.Goals as goal

@@ -1,7 +1,7 @@
 use Rattle.std.proofs.Common.{inl, Option, sym, subst, ◌∙◌}
 use Rattle.std.specs.Prelude.{IfNone}
 use Rattle.xs_codes.specs.declared.fault.Fault.{Fault}
-use Rattle.all_limits.specs.SetModels.{AreContentsLimited}
+use Rattle.schema_models.specs.SetModels.{AreContentsLimited}
 use Rattle.schema_check.specs.declared.documents.CompiledSet.{CompiledSet}
 use Rattle.schema_compile.specs.Fit.{IsFit}
 use Rattle.schema_compile.specs.Outcomes.{attr_phase}

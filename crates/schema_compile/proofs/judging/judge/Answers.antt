@@ -1,5 +1,5 @@
 use Rattle.std.proofs.Common.{None, sym, subst, ◌∙◌}
-use Rattle.all_limits.specs.SetModels.{AreContentsLimited}
+use Rattle.schema_models.specs.SetModels.{AreContentsLimited}
 use Rattle.schema_check.specs.Phases.{IsFirstOfPhases}
 use Rattle.schema_check.specs.declared.documents.CompiledSet.{CompiledSet}
 use Rattle.schema_compile.specs.Fit.{IsFit}

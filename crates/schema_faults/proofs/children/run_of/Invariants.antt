@@ -1,6 +1,6 @@
 use Rattle.std.proofs.Common.{◌≡◌, ◌+◌, drop}
 use Rattle.std.specs.List.{prefix_len}
-use Rattle.schema_grammar.specs.Table.{is_in}
+use Rattle.schema_values.specs.Table.{is_in}
 use Rattle.schema_faults.proofs.children.run_of.Given as goal
 
 abbrev pub invariant-loop-i : goal.invariant-loop-i

@@ -1,6 +1,6 @@
 use Rattle.std.proofs.Common.{◌≡◌, drop, map}
 use Rattle.std.specs.List.{list_any}
-use Rattle.schema_grammar.specs.Table.{contents}
+use Rattle.schema_values.specs.Table.{contents}
 use Rattle.schema_faults.specs.Children.{follows}
 use Rattle.schema_faults.proofs.shape_faults.has_wrong_children.Given as goal
 

@@ -1,5 +1,5 @@
 use Rattle.std.proofs.Common.{arith, subst}
-use Rattle.xs_faults.specs.Least.{IsLeast}
+use Rattle.xs_codes.specs.Least.{IsLeast}
 use Rattle.schema_models.specs.inside.Steps.{IsMisjudgedIn}
 use Rattle.schema_models.proofs.JudgeLaws.{none-below, one-more, all-below}
 use Rattle.schema_models.proofs.judging.judge_all.Goals as goal

@@ -1,5 +1,5 @@
 use Rattle.std.proofs.Common.{◌≤◌, ◌-◌, length}
-use Rattle.xs_faults.specs.Least.{IsLeast}
+use Rattle.xs_codes.specs.Least.{IsLeast}
 use Rattle.schema_models.specs.inside.Steps.{IsMisjudgedBelow}
 use Rattle.schema_models.proofs.judging.judge_all.Given as goal
 

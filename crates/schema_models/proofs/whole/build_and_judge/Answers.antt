@@ -1,5 +1,5 @@
 use Rattle.std.proofs.Common.{subst, sym}
-use Rattle.xs_faults.specs.Least.{IsLeast}
+use Rattle.xs_codes.specs.Least.{IsLeast}
 use Rattle.schema_models.specs.SetModels.{IsBroken}
 use Rattle.schema_models.proofs.JudgeLaws.{whole, models-right}
 use Rattle.schema_models.proofs.whole.build_and_judge.Goals as goal

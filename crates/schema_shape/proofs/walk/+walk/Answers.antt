@@ -1,5 +1,5 @@
 use Rattle.std.proofs.Common.{rules, arith, ◌≡◌, ◌≤◌, ◌∙◌, ap}
-use Rattle.schema_grammar.specs.Places.{kind_below}
+use Rattle.schema_values.specs.Places.{kind_below}
 use Rattle.schema_shape.proofs.WalkLaws.{fewer_behind, entered, with_below}
 use Rattle.schema_shape.proofs.walk.+walk.Goals as goal
 

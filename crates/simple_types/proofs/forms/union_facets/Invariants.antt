@@ -1,6 +1,6 @@
 use Rattle.std.proofs.Common.{◌≡◌, drop}
-use Rattle.simple_validity.specs.Known.TheVariants.{Whole}
-use Rattle.simple_validity.specs.Making.{no_members}
+use Rattle.facets.specs.declared.known.Known.TheVariants.{Whole}
+use Rattle.facets.specs.Making.{no_members}
 use Rattle.simple_types.specs.Lookup.{looked_up}
 use Rattle.simple_types.specs.Forms.{members_behind, known_of_members}
 use Rattle.simple_types.proofs.forms.union_facets.Given as goal

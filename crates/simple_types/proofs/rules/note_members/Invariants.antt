@@ -1,5 +1,5 @@
 use Rattle.std.proofs.Common.{◌≡◌, drop}
-use Rattle.simple_validity.specs.First.{first_from}
+use Rattle.facet_rules.specs.First.{first_from}
 use Rattle.simple_types.specs.TypeRules.{no_fault, members_rules}
 use Rattle.simple_types.proofs.rules.note_members.Given as goal
 

@@ -1,4 +1,4 @@
-use Rattle.xs_references.specs.Heights.{type_height}
+use Rattle.component_references.specs.Heights.{type_height}
 use Rattle.subst_groups.proofs.BlockLaws.{IsDone}
 use Rattle.subst_groups.proofs.blocking.between.Given as goal
 

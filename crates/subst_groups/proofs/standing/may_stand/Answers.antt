@@ -1,5 +1,5 @@
 use Rattle.std.proofs.Common.{◌∙◌, sym, subst, ap}
-use Rattle.xs_references.specs.Heights.{IsType}
+use Rattle.component_references.specs.Heights.{IsType}
 use Rattle.subst_groups.proofs.StandLaws.{answered, disallowed-is, type-there}
 use Rattle.subst_groups.proofs.standing.may_stand.Goals as goal
 

@@ -3,7 +3,7 @@ use Rattle.std.proofs.Common.{◌<◌, length, sym, ap, subst, ◌∙◌, arith,
 use Rattle.assess_records.specs.Counts.{child_count, attempt_count}
 use Rattle.compiled_schema.specs.Usable.{set_of}
 use Rattle.compiled_schema.specs.declared.compiled.Compiled.{Compiled}
-use Rattle.compiled_schema.specs.Numbered.{heads}
+use Rattle.assess_records.specs.Numbered.{heads}
 use Rattle.tree_assess.specs.inside.Steps.{CanAssess, IsThere, IsDone, alone, pairs_in}
 use Rattle.tree_assess.proofs.Below.{element_from}
 use Rattle.tree_assess.proofs.Counting.{child_more, attempt_more}

@@ -2,7 +2,7 @@ use Rattle.std.proofs.Common.{◌≡◌, ◌+◌, ◌*◌, ◌<◌, ◌≤◌, �
 use Rattle.tree_rows.specs.Forest.{count}
 use Rattle.assess_records.specs.Counts.{child_count, attempt_count}
 use Rattle.compiled_schema.specs.Usable.{set_of}
-use Rattle.compiled_schema.specs.Numbered.{heads}
+use Rattle.assess_records.specs.Numbered.{heads}
 use Rattle.tree_assess.specs.inside.Steps.{CanAssess, IsSoFar, pairs_in}
 use Rattle.tree_assess.proofs.assessing.+assess.Given as goal
 

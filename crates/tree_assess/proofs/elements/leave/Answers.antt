@@ -5,7 +5,7 @@ use Rattle.assess_records.specs.declared.shape.ElementShape.{ElementShape}
 use Rattle.assess_records.specs.declared.shape.NamedText.{NamedText}
 use Rattle.elem_governing.specs.View.{AreKnown}
 use Rattle.compiled_schema.specs.Usable.{set_of}
-use Rattle.compiled_schema.specs.Assessment.{AreJudged}
+use Rattle.assessment.specs.Assessment.{AreJudged}
 use Rattle.tree_assess.specs.Entries.{entry_of}
 use Rattle.tree_assess.proofs.elements.leave.Goals as goal
 

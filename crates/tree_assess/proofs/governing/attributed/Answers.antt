@@ -1,8 +1,8 @@
 use Rattle.std.proofs.Common.{arith, refl, length, ◌∙◌, ap, sym, subst}
 use Rattle.std.proofs.lemmas.Result.{IfOk-weaker}
 use Rattle.compiled_schema.specs.Usable.{set_of}
-use Rattle.model_symbols.specs.Symbols.{AreNamesOf}
-use Rattle.compiled_schema.specs.Attribution.{content_particle}
+use Rattle.content_automaton.specs.Symbols.{AreNamesOf}
+use Rattle.assessment.specs.Attribution.{content_particle}
 use Rattle.tree_assess.proofs.Same.{names_same, usable_still}
 use Rattle.tree_assess.proofs.Forests.{few_names}
 use Rattle.tree_assess.proofs.Pairs.{fitting, terms_alike}

@@ -2,7 +2,7 @@ use Rattle.std.proofs.Common.{◌≡◌, ◌++◌, [], ◌∷◌, get_or, refl, 
 use Rattle.std.proofs.lemmas.List.{length-map}
 use Rattle.compiled_schema.specs.Usable.{set_of}
 use Rattle.compiled_schema.specs.declared.compiled.Compiled.{Compiled}
-use Rattle.compiled_schema.specs.Numbered.{heads, head_of}
+use Rattle.assess_records.specs.Numbered.{heads, head_of}
 use Rattle.tree_assess.specs.declared.entry.ElementEntry.{ElementEntry}
 use Rattle.tree_assess.specs.inside.Steps.{pair_of, pairs_in}
 use Rattle.tree_assess.proofs.Forests.{has_next}

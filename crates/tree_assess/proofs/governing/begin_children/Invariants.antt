@@ -1,8 +1,8 @@
 use Rattle.std.proofs.Common.{◌≡◌, ◌+◌, ◌++◌, drop, length}
 use Rattle.tree_rows.specs.Forest.{count}
 use Rattle.compiled_schema.specs.Usable.{set_of}
-use Rattle.element_heads.specs.Found.{HasNames}
-use Rattle.compiled_schema.specs.Numbered.{heads}
+use Rattle.assess_records.specs.Found.{HasNames}
+use Rattle.assess_records.specs.Numbered.{heads}
 use Rattle.tree_assess.specs.inside.Steps.{pairs_in}
 use Rattle.tree_assess.proofs.Pairs.{pairs_of}
 use Rattle.tree_assess.proofs.governing.begin_children.Given as goal

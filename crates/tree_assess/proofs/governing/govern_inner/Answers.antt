@@ -1,8 +1,8 @@
 use Rattle.std.proofs.Common.{length, ap, subst, sym, ◌∙◌}
 use Rattle.compiled_schema.specs.declared.compiled.Compiled.{Compiled}
 use Rattle.compiled_schema.specs.Usable.{set_of}
-use Rattle.compiled_schema.specs.Numbered.{heads}
-use Rattle.compiled_schema.specs.Attribution.{content_particle}
+use Rattle.assess_records.specs.Numbered.{heads}
+use Rattle.assessment.specs.Attribution.{content_particle}
 use Rattle.tree_assess.specs.inside.Steps.{CanAssess, pairs_in}
 use Rattle.tree_assess.proofs.Pairs.{terms_each, inner, pairs_alike}
 use Rattle.tree_assess.proofs.governing.govern_inner.Goals as goal

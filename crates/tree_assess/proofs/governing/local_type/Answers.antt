@@ -1,8 +1,8 @@
 use Rattle.std.proofs.Common.{length, ◌<◌, subst, sym, ap, ◌∙◌}
 use Rattle.std.specs.Prelude.{All}
 use Rattle.assess_records.specs.declared.shape.NamedText.{NamedText}
-use Rattle.instance_names.specs.Instance.{instance_text}
-use Rattle.instance_names.specs.declared.InstanceAttribute.TheVariants.{TypeName}
+use Rattle.assess_records.specs.Instance.{instance_text}
+use Rattle.assess_records.specs.declared.instance_names.InstanceAttribute.TheVariants.{TypeName}
 use Rattle.tree_assess.proofs.governing.local_type.Goals as goal
 
 pub instance_text-requires : goal.instance_text-requires

@@ -1,6 +1,6 @@
 use Rattle.tree_assess.proofs.Same.{viewed, known_still}
 use Rattle.tree_assess.proofs.Governed.{root_read, root_there}
-use Rattle.element_heads.specs.Heads.{head_by}
+use Rattle.elem_governing.specs.Heads.{head_by}
 use Rattle.tree_assess.proofs.governing.root_pair.Goals as goal
 
 pub govern_root-requires-clause-view : goal.govern_root-requires-clause-view

@@ -1,6 +1,6 @@
-use Rattle.compiled_schema.specs.Table.{IsTableOf}
+use Rattle.identity_tables.specs.Table.{IsTableOf}
 use Rattle.std.proofs.Common.{◌++◌, ◌∙◌, subst, ap, take}
-use Rattle.compiled_schema.specs.Ids.{borne_in, borne_in_all}
+use Rattle.identity_tables.specs.Ids.{borne_in, borne_in_all}
 use Rattle.tree_assess.proofs.Joining.{atoms_in, atoms_next}
 use Rattle.tree_assess.proofs.ids.id_codes.Goals as goal
 

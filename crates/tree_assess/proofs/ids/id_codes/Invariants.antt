@@ -1,5 +1,5 @@
 use Rattle.std.proofs.Common.{take}
-use Rattle.compiled_schema.specs.Table.{IsTableOf}
+use Rattle.identity_tables.specs.Table.{IsTableOf}
 use Rattle.tree_assess.proofs.Joining.{atoms_in}
 use Rattle.tree_assess.proofs.ids.id_codes.Given as goal
 

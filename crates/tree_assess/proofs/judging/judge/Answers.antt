@@ -1,6 +1,6 @@
 use Rattle.std.proofs.Common.{subst, sym}
 use Rattle.compiled_schema.specs.Usable.{set_of}
-use Rattle.compiled_schema.specs.Assessment.{AreJudged}
+use Rattle.assessment.specs.Assessment.{AreJudged}
 use Rattle.tree_assess.specs.Entries.{entry_of}
 use Rattle.tree_assess.proofs.judging.judge.Goals as goal
 

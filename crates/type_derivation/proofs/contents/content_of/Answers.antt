@@ -1,6 +1,6 @@
 use Rattle.std.proofs.Common.{◌≡◌, true, Some, slice_get, sym, subst, rules}
 use Rattle.std.specs.Prelude.{IfSome}
-use Rattle.component_circles.specs.References.{IsPart}
+use Rattle.component_references.specs.References.{IsPart}
 use Rattle.xs_components.specs.declared.complex.ComplexType.{ComplexType}
 use Rattle.type_derivation.specs.Particles.{goes_on, IsExtended, IsContentOf}
 use Rattle.type_derivation.specs.inside.Filling.{Adds}

@@ -1,6 +1,6 @@
 use Rattle.std.proofs.Common.{Some, subst}
 use Rattle.std.specs.Prelude.{IfSome}
-use Rattle.component_circles.specs.References.{IsPart}
+use Rattle.component_references.specs.References.{IsPart}
 use Rattle.type_derivation.proofs.GrowLaws.{adds-none}
 use Rattle.type_derivation.proofs.contents.extended.Goals as goal
 

@@ -1,6 +1,6 @@
 use Rattle.std.proofs.Common.{None, Some, sym, ◌∙◌, subst}
 use Rattle.std.specs.Prelude.{IfNone}
-use Rattle.xs_references.specs.Ranked.{IsRanked}
+use Rattle.component_references.specs.Ranked.{IsRanked}
 use Rattle.type_derivation.proofs.CycleLaws.{no-first, least-of-both}
 use Rattle.type_derivation.proofs.cycling.cycles.Goals as goal
 

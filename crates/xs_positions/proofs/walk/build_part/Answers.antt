@@ -1,6 +1,6 @@
 use Rattle.std.proofs.Common.{◌≡◌, ℕ, ◌+◌, ◌<◌, ◌^◌, length, sym, ap, ◌∙◌, arith}
 use Rattle.xs_positions.specs.Tree.{Tree, size, sequence_of, choice_of}
-use Rattle.xs_positions.specs.Words.{IsWord, Passes}
+use Rattle.xs_positions.specs.PositionWords.{IsWord, Passes}
 use Rattle.xs_positions.specs.Nodes.{ids_of}
 use Rattle.xs_positions.specs.Sets.{Describes}
 use Rattle.xs_positions.specs.Parts.{sets_of, unused, one_position, IsPartOf}

@@ -1,6 +1,6 @@
 use Rattle.std.proofs.Common.{◌≡◌, ◌+◌, ◌*◌, ◌<◌, ◌^◌, None, length, ◌∙◌, arith}
 use Rattle.xs_positions.specs.Tree.{repeat, size}
-use Rattle.xs_positions.specs.Words.{IsWord}
+use Rattle.xs_positions.specs.PositionWords.{IsWord}
 use Rattle.xs_positions.specs.Sets.{Describes}
 use Rattle.xs_positions.specs.Parts.{sets_of, IsJoined}
 use Rattle.xs_positions.proofs.Parting.{last_copy, before_fits}

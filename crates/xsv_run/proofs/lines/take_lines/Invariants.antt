@@ -1,6 +1,6 @@
 use Rattle.std.proofs.Common.{◌≡◌, ◌≤◌, length}
 use Rattle.item_listing.specs.Listing.{bytes_taken}
-use Rattle.stream_answers.specs.Assessor.{RightAssessor}
+use Rattle.session_model.specs.Assessor.{RightAssessor}
 use Rattle.stream_answers.specs.inside.Turning.{IsOpen, spot_of}
 use Rattle.xsv_run.specs.Traces.{trace}
 use Rattle.xsv_run.specs.inside.Progress.{GoesOn}

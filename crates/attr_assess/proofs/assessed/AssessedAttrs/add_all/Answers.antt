@@ -1,5 +1,5 @@
 use Rattle.std.proofs.lemmas.Result.{on_ok_weaker}
-use Rattle.attr_codes.specs.Governing.{uses_for}
+use Rattle.attr_assess.specs.Governing.{uses_for}
 use Rattle.attr_assess.specs.inside.Lists.{HoldsLacking}
 use Rattle.attr_assess.proofs.Whole.{skipped-assessed, typed-assessed}
 use Rattle.attr_assess.proofs.assessed.AssessedAttrs.add_all.Goals as goal

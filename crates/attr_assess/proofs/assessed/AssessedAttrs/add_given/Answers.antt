@@ -1,7 +1,7 @@
 use Rattle.std.proofs.Common.{List, ℕ, ◌∙◌, subst}
 use Rattle.assess_records.specs.declared.outcome.ValueSource.TheVariants.{Given}
-use Rattle.attr_codes.specs.AttrGoverning.{AttrGoverning}
-use Rattle.attr_codes.specs.Records.{IsAttrJudged}
+use Rattle.attr_assess.specs.declared.governing.AttrGoverning.{AttrGoverning}
+use Rattle.attr_assess.specs.Records.{IsAttrJudged}
 use Rattle.attr_assess.specs.Assessed.{IsGivenJudged}
 use Rattle.attr_assess.proofs.Held.{each-next}
 use Rattle.attr_assess.proofs.assessed.AssessedAttrs.add_given.Goals as goal

@@ -1,7 +1,7 @@
 use Rattle.std.proofs.Common.{List, refl, subst}
 use Rattle.std.proofs.lemmas.Result.{on_ok_weaker}
-use Rattle.attr_codes.specs.Governing.{uses_for}
-use Rattle.attr_added.specs.declared.added.AddedUse.{AddedUse}
+use Rattle.attr_assess.specs.Governing.{uses_for}
+use Rattle.attr_assess.specs.declared.added.AddedUse.{AddedUse}
 use Rattle.attr_assess.specs.declared.assessed.AssessedAttrs.{AssessedAttrs}
 use Rattle.attr_assess.specs.inside.Lists.{HoldsEach, IsUseJudged}
 use Rattle.attr_assess.proofs.Whole.{lacking-holds}

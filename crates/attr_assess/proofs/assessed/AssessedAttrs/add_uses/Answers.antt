@@ -1,7 +1,7 @@
 use Rattle.std.proofs.Common.{List, ℕ, Some, ◌∙◌, subst}
 use Rattle.assess_records.specs.declared.outcome.ValueSource.TheVariants.{Schema}
-use Rattle.attr_codes.specs.AttrGoverning.TheVariants.{Declared}
-use Rattle.attr_codes.specs.Records.{IsAttrJudged}
+use Rattle.attr_assess.specs.declared.governing.AttrGoverning.TheVariants.{Declared}
+use Rattle.attr_assess.specs.Records.{IsAttrJudged}
 use Rattle.attr_assess.specs.inside.Lists.{IsUseJudged}
 use Rattle.attr_assess.proofs.Held.{each-next}
 use Rattle.attr_assess.proofs.assessed.AssessedAttrs.add_uses.Goals as goal

@@ -1,7 +1,7 @@
 use Rattle.std.proofs.Common.{sym, subst}
 use Rattle.std.proofs.lemmas.Result.{IfOk-weaker}
 use Rattle.xs_components.specs.declared.common.TypeId.TheVariants.{Complex}
-use Rattle.use_maps.specs.declared.entry.UseHolder.TheVariants.{Complex as OfType}
+use Rattle.attr_uses.specs.declared.entry.UseHolder.TheVariants.{Complex as OfType}
 use Rattle.attr_uses.specs.Written.{own_parts}
 use Rattle.attr_uses.specs.Uses.{group_uses, uses_with_groups, with_base, uses_of}
 use Rattle.attr_uses.specs.Tables.{Answers}

@@ -1,5 +1,5 @@
 use Rattle.std.proofs.Common.{Bool, IsTrue, ◌↔◌, sym, subst}
-use Rattle.model_symbols.specs.Attribution.{IsAmbivalent}
+use Rattle.content_automaton.specs.Attribution.{IsAmbivalent}
 use Rattle.content_automaton.proofs.Attributing.{ambivalent_some, ambivalent_none}
 use Rattle.content_automaton.proofs.automaton.Automaton.ambivalent.Goals as goal
 

@@ -1,5 +1,5 @@
 use Rattle.std.proofs.Common.{◌≡◌, Some, None, sym, ap, subst, ◌∙◌}
-use Rattle.content_states.specs.Automaton.{step_of, dead_of, term_of}
+use Rattle.content_automaton.specs.Automaton.{step_of, dead_of, term_of}
 use Rattle.content_automaton.specs.Modelled.{ModelAutomaton}
 use Rattle.content_automaton.proofs.Attributing.{live_of, dead_term, no_term, found_term}
 use Rattle.content_automaton.proofs.automaton.Automaton.term_at.Goals as goal

@@ -1,7 +1,7 @@
 use Rattle.std.proofs.Common.{◌≡◌, subst}
 use Rattle.particle_forms.specs.Models.{model_of}
 use Rattle.particle_forms.specs.Accepted.{accepts}
-use Rattle.model_symbols.specs.Symbols.{symbol_of}
+use Rattle.content_automaton.specs.Symbols.{symbol_of}
 use Rattle.content_models.specs.Terms.{model_terms}
 use Rattle.content_models.specs.Built.{IsBuilt, symbols_of}
 use Rattle.content_models.specs.declared.automaton.ContentAutomaton.TheVariants.{States, All}

@@ -1,9 +1,9 @@
 use Rattle.std.proofs.Common.{refl, sym, ap, ◌∙◌}
 use Rattle.std.specs.Option.{option_map, option_and_then}
 use Rattle.std.specs.Prelude.{slice_get}
-use Rattle.node_links.specs.Nodes.{node}
-use Rattle.tree_changes.specs.Held as held
-use Rattle.tree_changes.specs.Stands.{attribute_of}
+use Rattle.doc_nodes.specs.Nodes.{node}
+use Rattle.doc_changes.specs.Held as held
+use Rattle.doc_changes.specs.Stands.{attribute_of}
 use Rattle.doc_tree.proofs.Answering.{and_content, attribute_is}
 use Rattle.doc_tree.proofs.tree.DocTree.attr_at.Goals as goal
 

@@ -1,8 +1,8 @@
 use Rattle.std.proofs.Common.{length, refl, sym, ap, arith}
 use Rattle.std.proofs.lemmas.List.{length-map}
-use Rattle.node_links.specs.Nodes.{node}
-use Rattle.tree_changes.specs.Held as held
-use Rattle.tree_changes.specs.Stands.{binding_of}
+use Rattle.doc_nodes.specs.Nodes.{node}
+use Rattle.doc_changes.specs.Held as held
+use Rattle.doc_changes.specs.Stands.{binding_of}
 use Rattle.doc_tree.proofs.Answering.{bindings_are, few_bindings, by_bindings}
 use Rattle.doc_tree.proofs.tree.DocTree.binding_count.Goals as goal
 

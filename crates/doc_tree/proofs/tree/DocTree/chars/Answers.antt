@@ -1,7 +1,7 @@
 use Rattle.std.proofs.Common.{refl, sym, ap, ◌∙◌}
 use Rattle.std.specs.Option.{option_and_then}
-use Rattle.node_links.specs.Nodes.{node}
-use Rattle.tree_changes.specs.Held as held
+use Rattle.doc_nodes.specs.Nodes.{node}
+use Rattle.doc_changes.specs.Held as held
 use Rattle.doc_tree.proofs.Answering.{and_content, chars_are}
 use Rattle.doc_tree.proofs.tree.DocTree.chars.Goals as goal
 

@@ -1,6 +1,6 @@
 use Rattle.std.proofs.Common.{refl, ap, ◌∙◌}
 use Rattle.std.specs.Prelude.{slice_get}
-use Rattle.node_links.specs.Nodes.{node}
+use Rattle.doc_nodes.specs.Nodes.{node}
 use Rattle.doc_tree.proofs.Answering.{children_are, child_is}
 use Rattle.doc_tree.proofs.Walking.{if_child}
 use Rattle.doc_tree.proofs.tree.DocTree.child_at.Goals as goal

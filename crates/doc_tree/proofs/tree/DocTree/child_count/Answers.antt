@@ -1,5 +1,5 @@
 use Rattle.std.proofs.Common.{length, refl, ap, ◌∙◌}
-use Rattle.node_links.specs.Nodes.{node}
+use Rattle.doc_nodes.specs.Nodes.{node}
 use Rattle.doc_tree.proofs.Answering.{children_are}
 use Rattle.doc_tree.proofs.tree.DocTree.child_count.Goals as goal
 

@@ -1,7 +1,7 @@
 use Rattle.std.proofs.Common.{length, sym, ap, subst, arith}
-use Rattle.node_links.specs.Nodes.{Nodes}
+use Rattle.doc_nodes.specs.Nodes.{Nodes}
 use Rattle.tree_building.proofs.RowCounts.{count-rows}
-use Rattle.tree_changes.specs.Stands.{StandsFor}
+use Rattle.doc_changes.specs.Stands.{StandsFor}
 use Rattle.doc_tree.proofs.Counting.{planted_count, room_for}
 use Rattle.doc_tree.proofs.tree.DocTree.insert.Goals as goal
 

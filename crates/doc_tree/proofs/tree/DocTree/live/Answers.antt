@@ -1,7 +1,7 @@
 use Rattle.std.proofs.Common.{Some, refl, sym, ap, ◌∙◌}
 use Rattle.std.specs.Option.{option_map}
-use Rattle.node_links.specs.Nodes.{node}
-use Rattle.tree_changes.specs.Held as held
+use Rattle.doc_nodes.specs.Nodes.{node}
+use Rattle.doc_changes.specs.Held as held
 use Rattle.doc_tree.proofs.Answering.{by_content, kind_is}
 use Rattle.doc_tree.proofs.tree.DocTree.live.Goals as goal
 

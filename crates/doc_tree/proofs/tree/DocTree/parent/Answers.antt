@@ -1,5 +1,5 @@
 use Rattle.std.proofs.Common.{refl, ◌∙◌}
-use Rattle.node_links.specs.Nodes.{node}
+use Rattle.doc_nodes.specs.Nodes.{node}
 use Rattle.doc_tree.proofs.Answering.{parent_is}
 use Rattle.doc_tree.proofs.tree.DocTree.parent.Goals as goal
 

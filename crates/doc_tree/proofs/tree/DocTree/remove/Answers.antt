@@ -1,7 +1,7 @@
 use Rattle.std.proofs.Common.{◌≢◌, None, sym, subst, arith}
-use Rattle.node_links.specs.Nodes.{Nodes}
-use Rattle.tree_changes.specs.Held.{parent_at}
-use Rattle.tree_changes.specs.Stands.{StandsFor}
+use Rattle.doc_nodes.specs.Nodes.{Nodes}
+use Rattle.doc_changes.specs.Held.{parent_at}
+use Rattle.doc_changes.specs.Stands.{StandsFor}
 use Rattle.doc_tree.proofs.Counting.{removed_is}
 use Rattle.doc_tree.proofs.tree.DocTree.remove.Goals as goal
 

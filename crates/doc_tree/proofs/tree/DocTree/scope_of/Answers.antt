@@ -1,10 +1,10 @@
 use Rattle.std.proofs.Common.{◌≡◌, Some, map, sym, ap, ◌∙◌, subst}
-use Rattle.node_links.specs.Nodes.{Nodes}
+use Rattle.doc_nodes.specs.Nodes.{Nodes}
 use Rattle.tag_names.specs.Scopes.{binding_in}
 use Rattle.tree_edits.specs.Edits.{scope_in}
 use Rattle.tree_rows.specs.declared.row.NodeKind.TheVariants as kinds
-use Rattle.tree_changes.specs.Held.{kind_at}
-use Rattle.tree_changes.proofs.Holding.{holds_element}
+use Rattle.doc_changes.specs.Held.{kind_at}
+use Rattle.doc_changes.proofs.Holding.{holds_element}
 use Rattle.doc_tree.proofs.Walking.{first_bound}
 use Rattle.doc_tree.proofs.tree.DocTree.scope_of.Goals as goal
 

@@ -1,8 +1,8 @@
 use Rattle.std.proofs.Common.{◌≡◌, Some, sym, ◌∙◌, subst}
-use Rattle.node_links.specs.Nodes.{Nodes}
+use Rattle.doc_nodes.specs.Nodes.{Nodes}
 use Rattle.tree_rows.specs.declared.row.NodeKind.TheVariants as kinds
-use Rattle.tree_changes.specs.Held.{kind_at}
-use Rattle.tree_changes.proofs.Holding.{holds_chars}
+use Rattle.doc_changes.specs.Held.{kind_at}
+use Rattle.doc_changes.proofs.Holding.{holds_chars}
 use Rattle.doc_tree.proofs.Counting.{held_count}
 use Rattle.doc_tree.proofs.tree.DocTree.set_text.Goals as goal
 

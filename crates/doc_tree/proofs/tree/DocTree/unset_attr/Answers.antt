@@ -1,7 +1,7 @@
 use Rattle.std.proofs.Common.{◌≡◌, true, sym, ◌∙◌, subst}
-use Rattle.node_links.specs.Nodes.{Nodes}
-use Rattle.tree_changes.specs.Held.{attributes_at, has_number}
-use Rattle.tree_changes.proofs.Attributed.{holds_attribute}
+use Rattle.doc_nodes.specs.Nodes.{Nodes}
+use Rattle.doc_changes.specs.Held.{attributes_at, has_number}
+use Rattle.doc_changes.proofs.Attributed.{holds_attribute}
 use Rattle.doc_tree.proofs.Counting.{held_count}
 use Rattle.doc_tree.proofs.tree.DocTree.unset_attr.Goals as goal
 

@@ -1,5 +1,5 @@
 use Rattle.std.proofs.Common.{subst}
-use Rattle.text_sink.specs.Written.{Written}
+use Rattle.xsv_io.specs.Written.{Written}
 use Rattle.plain_session.proofs.Known.{report_now}
 use Rattle.plain_session.proofs.session.PlainSession.write_report.Goals as goal
 

@@ -1,7 +1,7 @@
 use Rattle.std.proofs.Common.{List, ap, ◌∙◌}
 use Rattle.std.specs.Option.{option_map}
-use Rattle.entry_reports.specs.Asking.{entry_at}
-use Rattle.entry_reports.specs.Assessment.{Entry}
+use Rattle.session_model.specs.Asking.{entry_at}
+use Rattle.assessment.specs.Assessment.{Entry}
 use Rattle.plain_session.proofs.Known.{entries_now, named_now}
 use Rattle.plain_session.proofs.session.PlainSessionSession.records.Goals as goal
 

@@ -1,5 +1,5 @@
 use Rattle.std.proofs.Common.{ap, ◌∙◌}
-use Rattle.entry_reports.specs.Asking as asking
+use Rattle.session_model.specs.Asking as asking
 use Rattle.plain_session.proofs.Known.{entries_now}
 use Rattle.plain_session.proofs.session.PlainSessionSession.root_validity.Goals as goal
 

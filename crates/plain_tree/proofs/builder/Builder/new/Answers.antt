@@ -1,7 +1,7 @@
 use Rattle.std.proofs.Common.{Ok, sym, ap, ◌∙◌, subst}
-use Rattle.tree_edits.specs.TreeBuildingBuilding.{nothing}
-use Rattle.tree_edits.specs.Rules.{document_rules}
-use Rattle.tree_edits.specs.Sound.{WillBeSound}
+use Rattle.tree_building.specs.Building.{nothing}
+use Rattle.tree_building.specs.Rules.{document_rules}
+use Rattle.tree_building.specs.Sound.{WillBeSound}
 use Rattle.plain_tree.proofs.builder.Builder.new.Goals as goal
 
 pub invariant_of-result : goal.invariant_of-result

@@ -1,9 +1,9 @@
 use Rattle.std.proofs.Common.{◌≡◌, ℕ, List, sym, ap, subst, ◌∙◌}
 use Rattle.xs_components.specs.declared.common.TypeId.{TypeId}
 use Rattle.xs_components.specs.declared.common.TypeId.TheVariants as types
-use Rattle.simple_validity.specs.FacetsFacets.{Facets}
-use Rattle.simple_validity.specs.Trees.{type_tree}
-use Rattle.simple_validity.specs.SimpleValidity.{IsMade}
+use Rattle.facets.specs.declared.facets.Facets.{Facets}
+use Rattle.simple_types.specs.Trees.{type_tree}
+use Rattle.simple_types.specs.SimpleValidity.{IsMade}
 use Rattle.simple_types.specs.declared.judged.JudgedType.{JudgedType}
 use Rattle.simple_types.specs.Lookup.{content_of}
 use Rattle.simple_types.specs.SimpleTypes.{IsWhole}

@@ -1,7 +1,7 @@
 use Rattle.std.proofs.Common.{◌≡◌, ℕ, ◌+◌, ◌<◌, ◌^◌, ◌++◌, ◌∷◌, [], length, map, reverse, refl, ap, ◌∙◌, arith}
 use Rattle.std.proofs.lemmas.Bool.{not-true, not-false}
 use Rattle.xs_positions.specs.Tree.{size}
-use Rattle.xs_positions.specs.Words.{IsWord, Passes}
+use Rattle.xs_positions.specs.PositionWords.{IsWord, Passes}
 use Rattle.xs_positions.specs.Nodes.{ids_of}
 use Rattle.xs_positions.specs.Walk.{tree_in}
 use Rattle.xs_positions.specs.declared.walk.Task.TheVariants.{Visit, Build}

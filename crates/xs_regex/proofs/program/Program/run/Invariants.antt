@@ -1,7 +1,7 @@
 use Rattle.std.proofs.Common.{◌≡◌, drop, length}
 use Rattle.std.specs.Prelude.{IsTrue}
 use Rattle.std.specs.Str.{chars}
-use Rattle.xs_positions.specs.Words.{IsWord}
+use Rattle.xs_positions.specs.PositionWords.{IsWord}
 use Rattle.xs_regex.specs.Sets.{Has}
 use Rattle.xs_regex.specs.Program.{takes, expression_of}
 use Rattle.xs_regex.proofs.Locals.{Outcome, Whole}

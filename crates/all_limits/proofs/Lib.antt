@@ -1,4 +1,0 @@
-pub mod FindLaws
-pub mod MarkLaws
-pub mod FaultLaws
-pub mod LimitLaws

@@ -1,6 +1,0 @@
-use Rattle.std.proofs.Common.{sym, ◌∙◌}
-use Rattle.all_limits.proofs.FaultLaws.{repeats}
-use Rattle.all_limits.proofs.faults.repeated.Goals as goal
-
-pub returns : goal.returns
-returns c = repeats c.args.parts.now c.args.p c.nested.result (sym c.comes_once.ensures ∙ c.if-comes_once.false) c.nested.ensures

@@ -1,9 +1,0 @@
-use Rattle.std.proofs.Common.{slice_index}
-use Rattle.all_limits.proofs.FindLaws.{IsOnWay}
-use Rattle.all_limits.proofs.finding.find_all.Given as goal
-
-abbrev pub invariant-loop-below : goal.invariant-loop-below
-invariant-loop-below l = IsOnWay l.parts l.fn.p l.at
-
-abbrev pub decreases-loop-below : goal.decreases-loop-below
-decreases-loop-below l = slice_index l.parts.particles.ranks l.at

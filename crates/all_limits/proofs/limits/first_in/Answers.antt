@@ -1,9 +1,0 @@
-use Rattle.std.proofs.Common.{◌≡◌, true, rules}
-use Rattle.all_limits.specs.inside.Marks.{marked}
-use Rattle.all_limits.proofs.FaultLaws.{stands}
-use Rattle.all_limits.proofs.limits.first_in.Goals as goal
-
-pub returns : goal.returns
-returns c =
-    let told : marked c.args.marks.now c.args.p ≡ true = search rules in
-    stands c.args.parts.now c.args.marks.now c.requires.marks c.args.p c.first_at.result told c.first_at.ensures

@@ -1,7 +1,0 @@
-use Rattle.std.proofs.Common.{take}
-use Rattle.std.specs.Prelude.{Contains}
-use Rattle.all_limits.specs.inside.Marks.{IsMarkedMore}
-use Rattle.all_limits.proofs.standing.mark.Given as goal
-
-abbrev pub invariant-loop-id : goal.invariant-loop-id
-invariant-loop-id l = IsMarkedMore (Contains (take l.id-index l.ids)) l.initial.marks l.marks

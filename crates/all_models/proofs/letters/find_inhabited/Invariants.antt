@@ -1,6 +1,0 @@
-use Rattle.std.proofs.Common.{◌≡◌, map, take}
-use Rattle.all_models.specs.Letters.{is_filled}
-use Rattle.all_models.proofs.letters.find_inhabited.Given as goal
-
-abbrev pub invariant-loop-row : goal.invariant-loop-row
-invariant-loop-row l = l.flags.items ≡ map is_filled (take l.row-index l.accepted)

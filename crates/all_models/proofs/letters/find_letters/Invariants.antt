@@ -1,5 +1,0 @@
-use Rattle.all_models.specs.Letters.{AreLettersOf}
-use Rattle.all_models.proofs.letters.find_letters.Given as goal
-
-abbrev pub invariant-loop-member : goal.invariant-loop-member
-invariant-loop-member l = AreLettersOf l.accepted l.member l.symbols l.letters.items l.pair

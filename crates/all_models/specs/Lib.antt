@@ -1,3 +1,0 @@
-pub mod Ambiguity
-pub mod Letters
-pub mod Modelled

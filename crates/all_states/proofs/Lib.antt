@@ -1,7 +1,0 @@
-pub mod Counting
-pub mod Filling
-pub mod Around
-pub mod Lettering
-pub mod Running
-pub mod Recognizing
-pub mod Requiring

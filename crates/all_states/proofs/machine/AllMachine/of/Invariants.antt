@@ -1,8 +1,0 @@
-use Rattle.all_states.proofs.Requiring.{IsRequired, AreHad}
-use Rattle.all_states.proofs.machine.AllMachine.of.Given as goal
-
-abbrev pub invariant-loop-place : goal.invariant-loop-place
-invariant-loop-place l = record {
-  required : IsRequired l.members l.place l.required;
-  has : AreHad l.inhabited l.members l.place l.has_words;
-}

@@ -1,0 +1,12 @@
+use Rattle.assess_records.proofs.Numbers.{name_within, name_alike}
+use Rattle.assess_records.proofs.Tables.{grows, found, names_kept}
+use Rattle.assess_records.proofs.laws.document_names_are_found.Goals as goal
+
+pub returns : goal.returns
+returns c = record {
+  grows = grows;
+  found = found;
+  still = λ old new f g. names_kept old new g f;
+  numbers = name_within;
+  alike = λ old new name g. name_alike old new g name;
+}

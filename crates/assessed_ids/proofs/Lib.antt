@@ -1,4 +1,0 @@
-pub mod Alike
-pub mod Roots
-pub mod Bearers
-pub mod Marks

@@ -1,6 +1,0 @@
-use Rattle.std.proofs.Common.{◌≡◌, take}
-use Rattle.set_assessment.specs.Marked.{marked_record}
-use Rattle.assessed_ids.proofs.marking.mark.Given as goal
-
-abbrev pub invariant-loop-code : goal.invariant-loop-code
-invariant-loop-code l = l.record ≡ marked_record (take l.code-index l.codes) l.fn.record

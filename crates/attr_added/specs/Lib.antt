@@ -1,4 +1,0 @@
-pub mod Lacking
-pub mod Order
-pub mod Added
-pub mod inside

@@ -1,2 +1,0 @@
-pub mod AttrLaws
-pub mod FaultlessLaws

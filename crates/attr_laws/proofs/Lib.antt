@@ -1,3 +1,0 @@
-pub mod Zips
-pub mod There
-pub mod FewFound

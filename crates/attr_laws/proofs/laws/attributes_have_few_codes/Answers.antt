@@ -1,5 +1,0 @@
-use Rattle.attr_laws.proofs.FewFound.{attrs-few}
-use Rattle.attr_laws.proofs.laws.attributes_have_few_codes.Goals as goal
-
-pub returns : goal.returns
-returns c = record { few = attrs-few }

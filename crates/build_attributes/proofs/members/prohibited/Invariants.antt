@@ -1,6 +1,0 @@
-use Rattle.std.proofs.Common.{◌≡◌, ◌++◌, drop}
-use Rattle.build_attributes.specs.Members as spec
-use Rattle.build_attributes.proofs.members.prohibited.Given as goal
-
-abbrev pub invariant-loop-member : goal.invariant-loop-member
-invariant-loop-member l = l.list ++ spec.prohibited l.source (drop l.member-index l.members) ≡ spec.prohibited l.source l.members

@@ -1,4 +1,0 @@
-pub mod Values
-pub mod Declarations
-pub mod Members
-pub mod Groups

@@ -1,1 +1,0 @@
-pub use Rattle.build_particles.proofs.GroupLaws

@@ -1,2 +1,0 @@
-pub mod PaddedLaws
-pub mod GroupLaws

@@ -1,6 +1,0 @@
-use Rattle.std.proofs.Common.{◌∙◌}
-use Rattle.child_terms.proofs.Walking.{none-each}
-use Rattle.child_terms.proofs.attribution.no_terms.Goals as goal
-
-pub returns-clause-terms : goal.returns-clause-terms
-returns-clause-terms c = c.in_ok-terms.ensures ∙ none-each c.args.children.now

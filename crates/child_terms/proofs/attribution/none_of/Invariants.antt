@@ -1,6 +1,0 @@
-use Rattle.std.proofs.Common.{◌≡◌, None}
-use Rattle.std.specs.Prelude.{replicate}
-use Rattle.child_terms.proofs.attribution.none_of.Given as goal
-
-abbrev pub invariant-loop : goal.invariant-loop
-invariant-loop l = l.terms.items ≡ replicate l.counter None

@@ -1,4 +1,0 @@
-use Rattle.child_terms.proofs.attribution.terms_by.Goals as goal
-
-pub returns-in-All : goal.returns-in-All
-returns-in-All c = rw c.in-All.is c.terms_by_all.ensures

@@ -1,3 +1,0 @@
-pub mod Attribution
-pub mod Fitting
-pub mod inside

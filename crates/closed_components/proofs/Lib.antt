@@ -1,9 +1,0 @@
-pub mod ListLaws
-pub mod ThereLaws
-pub mod TypeLaws
-pub mod AttributeLaws
-pub mod ConstraintLaws
-pub mod ElementLaws
-pub mod ParticleLaws
-pub mod ComplexLaws
-pub mod ClosedLaws

@@ -1,4 +1,0 @@
-pub mod UseLaws
-pub mod WildcardLaws
-pub mod ContentLaws
-pub mod RestrictionLaws

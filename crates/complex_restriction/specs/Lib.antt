@@ -1,5 +1,0 @@
-pub mod Uses
-pub mod Wildcards
-pub mod Contents
-pub mod Restrictions
-pub mod Given

@@ -1,6 +1,0 @@
-use Rattle.std.proofs.Common.{◌≡◌, take}
-use Rattle.component_circles.specs.References.{behind}
-use Rattle.component_circles.proofs.rows.particle_row.Given as goal
-
-abbrev pub invariant-loop-particle : goal.invariant-loop-particle
-invariant-loop-particle l = l.row ≡ behind l.groups (take l.particle-index l.particles)

@@ -1,5 +1,0 @@
-use Rattle.std.proofs.Common.{◌≡◌, ◌++◌, take, drop}
-use Rattle.component_circles.proofs.writing.write_complexes.Given as goal
-
-abbrev pub invariant-loop-n : goal.invariant-loop-n
-invariant-loop-n l = l.parts ≡ record l.initial.parts { complexes = record l.initial.parts.complexes { ranks = take l.n l.ranks ++ drop l.n l.initial.parts.complexes.ranks } }

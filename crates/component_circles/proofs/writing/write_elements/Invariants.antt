@@ -1,5 +1,0 @@
-use Rattle.std.proofs.Common.{◌≡◌, ◌++◌, take, drop}
-use Rattle.component_circles.proofs.writing.write_elements.Given as goal
-
-abbrev pub invariant-loop-n : goal.invariant-loop-n
-invariant-loop-n l = l.parts ≡ record l.initial.parts { elements = record l.initial.parts.elements { ranks = take l.n l.ranks ++ drop l.n l.initial.parts.elements.ranks } }

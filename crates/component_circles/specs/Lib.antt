@@ -1,3 +1,0 @@
-pub mod References
-pub mod Circles
-pub mod inside

@@ -1,0 +1,16 @@
+pub mod VisitLaws
+pub mod FirstLaws
+pub mod MarkLaws
+pub mod DescentLaws
+pub mod OrderLaws
+pub mod HeightLaws
+pub mod RankedLaws
+pub mod ListLaws
+pub mod WriteLaws
+pub mod RowLaws
+pub mod GraphLaws
+pub mod CircleLaws
+pub mod GroupLaws
+pub mod RankLaws
+pub mod OutcomeLaws
+pub mod AllLaws

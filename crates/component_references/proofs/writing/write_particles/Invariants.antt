@@ -1,0 +1,5 @@
+use Rattle.std.proofs.Common.{◌≡◌, ◌++◌, take, drop}
+use Rattle.component_references.proofs.writing.write_particles.Given as goal
+
+abbrev pub invariant-loop-n : goal.invariant-loop-n
+invariant-loop-n l = l.parts ≡ record l.initial.parts { particles = record l.initial.parts.particles { ranks = take l.n l.ranks ++ drop l.n l.initial.parts.particles.ranks } }

@@ -1,0 +1,4 @@
+pub mod Orders
+pub mod Visits
+pub mod Marks
+pub mod Parts

@@ -1,0 +1,96 @@
+//! Sets of positions, as rising lists.
+
+ghost use Rattle.std.specs.Prelude.{◌≡◌, ℕ, ◌<◌, ◌↔◌, ◌⊎◌, ◌^◌, [], map, length, filter, slice_index_or, All, Contains, IfOk, OnOk};
+ghost use Rattle.std.specs.List.Sorted.{IsStrictlyIncreasing};
+ghost use Rattle.content_automaton.specs.Moves.{Has, IsWithin, takes, Comes, ArePut};
+
+use particle_models::Unrolled;
+use std::alloc::{AllocError, Global};
+use xs_lists::Listed;
+
+/// The positions that come next after those of a set, and at the start those that come first.
+pub(crate) fn coming(
+    alloc: Global,
+    form: &Unrolled,
+    set: &[u32],
+    starts: bool,
+) -> Result<Vec<u32>, AllocError>
+    requires within { IsWithin form.now.table }
+    requires set { All (λ p. p < length form.now.table.symbols) set.now }
+    ensures members { IfOk result (λ next. (q : ℕ) → Contains next.items q ↔ Comes form.now.table starts set.now q) }
+    ensures rises { IfOk result (λ next. IsStrictlyIncreasing next.items) }
+{
+    let count = form.count() as usize;
+    let mut flags = vec![in alloc; false; count]?;
+    if starts {
+        mark(&mut flags, form.first());
+    }
+    for p in set {
+        mark(&mut flags, form.follow(*p));
+    }
+    marked(alloc, &flags)
+}
+
+/// Sets the flags of these numbers.
+fn mark(flags: &mut Vec<bool>, more: &[u32])
+    requires { All (λ p. p < length flags.old.items) more.now }
+    ensures members { (p : ℕ) → Has flags.new.items p ↔ (Has flags.old.items p ⊎ Contains more.now p) }
+    ensures count { length flags.new.items ≡ length flags.old.items }
+{
+    for p in more {
+        flags[*p as usize] = true;
+    }
+}
+
+/// The numbers whose flag is set, rising.
+fn marked(alloc: Global, flags: &[bool]) -> Result<Vec<u32>, AllocError>
+    requires { length flags.now < 2 ^ 32 }
+    ensures members { IfOk result (λ numbers. (p : ℕ) → Contains numbers.items p ↔ Has flags.now p) }
+    ensures rises { IfOk result (λ numbers. IsStrictlyIncreasing numbers.items) }
+{
+    let mut numbers = Vec::new(alloc);
+    for (number, flag) in flags.iter().enumerate() {
+        if *flag {
+            numbers.push(number as u32)?;
+        }
+    }
+    Ok(numbers)
+}
+
+/// For each symbol the positions of the set whose terms accept it.
+pub(crate) fn by_symbol(
+    alloc: Global,
+    form: &Unrolled,
+    accepted: &[Listed<u32>],
+    symbols: u32,
+    set: &[u32],
+) -> Result<Vec<Vec<u32>>, AllocError>
+    requires set { All (λ p. p < length form.now.table.symbols) set.now }
+    requires rises { All IsStrictlyIncreasing accepted.now }
+    requires below { All (All (λ n. n < symbols)) accepted.now }
+    ensures sets { IfOk result (λ sets. (n : ℕ) → n < symbols → slice_index_or (map (λ set. set.items) sets.items) n [] ≡ filter (λ p. takes form.now.table accepted.now p n) set.now) }
+    ensures count { IfOk result (λ sets. length sets.items ≡ symbols) }
+{
+    let mut sets = Vec::new(alloc);
+    for _ in 0..symbols {
+        sets.push(Vec::new(alloc))?;
+    }
+    for p in set {
+        if let Some(row) = accepted.get(form.term_of(*p) as usize) {
+            put_at(&mut sets, row.as_slice(), *p)?;
+        }
+    }
+    Ok(sets)
+}
+
+/// Puts the position into the sets of these symbols.
+fn put_at(sets: &mut Vec<Vec<u32>>, row: &[u32], p: u32) -> Result<(), AllocError>
+    requires rises { IsStrictlyIncreasing row.now }
+    requires below { All (λ n. n < length sets.old.items) row.now }
+    ensures sets { OnOk result (ArePut (map (λ set. set.items) sets.old.items) (map (λ set. set.items) sets.new.items) row.now p) }
+{
+    for n in row {
+        sets[*n as usize].push(p)?;
+    }
+    Ok(())
+}

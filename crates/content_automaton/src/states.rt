@@ -1,0 +1,93 @@
+//! The states and the steps between them.
+
+ghost use Rattle.std.specs.Prelude.{◌≡◌, ℕ, ◌+◌, ◌*◌, ◌<◌, ◌≤◌, map, length, All, IfOk, IfErr, OnOk};
+ghost use Rattle.std.specs.List.Sorted.{IsStrictlyIncreasing};
+ghost use Rattle.content_automaton.specs.Moves.{IsWithin};
+ghost use Rattle.content_automaton.specs.Built.{AreStates, AreTooMany, AreSteps};
+ghost use Rattle.content_automaton.specs.Outcome.{WhereTooMany};
+
+use crate::numbers::number_in;
+use crate::sets::{by_symbol, coming};
+use crate::stop::Stop;
+use indexmap::IndexSet;
+use particle_models::Unrolled;
+use std::alloc::Global;
+use xs_lists::Listed;
+
+/// States, each with its set of positions, and steps. The set of the start is left empty.
+#[derive(Debug, Drop)]
+pub(crate) struct Found {
+    pub(crate) states: IndexSet<Vec<u32>>,
+    pub(crate) cells: Vec<u16>,
+}
+
+/// The states and the steps between them.
+pub(crate) fn find_states(
+    alloc: Global,
+    form: &Unrolled,
+    accepted: &[Listed<u32>],
+    symbols: u32,
+) -> Result<Found, Stop>
+    requires within { IsWithin form.now.table }
+    requires rises { All IsStrictlyIncreasing accepted.now }
+    requires below { All (All (λ n. n < symbols)) accepted.now }
+    ensures states { IfOk result (λ found. AreStates form.now.table accepted.now symbols (map (λ state. state.items) found.states.keys)) }
+    ensures few { IfOk result (λ found. length found.states.keys ≤ 2048) }
+    ensures steps { IfOk result (λ found. AreSteps form.now.table accepted.now symbols (map (λ state. state.items) found.states.keys) found.cells.items) }
+    ensures cells { IfOk result (λ found. length found.cells.items ≡ length found.states.keys * symbols) }
+    ensures too_many { IfErr result (λ stop. WhereTooMany stop (AreTooMany form.now.table accepted.now symbols)) }
+{
+    let mut states = IndexSet::new(alloc);
+    states.insert(Vec::new(alloc))?;
+    let mut cells = Vec::new(alloc);
+    let mut state = 0;
+    while state < states.len() {
+        add_row(
+            alloc,
+            form,
+            accepted,
+            symbols,
+            &mut states,
+            &mut cells,
+            state,
+        )?;
+        state += 1;
+    }
+    Ok(Found { states, cells })
+}
+
+/// Adds the steps from a state, and the states that they lead to.
+fn add_row(
+    alloc: Global,
+    form: &Unrolled,
+    accepted: &[Listed<u32>],
+    symbols: u32,
+    states: &mut IndexSet<Vec<u32>>,
+    cells: &mut Vec<u16>,
+    state: usize,
+) -> Result<(), Stop>
+    requires within { IsWithin form.now.table }
+    requires rises { All IsStrictlyIncreasing accepted.now }
+    requires below { All (All (λ n. n < symbols)) accepted.now }
+    requires states { AreStates form.now.table accepted.now symbols (map (λ state. state.items) states.old.keys) }
+    requires few { length states.old.keys ≤ 2048 }
+    requires state { state < length states.old.keys }
+    requires steps { AreSteps form.now.table accepted.now symbols (map (λ state. state.items) states.old.keys) cells.old.items }
+    requires cells { length cells.old.items ≡ state * symbols }
+    ensures states { OnOk result (AreStates form.now.table accepted.now symbols (map (λ state. state.items) states.new.keys)) }
+    ensures few { OnOk result (length states.new.keys ≤ 2048) }
+    ensures more { OnOk result (length states.old.keys ≤ length states.new.keys) }
+    ensures steps { OnOk result (AreSteps form.now.table accepted.now symbols (map (λ state. state.items) states.new.keys) cells.new.items) }
+    ensures cells { OnOk result (length cells.new.items ≡ (state + 1) * symbols) }
+    ensures too_many { IfErr result (λ stop. WhereTooMany stop (AreTooMany form.now.table accepted.now symbols)) }
+{
+    let next = coming(alloc, form, &states.as_slice()[state], state == 0)?;
+    let sets = by_symbol(alloc, form, accepted, symbols, &next)?;
+    for set in sets {
+        match number_in(states, set) {
+            Ok(to) => cells.push(to)?,
+            Err(stop) => return Err(stop),
+        }
+    }
+    Ok(())
+}

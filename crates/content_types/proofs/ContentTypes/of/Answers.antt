@@ -1,5 +1,0 @@
-use Rattle.content_types.proofs.ContentLaws.{contents-known}
-use Rattle.content_types.proofs.ContentTypes.of.Goals as goal
-
-pub returns : goal.returns
-returns c = record { contents = contents-known c.args.parts.now c.in_ok-complexes.complexes.items c.in_ok-complexes.ensures.contents }

@@ -1,2 +1,0 @@
-pub mod ContentTypes
-pub mod inside

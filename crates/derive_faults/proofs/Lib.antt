@@ -1,0 +1,4 @@
+pub mod FaultLaws
+pub mod AttrLaws
+pub mod FaultlessLaws
+pub mod ExclusionLaws

@@ -1,0 +1,12 @@
+use Rattle.std.proofs.Common.{sym, subst}
+use Rattle.component_references.specs.Heights.{IsType}
+use Rattle.subst_groups.proofs.StandLaws.{type-there}
+use Rattle.derive_faults.proofs.exclusions.is_derived.Goals as goal
+
+pub derives-requires-clause-sub : goal.derives-requires-clause-sub
+derives-requires-clause-sub c =
+    subst (IsType c.args.parts.now) (sym (c.type_of-sub.ensures.of c.args.parts.now c.requires.declarations)) (type-there c.args.parts.now c.requires.ranked c.requires.types c.args.element)
+
+pub derives-requires-clause-base : goal.derives-requires-clause-base
+derives-requires-clause-base c =
+    subst (IsType c.args.parts.now) (sym (c.type_of-base.ensures.of c.args.parts.now c.requires.declarations)) (type-there c.args.parts.now c.requires.ranked c.requires.types c.args.head)

@@ -1,0 +1,5 @@
+pub mod TypeFaults
+pub mod Finals
+pub mod AttrFaults
+pub mod Extensions
+pub mod Exclusions

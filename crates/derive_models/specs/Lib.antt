@@ -1,0 +1,12 @@
+pub mod AnyType
+pub mod Terms
+pub mod Standing
+pub mod Forms
+pub mod Steps
+pub mod ModelRestrictions
+pub mod Compared
+pub mod GroupRestrictions
+pub mod Derivation
+pub mod Fixed
+pub mod ModelFaults
+pub mod inside

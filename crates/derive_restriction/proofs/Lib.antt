@@ -1,0 +1,6 @@
+pub mod UseLaws
+pub mod WildcardLaws
+pub mod ContentLaws
+pub mod RestrictionLaws
+pub mod AttrGroupLaws
+pub mod SumLaws

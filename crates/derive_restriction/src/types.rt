@@ -1,0 +1,32 @@
+//! Types that derive from others, whatever the method.
+
+ghost use Rattle.std.specs.Prelude.{◌↔◌, IsTrue, IfOk};
+ghost use Rattle.component_references.specs.Heights.{IsType};
+ghost use Rattle.component_references.specs.Ranked.{IsRanked};
+ghost use Rattle.type_derivation.specs.Chains.{Derives};
+ghost use Rattle.type_derivation.specs.Within.{AreSimple};
+ghost use Rattle.derive_faults.specs.Finals.{no_methods};
+
+use derive_faults::no_methods;
+use std::alloc::{AllocError, Global};
+use type_derivation::derives;
+use xs_components::{Components, TypeId};
+
+/// Whether a type derives from another.
+pub(crate) fn derives_type(
+    alloc: Global,
+    parts: &Components,
+    of: TypeId,
+    base: TypeId,
+) -> Result<bool, AllocError>
+    requires ranked { IsRanked parts.now }
+    requires simple { AreSimple parts.now }
+    requires of { IsType parts.now of }
+    requires base { IsType parts.now base }
+    ensures derived { IfOk result (λ answer. IsTrue answer ↔ Derives parts.now no_methods of base) }
+{
+    if of == base {
+        return Ok(true);
+    }
+    derives(alloc, parts, of, base, &no_methods())
+}

@@ -1,0 +1,8 @@
+use Rattle.doc_nodes.proofs.Seen.{sound}
+use Rattle.doc_nodes.proofs.links.NodeLinks.depth.Goals as goal
+
+pub returns-in-None-clause-sound : goal.returns-in-None-clause-sound
+returns-in-None-clause-sound c = rw (← c.self.view_is) (sound _ _ c.self.invariant)
+
+pub returns-in-Some-clause-sound : goal.returns-in-Some-clause-sound
+returns-in-Some-clause-sound c = rw (← c.self.view_is) (sound _ _ c.self.invariant)

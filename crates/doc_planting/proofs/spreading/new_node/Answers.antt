@@ -1,0 +1,16 @@
+use Rattle.std.proofs.Common.{ap, sym, ◌∙◌, refl}
+use Rattle.tree_rows.specs.declared.row.Content.TheVariants as rows
+use Rattle.doc_nodes.specs.declared.content.Content.TheVariants as contents
+use Rattle.doc_planting.proofs.Spread.{text_node, element_node, named_row}
+use Rattle.doc_planting.proofs.spreading.new_node.Goals as goal
+
+pub name_element-requires : goal.name_element-requires
+name_element-requires c = named_row c.args.row.now c.in-Element.name c.in-Element.is c.requires.called
+
+pub returns-in_ok-text-in-Chars-clause-node : goal.returns-in_ok-text-in-Chars-clause-node
+returns-in_ok-text-in-Chars-clause-node c =
+    text_node c.args.names.now (record { number = c.args.row.now.number; content = contents.Chars c.in_ok-text-in-Chars.text }) c.args.row.now c.in_ok-text-in-Chars.text (c.in-Chars.is ∙ ap rows.Chars (sym c.in_ok-text-in-Chars.ensures)) refl refl
+
+pub returns-in_ok-element-in-Element-clause-node : goal.returns-in_ok-element-in-Element-clause-node
+returns-in_ok-element-in-Element-clause-node c =
+    element_node c.name_element.new.names (record { number = c.args.row.now.number; content = contents.Element c.in_ok-element-in-Element.element }) c.args.row.now c.in-Element.name c.in_ok-element-in-Element.element c.in-Element.is refl refl c.in_ok-element-in-Element.ensures.called

@@ -1,4 +1,0 @@
-pub mod Numbered
-pub mod Table
-pub mod Found
-pub mod inside

@@ -1,6 +1,0 @@
-pub mod ScopeLaws
-pub mod OpenLaws
-pub mod MemberLaws
-pub mod BehindLaws
-pub mod ReadLaws
-pub mod SetLaws

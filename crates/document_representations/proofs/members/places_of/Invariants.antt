@@ -1,7 +1,0 @@
-use Rattle.std.proofs.Common.{◌≡◌, ◌++◌, drop}
-use Rattle.std.specs.Prelude.{filter_map}
-use Rattle.document_representations.specs.inside.Building.{found}
-use Rattle.document_representations.proofs.members.places_of.Given as goal
-
-abbrev pub invariant-loop-item : goal.invariant-loop-item
-invariant-loop-item l = l.places ++ filter_map (found l.known) (drop l.item-index l.items) ≡ filter_map (found l.known) l.items

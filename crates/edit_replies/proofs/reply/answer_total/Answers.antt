@@ -1,8 +1,0 @@
-use Rattle.std.proofs.Common.{ap, subst}
-use Rattle.edit_replies.specs.Replies.{total_line}
-use Rattle.edit_replies.specs.Tells.{Wrote}
-use Rattle.edit_replies.proofs.reply.answer_total.Goals as goal
-
-pub returns-clause-wrote : goal.returns-clause-wrote
-returns-clause-wrote g c = λ p.
-    subst (Wrote c.tell_total.result (g.W.Sink.taken c.args.sink.now) (g.W.Sink.taken c.tell_total.new.sink)) (ap total_line (c.code_total.ensures p c.requires)) c.tell_total.ensures.tells.wrote

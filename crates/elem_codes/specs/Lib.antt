@@ -1,0 +1,4 @@
+pub mod Facts
+pub mod Used
+pub mod Codes
+pub mod Records

@@ -1,2 +1,0 @@
-pub mod AlongLaws
-pub mod UnionLaws

@@ -1,9 +1,0 @@
-use Rattle.std.proofs.Common.{◌≤◌, ◌-◌, length}
-use Rattle.element_derivation.specs.inside.Asked.{AreAsked}
-use Rattle.element_derivation.proofs.unions.asked_simples.Given as goal
-
-abbrev pub invariant-loop-id : goal.invariant-loop-id
-invariant-loop-id l = (l.number ≤ length l.parts.elements.parts) × AreAsked l.parts l.number l.asked.items
-
-abbrev pub decreases-loop-id : goal.decreases-loop-id
-decreases-loop-id l = length l.parts.elements.parts - l.number

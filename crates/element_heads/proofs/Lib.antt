@@ -1,4 +1,0 @@
-mod Known
-mod Tags
-mod Siblings
-pub use Rattle.document_names.proofs.RowLaws

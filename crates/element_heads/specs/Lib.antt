@@ -1,2 +1,0 @@
-pub mod Heads
-pub use Rattle.document_names.specs.Found

@@ -1,3 +1,0 @@
-pub mod LastingLaws
-pub mod NamelessLaws
-pub use Rattle.schema_names.proofs.LaterLaws

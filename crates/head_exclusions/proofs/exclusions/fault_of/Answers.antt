@@ -1,7 +1,0 @@
-use Rattle.std.proofs.Common.{◌∙◌}
-use Rattle.subst_groups.proofs.HeadLaws.{head-is, named-below}
-use Rattle.head_exclusions.proofs.exclusions.fault_of.Goals as goal
-
-pub is_derived-requires-clause-there : goal.is_derived-requires-clause-there
-is_derived-requires-clause-there c =
-    (named-below c.args.parts.now c.requires.ranked c.args.element c.in-Some.head (head-is c.args.parts.now c.args.element c.element-part.result.now c.element-part.ensures.part ∙ c.in-Some.is)).there

@@ -1,2 +1,0 @@
-pub mod ModelRestrictions
-pub mod Compared

@@ -1,9 +1,0 @@
-use Rattle.std.proofs.Common.{◌≡◌, length}
-use Rattle.model_symbols.proofs.Noting.{AreNotedUpTo}
-use Rattle.model_symbols.proofs.attribution.note_row.Given as goal
-
-abbrev pub invariant-loop-entry : goal.invariant-loop-entry
-invariant-loop-entry l = record {
-  noted : AreNotedUpTo l.initial.list.items l.list.items l.term l.row l.entry-index;
-  count : length l.list.items ≡ length l.initial.list.items;
-}

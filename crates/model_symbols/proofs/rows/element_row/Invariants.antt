@@ -1,6 +1,0 @@
-use Rattle.std.proofs.Common.{◌≡◌, map, take}
-use Rattle.model_symbols.specs.Rows.{entry_of}
-use Rattle.model_symbols.proofs.rows.element_row.Given as goal
-
-abbrev pub invariant-loop-one : goal.invariant-loop-one
-invariant-loop-one l = l.row.items ≡ map (entry_of l.names l.symbols) (take l.one-index l.given)

@@ -1,5 +1,0 @@
-use Rattle.model_symbols.specs.Rows.{AreAdmitted}
-use Rattle.model_symbols.proofs.rows.wildcard_row.Given as goal
-
-abbrev pub invariant-loop-symbol : goal.invariant-loop-symbol
-invariant-loop-symbol l = AreAdmitted l.names l.symbols l.namespaces l.class l.symbol l.row.items

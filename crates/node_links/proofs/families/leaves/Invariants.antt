@@ -1,6 +1,0 @@
-use Rattle.std.proofs.Common.{◌≡◌, take, map}
-use Rattle.node_links.specs.Families.{leaf_of}
-use Rattle.node_links.proofs.families.leaves.Given as goal
-
-abbrev pub invariant-loop-child : goal.invariant-loop-child
-invariant-loop-child l = l.made.items ≡ take l.child-index (map leaf_of l.children)

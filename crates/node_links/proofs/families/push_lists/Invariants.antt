@@ -1,5 +1,0 @@
-use Rattle.node_links.proofs.Hanging.{OwnSoFar}
-use Rattle.node_links.proofs.families.push_lists.Given as goal
-
-abbrev pub invariant-loop-item : goal.invariant-loop-item
-invariant-loop-item l = OwnSoFar l.initial.lists l.lists l.items l.item-index l.hung.items

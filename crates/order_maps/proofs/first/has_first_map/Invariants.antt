@@ -1,9 +1,0 @@
-use Rattle.std.proofs.Common.{◌≡◌, ℕ, List, IsTrue, length}
-use Rattle.order_maps.proofs.Firsts.{IsTaking}
-use Rattle.order_maps.proofs.first.has_first_map.Given as goal
-
-abbrev pub invariant-loop-member : goal.invariant-loop-member
-invariant-loop-member g l = record {
-  len : length l.taken.items ≡ length l.optional;
-  taking : (targets : List ℕ) × IsTaking (g.P.Pairs.restricts l.pairs) (length l.optional) l.member l.taken.items targets;
-}

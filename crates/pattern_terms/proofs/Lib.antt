@@ -1,3 +1,0 @@
-pub mod ClassLaws
-pub mod TreeLaws
-pub mod TermLaws

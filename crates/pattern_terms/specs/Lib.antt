@@ -1,5 +1,0 @@
-pub mod Sets
-pub mod Classes
-pub mod Regex
-pub mod Trees
-pub mod Terms

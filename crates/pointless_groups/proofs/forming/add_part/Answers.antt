@@ -1,8 +1,0 @@
-use Rattle.std.proofs.Common.{◌∙◌}
-use Rattle.pointless_groups.proofs.Growing.{pushed}
-use Rattle.pointless_groups.proofs.forming.add_part.Goals as goal
-
-pub returns : goal.returns
-returns c =
-    let number = c.len-number.ensures ∙ c.args.parts.now.ok.0 in
-    rw (c.in_ok-push.ensures.items, number) (pushed c.args.parts.now.items c.args.part c.requires.below)

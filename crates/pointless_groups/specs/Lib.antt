@@ -1,4 +1,0 @@
-pub mod Trees
-pub mod Pointless
-pub mod Parts
-pub mod Forming

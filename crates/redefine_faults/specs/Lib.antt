@@ -1,0 +1,2 @@
+pub mod Redefinitions
+pub mod inside

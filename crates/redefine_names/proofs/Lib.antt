@@ -1,0 +1,11 @@
+pub mod NamedLaws
+pub mod AroundLaws
+pub mod StayLaws
+pub mod RenamedLaws
+pub mod UnnamedLaws
+pub mod EachLaws
+pub mod MarkLaws
+pub mod PairLaws
+pub mod BehindLaws
+pub mod SharedLaws
+pub mod MetLaws

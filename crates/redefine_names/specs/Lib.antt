@@ -1,0 +1,11 @@
+pub mod Components
+pub mod VersionNames
+pub mod Redirections
+pub mod Renamed
+pub mod Unnamed
+pub mod Each
+pub mod Redefined
+pub mod Numbers
+pub mod Groups
+pub mod Shared
+pub mod inside

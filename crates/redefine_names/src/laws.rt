@@ -1,0 +1,13 @@
+ghost use Rattle.std.specs.Prelude.{◌≡◌, ℕ, List, Option};
+ghost use Rattle.xs_names.specs.Names.{NameTable};
+ghost use Rattle.representations.specs.declared.parts.Representation.{Representation};
+ghost use Rattle.representations.specs.Named.{AreNamed};
+ghost use Rattle.redefine_names.specs.Renamed.{renamed};
+ghost use Rattle.redefine_names.specs.Unnamed.{unnamed_reps};
+
+/// Where versions are told apart by names, representations stay as they are but for the names of types, groups and attribute
+/// groups: so do their places, scopes and occurrences, and what stands in them. Names that are in the table stay in it.
+pub fn names_alone_change()
+    ensures unnamed { (t : NameTable) (reps : List Representation) (originals : List (Option ℕ)) → unnamed_reps (renamed t reps originals) ≡ unnamed_reps reps }
+    ensures named { (t : NameTable) (reps : List Representation) (originals : List (Option ℕ)) → AreNamed t reps → AreNamed t (renamed t reps originals) }
+{}

@@ -1,4 +1,0 @@
-pub mod Redefined
-pub mod Numbers
-pub mod Groups
-pub mod inside

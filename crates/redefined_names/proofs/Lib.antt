@@ -1,5 +1,0 @@
-pub mod NamedLaws
-pub mod AroundLaws
-pub mod StayLaws
-pub mod RenamedLaws
-pub mod UnnamedLaws

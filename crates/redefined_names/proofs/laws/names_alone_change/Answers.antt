@@ -1,9 +1,0 @@
-use Rattle.redefined_names.proofs.StayLaws.{renamed-in}
-use Rattle.redefined_names.proofs.UnnamedLaws.{all-alike}
-use Rattle.redefined_names.proofs.laws.names_alone_change.Goals as goal
-
-pub returns-clause-unnamed : goal.returns-clause-unnamed
-returns-clause-unnamed c = λ t reps originals. all-alike t reps originals
-
-pub returns-clause-named : goal.returns-clause-named
-returns-clause-named c = λ t reps originals named. renamed-in t reps originals named

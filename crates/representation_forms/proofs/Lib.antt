@@ -1,0 +1,2 @@
+pub mod LastingLaws
+pub mod NamelessLaws

@@ -1,5 +1,0 @@
-use Rattle.restriction_laws.proofs.Faults.{one-first}
-use Rattle.restriction_laws.proofs.laws.the_first_model_fault_is_the_only_one.Goals as goal
-
-pub returns : goal.returns
-returns c = record { only = one-first }

@@ -1,4 +1,0 @@
-pub mod AnyLaws
-pub mod TermLaws
-pub mod StandingLaws
-pub mod FormLaws

@@ -1,5 +1,0 @@
-use Rattle.schema_documents.proofs.FaultLaws.{set-least}
-use Rattle.schema_documents.proofs.faults.first_shape_fault.Goals as goal
-
-pub returns : goal.returns
-returns c = record { least = λ inputs same is. set-least inputs c.args.set.now is c.args.faults.now same c.first_of.result c.first_of.ensures.least }

@@ -1,5 +1,0 @@
-use Rattle.std.proofs.Common.{◌≡◌, ◌++◌, drop}
-use Rattle.schema_documents.proofs.reading.copies_of.Given as goal
-
-abbrev pub invariant-loop-location : goal.invariant-loop-location
-invariant-loop-location l = l.copies ++ drop l.location-index l.locations ≡ l.locations

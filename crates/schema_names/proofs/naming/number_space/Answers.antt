@@ -1,5 +1,0 @@
-use Rattle.schema_names.proofs.LaterLaws.{space-later}
-use Rattle.schema_names.proofs.naming.number_space.Goals as goal
-
-pub returns-clause-number : goal.returns-clause-number
-returns-clause-number c = space-later c.namespace_id.new.self c.args.space.now c.space_text.result.now c.in_ok-ns.ns c.space_text.ensures c.in_ok-ns.ensures.number

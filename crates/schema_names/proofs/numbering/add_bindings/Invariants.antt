@@ -1,6 +1,0 @@
-use Rattle.std.proofs.Common.{◌≡◌, drop}
-use Rattle.schema_names.specs.Documents.{bindings_table}
-use Rattle.schema_names.proofs.numbering.add_bindings.Given as goal
-
-abbrev pub invariant-loop-binding : goal.invariant-loop-binding
-invariant-loop-binding l = bindings_table (drop l.binding-index l.bindings) l.names ≡ bindings_table l.bindings l.initial.names

@@ -1,5 +1,0 @@
-use Rattle.std.proofs.Common.{◌≡◌, ◌++◌, drop}
-use Rattle.schema_redefine.proofs.below.put_members.Given as goal
-
-abbrev pub invariant-loop-item : goal.invariant-loop-item
-invariant-loop-item l = l.left.items ++ drop l.item-index l.members ≡ l.initial.left.items ++ l.members

@@ -1,5 +1,0 @@
-use Rattle.std.proofs.Common.{◌≡◌, ◌++◌, map, drop}
-use Rattle.schema_redefine.proofs.numbered.all_shapes.Given as goal
-
-abbrev pub invariant-loop-shape : goal.invariant-loop-shape
-invariant-loop-shape l = map (λ r. r.now) l.all.items ++ drop l.shape-index l.shapes ≡ l.shapes

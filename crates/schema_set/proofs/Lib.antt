@@ -1,0 +1,9 @@
+pub mod ListLaws
+pub mod PlaceLaws
+pub mod LocationLaws
+pub mod MarkLaws
+pub mod ReachLaws
+pub mod EntryLaws
+pub mod FaultLaws
+pub mod ShapeFaultLaws
+pub mod ShapedLaws

@@ -1,0 +1,5 @@
+pub mod Following
+pub mod Marks
+pub mod Entries
+pub mod Faults
+pub mod Reads

@@ -1,0 +1,67 @@
+ghost use Rattle.std.specs.Prelude.{◌≡◌, ◌<◌, ◌*◌, ◌^◌, ◌↔◌, ℕ, true, false, All, length, vec_len, IfOk, OnOk};
+ghost use Rattle.schema_set.specs.inside.Following.{Reaches};
+ghost use Rattle.schema_set.specs.inside.Marks.{marked, IsMarking};
+ghost use Rattle.schema_set.specs.Sourced.{AreSources};
+
+use crate::following::following;
+use crate::sources::Sources;
+use std::alloc::{AllocError, Global};
+
+// Marks numbers, and puts those that were not marked to what is to be done.
+fn mark(xs: &[u32], seen: &mut [bool], todo: &mut Vec<u32>) -> Result<(), AllocError>
+    requires within { All (λ y. y < length seen.old) xs.now }
+    requires todo { All (λ y. y < length seen.old) todo.old.items }
+    ensures marking { OnOk result (IsMarking xs.now seen.old seen.new todo.old.items todo.new.items) }
+    ensures all { OnOk result (All (λ y. marked seen.new y ≡ true) xs.now) }
+    ensures todo { OnOk result (All (λ y. y < length seen.old) todo.new.items) }
+{
+    for y in xs {
+        if seen[*y as usize] {
+            continue;
+        }
+        todo.push(*y)?;
+        seen[*y as usize] = true;
+    }
+    Ok(())
+}
+
+// Marks all that the first document leads to.
+fn spread(sources: &Sources<'_>, seen: &mut [bool]) -> Result<(), AllocError>
+    requires sources { AreSources sources.now }
+    requires len { length seen.old ≡ length sources.now.available.now * length sources.now.available.now }
+    requires some { 0 < length seen.old }
+    requires none { (y : ℕ) → marked seen.old y ≡ false }
+    ensures reached { OnOk result ((y : ℕ) → (marked seen.new y ≡ true) ↔ Reaches sources.now.available.now y) }
+{
+    let mut todo = Vec::new(sources.alloc);
+    todo.push(0)?;
+    seen[0] = true;
+    while let Some(y) = todo.pop() {
+        let next = following(sources, y)?;
+        mark(&next, seen, &mut todo)?;
+    }
+    Ok(())
+}
+
+// So many documents with target namespaces are numbered.
+fn square(count: usize) -> usize
+    requires some { 0 < count }
+    requires few { count < 2 ^ 16 }
+    ensures value { result ≡ count * count }
+    ensures some { 0 < result }
+{
+    count * count
+}
+
+// Which documents, with which target namespaces, the first document leads to.
+pub(crate) fn reach(sources: &Sources<'_>) -> Result<Vec<bool>, AllocError>
+    requires sources { AreSources sources.now }
+    ensures len { IfOk result (λ seen. vec_len seen ≡ length sources.now.available.now * length sources.now.available.now) }
+    ensures reached { IfOk result (λ seen. (y : ℕ) → (marked seen.items y ≡ true) ↔ Reaches sources.now.available.now y) }
+{
+    let count = sources.available.len();
+    let all = square(count);
+    let mut seen = Vec::from_elem(sources.alloc, false, all)?;
+    spread(sources, seen.as_mut_slice())?;
+    Ok(seen)
+}

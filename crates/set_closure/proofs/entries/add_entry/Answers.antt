@@ -1,8 +1,0 @@
-use Rattle.std.proofs.Common.{refl}
-use Rattle.set_closure.specs.inside.Entries.{entry_of, entry_at}
-use Rattle.set_closure.proofs.EntryLaws.{entries-more}
-use Rattle.set_closure.proofs.entries.add_entry.Goals as goal
-
-pub returns : goal.returns
-returns c = λ more.
-    entries-more entry_of (entry_at c.args.available.now) c.args.documents.now c.push.new.self c.in_ok-document.document c.args.x more _ c.in_ok-push.ensures.ok c.in_ok-document.ensures refl

@@ -1,9 +1,0 @@
-use Rattle.std.proofs.Common.{take}
-use Rattle.std.specs.Prelude.{Contains}
-use Rattle.std.specs.List.{flat_map}
-use Rattle.xs_faults.specs.Least.{IsLeast}
-use Rattle.set_closure.specs.inside.Faults.{shape_faults}
-use Rattle.set_closure.proofs.faults.shapes_fault.Given as goal
-
-abbrev pub invariant-loop-shape : goal.invariant-loop-shape
-invariant-loop-shape l = IsLeast (Contains (flat_map (shape_faults l.sources.available.now l.document) (take l.shape-index l.shapes))) l.first

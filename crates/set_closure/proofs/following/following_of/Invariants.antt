@@ -1,7 +1,0 @@
-use Rattle.std.proofs.Common.{◌≡◌, take}
-use Rattle.std.specs.Prelude.{filter_map}
-use Rattle.set_closure.specs.inside.Following.{next_of}
-use Rattle.set_closure.proofs.following.following_of.Given as goal
-
-abbrev pub invariant-loop-shape : goal.invariant-loop-shape
-invariant-loop-shape l = l.found.items ≡ filter_map (λ shape. next_of l.sources.available.now l.place shape.form) (take l.shape-index l.shapes)

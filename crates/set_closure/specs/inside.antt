@@ -1,4 +1,0 @@
-pub mod Following
-pub mod Marks
-pub mod Entries
-pub mod Faults

@@ -1,2 +1,0 @@
-pub mod ElementLaws
-pub mod PlaceLaws

@@ -1,2 +1,0 @@
-pub mod SharedLaws
-pub mod MetLaws

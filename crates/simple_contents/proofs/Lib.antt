@@ -1,2 +1,0 @@
-pub mod SimpleTrees
-pub mod ContentTrees

@@ -1,5 +1,0 @@
-pub mod Codes
-pub mod Trials
-pub mod Framing
-pub mod TreeLaws
-pub mod ReadLaws

@@ -1,4 +1,0 @@
-pub mod EscapeLaws
-pub mod Failing
-pub mod Fronts
-pub mod Sequence

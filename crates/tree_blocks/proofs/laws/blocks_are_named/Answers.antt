@@ -1,5 +1,0 @@
-use Rattle.tree_blocks.proofs.Naming.{block_named}
-use Rattle.tree_blocks.proofs.laws.blocks_are_named.Goals as goal
-
-pub returns : goal.returns
-returns c = λ scope its one. block_named scope its one

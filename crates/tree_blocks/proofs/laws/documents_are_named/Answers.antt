@@ -1,5 +1,0 @@
-use Rattle.tree_blocks.proofs.Naming.{document_named}
-use Rattle.tree_blocks.proofs.laws.documents_are_named.Goals as goal
-
-pub returns : goal.returns
-returns c = λ scope its d e. document_named scope its d e

@@ -1,2 +1,0 @@
-pub mod NodeRows
-pub mod inside

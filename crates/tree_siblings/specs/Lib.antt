@@ -1,5 +1,0 @@
-pub mod Steps
-pub mod Sizes
-pub mod Cuts
-pub mod Code
-pub mod Held

@@ -1,0 +1,13 @@
+-- Type Derivation OK (Structures 3.4.6 and 3.14.6).
+use Rattle.std.specs.Prelude.{◌≡◌, true, false, Some, Contains}
+use Rattle.xs_components.specs.Tables.{Tables}
+use Rattle.xs_components.specs.declared.common.Methods.{Methods}
+use Rattle.xs_components.specs.declared.common.TypeId.{TypeId}
+use Rattle.type_derivation.specs.Derives.{above, members_of, is_simple}
+
+-- A type derives from another without any of some methods: they are the same type; or its own method is none of them, and its base
+-- derives so from the other; or it is simple, restriction is none of them, and it derives so from a member of the other, a union.
+pub data Derives (t : Tables) (excluded : Methods) : TypeId → TypeId → Type 0 where
+  same : (one : TypeId) → Derives t excluded one one
+  by_base : (sub base_type base : TypeId) → above t excluded sub ≡ Some base_type → Derives t excluded base_type base → Derives t excluded sub base
+  by_member : (sub member base : TypeId) → is_simple sub ≡ true → excluded.restriction ≡ false → Contains (members_of t base) member → Derives t excluded sub member → Derives t excluded sub base

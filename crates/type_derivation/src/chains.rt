@@ -1,0 +1,68 @@
+ghost use Rattle.std.specs.Prelude.{◌≡◌, ◌↔◌, ◌⊎◌, IsTrue, IfOk, false};
+ghost use Rattle.component_references.specs.Heights.{IsType};
+ghost use Rattle.component_references.specs.Ranked.{IsRanked};
+ghost use Rattle.type_derivation.specs.Chains.{Derives};
+ghost use Rattle.type_derivation.specs.Within as spec;
+
+use crate::Within;
+use crate::steps::above;
+use std::alloc::{AllocError, Global};
+use xs_components::{Components, Methods, TypeId};
+
+impl Within {
+    // Whether a type is the base, or within it where restriction is not excluded.
+    fn is_met(&self, of: &TypeId, excluded: &Methods) -> bool
+        ensures { IsTrue result ↔ ((of.now ≡ self.now.base) ⊎ ((excluded.now.restriction ≡ false) × spec.IsMarked self.now of.now)) }
+    {
+        if *of == self.base {
+            return true;
+        }
+        if excluded.restriction {
+            return false;
+        }
+        self.has(of)
+    }
+
+    /// Whether a type derives without any of these methods from the base within which these types are (Structures 3.4.6,
+    /// 3.14.6).
+    pub fn derives(&self, parts: &Components, sub: TypeId, excluded: &Methods) -> bool
+        requires ranked { IsRanked parts.now }
+        requires simple { spec.AreSimple parts.now }
+        requires sub { IsType parts.now sub }
+        requires within { spec.AreWithin parts.now self.now }
+        ensures derives { IsTrue result ↔ Derives parts.now excluded.now sub self.now.base }
+    {
+        let mut at = sub;
+        'up: loop {
+            if self.is_met(&at, excluded) {
+                return true;
+            }
+            match above(parts, excluded, &at) {
+                None => return false,
+                Some(next) => at = next,
+            }
+        }
+    }
+}
+
+/// Whether a type derives from another without any of these methods (Structures 3.4.6, 3.14.6).
+///
+/// # Errors
+///
+/// `AllocError` is want of memory.
+pub fn derives(
+    alloc: Global,
+    parts: &Components,
+    sub: TypeId,
+    base: TypeId,
+    excluded: &Methods,
+) -> Result<bool, AllocError>
+    requires ranked { IsRanked parts.now }
+    requires simple { spec.AreSimple parts.now }
+    requires sub { IsType parts.now sub }
+    requires base { IsType parts.now base }
+    ensures derives { IfOk result (λ answer. IsTrue answer ↔ Derives parts.now excluded.now sub base) }
+{
+    let within = Within::of(alloc, parts, base)?;
+    Ok(within.derives(parts, sub, excluded))
+}

@@ -1,4 +1,0 @@
-pub mod BaseLaws
-pub mod MemberLaws
-pub mod ChainLaws
-pub mod SpreadLaws

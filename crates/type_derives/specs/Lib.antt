@@ -1,3 +1,0 @@
-pub mod Derives
-pub mod Chains
-pub mod Within

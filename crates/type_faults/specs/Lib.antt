@@ -1,2 +1,0 @@
-pub mod TypeFaults
-pub mod Finals

@@ -1,4 +1,0 @@
-use Rattle.use_maps.proofs.grow.+combine_under.Given as goal
-
-abbrev pub decreases-combine_under : goal.decreases-combine_under
-decreases-combine_under l = l.levels

@@ -1,4 +1,0 @@
-use Rattle.use_maps.proofs.grow.+put_under.Given as goal
-
-abbrev pub decreases-put_under : goal.decreases-put_under
-decreases-put_under l = l.levels

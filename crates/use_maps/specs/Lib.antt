@@ -1,4 +1,0 @@
-pub mod Entries
-pub mod Nodes
-pub mod Maps
-pub mod Steps

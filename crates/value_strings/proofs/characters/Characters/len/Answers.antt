@@ -1,6 +1,0 @@
-use Rattle.std.proofs.Common.{rules}
-use Rattle.std.proofs.lemmas.Str.{chars_from_encodes}
-use Rattle.value_strings.proofs.characters.Characters.len.Goals as goal
-
-pub returns : goal.returns
-returns c = rw (← c.self.view_is) (search (rules, chars_from_encodes))

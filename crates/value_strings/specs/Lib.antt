@@ -1,3 +1,0 @@
-pub mod Binary
-pub mod Held
-pub mod Strings

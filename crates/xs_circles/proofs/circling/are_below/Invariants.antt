@@ -1,6 +1,0 @@
-use Rattle.std.proofs.Common.{◌<◌, take}
-use Rattle.std.specs.Prelude.{All, slice_index}
-use Rattle.xs_circles.proofs.circling.are_below.Given as goal
-
-abbrev pub invariant-loop-x : goal.invariant-loop-x
-invariant-loop-x l = All (λ y. slice_index l.levels y < l.level) (take l.x-index l.xs)

@@ -1,5 +1,0 @@
-use Rattle.std.proofs.Common.{length}
-use Rattle.xs_circles.proofs.search.Search.leave.Given as goal
-
-abbrev pub decreases-set : goal.decreases-set
-decreases-set l = length l.self.path.items

@@ -1,5 +1,0 @@
-use Rattle.std.proofs.Common.{length}
-use Rattle.xs_circles.proofs.search.Search.meet.Given as goal
-
-abbrev pub decreases-back : goal.decreases-back
-decreases-back l = length l.self.firsts.items

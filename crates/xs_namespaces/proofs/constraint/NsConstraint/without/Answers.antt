@@ -1,7 +1,0 @@
-use Rattle.xs_namespaces.specs.Sets.{admits}
-use Rattle.xs_namespaces.specs.declared.constraint.NsConstraint.TheVariants.{Not}
-use Rattle.xs_namespaces.proofs.SetLaws.{has-filter}
-use Rattle.xs_namespaces.proofs.constraint.NsConstraint.without.Goals as goal
-
-pub returns-in_ok-kept-in-In-clause-set : goal.returns-in_ok-kept-in-In-clause-set
-returns-in_ok-kept-in-In-clause-set c = λ ns. rw (c.in_ok-kept-in-In.ensures, c.as_slice.ensures, c.in-In.is) (has-filter (admits (Not c.args.excluded)) c.in-In.listed ns)

@@ -1,5 +1,0 @@
-use Rattle.xs_references.proofs.OrderLaws.{numbers-more}
-use Rattle.xs_references.proofs.order.numbers.Goals as goal
-
-pub loop-x-preserved : goal.loop-x-preserved
-loop-x-preserved c = rw c.in_ok-push.ensures.items (numbers-more c.loop-x.x c.loop-x.all.items c.loop-x.invariant)

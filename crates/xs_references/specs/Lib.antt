@@ -1,4 +1,0 @@
-pub mod Descent
-pub mod Order
-pub mod Heights
-pub mod Ranked
