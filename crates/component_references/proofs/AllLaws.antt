@@ -7,8 +7,8 @@ use Rattle.xs_components.specs.Tables.{Tables}
 use Rattle.xs_codes.specs.Least.{is_before, sooner, IsLeast}
 use Rattle.xs_codes.proofs.LeastLaws.{least-sum}
 use Rattle.component_references.specs.Ranked.{IsRanked}
-use Rattle.component_references.specs.Circles.{IsTypeCircle, IsElementCircle, IsAttrGroupCircle, IsGroupCircle, IsCircular}
-use Rattle.component_references.specs.inside.Parts.{AreTypesRanked, AreElementsRanked, AreAttrGroupsRanked, AreModelsRanked, HaveTypeRanks, HaveElementRanks, HaveAttrGroupRanks, HaveModelRanks}
+use Rattle.component_references.specs.Circles.{IsTypeCircle, IsElementCircle, IsAttrGroupCircle, IsGroupCircle, IsCircular, HaveHeights}
+use Rattle.component_references.specs.inside.Parts.{AreTypesRanked, AreElementsRanked, AreAttrGroupsRanked, AreModelsRanked, AreTypeHeights, AreElementHeights, AreAttrGroupHeights, AreModelHeights, HaveTypeRanks, HaveElementRanks, HaveAttrGroupRanks, HaveModelRanks}
 use Rattle.component_references.proofs.RankLaws.{all-ranked}
 
 not-none : (t : Bool) (a b : Fault) → (if t then Some b else Some a) ≡ None → ⊥
@@ -38,6 +38,25 @@ module _ (t0 t1 t2 t3 t4 : Tables) (ht : HaveTypeRanks t0 t1) (he : HaveElementR
           let second = none-both groups models both.1 in
           all-ranked t0 t1 t2 t3 t4 ht (at-none types (AreTypesRanked t1) first.0 a) he (at-none elements (AreElementsRanked t2) first.1 b)
           ha (at-none groups (AreAttrGroupsRanked t3) second.0 c) hm (at-none models (AreModelsRanked t4) second.1 d)
+
+  pub heights-if-none : IfNone types (AreTypeHeights t1) → IfNone elements (AreElementHeights t2) → IfNone groups (AreAttrGroupHeights t3) → IfNone models (AreModelHeights t4) → IfNone r (HaveHeights t4)
+  heights-if-none a b c d = on r refl
+    where
+      on : (o : Option Fault) → r ≡ o → IfNone o (HaveHeights t4)
+      on (Some f) e = tt
+      on None e =
+          let both = none-both (sooner types elements) (sooner groups models) (sym is ∙ e) in
+          let first = none-both types elements both.0 in
+          let second = none-both groups models both.1 in
+          let h1 : AreTypeHeights t2 = subst AreTypeHeights (sym he.1) (at-none types (AreTypeHeights t1) first.0 a) in
+          let h2 : AreTypeHeights t3 = subst AreTypeHeights (sym ha.1) h1 in
+          let e2 : AreElementHeights t3 = subst AreElementHeights (sym ha.1) (at-none elements (AreElementHeights t2) first.1 b) in
+          record {
+            types = subst AreTypeHeights (sym hm.2) h2;
+            elements = subst AreElementHeights (sym hm.2) e2;
+            attr_groups = subst AreAttrGroupHeights (sym hm.2) (at-none groups (AreAttrGroupHeights t3) second.0 c);
+            models = at-none models (AreModelHeights t4) second.1 d;
+          }
 
   pub least-of-all : IsLeast (IsTypeCircle t0) types → IsLeast (IsElementCircle t1) elements → IsLeast (IsAttrGroupCircle t2) groups → IsLeast (IsGroupCircle t3) models → IsLeast (IsCircular t0) r
   least-of-all a b c d =

@@ -13,7 +13,7 @@ use Rattle.xs_codes.specs.Least.{IsLeast}
 use Rattle.component_references.specs.Ranked.{named_types}
 use Rattle.component_references.specs.References.{one_or_none, behind, type_number, type_numbers, term_numbers, type_references, element_references, attr_group_references, model_references, IsClosed}
 use Rattle.component_references.specs.Circles.{ComesBack, IsTypeCircle, IsElementCircle, IsAttrGroupCircle, IsGroupCircle, with_ranks}
-use Rattle.component_references.specs.inside.Parts.{AreTypesBack, IsOutcome, AreTypesRanked, AreElementsRanked, AreAttrGroupsRanked, AreModelsRanked}
+use Rattle.component_references.specs.inside.Parts.{AreTypesBack, IsOutcome, AreTypesRanked, AreElementsRanked, AreAttrGroupsRanked, AreModelsRanked, AreTypeHeights, AreElementHeights, AreAttrGroupHeights, AreModelHeights}
 use Rattle.component_references.specs.declared.falling.Ranking.{Ranking}
 use Rattle.component_references.specs.declared.falling.Ranking.TheVariants.{Falling, Circular}
 use Rattle.component_references.proofs.RowLaws.{length-alone, length-both}
@@ -86,3 +86,20 @@ elements-written t new v ranks closed ranking a e = subst AreElementsRanked (sym
 
 pub attr_groups-written : (t new : Tables) (v ranks : List ℕ) → IsClosed t → IsRanking (attr_group_references t) v → ranks ≡ v → new ≡ record t { attr_groups = with_ranks t.attr_groups ranks } → AreAttrGroupsRanked new
 attr_groups-written t new v ranks closed ranking a e = subst AreAttrGroupsRanked (sym (e ∙ ap (λ l. record t { attr_groups = with_ranks t.attr_groups l }) a)) (attr_groups-ranked t closed v ranking.fall)
+
+-- the ranks that were written are heights
+pub types-heights : (t mid new : Tables) (v front back : List ℕ) → IsRanking (type_references t) v → front ≡ take (length t.simples.parts) v → back ≡ drop (length t.simples.parts) v
+    → mid ≡ record t { simples = with_ranks t.simples front } → new ≡ record mid { complexes = with_ranks mid.complexes back } → AreTypeHeights new
+types-heights t mid new v front back ranking a b e f =
+    subst AreTypeHeights (sym (f ∙ ap (λ (p : Tables). record p { complexes = with_ranks p.complexes back }) e)) (v, ranking, a, b)
+
+pub models-heights : (t mid new : Tables) (v front back : List ℕ) → IsRanking (model_references t) v → front ≡ take (length t.groups.parts) v → back ≡ drop (length t.groups.parts) v
+    → mid ≡ record t { groups = with_ranks t.groups front } → new ≡ record mid { particles = with_ranks mid.particles back } → AreModelHeights new
+models-heights t mid new v front back ranking a b e f =
+    subst AreModelHeights (sym (f ∙ ap (λ (p : Tables). record p { particles = with_ranks p.particles back }) e)) (v, ranking, a, b)
+
+pub elements-heights : (t new : Tables) (v ranks : List ℕ) → IsRanking (element_references t) v → ranks ≡ v → new ≡ record t { elements = with_ranks t.elements ranks } → AreElementHeights new
+elements-heights t new v ranks ranking a e = subst AreElementHeights (sym (e ∙ ap (λ l. record t { elements = with_ranks t.elements l }) a)) ranking
+
+pub attr_groups-heights : (t new : Tables) (v ranks : List ℕ) → IsRanking (attr_group_references t) v → ranks ≡ v → new ≡ record t { attr_groups = with_ranks t.attr_groups ranks } → AreAttrGroupHeights new
+attr_groups-heights t new v ranks ranking a e = subst AreAttrGroupHeights (sym (e ∙ ap (λ l. record t { attr_groups = with_ranks t.attr_groups l }) a)) ranking

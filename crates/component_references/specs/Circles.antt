@@ -1,6 +1,6 @@
 -- Circular definitions, and the tables with ranks where there are none.
-use Rattle.std.specs.Prelude.{◌≡◌, ℕ, ◌+◌, ◌⊎◌, List, Option, None, Some, map, length, slice_get}
-use Rattle.component_references.specs.NumberedCircles.{Leads}
+use Rattle.std.specs.Prelude.{◌≡◌, ℕ, ◌+◌, ◌⊎◌, List, Option, None, Some, map, length, take, drop, slice_get}
+use Rattle.component_references.specs.NumberedCircles.{Leads, IsRanking}
 use Rattle.xs_codes.specs.declared.code.Code.{Code}
 use Rattle.xs_codes.specs.declared.code.Code.TheVariants.{StPropsCorrect2, CtPropsCorrect3, MgPropsCorrect2, SrcAttributeGroup3, EPropsCorrect6}
 use Rattle.xs_codes.specs.declared.fault.Fault.{Fault}
@@ -69,3 +69,14 @@ with_all_ranks t ranks = record t {
   attr_groups = with_ranks t.attr_groups ranks.attr_groups;
   particles = with_ranks t.particles ranks.particles;
 }
+
+-- heights of the parts of two kinds along references; those of the first kind stand first
+abbrev pub AreBothHeights : List (List ℕ) → ℕ → List ℕ → List ℕ → Type 0
+AreBothHeights references count first second = (all : List ℕ) × IsRanking references all × (first ≡ take count all) × (second ≡ drop count all)
+
+-- The ranks of the components that refer to others are their heights: each is the least above those of what the component refers to.
+pub record HaveHeights (t : Tables) : Type 0 where
+  pub types : AreBothHeights (type_references t) (length t.simples.parts) t.simples.ranks t.complexes.ranks
+  pub elements : IsRanking (element_references t) t.elements.ranks
+  pub attr_groups : IsRanking (attr_group_references t) t.attr_groups.ranks
+  pub models : AreBothHeights (model_references t) (length t.groups.parts) t.groups.ranks t.particles.ranks

@@ -4,7 +4,7 @@ ghost use Rattle.xs_codes.specs.Least.{IsLeast};
 ghost use Rattle.component_references.specs.References as graph;
 ghost use Rattle.component_references.specs.References.{IsClosed};
 ghost use Rattle.component_references.specs.Circles as spec;
-ghost use Rattle.component_references.specs.inside.Parts.{IsOutcome, AreTypesRanked, AreElementsRanked, AreAttrGroupsRanked, AreModelsRanked, HaveTypeRanks, HaveElementRanks, HaveAttrGroupRanks, HaveModelRanks};
+ghost use Rattle.component_references.specs.inside.Parts.{IsOutcome, AreTypesRanked, AreElementsRanked, AreAttrGroupsRanked, AreModelsRanked, AreTypeHeights, AreElementHeights, AreAttrGroupHeights, AreModelHeights, HaveTypeRanks, HaveElementRanks, HaveAttrGroupRanks, HaveModelRanks};
 
 use crate::falling::{Ranking, rank_all_types, rank_parts};
 use crate::model_graph::model_references;
@@ -51,6 +51,7 @@ fn put_types(parts: &mut Components, ranking: &Ranking) -> Option<Fault>
     requires outcome { IsOutcome (graph.type_references parts.old) (spec.IsTypeCircle parts.old) ranking.now }
     ensures least { IsLeast (spec.IsTypeCircle parts.old) result }
     ensures ranked { IfNone result (AreTypesRanked parts.new) }
+    ensures heights { IfNone result (AreTypeHeights parts.new) }
     ensures tables { HaveTypeRanks parts.old parts.new }
 {
     match ranking {
@@ -72,6 +73,7 @@ fn rank_types(alloc: Global, parts: &mut Components) -> Result<Option<Fault>, Al
     requires closed { IsClosed parts.old }
     ensures least { IfOk result (IsLeast (spec.IsTypeCircle parts.old)) }
     ensures ranked { IfOk result (λ found. IfNone found (AreTypesRanked parts.new)) }
+    ensures heights { IfOk result (λ found. IfNone found (AreTypeHeights parts.new)) }
     ensures tables { IfOk result (λ found. HaveTypeRanks parts.old parts.new) }
 {
     let refs = numbered(type_references(alloc, parts)?)?;
@@ -85,6 +87,7 @@ fn put_elements(parts: &mut Components, ranking: &Ranking) -> Option<Fault>
     requires outcome { IsOutcome (graph.element_references parts.old) (spec.IsElementCircle parts.old) ranking.now }
     ensures least { IsLeast (spec.IsElementCircle parts.old) result }
     ensures ranked { IfNone result (AreElementsRanked parts.new) }
+    ensures heights { IfNone result (AreElementHeights parts.new) }
     ensures tables { HaveElementRanks parts.old parts.new }
 {
     match ranking {
@@ -101,6 +104,7 @@ fn rank_elements(alloc: Global, parts: &mut Components) -> Result<Option<Fault>,
     requires closed { IsClosed parts.old }
     ensures least { IfOk result (IsLeast (spec.IsElementCircle parts.old)) }
     ensures ranked { IfOk result (λ found. IfNone found (AreElementsRanked parts.new)) }
+    ensures heights { IfOk result (λ found. IfNone found (AreElementHeights parts.new)) }
     ensures tables { IfOk result (λ found. HaveElementRanks parts.old parts.new) }
 {
     let refs = numbered(element_references(alloc, parts)?)?;
@@ -119,6 +123,7 @@ fn put_attr_groups(parts: &mut Components, ranking: &Ranking) -> Option<Fault>
     requires outcome { IsOutcome (graph.attr_group_references parts.old) (spec.IsAttrGroupCircle parts.old) ranking.now }
     ensures least { IsLeast (spec.IsAttrGroupCircle parts.old) result }
     ensures ranked { IfNone result (AreAttrGroupsRanked parts.new) }
+    ensures heights { IfNone result (AreAttrGroupHeights parts.new) }
     ensures tables { HaveAttrGroupRanks parts.old parts.new }
 {
     match ranking {
@@ -135,6 +140,7 @@ fn rank_attr_groups(alloc: Global, parts: &mut Components) -> Result<Option<Faul
     requires closed { IsClosed parts.old }
     ensures least { IfOk result (IsLeast (spec.IsAttrGroupCircle parts.old)) }
     ensures ranked { IfOk result (λ found. IfNone found (AreAttrGroupsRanked parts.new)) }
+    ensures heights { IfOk result (λ found. IfNone found (AreAttrGroupHeights parts.new)) }
     ensures tables { IfOk result (λ found. HaveAttrGroupRanks parts.old parts.new) }
 {
     let refs = numbered(attr_group_references(alloc, parts)?)?;
@@ -153,6 +159,7 @@ fn put_models(parts: &mut Components, ranking: &Ranking) -> Option<Fault>
     requires outcome { IsOutcome (graph.model_references parts.old) (spec.IsGroupCircle parts.old) ranking.now }
     ensures least { IsLeast (spec.IsGroupCircle parts.old) result }
     ensures ranked { IfNone result (AreModelsRanked parts.new) }
+    ensures heights { IfNone result (AreModelHeights parts.new) }
     ensures tables { HaveModelRanks parts.old parts.new }
 {
     match ranking {
@@ -174,6 +181,7 @@ fn rank_models(alloc: Global, parts: &mut Components) -> Result<Option<Fault>, A
     requires closed { IsClosed parts.old }
     ensures least { IfOk result (IsLeast (spec.IsGroupCircle parts.old)) }
     ensures ranked { IfOk result (λ found. IfNone found (AreModelsRanked parts.new)) }
+    ensures heights { IfOk result (λ found. IfNone found (AreModelHeights parts.new)) }
     ensures tables { IfOk result (λ found. HaveModelRanks parts.old parts.new) }
 {
     let refs = numbered(model_references(alloc, parts)?)?;
@@ -186,13 +194,14 @@ fn rank_models(alloc: Global, parts: &mut Components) -> Result<Option<Fault>, A
     Ok(put_models(parts, &ranking))
 }
 
-/// Writes ranks by which every reference of a type, an element, a group, an attribute group and a particle goes to a lower
-/// one; or answers the first circular definition (Structures 3.3.6, 3.4.6, 3.6.3, 3.8.6, 3.14.6), and then the ranks are
+/// Writes the height of each type, element, group, attribute group and particle above those that it refers to, as its rank: so every
+/// reference goes to a lower one. Or answers the first circular definition (Structures 3.3.6, 3.4.6, 3.6.3, 3.8.6, 3.14.6), and then the ranks are
 /// of no use.
 pub fn rank_components(alloc: Global, parts: &mut Components) -> Result<Option<Fault>, AllocError>
     requires closed { IsClosed parts.old }
     ensures least { IfOk result (IsLeast (spec.IsCircular parts.old)) }
     ensures ranked { IfOk result (λ found. IfNone found (IsRanked parts.new)) }
+    ensures heights { IfOk result (λ found. IfNone found (spec.HaveHeights parts.new)) }
     ensures tables { IfOk result (λ found. (ranks : spec.Ranks) × (parts.new ≡ spec.with_all_ranks parts.old ranks)) }
 {
     let types = rank_types(alloc, parts)?;

@@ -1,9 +1,10 @@
-ghost use Rattle.std.specs.Prelude.{◌≡◌, ◌∷◌, ◌++◌, [], ◌<◌, ◌^◌, ℕ, true, false, map, length, slice_index, vec_len, IfOk, MatchOption, OnOk};
-ghost use Rattle.component_references.specs.NumberedCircles.{IsWithin, AreFalling, Leads, HasCircle, IsRanking};
+ghost use Rattle.std.specs.Prelude.{◌≡◌, ◌∷◌, ◌++◌, [], ◌<◌, ◌^◌, ℕ, true, false, map, length, vec_len, IfOk, MatchOption, OnOk};
+ghost use Rattle.component_references.specs.NumberedCircles as spec;
+ghost use Rattle.component_references.specs.NumberedCircles.{IsWithin, Leads, HasCircle, IsRanking};
 ghost use Rattle.component_references.specs.inside.Orders.{IsInOrder};
 ghost use Rattle.component_references.specs.inside.Visits.{IsVisit, Steps, ArePlaced, waiting};
 
-use crate::graph::refs_at;
+use crate::graph::{number_at, refs_at};
 use std::alloc::{AllocError, Global};
 use xs_lists::Listed;
 
@@ -100,23 +101,36 @@ fn in_order(alloc: Global, refs: &[Listed<u32>]) -> Result<Option<Vec<u32>>, All
     Ok(Some(order))
 }
 
-// The first place of each part in an order: ranks that fall along references.
-fn ranks_of(alloc: Global, refs: &[Listed<u32>], order: &[u32]) -> Result<Vec<u32>, AllocError>
-    requires few { length order.now < 2 ^ 32 }
+// The least rank above those of some parts. Ranks end where memory does.
+fn rank_above(ranks: &[u32], parts: &[u32]) -> Result<u32, AllocError>
+    ensures above { IfOk result (λ rank. rank ≡ spec.rank_above ranks.now parts.now) }
+{
+    let mut least = 0u32;
+    for x in parts {
+        match number_at(ranks, *x).checked_add(1) {
+            Some(above) => least = least.max(above),
+            None => return Err(AllocError),
+        }
+    }
+    Ok(least)
+}
+
+// The height of each part, where each stands behind those that it refers to.
+fn heights_of(alloc: Global, refs: &[Listed<u32>], order: &[u32]) -> Result<Vec<u32>, AllocError>
     requires order { IsInOrder refs.now order.now }
     ensures len { IfOk result (λ ranks. vec_len ranks ≡ length refs.now) }
-    ensures fall { IfOk result (λ ranks. AreFalling refs.now ranks.items) }
+    ensures heights { IfOk result (λ ranks. spec.AreHeights refs.now ranks.items) }
 {
     let mut ranks = Vec::from_elem(alloc, 0u32, refs.len())?;
-    let mut i = order.len();
-    while i > 0 {
-        i -= 1;
-        ranks[order[i] as usize] = i as u32;
+    for x in order {
+        let rank = rank_above(ranks.as_slice(), refs_at(refs, *x as usize))?;
+        ranks[*x as usize] = rank;
     }
     Ok(ranks)
 }
 
-/// Ranks that fall along all references; `None` where some part comes back to itself.
+/// The height of each part above those that it refers to: ranks that fall along all references. `None` where some part comes
+/// back to itself.
 pub fn ranks(alloc: Global, refs: &[Listed<u32>]) -> Result<Option<Vec<u32>>, AllocError>
     requires few { length refs.now < 2 ^ 32 }
     requires within { IsWithin refs.now }
@@ -125,8 +139,5 @@ pub fn ranks(alloc: Global, refs: &[Listed<u32>]) -> Result<Option<Vec<u32>>, Al
     let Some(order) = in_order(alloc, refs)? else {
         return Ok(None);
     };
-    if order.len() > u32::MAX as usize {
-        return Err(AllocError);
-    }
-    Ok(Some(ranks_of(alloc, refs, order.as_slice())?))
+    Ok(Some(heights_of(alloc, refs, order.as_slice())?))
 }

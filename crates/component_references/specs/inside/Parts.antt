@@ -9,7 +9,8 @@ use Rattle.xs_codes.specs.Least.{IsLeast}
 use Rattle.xs_components.specs.Tables.{Tables}
 use Rattle.component_references.specs.Heights.{first_height, IsLower}
 use Rattle.component_references.specs.Ranked.{EachPart, IsBelow, named_types, held_particles, named_group}
-use Rattle.component_references.specs.Circles.{ComesBack, with_ranks}
+use Rattle.component_references.specs.Circles.{ComesBack, with_ranks, AreBothHeights}
+use Rattle.component_references.specs.References.{type_references, element_references, attr_group_references, model_references}
 use Rattle.component_references.specs.declared.falling.Ranking.{Ranking}
 use Rattle.component_references.specs.declared.falling.Ranking.TheVariants.{Falling, Circular}
 
@@ -27,6 +28,19 @@ pub record AreModelsRanked (t : Tables) : Type 0 where
   pub groups : EachPart t.groups (λ rank part. IfSome part.particle (IsBelow t.particles rank))
   pub particles : EachPart t.particles (λ rank part. All (IsBelow t.particles rank) (held_particles part.term))
   pub to_groups : EachPart t.particles (λ rank part. IfSome (named_group part.term) (IsBelow t.groups rank))
+
+-- the ranks of each kind are heights
+abbrev pub AreTypeHeights : Tables → Type 0
+AreTypeHeights t = AreBothHeights (type_references t) (length t.simples.parts) t.simples.ranks t.complexes.ranks
+
+abbrev pub AreElementHeights : Tables → Type 0
+AreElementHeights t = IsRanking (element_references t) t.elements.ranks
+
+abbrev pub AreAttrGroupHeights : Tables → Type 0
+AreAttrGroupHeights t = IsRanking (attr_group_references t) t.attr_groups.ranks
+
+abbrev pub AreModelHeights : Tables → Type 0
+AreModelHeights t = AreBothHeights (model_references t) (length t.groups.parts) t.groups.ranks t.particles.ranks
 
 -- the tables but for ranks of types
 abbrev pub HaveTypeRanks : Tables → Tables → Type 0
