@@ -51,18 +51,15 @@ impl Within {
         *of != self.base && self.has(of)
     }
 
-    /// Whether a type derives without any of these methods from a restriction, without a name, of the base within which these types
-    /// are: from a member of it, if that is a union (Structures 3.14.6).
-    pub fn derives_from_member(&self, parts: &Components, sub: TypeId, excluded: &Methods) -> bool
+    // Whether a type derives from a member of the base, a union, within which these types are.
+    fn derives_inside(&self, parts: &Components, sub: TypeId, excluded: &Methods) -> bool
         requires ranked { IsRanked parts.now }
         requires simple { spec.AreSimple parts.now }
         requires sub { IsType parts.now sub }
         requires within { spec.AreWithin parts.now self.now }
+        requires free { excluded.now.restriction ≡ false }
         ensures derives { IsTrue result ↔ DerivesFromMember parts.now excluded.now sub self.now.base }
     {
-        if excluded.restriction {
-            return false;
-        }
         let mut at = sub;
         'up: loop {
             if self.is_inside(&at) {
@@ -73,6 +70,21 @@ impl Within {
                 Some(next) => at = next,
             }
         }
+    }
+
+    /// Whether a type derives without any of these methods from a restriction, without a name, of the base within which these types
+    /// are: from a member of it, if that is a union (Structures 3.14.6).
+    pub fn derives_from_member(&self, parts: &Components, sub: TypeId, excluded: &Methods) -> bool
+        requires ranked { IsRanked parts.now }
+        requires simple { spec.AreSimple parts.now }
+        requires sub { IsType parts.now sub }
+        requires within { spec.AreWithin parts.now self.now }
+        ensures derives { IsTrue result ↔ DerivesFromMember parts.now excluded.now sub self.now.base }
+    {
+        if !excluded.restriction {
+            return self.derives_inside(parts, sub, excluded);
+        }
+        false
     }
 }
 
