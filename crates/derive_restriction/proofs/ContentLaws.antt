@@ -1,107 +1,23 @@
--- The simple type that the text of a type is of, and codes of contents.
+-- The codes of contents.
 use Rattle.std.proofs.Common.{◌≡◌, ◌↔◌, ◌⊎◌, inl, inr, ℕ, Bool, true, false, List, Option, None, Some, slice_get, refl, sym, ap, ◌∙◌, subst}
 use Rattle.std.specs.Prelude.{IsTrue, IfOk, IfSome, Result, Ok, Err, not, ◌&&◌, is_some, if◌then◌else◌}
-use Rattle.std.specs.Option.{option_and_then}
 use Rattle.std.proofs.lemmas.Bool.{false≢true}
-use Rattle.std.proofs.lemmas.Option.{same_Some, none-some}
 use Rattle.xs_codes.specs.declared.code.Code.{Code}
 use Rattle.xs_components.specs.Tables.{Tables}
 use Rattle.xs_components.specs.declared.common.TypeId.{TypeId}
-use Rattle.xs_components.specs.declared.common.TypeId.TheVariants.{AnyType, Builtin, Simple, Complex}
 use Rattle.xs_components.specs.declared.complex.ComplexType.{ComplexType}
 use Rattle.xs_components.specs.declared.complex.ContentForm.{ContentForm}
 use Rattle.xs_components.specs.declared.complex.ContentForm.TheVariants as forms
 use Rattle.xs_components.specs.declared.simple.FacetItem.{FacetItem}
 use Rattle.component_tables.specs.ContentTypes.{content_of}
-use Rattle.type_derivation.specs.Chains.{Derives}
-use Rattle.type_derivation.specs.Derives.{is_simple}
-use Rattle.derive_faults.specs.Finals.{no_methods}
-use Rattle.component_references.specs.Heights.{IsType, IsLower, type_height}
-use Rattle.component_references.specs.Ranked.{IsRanked}
-use Rattle.derive_restriction.specs.Contents.{HasTextType, itself, by_extension, IsTextDerived, IsOtherText, IsOverFilled, BreaksSimple, is_other, may_be_empty, is_mixed, BreaksModel, BreaksForm, BreaksContent, model_code, extended, extended_by, if_simple}
+use Rattle.component_references.specs.Heights.{IsType}
+use Rattle.derive_restriction.specs.Contents.{IsTextDerived, IsOtherText, IsOverFilled, BreaksSimple, is_other, may_be_empty, is_mixed, BreaksModel, BreaksForm, BreaksContent, model_code}
 use Rattle.xs_codes.specs.declared.code.Code.TheVariants.{DerivationOkRestriction5_2, DerivationOkRestriction5_3, DerivationOkRestriction5_4_1}
 use Rattle.derive_values.specs.Emptiable.{has_emptiable_model}
 use Rattle.component_tables.specs.declared.content_types.ContentType.{ContentType}
 use Rattle.component_tables.specs.declared.content_types.ContentType.TheVariants.{SimpleType, Empty, SimpleContent, ElementOnly, Mixed}
 use Rattle.derive_faults.specs.TypeFaults.{IsFirstCode, when}
 use Rattle.derive_faults.proofs.FaultLaws.{when-true, when-false, when-first}
-
-module _ (t : Tables) where
-  of-simple : (a x : TypeId) → HasTextType t a x → is_simple a ≡ true → x ≡ a
-  of-simple _ _ (itself of s) e = refl
-  of-simple _ _ (by_extension id part of is ext h) e = absurd (false≢true e)
-
-  of-any : (a x : TypeId) → HasTextType t a x → a ≡ AnyType → ⊥
-  of-any _ _ (itself of s) e = false≢true (subst (λ y. is_simple y ≡ true) e s)
-  of-any _ _ (by_extension id part of is ext h) e = absurd (cc)
-
-  of-complex : (a x : TypeId) → HasTextType t a x → (id : ℕ) → a ≡ Complex id → (part : ComplexType) × (slice_get t.complexes.parts id ≡ Some part) × (part.by_extension ≡ true) × HasTextType t part.base x
-  of-complex _ _ (itself of s) id e = absurd (false≢true (subst (λ y. is_simple y ≡ true) e s))
-  of-complex _ _ (by_extension own part of is ext h) id e =
-      let same : own ≡ id = cc in
-      (part, ap (slice_get t.complexes.parts) (sym same) ∙ is, ext, h)
-
-  -- a type that extends none
-  pub text-ends : (of : TypeId) → extended t of ≡ None → (x : TypeId) → (if_simple of ≡ Some x) ↔ HasTextType t of x
-  text-ends AnyType e x = ((λ same. absurd (none-some x same)), (λ h. absurd (of-any AnyType x h refl)))
-  text-ends (Builtin kind) e x = ((λ same. subst (HasTextType t (Builtin kind)) (same_Some (Builtin kind) x same) (itself (Builtin kind) refl)), (λ h. sym (ap Some (of-simple (Builtin kind) x h refl))))
-  text-ends (Simple id) e x = ((λ same. subst (HasTextType t (Simple id)) (same_Some (Simple id) x same) (itself (Simple id) refl)), (λ h. sym (ap Some (of-simple (Simple id) x h refl))))
-  text-ends (Complex id) e x = (
-    (λ same. absurd (none-some x same)),
-    (λ h.
-        let w = of-complex (Complex id) x h id refl in
-        let base : option_and_then extended_by (slice_get t.complexes.parts id) ≡ Some w.0.base = rw (w.1, w.2) refl in
-        absurd (none-some w.0.base (sym e ∙ base))),
-  )
-
-  extends : (id : ℕ) (base : TypeId) (o : Option ComplexType) → slice_get t.complexes.parts id ≡ o → option_and_then extended_by o ≡ Some base → (part : ComplexType) × (slice_get t.complexes.parts id ≡ Some part) × (part.by_extension ≡ true) × (part.base ≡ base)
-  extends id base None is e = absurd (none-some base e)
-  extends id base (Some part) is e = by part.by_extension refl e
-    where
-      by : (b : Bool) → part.by_extension ≡ b → (if b then Some part.base else None) ≡ Some base → (p : ComplexType) × (slice_get t.complexes.parts id ≡ Some p) × (p.by_extension ≡ true) × (p.base ≡ base)
-      by true ext same = (part, is, ext, same_Some part.base base same)
-      by false ext same = absurd (none-some base same)
-
-  -- a type that extends another has the text of that
-  pub text-goes : (of base : TypeId) → extended t of ≡ Some base → (x : TypeId) → HasTextType t base x ↔ HasTextType t of x
-  text-goes AnyType base e x = absurd (none-some base e)
-  text-goes (Builtin kind) base e x = absurd (none-some base e)
-  text-goes (Simple id) base e x = absurd (none-some base e)
-  text-goes (Complex id) base e x =
-      let w = extends id base (slice_get t.complexes.parts id) refl e in (
-        (λ h. by_extension id w.0 x w.1 w.2 (subst (λ b. HasTextType t b x) (sym w.3) h)),
-        (λ h.
-            let v = of-complex (Complex id) x h id refl in
-            let same : v.0.base ≡ w.0.base = ap (λ (p : ComplexType). p.base) (same_Some v.0 w.0 (sym v.1 ∙ w.1)) in
-            subst (λ b. HasTextType t b x) (same ∙ w.3) v.3),
-      )
-
-  pub base-lower : IsRanked t → (of base : TypeId) → extended t of ≡ Some base → IsLower t (type_height t of) base
-  base-lower ranked AnyType base e = absurd (none-some base e)
-  base-lower ranked (Builtin kind) base e = absurd (none-some base e)
-  base-lower ranked (Simple id) base e = absurd (none-some base e)
-  base-lower ranked (Complex id) base e =
-      let w = extends id base (slice_get t.complexes.parts id) refl e in
-      subst (IsLower t (type_height t (Complex id))) w.3 (ranked.complexes id w.0 w.1)
-
-  -- the type of a text is there
-  pub text-there : IsRanked t → (a : TypeId) → IsType t a → (x : TypeId) → HasTextType t a x → IsType t x
-  text-there ranked _ there _ (itself of s) = there
-  text-there ranked _ there _ (by_extension id part of is ext h) = text-there ranked part.base (ranked.complexes id part is).there of h
-
-  -- an own type against that of the text of a base
-  pub derived-none : (own base : TypeId) → ((x : TypeId) → (None ≡ Some x) ↔ HasTextType t base x) → IsTrue false ↔ IsTextDerived t (Some own) base
-  derived-none own base told = ((λ e. absurd (false≢true e)), (λ x. absurd (none-some x.0 ((told x.0).1 x.1))))
-
-  derived-some : (own base of : TypeId) → ((x : TypeId) → (Some of ≡ Some x) ↔ HasTextType t base x) → (answer : Bool) → IsTrue answer ↔ Derives t no_methods own of → IsTrue answer ↔ IsTextDerived t (Some own) base
-  derived-some own base of told answer iff = (
-    (λ e. (of, (told of).0 refl, iff.0 e)),
-    (λ x. iff.1 (subst (Derives t no_methods own) (sym (same_Some of x.0 ((told x.0).1 x.1))) x.2)),
-  )
-
-  pub derived-in : {E : Type 0} (own base of : TypeId) → ((x : TypeId) → (Some of ≡ Some x) ↔ HasTextType t base x) → (result : Result Bool E) → IfOk result (λ answer. IsTrue answer ↔ Derives t no_methods own of) → IfOk result (λ answer. IsTrue answer ↔ IsTextDerived t (Some own) base)
-  derived-in own base of told (Ok answer) iff = derived-some own base of told answer iff
-  derived-in own base of told (Err e) iff = tt
 
 -- the test turned around
 pub turned-not : (P : Type 0) (b : Bool) → IsTrue b ↔ P → IsTrue (not b) ↔ (P → ⊥)

@@ -1,5 +1,6 @@
 pub mod UseLaws
 pub mod WildcardLaws
+pub mod TextLaws
 pub mod ContentLaws
 pub mod RestrictionLaws
 pub mod AttrGroupLaws

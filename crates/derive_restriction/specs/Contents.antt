@@ -1,7 +1,6 @@
 -- The content of a restriction against that of its base (Structures 3.4.6, Derivation Valid (Restriction, Complex), 5), but for its
 -- content model.
-use Rattle.std.specs.Prelude.{◌≡◌, ◌⊎◌, ℕ, Bool, true, false, ◌&&◌, not, ⊤, Option, None, Some, slice_get, if◌then◌else◌}
-use Rattle.std.specs.Option.{option_and_then}
+use Rattle.std.specs.Prelude.{◌≡◌, ◌⊎◌, ◌↔◌, ℕ, Bool, true, false, ◌&&◌, ◌||◌, not, ⊤, List, Option, None, Some, slice_get, if◌then◌else◌}
 use Rattle.xs_codes.specs.declared.code.Code.{Code}
 use Rattle.xs_codes.specs.declared.code.Code.TheVariants.{DerivationOkRestriction5_2, DerivationOkRestriction5_3, DerivationOkRestriction5_4_1}
 use Rattle.xs_components.specs.Tables.{Tables}
@@ -10,20 +9,29 @@ use Rattle.xs_components.specs.declared.common.TypeId.TheVariants.{AnyType, Buil
 use Rattle.xs_components.specs.declared.complex.ComplexType.{ComplexType}
 use Rattle.xs_components.specs.declared.complex.ContentForm.{ContentForm}
 use Rattle.xs_components.specs.declared.complex.ContentForm.TheVariants as forms
+use Rattle.xs_components.specs.declared.simple.FacetItem.{FacetItem}
 use Rattle.component_tables.specs.ContentTypes.{content_of}
 use Rattle.component_tables.specs.declared.content_types.ContentType.{ContentType}
 use Rattle.component_tables.specs.declared.content_types.ContentType.TheVariants.{SimpleType, Empty, SimpleContent, ElementOnly, Mixed}
-use Rattle.type_derivation.specs.Chains.{Derives}
+use Rattle.type_derivation.specs.Chains.{Derives, DerivesFromMember}
 use Rattle.type_derivation.specs.Derives.{is_simple}
 use Rattle.derive_faults.specs.Finals.{no_methods}
 use Rattle.derive_faults.specs.TypeFaults.{when}
 use Rattle.derive_values.specs.Emptiable.{has_emptiable_model}
+use Rattle.derive_restriction.specs.declared.texts.TextType.{TextType}
+use Rattle.derive_restriction.specs.declared.texts.TextStep.{TextStep}
+use Rattle.derive_restriction.specs.declared.texts.TextStep.TheVariants as steps
 
--- The simple type that the text of a type is of, where that is one of the schema: the type itself is simple, or by extension that of
--- its base. A restriction of simple content makes a simple type of its own, which no other derives from (Structures 3.4.2).
-pub data HasTextType (t : Tables) : TypeId → TypeId → Type 0 where
-  itself : (of : TypeId) → is_simple of ≡ true → HasTextType t of of
-  by_extension : (id : ℕ) (part : ComplexType) (of : TypeId) → slice_get t.complexes.parts id ≡ Some part → part.by_extension ≡ true → HasTextType t part.base of → HasTextType t (Complex id) of
+-- The simple type that the text of a type is of (Structures 3.4.2): a type of the schema, or a restriction of one, which has no name;
+-- whether it is such a restriction stands behind. A simple type is that of its own text; an extension has that of its base; a restriction
+-- of simple content restricts the simple type that stands in it, or else that of its base.
+pub data HasTextType (t : Tables) : TypeId → TypeId → Bool → Type 0 where
+  itself : (of : TypeId) → is_simple of ≡ true → HasTextType t of of false
+  by_extension : (id : ℕ) (part : ComplexType) (of : TypeId) (made : Bool) → slice_get t.complexes.parts id ≡ Some part → part.by_extension ≡ true → HasTextType t part.base of made → HasTextType t (Complex id) of made
+  by_own : (id : ℕ) (part : ComplexType) (step : List FacetItem) (own : TypeId) → slice_get t.complexes.parts id ≡ Some part → part.by_extension ≡ false → part.content ≡ forms.Simple (Some own) step
+      → HasTextType t (Complex id) own true
+  by_restriction : (id : ℕ) (part : ComplexType) (step : List FacetItem) (of : TypeId) (made : Bool) → slice_get t.complexes.parts id ≡ Some part → part.by_extension ≡ false → part.content ≡ forms.Simple None step
+      → HasTextType t part.base of made → HasTextType t (Complex id) of true
 
 -- the content is empty, or has a content model that is emptiable
 abbrev pub may_be_empty : ContentType → Bool → Bool
@@ -40,10 +48,15 @@ is_mixed SimpleContent = false
 is_mixed ElementOnly = false
 is_mixed Mixed = true
 
--- the simple type that stands in a restriction, if one does, derives from that of the text of the base
+-- a simple type derives from another, or from a restriction of it that has no name: then from a member of it, where it is a union
+abbrev pub DerivesFromText : Tables → TypeId → TypeId → Bool → Type 0
+DerivesFromText t own of false = Derives t no_methods own of
+DerivesFromText t own of true = DerivesFromMember t no_methods own of
+
+-- the simple type that stands in a restriction, if one does, derives from that of the text of the base (Structures 3.14.6)
 abbrev pub IsTextDerived : Tables → Option TypeId → TypeId → Type 0
 IsTextDerived t None base = ⊤
-IsTextDerived t (Some own) base = (of : TypeId) × HasTextType t base of × Derives t no_methods own of
+IsTextDerived t (Some own) base = (of : TypeId) × (made : Bool) × HasTextType t base of made × DerivesFromText t own of made
 
 module _ (t : Tables) (base : TypeId) where
   -- derivation-ok-restriction.5.2: simple content whose type does not derive from that of the base's simple content
@@ -93,18 +106,29 @@ is_other SimpleContent derived emptiable = not derived
 is_other ElementOnly derived emptiable = false
 is_other Mixed derived emptiable = not emptiable
 
-abbrev pub extended_by : ComplexType → Option TypeId
-extended_by part = if part.by_extension then Some part.base else None
+-- what says of which simple type a text is: that type, or the base of a complex type, of whose text it is or restricts it; or there is none
+abbrev pub restricted_content : TypeId → ContentForm → TextStep
+restricted_content base (forms.Simple (Some own) step) = steps.Found record { of = own; is_restricted = true }
+restricted_content base (forms.Simple None step) = steps.Up base true
+restricted_content base (forms.Complex effective mixed) = steps.Nothing
 
--- the base of an extension
-abbrev pub extended : Tables → TypeId → Option TypeId
-extended t AnyType = None
-extended t (Builtin kind) = None
-extended t (Simple id) = None
-extended t (Complex id) = option_and_then extended_by (slice_get t.complexes.parts id)
+abbrev pub complex_step : ComplexType → TextStep
+complex_step part = if part.by_extension then steps.Up part.base false else restricted_content part.base part.content
 
-abbrev pub if_simple : TypeId → Option TypeId
-if_simple AnyType = None
-if_simple (Builtin kind) = Some (Builtin kind)
-if_simple (Simple id) = Some (Simple id)
-if_simple (Complex id) = None
+abbrev pub complex_step_in : Option ComplexType → TextStep
+complex_step_in None = steps.Nothing
+complex_step_in (Some part) = complex_step part
+
+abbrev pub text_step : Tables → TypeId → TextStep
+text_step t AnyType = steps.Nothing
+text_step t (Builtin kind) = steps.Found record { of = Builtin kind; is_restricted = false }
+text_step t (Simple id) = steps.Found record { of = Simple id; is_restricted = false }
+text_step t (Complex id) = complex_step_in (slice_get t.complexes.parts id)
+
+-- the same type, restricted or not
+abbrev pub restricted_if : Bool → TextType → TextType
+restricted_if is_restricted text = record { of = text.of; is_restricted = is_restricted || text.is_restricted }
+
+-- the text of a type is of this simple type
+abbrev pub IsTextType : Tables → TypeId → Option TextType → Type 0
+IsTextType t of found = (x : TypeId) (made : Bool) → (found ≡ Some record { of = x; is_restricted = made }) ↔ HasTextType t of x made

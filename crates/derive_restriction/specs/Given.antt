@@ -24,12 +24,16 @@ pub record IsDeclaration (t : Tables) (names : NameTable) (decl : AttributeDecl)
   pub typed : IsType t decl.of
   pub simple : IsSimpleTree (type_tree t decl.of)
 
+-- the simple types that stand in simple contents are there
+abbrev pub AreOwnThere : Tables → Type 0
+AreOwnThere t = (n : ℕ) (part : ComplexType) (own : TypeId) (step : List FacetItem) → slice_get t.complexes.parts n ≡ Some part → part.content ≡ forms.Simple (Some own) step → IsType t own
+
 -- References go to lower ranks, what simple types are made of is simple, and what attribute declarations and contents refer to is there.
 pub record AreGiven (t : Tables) (names : NameTable) : Type 0 where
   pub ranked : IsRanked t
   pub simple : AreSimple t
   pub attributes : (n : ℕ) (decl : AttributeDecl) → slice_get t.attributes.parts n ≡ Some decl → IsDeclaration t names decl
-  pub own : (n : ℕ) (part : ComplexType) (own : TypeId) (step : List FacetItem) → slice_get t.complexes.parts n ≡ Some part → part.content ≡ forms.Simple (Some own) step → IsType t own
+  pub own : AreOwnThere t
   pub contents : (n p : ℕ) → slice_get t.contents n ≡ Some (Some p) → n < length t.complexes.parts → p < length t.particles.parts
 
 -- these are the simple types, and none of their literals are undefined

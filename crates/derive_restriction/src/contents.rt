@@ -1,111 +1,24 @@
 //! The content of a restriction against that of its base, but for its content model.
 
-ghost use Rattle.std.specs.Prelude.{◌≡◌, ◌↔◌, Some, List, IsTrue, IfOk, IfSome};
+ghost use Rattle.std.specs.Prelude.{◌≡◌, Some, List, IfOk, IfSome};
 ghost use Rattle.xs_components.specs.declared.common.TypeId.{TypeId as TypeIdValue};
 ghost use Rattle.xs_components.specs.declared.complex.ContentForm.TheVariants as forms;
 ghost use Rattle.xs_components.specs.declared.simple.FacetItem.{FacetItem};
 ghost use Rattle.component_references.specs.Heights.{IsType};
-ghost use Rattle.component_references.specs.Ranked.{IsRanked};
 ghost use Rattle.component_tables.specs.ContentTypes.{AreContentsOf, content_of};
 ghost use Rattle.particle_forms.specs.Ranges.{AreRangesOf};
-ghost use Rattle.type_derivation.specs.Within.{AreSimple};
 ghost use Rattle.derive_faults.specs.TypeFaults.{IsFirstCode};
 ghost use Rattle.derive_restriction.specs.Given.{AreGiven};
 ghost use Rattle.derive_restriction.specs.Contents as spec;
 
 use crate::ComparedSet;
-use crate::types::derives_type;
+use crate::texts::is_text_derived;
 use component_tables::ContentType;
 use derive_faults::{when, when_not};
 use derive_values::has_emptiable_model;
 use std::alloc::{AllocError, Global};
 use xs_codes::Code;
-use xs_components::{ComplexType, Components, ContentForm, TypeId};
-
-// The base of an extension.
-fn extended(parts: &Components, of: &TypeId) -> Option<TypeId>
-    requires there { IsType parts.now of.now }
-    ensures { result ≡ spec.extended parts.now of.now }
-{
-    match of {
-        TypeId::AnyType | TypeId::Builtin(_) | TypeId::Simple(_) => None,
-        TypeId::Complex(id) => extended_by(parts.complex(*id)),
-    }
-}
-
-// The base of a complex type, if it is an extension.
-fn extended_by(part: &ComplexType) -> Option<TypeId>
-    ensures { result ≡ spec.extended_by part.now }
-{
-    if part.by_extension {
-        Some(part.base)
-    } else {
-        None
-    }
-}
-
-// A type, if it is simple.
-fn if_simple(of: TypeId) -> Option<TypeId>
-    ensures { result ≡ spec.if_simple of }
-{
-    match of {
-        TypeId::AnyType | TypeId::Complex(_) => None,
-        TypeId::Builtin(_) | TypeId::Simple(_) => Some(of),
-    }
-}
-
-// The simple type that the text of a type is of, where that is one of the schema.
-fn text_type(parts: &Components, of: TypeId) -> Option<TypeId>
-    requires ranked { IsRanked parts.now }
-    requires there { IsType parts.now of }
-    ensures text { (x : TypeIdValue) → (result ≡ Some x) ↔ spec.HasTextType parts.now of x }
-{
-    let mut at = of;
-    'up: loop {
-        match extended(parts, &at) {
-            None => return if_simple(at),
-            Some(base) => at = base,
-        }
-    }
-}
-
-// Whether a simple type derives from that of the text of a base.
-fn derives_text(
-    alloc: Global,
-    parts: &Components,
-    own: TypeId,
-    base: TypeId,
-) -> Result<bool, AllocError>
-    requires ranked { IsRanked parts.now }
-    requires simple { AreSimple parts.now }
-    requires own { IsType parts.now own }
-    requires base { IsType parts.now base }
-    ensures derived { IfOk result (λ answer. IsTrue answer ↔ spec.IsTextDerived parts.now (Some own) base) }
-{
-    match text_type(parts, base) {
-        None => Ok(false),
-        Some(of) => derives_type(alloc, parts, own, of),
-    }
-}
-
-// Whether a simple type, if there is one, derives from that of the text of a base.
-fn is_text_derived(
-    alloc: Global,
-    parts: &Components,
-    own: Option<TypeId>,
-    base: TypeId,
-) -> Result<bool, AllocError>
-    requires ranked { IsRanked parts.now }
-    requires simple { AreSimple parts.now }
-    requires own { IfSome own (IsType parts.now) }
-    requires base { IsType parts.now base }
-    ensures derived { IfOk result (λ answer. IsTrue answer ↔ spec.IsTextDerived parts.now own base) }
-{
-    match own {
-        None => Ok(true),
-        Some(own) => derives_text(alloc, parts, own, base),
-    }
-}
+use xs_components::{ComplexType, ContentForm, TypeId};
 
 // Whether content is empty, or has a content model that is emptiable.
 fn may_be_empty(content: ContentType, emptiable: bool) -> bool

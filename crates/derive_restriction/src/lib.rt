@@ -7,6 +7,7 @@ mod faults;
 mod group_faults;
 mod restrictions;
 mod set;
+mod texts;
 mod types;
 mod uses;
 mod wildcards;

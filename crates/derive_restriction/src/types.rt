@@ -3,13 +3,13 @@
 ghost use Rattle.std.specs.Prelude.{◌↔◌, IsTrue, IfOk};
 ghost use Rattle.component_references.specs.Heights.{IsType};
 ghost use Rattle.component_references.specs.Ranked.{IsRanked};
-ghost use Rattle.type_derivation.specs.Chains.{Derives};
+ghost use Rattle.type_derivation.specs.Chains.{Derives, DerivesFromMember};
 ghost use Rattle.type_derivation.specs.Within.{AreSimple};
 ghost use Rattle.derive_faults.specs.Finals.{no_methods};
 
 use derive_faults::no_methods;
 use std::alloc::{AllocError, Global};
-use type_derivation::derives;
+use type_derivation::{derives, derives_from_member};
 use xs_components::{Components, TypeId};
 
 /// Whether a type derives from another.
@@ -29,4 +29,20 @@ pub(crate) fn derives_type(
         return Ok(true);
     }
     derives(alloc, parts, of, base, &no_methods())
+}
+
+/// Whether a type derives from a restriction, without a name, of another: from a member of that.
+pub(crate) fn derives_type_member(
+    alloc: Global,
+    parts: &Components,
+    of: TypeId,
+    base: TypeId,
+) -> Result<bool, AllocError>
+    requires ranked { IsRanked parts.now }
+    requires simple { AreSimple parts.now }
+    requires of { IsType parts.now of }
+    requires base { IsType parts.now base }
+    ensures derived { IfOk result (λ answer. IsTrue answer ↔ DerivesFromMember parts.now no_methods of base) }
+{
+    derives_from_member(alloc, parts, of, base, &no_methods())
 }

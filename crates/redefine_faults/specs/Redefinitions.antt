@@ -13,7 +13,6 @@ use Rattle.schema_shape.specs.declared.forms.Shape.{Shape}
 use Rattle.schema_set.specs.declared.documents.Available.{Available}
 use Rattle.schema_set.specs.EffectiveSet.{own_target, InSet}
 use Rattle.schema_set.specs.Order.{same_target}
-use Rattle.schema_set.specs.Composition.{target_within}
 use Rattle.redefine_originals.specs.declared.versions.Redefinable.{Redefinable}
 use Rattle.redefine_originals.specs.declared.versions.Redefinable.TheVariants as kind
 use Rattle.redefine_originals.specs.Versions.{declared_as, inside, Child, redefining, Version, in_redefine, IsOriginal}
@@ -56,7 +55,7 @@ module _ (shapes : List Shape) (target : Option (List ℕ)) where
   -- a reference is to the component of this name in the target namespace
   abbrev pub is_to : List ℕ → Option Expanded → Bool
   is_to name None = false
-  is_to name (Some to) = same_target (meant_space to.namespace) (target_within shapes target) && bytes_eq to.local name
+  is_to name (Some to) = same_target (meant_space to.namespace) target && bytes_eq to.local name
 
   -- a reference, in what redefines a component of this kind and name, that means the component
   abbrev pub is_self_reference : Redefinable → List ℕ → Form → Bool

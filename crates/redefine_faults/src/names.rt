@@ -3,7 +3,7 @@ ghost use Rattle.std.specs.Option.{option_copied};
 ghost use Rattle.redefine_faults.specs.Redefinitions as spec;
 
 use redefine_originals::Redefinable;
-use schema_set::{SetDocument, is_same, own_target, target_within};
+use schema_set::{SetDocument, is_same, own_target};
 use schema_shape::Form;
 use tree_rows::Expanded;
 use xs_names::Text;
@@ -37,7 +37,7 @@ pub(crate) fn is_to(document: &SetDocument<'_>, name: &str, to: &Option<Expanded
         Some(to) => {
             is_same(
                 meant_space(document, &to.namespace),
-                target_within(document),
+                document.target.as_ref(),
             ) && to.local.as_str() == name
         },
     }

@@ -4,7 +4,7 @@ use Rattle.xs_codes.specs.declared.fault.Fault.{Fault}
 use Rattle.xs_names.specs.Names.{NameTable}
 use Rattle.xs_components.specs.Tables.{Tables}
 use Rattle.xs_components.specs.declared.common.TypeId.TheVariants.{Complex}
-use Rattle.schema_models.specs.AllLimits.{IsUnlimitedAt}
+use Rattle.schema_models.specs.AllLimits.{IsUnlimitedAt, IsUnlimited}
 use Rattle.derive_faults.specs.AttrFaults.{IsTypeAt, IsGroupAt, IsAttrFault}
 use Rattle.derive_restriction.specs.DerivationFaults.{IsDerivationFault}
 use Rattle.redefine_names.specs.declared.pairs.RedefinedPair.{RedefinedPair}
@@ -49,12 +49,16 @@ module _ (t : Tables) where
   unlimited-at-seven p f (inr (inl h)) = by-record f _ h.2.2
   unlimited-at-seven p f (inr (inr h)) = by-record f _ h.4.1
 
+  unlimited-seven : (f : Fault) → IsUnlimited t f → f.phase ≡ 7
+  unlimited-seven f (p, l, inl (stands, h)) = unlimited-at-seven p f h
+  unlimited-seven f (p, l, inr h) = by-record f _ h.2
+
   pub derivation-seven : (names : NameTable) (pairs : List RedefinedPair) (f : Fault) → IsDerivationFault t names pairs f → f.phase ≡ 7
   derivation-seven names pairs f (inl h) = by-record f _ h.1.4
   derivation-seven names pairs f (inr (inl (inl h))) = by-record f _ h.1.4
   derivation-seven names pairs f (inr (inl (inr h))) = by-record f _ h.2.6
   derivation-seven names pairs f (inr (inr (inl h))) = by-record f _ h.1.5
-  derivation-seven names pairs f (inr (inr (inr h))) = unlimited-at-seven h.0 f h.3
+  derivation-seven names pairs f (inr (inr (inr h))) = unlimited-seven f h
 
 -- ---- phase 8, of content models
 pub model-eight : (names : NameTable) (t : Tables) (members : List (List ℕ)) (classes : List ℕ) (f : Fault) → IsBroken names t members classes f → f.phase ≡ 8

@@ -1,5 +1,5 @@
 -- The first fault of a particle, and of several.
-use Rattle.std.proofs.Common.{◌≡◌, ◌⊎◌, inl, inr, ℕ, ◌+◌, ◌<◌, ◌≤◌, Bool, true, false, true≢false, List, [], ◌∷◌, ◌++◌, Option, None, Some, length, take, get_or, slice_get, sym, ◌∙◌, subst, ap, arith}
+use Rattle.std.proofs.Common.{◌≡◌, ◌⊎◌, inl, inr, ℕ, ◌+◌, ◌<◌, ◌≤◌, Bool, true, false, true≢false, List, [], ◌∷◌, ◌++◌, Option, None, Some, length, take, get_or, slice_get, refl, sym, ◌∙◌, subst, ap, arith}
 use Rattle.std.specs.Prelude.{Contains, option_and_then}
 use Rattle.std.proofs.lemmas.Bool.{cases_eq}
 use Rattle.std.proofs.lemmas.List.{take_more, take_all}
@@ -12,7 +12,7 @@ use Rattle.xs_codes.proofs.LeastLaws.{fault_not_itself, least-sum, least-same}
 use Rattle.xs_components.specs.Tables.{Tables}
 use Rattle.xs_components.specs.declared.particle.Particle.{Particle as Part}
 use Rattle.component_references.specs.Ranked.{held_particles}
-use Rattle.schema_models.specs.AllLimits.{all_in, all_at, members_at, members_in, comes_once, is_single, particle_fault, IsAllAt, IsCrowded, IsRepeated, IsNested, IsMisfit, IsMemberMisfit, IsUnlimitedAt, IsUnlimited}
+use Rattle.schema_models.specs.AllLimits.{all_in, all_at, members_at, members_in, comes_once, is_single, particle_fault, IsAllAt, itself, IsCrowded, IsRepeated, IsEmptyRepeated, IsNested, IsMisfit, IsMemberMisfit, IsUnlimitedAt, IsUnlimited}
 use Rattle.schema_models.specs.inside.Marks.{marked, Among, AreStanding, IsUnlimitedIn, IsUnlimitedBelow}
 use Rattle.schema_models.proofs.FindLaws.{all-same}
 
@@ -79,6 +79,23 @@ module _ (t : Tables) where
         from : (f : Fault) → IsMemberMisfit t p f → Among (IsMisfit t) members f
         from f (others, e', q, c, m) = (q, subst (λ xs. Contains xs q) (same_Some others members (sym e' ∙ (all-is ∙ e))) c, m)
 
+    -- an all without members
+    pub not-empty : (r : Option Fault) → all_in part.term ≡ None → r ≡ None → IsLeast (IsEmptyRepeated t p) r
+    not-empty r none is = subst (IsLeast (IsEmptyRepeated t p)) (sym is) (λ f h. none-some [] (sym none ∙ (sym all-is ∙ h.0)))
+
+    pub has-members : (members : List ℕ) → all_in part.term ≡ Some members → (0 < length members) → IsLeast (IsEmptyRepeated t p) None
+    has-members members e some f h = let z : length members ≡ 0 = ap length (same_Some members [] (sym e ∙ (sym all-is ∙ h.0))) in omega (arith, z, some)
+
+    pub empty-once : comes_once t p ≡ true → IsLeast (IsEmptyRepeated t p) None
+    empty-once once f h = true≢false (sym once ∙ h.1)
+
+    pub empty-repeats : (members : List ℕ) (fault : Fault) → all_in part.term ≡ Some members → length members ≡ 0 → comes_once t p ≡ false → fault ≡ particle_fault t p CosAllLimited1 → IsLeast (IsEmptyRepeated t p) (Some fault)
+    empty-repeats members fault e none not is = only-one (IsEmptyRepeated t p) fault (all-is ∙ (e ∙ ap (λ xs. Some xs) (nil members none)), not, is) (λ g h. h.2 ∙ sym is)
+      where
+        nil : (xs : List ℕ) → length xs ≡ 0 → xs ≡ []
+        nil [] z = refl
+        nil (x ∷ xs) z = absurd (omega (arith, z))
+
   pub not-repeated : (p : ℕ) → comes_once t p ≡ true → IsLeast (IsRepeated t p) None
   not-repeated p once f (all, h, not, e) = true≢false (sym once ∙ not)
 
@@ -120,14 +137,19 @@ module _ (t : Tables) where
 
   -- ---- all particles
   module _ (marks : List Bool) (s : AreStanding t marks) where
-    pub not-standing : (p : ℕ) → marked marks p ≡ false → IsLeast (IsUnlimitedIn t p) None
-    not-standing p not f (h, u) = true≢false (sym ((s.stand p).1 h) ∙ not)
+    pub not-standing : (p : ℕ) (found : Option Fault) → marked marks p ≡ false → IsLeast (IsEmptyRepeated t p) found → IsLeast (IsUnlimitedIn t p) found
+    not-standing p found not least = least-same (IsEmptyRepeated t p) (IsUnlimitedIn t p) (λ f h. inr h) from found least
+      where
+        from : (f : Fault) → IsUnlimitedIn t p f → IsEmptyRepeated t p f
+        from f (inl (h, u)) = absurd (true≢false (sym ((s.stand p).1 h) ∙ not))
+        from f (inr h) = h
 
     pub stands : (p : ℕ) (found : Option Fault) → marked marks p ≡ true → IsLeast (IsUnlimitedAt t p) found → IsLeast (IsUnlimitedIn t p) found
-    stands p found m least = least-same (IsUnlimitedAt t p) (IsUnlimitedIn t p) (λ f u. ((s.stand p).0 m, u)) from found least
+    stands p found m least = least-same (IsUnlimitedAt t p) (IsUnlimitedIn t p) (λ f u. inl ((s.stand p).0 m, u)) from found least
       where
         from : (f : Fault) → IsUnlimitedIn t p f → IsUnlimitedAt t p f
-        from f (h, u) = u
+        from f (inl (h, u)) = u
+        from f (inr (e, not, is)) = inl (inr (p, itself p [] e, not, is))
 
   pub none-below : IsLeast (IsUnlimitedBelow t 0) None
   none-below f x = absurd (omega (arith, x.1))
@@ -150,7 +172,7 @@ module _ (t : Tables) where
   all-below n best l m least = least-same (IsUnlimitedBelow t n) (IsUnlimited t) to from best least
     where
       to : (f : Fault) → IsUnlimitedBelow t n f → IsUnlimited t f
-      to f (p, below, u) = (p, omega (arith, m, below), u.0, u.1)
+      to f (p, below, u) = (p, omega (arith, m, below), u)
 
       from : (f : Fault) → IsUnlimited t f → IsUnlimitedBelow t n f
-      from f (p, there, stands, u) = (p, omega (arith, l, there), (stands, u))
+      from f (p, there, u) = (p, omega (arith, l, there), u)

@@ -27,7 +27,7 @@ use Rattle.content_models.specs.Ways.{group_below}
 use Rattle.content_models.specs.Built.{IsLimitedAll, IsLimited}
 use Rattle.content_models.proofs.WayLaws.{below-lower}
 use Rattle.schema_models.specs.SetModels.{AreContentsLimited}
-use Rattle.schema_models.specs.AllLimits.{all_in, all_at, members_in, members_at, is_one, part_once, part_single, comes_once, is_single, particle_fault, IsAllAt, itself, by_group, Stands, content, group, IsMisfit, IsUnlimited, AreContentsThere}
+use Rattle.schema_models.specs.AllLimits.{all_in, all_at, members_in, members_at, is_one, part_once, part_single, comes_once, is_single, particle_fault, IsAllAt, itself, by_group, Stands, content, group, IsMisfit, IsUnlimitedAt, IsUnlimited, AreContentsThere}
 use Rattle.schema_models.specs.AllLimits as spec
 use Rattle.schema_models.proofs.FindLaws.{Rest, has-rest}
 use Rattle.schema_models.proofs.MarkLaws.{member-below}
@@ -54,7 +54,11 @@ or-not : (b : Bool) → (b ≡ false → ⊥) → b ≡ true
 or-not true f = refl
 or-not false f = absurd (f refl)
 
-module _ (t : Tables) (ranked : IsRanked t) (there : AreContentsThere t) (sound : (f : Fault) → IsUnlimited t f → ⊥) where
+-- a fault of an all that stands in the set
+abbrev IsStanding : Tables → Fault → Type 0
+IsStanding t f = (p : ℕ) × (p < length t.particles.parts) × Stands t p × IsUnlimitedAt t p f
+
+module _ (t : Tables) (ranked : IsRanked t) (there : AreContentsThere t) (sound : (f : Fault) → IsStanding t f → ⊥) where
   -- ---- the particles of an all
   once-part : (part : Part) → part_once (Some part) ≡ true → (part.min ≤ 1) × (part.max ≡ Some 1)
   once-part part e = (once-least part.min (and-left (nat_lt part.min 2) (is_one part.max) e), once-most part.max (and-right (nat_lt part.min 2) (is_one part.max) e))
@@ -258,5 +262,5 @@ module _ (t : Tables) (ranked : IsRanked t) (there : AreContentsThere t) (sound 
   all-limited type p e = (there type p e, limited p (there type p e) (content type p e))
 
 pub limited-where : (t : Tables) → IsRanked t → AreContentsThere t → (found : Option Fault) → IsLeast (IsUnlimited t) found → IfNone found (AreContentsLimited t)
-limited-where t ranked there None least = all-limited t ranked there least
+limited-where t ranked there None least = all-limited t ranked there (λ f h. least f (h.0, h.1, inl (h.2, h.3)))
 limited-where t ranked there (Some f) least = tt

@@ -105,9 +105,14 @@ module _ (t : Tables) where
   abbrev pub IsUnlimitedAt : ℕ → Fault → Type 0
   IsUnlimitedAt p f = (IsCrowded p f ⊎ IsRepeated p f) ⊎ (((q : ℕ) × Contains (members_at p) q × IsNested q f) ⊎ IsMemberMisfit p f)
 
-  -- the fault is one of an all that stands in the schema set; its item is the all, or the member
+  -- cos-all-limited.1: an all without members comes otherwise than once at most. As the group of a complex type it makes explicit content
+  -- that is empty (Structures 3.4.2), and stands in no content.
+  abbrev pub IsEmptyRepeated : ℕ → Fault → Type 0
+  IsEmptyRepeated p f = (all_at p ≡ Some []) × (comes_once p ≡ false) × (f ≡ particle_fault p CosAllLimited1)
+
+  -- the fault is one of an all that stands in the schema set, or of one without members; its item is the all, or the member
   abbrev pub IsUnlimited : Fault → Type 0
-  IsUnlimited f = (p : ℕ) × (p < length t.particles.parts) × Stands p × IsUnlimitedAt p f
+  IsUnlimited f = (p : ℕ) × (p < length t.particles.parts) × ((Stands p × IsUnlimitedAt p f) ⊎ IsEmptyRepeated p f)
 
   -- the particles of contents are there
   abbrev pub AreContentsThere : Type 0

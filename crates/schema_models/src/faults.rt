@@ -3,7 +3,7 @@
 ghost use Rattle.std.specs.Prelude.{◌≡◌, ◌<◌, All, length};
 ghost use Rattle.component_references.specs.Ranked.{IsRanked};
 ghost use Rattle.xs_codes.specs.Least.{IsLeast};
-ghost use Rattle.schema_models.specs.AllLimits.{IsCrowded, IsRepeated, IsNested, IsMisfit, IsUnlimitedAt, IsMemberMisfit, particle_fault};
+ghost use Rattle.schema_models.specs.AllLimits.{IsCrowded, IsRepeated, IsEmptyRepeated, IsNested, IsMisfit, IsUnlimitedAt, IsMemberMisfit, particle_fault};
 ghost use Rattle.schema_models.specs.inside.Marks.{Among};
 
 use crate::finding::{all_members, comes_once, find_all, held, is_single};
@@ -52,6 +52,18 @@ fn repeated(parts: &Components, p: ParticleId) -> Option<Fault>
         return None;
     }
     nested(parts, p)
+}
+
+/// An `all` without members that comes otherwise than once at most.
+pub(crate) fn repeated_empty(parts: &Components, p: ParticleId) -> Option<Fault>
+    requires there { p < length parts.now.particles.parts }
+    ensures { IsLeast (IsEmptyRepeated parts.now p) result }
+{
+    let members = all_members(&parts.particle(p).term)?;
+    if !members.is_empty() || comes_once(parts, p) {
+        return None;
+    }
+    Some(particle_fault(parts, p, Code::CosAllLimited1))
 }
 
 // An `all` as a member of a model group.

@@ -7,26 +7,27 @@ ghost use Rattle.schema_models.specs.SetModels.{AreContentsLimited};
 ghost use Rattle.schema_models.specs.AllLimits.{AreContentsThere, IsUnlimited, IsUnlimitedAt};
 ghost use Rattle.schema_models.specs.inside.Marks.{AreStanding, IsUnlimitedIn, marked};
 
-use crate::faults::first_at;
+use crate::faults::{first_at, repeated_empty};
 use crate::standing::standing;
 use std::alloc::{AllocError, Global};
 use xs_codes::{Fault, sooner};
 use xs_components::{Components, ParticleId};
 
-// The first fault of a particle, if it stands in the schema set.
+// The first fault of a particle, if it stands in the schema set; elsewhere an `all` without members may be repeated.
 fn first_in(parts: &Components, marks: &[bool], p: ParticleId) -> Option<Fault>
     requires ranked { IsRanked parts.now }
     requires there { p < length parts.now.particles.parts }
     requires marks { AreStanding parts.now marks.now }
     ensures { IsLeast (IsUnlimitedIn parts.now p) result }
 {
-    if !marks[p.number() as usize] {
-        return None;
+    if marks[p.number() as usize] {
+        first_at(parts, p)
+    } else {
+        repeated_empty(parts, p)
     }
-    first_at(parts, p)
 }
 
-// The first fault of the particles that stand in the schema set.
+// The first fault of all particles.
 fn first_marked(parts: &Components, marks: &[bool]) -> Option<Fault>
     requires ranked { IsRanked parts.now }
     requires marks { AreStanding parts.now marks.now }
@@ -41,8 +42,8 @@ fn first_marked(parts: &Components, marks: &[bool]) -> Option<Fault>
     best
 }
 
-/// The first fault of an `all` in a schema set (Structures 3.8.6): too many members; not the whole of a content, or repeated; a
-/// member that is repeated. Where there is none, each content model that an `all` stands in is that `all`, as limited as it must
+/// The first fault of an `all` in a schema set (Structures 3.8.6): too many members; not the whole of a content, or repeated, also
+/// where it has no members; a member that is repeated. Where there is none, each content model that an `all` stands in is that `all`, as limited as it must
 /// be.
 ///
 /// # Errors

@@ -21,7 +21,7 @@ use Rattle.schema_shape.specs.declared.forms.ShapedSchema.{ShapedSchema}
 use Rattle.schema_set.specs.declared.documents.Available.{Available}
 use Rattle.schema_set.specs.declared.documents.SetDocument.{SetDocument}
 use Rattle.schema_set.specs.EffectiveSet.{document_at, InSet, IsDocument, IsEffectiveSet}
-use Rattle.schema_set.specs.Composition.{target_within, code_if, is_other, imports_own, imports_absent, loads_other, loaded, inclusion_codes, broken_codes, Broken}
+use Rattle.schema_set.specs.Composition.{code_if, is_other, imports_own, imports_absent, loads_other, loaded, inclusion_codes, broken_codes, Broken}
 use Rattle.schema_set.specs.Order.{own_target_of}
 use Rattle.schema_set.specs.inside.Faults.{fault_at, shape_faults, document_faults, set_faults}
 
@@ -102,11 +102,11 @@ rises available target (forms.Import namespace location) = rises-import (imports
 rises available target _ = tt
 
 pub shape-least : (available : List Available) (d : SetDocument) (shape : Shape)
-    → IsLeast (Contains (shape_faults available d shape)) (option_map (fault_at d.number shape.item) (slice_get (broken_codes available (target_within d.shaped.now.shapes d.target) shape.form) 0))
+    → IsLeast (Contains (shape_faults available d shape)) (option_map (fault_at d.number shape.item) (slice_get (broken_codes available d.target shape.form) 0))
 shape-least available d shape =
-    least-code d.number shape.item (broken_codes available (target_within d.shaped.now.shapes d.target) shape.form) (rises available (target_within d.shaped.now.shapes d.target) shape.form)
+    least-code d.number shape.item (broken_codes available d.target shape.form) (rises available d.target shape.form)
 
-pub shape-first : (available : List Available) (d : SetDocument) (shape : Shape) (target : Option (List ℕ)) (c : Option Code) (r : Option Fault) → target ≡ target_within d.shaped.now.shapes d.target
+pub shape-first : (available : List Available) (d : SetDocument) (shape : Shape) (target : Option (List ℕ)) (c : Option Code) (r : Option Fault) → target ≡ d.target
     → c ≡ slice_get (broken_codes available target shape.form) 0 → r ≡ option_map (fault_at d.number shape.item) c → IsLeast (Contains (shape_faults available d shape)) r
 shape-first available d shape target c r t e f =
     subst (IsLeast (Contains (shape_faults available d shape)))
@@ -147,7 +147,7 @@ module _ (available : List Available) (documents : List SetDocument) (is : IsEff
       let d = l.0 in
       let k = in-flat_map (shape_faults available d) d.shaped.now.shapes f l.2 in
       let shape = k.0 in
-      let m = in-map (fault_at d.number shape.item) (broken_codes available (target_within d.shaped.now.shapes d.target) shape.form) f k.2 in
+      let m = in-map (fault_at d.number shape.item) (broken_codes available d.target shape.form) f k.2 in
       let there = All-contains (IsDocument available) documents d is.there l.1 in
       let shapes : d.shaped.now.shapes ≡ there.1.shaped.shapes = ap (λ (s : ShapedSchema). s.shapes) there.4 in
       subst (Broken available) m.2 (record {
@@ -161,7 +161,7 @@ module _ (available : List Available) (documents : List SetDocument) (is : IsEff
         inside = All-contains (λ (e : SetDocument). InSet available e.number e.target) documents d is.only l.1;
         says = subst (λ (xs : List Shape). Contains xs shape) shapes k.1;
         item = refl;
-        code = subst (λ (xs : List Shape). Contains (broken_codes available (target_within xs d.target) shape.form) m.0) shapes m.1;
+        code = m.1;
       })
 
   from-broken : (f : Fault) → Broken available f → Contains (set_faults available documents) f
@@ -173,12 +173,11 @@ module _ (available : List Available) (documents : List SetDocument) (is : IsEff
       let same : there.1 ≡ b.document = same_Some there.1 b.document (sym there.3 ∙ ap (slice_get available) place ∙ b.there) in
       let shapes : b.document.shaped.shapes ≡ d.shaped.now.shapes = sym (ap (λ (s : ShapedSchema). s.shapes) there.4 ∙ ap (λ (a : Available). a.shaped.shapes) same) in
       let listed : Contains d.shaped.now.shapes b.shape = subst (λ (xs : List Shape). Contains xs b.shape) shapes b.says in
-      let code : Contains (broken_codes available (target_within d.shaped.now.shapes d.target) b.shape.form) f.code =
-      subst (λ (t : Option (List ℕ)). Contains (broken_codes available (target_within d.shaped.now.shapes t) b.shape.form) f.code) (sym e.3)
-      (subst (λ (xs : List Shape). Contains (broken_codes available (target_within xs b.target) b.shape.form) f.code) shapes b.code) in
+      let code : Contains (broken_codes available d.target b.shape.form) f.code =
+      subst (λ (t : Option (List ℕ)). Contains (broken_codes available t b.shape.form) f.code) (sym e.3) b.code in
       let fault : Contains (shape_faults available d b.shape) f =
       subst (λ (g : Fault). Contains (shape_faults available d b.shape) g) (same-fault f d.number b.shape.item b.phase e.2 b.item)
-      (map-has (fault_at d.number b.shape.item) (broken_codes available (target_within d.shaped.now.shapes d.target) b.shape.form) f.code code) in
+      (map-has (fault_at d.number b.shape.item) (broken_codes available d.target b.shape.form) f.code code) in
       flat_map-has (document_faults available) documents d f e.1 (flat_map-has (shape_faults available d) d.shaped.now.shapes b.shape f listed fault)
 
   pub set-least : (r : Option Fault) → IsLeast (Contains (set_faults available documents)) r → IsLeast (Broken available) r

@@ -1,6 +1,6 @@
 -- The constraints on include, import and redefine (Structures 4.2): which of them a document of a set breaks.
 use Rattle.std.specs.Prelude.{◌≡◌, ℕ, ◌+◌, Bool, true, false, not, ◌&&◌, List, [], ◌∷◌, ◌++◌, Option, Some, None, is_some, Contains, slice_get, if◌then◌else◌, codes, refl}
-use Rattle.std.specs.Option.{option_and_then, option_or}
+use Rattle.std.specs.Option.{option_and_then}
 use Rattle.xs_codes.specs.declared.code.Code.{Code}
 use Rattle.xs_codes.specs.declared.code.Code.TheVariants as code
 use Rattle.xs_codes.specs.declared.fault.Fault.{Fault}
@@ -8,12 +8,8 @@ use Rattle.schema_shape.specs.declared.forms.Form.{Form}
 use Rattle.schema_shape.specs.declared.forms.Form.TheVariants as forms
 use Rattle.schema_shape.specs.declared.forms.Shape.{Shape}
 use Rattle.schema_set.specs.declared.documents.Available.{Available}
-use Rattle.schema_set.specs.EffectiveSet.{own_target, document_at, InSet}
+use Rattle.schema_set.specs.EffectiveSet.{document_at, InSet}
 use Rattle.schema_set.specs.Order.{same_target, own_target_of}
-
--- Structures 4.2.1: the target namespace of a document where it is in a set: its own; without one, that with which it is included
-abbrev pub target_within : List Shape → Option (List ℕ) → Option (List ℕ)
-target_within shapes target = option_or (own_target shapes) target
 
 -- the namespace that a name says; the empty name is that of the absent one
 abbrev pub named : List ℕ → Option (List ℕ)
@@ -65,8 +61,9 @@ broken_codes available target (forms.Redefine location) = inclusion_codes code.S
 broken_codes available target (forms.Import namespace location) = import_codes available target namespace (loaded available location)
 broken_codes available target _ = []
 
--- A constraint that an include, an import or a redefine of the set breaks. A document that is in the set with several target
--- namespaces breaks what it breaks with one of them.
+-- A constraint that an include, an import or a redefine of the set breaks, the target namespace of its document being that with which
+-- the document is in the set (Structures 4.2.1), also where the document says another one itself, so that its own inclusion is at
+-- fault. A document that is in the set with several target namespaces breaks what it breaks with one of them.
 pub record Broken (available : List Available) (f : Fault) : Type 0 where
   pub place : ℕ
   pub document : Available
@@ -78,15 +75,12 @@ pub record Broken (available : List Available) (f : Fault) : Type 0 where
   pub inside : InSet available f.document target
   pub says : Contains document.shaped.shapes shape
   pub item : shape.item ≡ f.item
-  pub code : Contains (broken_codes available (target_within document.shaped.shapes target) shape.form) f.code
+  pub code : Contains (broken_codes available target shape.form) f.code
 
 -- for example: an import of the empty namespace, which is the absent one, by a document without a target namespace
 pub example-empty-namespace : imports_own None (Some []) ≡ true
 example-empty-namespace = refl
 
--- a document without a target namespace where it is included with one; and one that has another of its own
-pub example-included : target_within [] (Some (codes "urn:a")) ≡ Some (codes "urn:a")
-example-included = refl
-
+-- a document that is included with another target namespace than its own
 pub example-other : is_other (Some (codes "urn:b")) (Some (codes "urn:a")) ≡ true
 example-other = refl

@@ -173,16 +173,6 @@ fn code_of(
     }
 }
 
-/// The target namespace of a document of the set: its own, or that with which it is included.
-pub fn target_within<'a>(document: &'a SetDocument<'_>) -> Option<&'a Text>
-    ensures { option_copied result ≡ spec.target_within document.now.shaped.now.shapes document.now.target }
-{
-    match own_target(document.shaped) {
-        None => document.target.as_ref(),
-        Some(own) => Some(own),
-    }
-}
-
 // The fault of a code, if there is one.
 fn fault_of(document: u32, item: u32, code: Option<Code>) -> Option<Fault>
     ensures { result ≡ option_map (inside.fault_at document item) code }
@@ -207,8 +197,7 @@ fn shape_fault(
     requires { AreSources sources.now }
     ensures { IfOk result (IsLeast (Contains (inside.shape_faults sources.now.available.now document.now shape.now))) }
 {
-    let target = target_within(document);
-    let code = code_of(sources, target, &shape.form)?;
+    let code = code_of(sources, document.target.as_ref(), &shape.form)?;
     Ok(fault_of(document.number, shape.item, code))
 }
 

@@ -16,7 +16,6 @@ mod targets;
 
 pub use closing::close_set;
 pub use documents::{Available, ClosedSet, EffectiveSet, SetDocument};
-pub use faults::target_within;
 pub use forms::is_unassessed;
 pub use inputs::{ReadDocuments, SchemaInput};
 pub use reading::read_documents;

@@ -204,12 +204,21 @@ component_form k.Selector scope attributes = forms.Selector (required_of an.Xpat
 component_form k.Field scope attributes = forms.Field (required_of an.Xpath attributes)
 component_form kind scope attributes = content_form kind scope attributes
 
+-- an include or a redefine of a location; without one, which is a fault, it leads nowhere
+abbrev pub including : Option (List ℕ) → Form
+including None = forms.Nothing
+including (Some location) = forms.Include location
+
+abbrev pub redefining : Option (List ℕ) → Form
+redefining None = forms.Nothing
+redefining (Some location) = forms.Redefine location
+
 -- what an element of this kind declares; first the schema, and what composes it of several documents (Structures 4.2)
 abbrev pub form_of : Kind → List Binding → List Attribute → Form
 form_of k.Schema scope attributes = forms.Schema (schema_form attributes)
-form_of k.Include scope attributes = forms.Include (required_of an.SchemaLocation attributes)
+form_of k.Include scope attributes = including (value_of an.SchemaLocation attributes)
 form_of k.Import scope attributes = forms.Import (value_of an.Namespace attributes) (value_of an.SchemaLocation attributes)
-form_of k.Redefine scope attributes = forms.Redefine (required_of an.SchemaLocation attributes)
+form_of k.Redefine scope attributes = redefining (value_of an.SchemaLocation attributes)
 form_of kind scope attributes = component_form kind scope attributes
 
 -- the numbers of the elements among the siblings, but for annotations

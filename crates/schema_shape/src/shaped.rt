@@ -4,7 +4,6 @@ ghost use Rattle.schema_shape.specs.Shapes as spec;
 ghost use Rattle.schema_faults.specs.Elements.{construct_of};
 
 use crate::component_shapes::{component_form, qualified_of};
-use crate::content_shapes::required_of;
 use crate::forms::{Form, SchemaForm, Shape};
 use schema_faults::Element;
 use schema_values::{AttributeName, Class, Kind, is_in, methods_of, tag_of, value_of};
@@ -43,6 +42,26 @@ fn schema_form(alloc: Global, attributes: &[Attribute]) -> Result<SchemaForm, Al
     })
 }
 
+/// An include of a location.
+fn including(location: Option<Text>) -> Form
+    ensures { result ≡ spec.including location }
+{
+    match location {
+        None => Form::Nothing,
+        Some(location) => Form::Include { location },
+    }
+}
+
+/// A redefine of a location.
+fn redefining(location: Option<Text>) -> Form
+    ensures { result ≡ spec.redefining location }
+{
+    match location {
+        None => Form::Nothing,
+        Some(location) => Form::Redefine { location },
+    }
+}
+
 /// What an element of this kind declares.
 fn form_of(
     alloc: Global,
@@ -54,16 +73,16 @@ fn form_of(
 {
     match kind {
         Kind::Schema => Ok(Form::Schema(schema_form(alloc, attributes)?)),
-        Kind::Include => Ok(Form::Include {
-            location: required_of(alloc, AttributeName::SchemaLocation, attributes)?,
-        }),
+        Kind::Include => {
+            Ok(including(value_of(alloc, AttributeName::SchemaLocation, attributes)?))
+        }
         Kind::Import => Ok(Form::Import {
             namespace: value_of(alloc, AttributeName::Namespace, attributes)?,
             location: value_of(alloc, AttributeName::SchemaLocation, attributes)?,
         }),
-        Kind::Redefine => Ok(Form::Redefine {
-            location: required_of(alloc, AttributeName::SchemaLocation, attributes)?,
-        }),
+        Kind::Redefine => {
+            Ok(redefining(value_of(alloc, AttributeName::SchemaLocation, attributes)?))
+        }
         _ => component_form(alloc, kind, scope, attributes),
     }
 }

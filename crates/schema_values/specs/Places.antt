@@ -9,7 +9,7 @@ abbrev pub root_kind : Tag → Kind
 root_kind tags.Schema = k.Schema
 root_kind _ = k.NoSchema
 
--- an element below schema or redefine: what is declared there is a top declaration
+-- an element below schema: what is declared there is a top declaration
 abbrev pub top_kind : Tag → Kind
 top_kind tags.SimpleType = k.TopSimpleType
 top_kind tags.ComplexType = k.TopComplexType
@@ -23,6 +23,13 @@ top_kind tags.Redefine = k.Redefine
 top_kind tags.Notation = k.Notation
 top_kind tags.Annotation = k.Annotation
 top_kind _ = k.Ignored
+
+-- an element below redefine: what is redefined is a top declaration, and no other document is reached from there
+abbrev pub below_redefine : Tag → Kind
+below_redefine tags.Include = k.Ignored
+below_redefine tags.Import = k.Ignored
+below_redefine tags.Redefine = k.Ignored
+below_redefine tag = top_kind tag
 
 -- an element below another one
 abbrev pub inner_kind : Tag → Kind
@@ -89,7 +96,7 @@ kind_below k.NoSchema tag = k.Ignored
 kind_below k.Ignored tag = k.Ignored
 kind_below k.Document tag = root_kind tag
 kind_below k.Schema tag = top_kind tag
-kind_below k.Redefine tag = top_kind tag
+kind_below k.Redefine tag = below_redefine tag
 kind_below k.SimpleContent tag = below_simple_content tag
 kind_below k.ComplexContent tag = below_complex_content tag
 kind_below k.TopGroup tag = below_top_group tag

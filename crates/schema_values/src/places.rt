@@ -13,7 +13,7 @@ fn root_kind(tag: Tag) -> Kind
     }
 }
 
-/// What an element of this name is below a schema or a redefine.
+/// What an element of this name is below a schema.
 fn top_kind(tag: Tag) -> Kind
     ensures { result ≡ places.top_kind tag }
 {
@@ -30,6 +30,16 @@ fn top_kind(tag: Tag) -> Kind
         Tag::Notation => Kind::Notation,
         Tag::Annotation => Kind::Annotation,
         _ => Kind::Ignored,
+    }
+}
+
+/// What an element of this name is below a redefine.
+fn below_redefine(tag: Tag) -> Kind
+    ensures { result ≡ places.below_redefine tag }
+{
+    match tag {
+        Tag::Include | Tag::Import | Tag::Redefine => Kind::Ignored,
+        _ => top_kind(tag),
     }
 }
 
@@ -117,7 +127,8 @@ pub fn kind_below(parent: Kind, tag: Tag) -> Kind
     match parent {
         Kind::Annotation | Kind::Notation | Kind::NoSchema | Kind::Ignored => Kind::Ignored,
         Kind::Document => root_kind(tag),
-        Kind::Schema | Kind::Redefine => top_kind(tag),
+        Kind::Schema => top_kind(tag),
+        Kind::Redefine => below_redefine(tag),
         Kind::SimpleContent => below_simple_content(tag),
         Kind::ComplexContent => below_complex_content(tag),
         Kind::TopGroup => below_top_group(tag),

@@ -6,4 +6,5 @@ pub mod CycleLaws
 pub mod BaseLaws
 pub mod MemberLaws
 pub mod ChainLaws
+pub mod InsideLaws
 pub mod SpreadLaws

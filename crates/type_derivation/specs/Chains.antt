@@ -11,3 +11,9 @@ pub data Derives (t : Tables) (excluded : Methods) : TypeId → TypeId → Type 
   same : (one : TypeId) → Derives t excluded one one
   by_base : (sub base_type base : TypeId) → above t excluded sub ≡ Some base_type → Derives t excluded base_type base → Derives t excluded sub base
   by_member : (sub member base : TypeId) → is_simple sub ≡ true → excluded.restriction ≡ false → Contains (members_of t base) member → Derives t excluded sub member → Derives t excluded sub base
+
+-- A type derives without any of these methods from a restriction of another that has no name, as the simple type of the content of a
+-- complex type is (Structures 3.4.2). No type has that as its base; restriction is none of the methods, and it derives from a member,
+-- since a restriction of a union has the members of that union (Structures 3.14.1).
+abbrev pub DerivesFromMember : Tables → Methods → TypeId → TypeId → Type 0
+DerivesFromMember t excluded sub base = (excluded.restriction ≡ false) × (member : TypeId) × Contains (members_of t base) member × Derives t excluded sub member

@@ -1,7 +1,7 @@
 ghost use Rattle.std.specs.Prelude.{◌≡◌, ◌↔◌, ◌⊎◌, IsTrue, IfOk, false};
 ghost use Rattle.component_references.specs.Heights.{IsType};
 ghost use Rattle.component_references.specs.Ranked.{IsRanked};
-ghost use Rattle.type_derivation.specs.Chains.{Derives};
+ghost use Rattle.type_derivation.specs.Chains.{Derives, DerivesFromMember};
 ghost use Rattle.type_derivation.specs.Within as spec;
 
 use crate::Within;
@@ -43,6 +43,49 @@ impl Within {
             }
         }
     }
+
+    // Whether a type other than the base is within it.
+    fn is_inside(&self, of: &TypeId) -> bool
+        ensures { IsTrue result ↔ ((of.now ≡ self.now.base → ⊥) × spec.IsMarked self.now of.now) }
+    {
+        *of != self.base && self.has(of)
+    }
+
+    // Whether a type derives from a member of the base, a union, within which these types are.
+    fn derives_inside(&self, parts: &Components, sub: TypeId, excluded: &Methods) -> bool
+        requires ranked { IsRanked parts.now }
+        requires simple { spec.AreSimple parts.now }
+        requires sub { IsType parts.now sub }
+        requires within { spec.AreWithin parts.now self.now }
+        requires free { excluded.now.restriction ≡ false }
+        ensures derives { IsTrue result ↔ DerivesFromMember parts.now excluded.now sub self.now.base }
+    {
+        let mut at = sub;
+        'up: loop {
+            if self.is_inside(&at) {
+                return true;
+            }
+            match above(parts, excluded, &at) {
+                None => return false,
+                Some(next) => at = next,
+            }
+        }
+    }
+
+    /// Whether a type derives without any of these methods from a restriction, without a name, of the base within which these types
+    /// are: from a member of it, if that is a union (Structures 3.14.6).
+    pub fn derives_from_member(&self, parts: &Components, sub: TypeId, excluded: &Methods) -> bool
+        requires ranked { IsRanked parts.now }
+        requires simple { spec.AreSimple parts.now }
+        requires sub { IsType parts.now sub }
+        requires within { spec.AreWithin parts.now self.now }
+        ensures derives { IsTrue result ↔ DerivesFromMember parts.now excluded.now sub self.now.base }
+    {
+        if !excluded.restriction {
+            return self.derives_inside(parts, sub, excluded);
+        }
+        false
+    }
 }
 
 /// Whether a type derives from another without any of these methods (Structures 3.4.6, 3.14.6).
@@ -65,4 +108,27 @@ pub fn derives(
 {
     let within = Within::of(alloc, parts, base)?;
     Ok(within.derives(parts, sub, excluded))
+}
+
+/// Whether a type derives without any of these methods from a restriction, without a name, of another: from a member of that, if it
+/// is a union (Structures 3.14.6).
+///
+/// # Errors
+///
+/// `AllocError` is want of memory.
+pub fn derives_from_member(
+    alloc: Global,
+    parts: &Components,
+    sub: TypeId,
+    base: TypeId,
+    excluded: &Methods,
+) -> Result<bool, AllocError>
+    requires ranked { IsRanked parts.now }
+    requires simple { spec.AreSimple parts.now }
+    requires sub { IsType parts.now sub }
+    requires base { IsType parts.now base }
+    ensures derives { IfOk result (λ answer. IsTrue answer ↔ DerivesFromMember parts.now excluded.now sub base) }
+{
+    let within = Within::of(alloc, parts, base)?;
+    Ok(within.derives_from_member(parts, sub, excluded))
 }

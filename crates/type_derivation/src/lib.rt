@@ -13,7 +13,7 @@ mod steps;
 mod within;
 
 pub use bases::first_base;
-pub use chains::derives;
+pub use chains::{derives, derives_from_member};
 pub use cycling::cycles;
 pub use kinds::ContentKind;
 pub use steps::{above, members_of};

@@ -5,7 +5,7 @@ use Rattle.xs_codes.specs.declared.fault.Fault.{Fault}
 use Rattle.xs_components.specs.Tables.{Tables}
 use Rattle.particle_forms.specs.Models.{group_particle}
 use Rattle.schema_models.specs.SetModels.{content_of}
-use Rattle.schema_models.specs.AllLimits.{Stands, members_at, IsUnlimitedAt}
+use Rattle.schema_models.specs.AllLimits.{Stands, members_at, IsUnlimitedAt, IsEmptyRepeated}
 
 -- the numbers from 0 on
 abbrev pub AreCounted : List ℕ → Type 0
@@ -59,9 +59,9 @@ pub record IsStandingSoFar (t : Tables) (left : List ℕ) (marks : List Bool) : 
 abbrev pub Among : (ℕ → Fault → Type 0) → List ℕ → Fault → Type 0
 Among P ids f = (k : ℕ) × Contains ids k × P k f
 
--- a fault of a particle that stands in the set
+-- a fault of a particle that stands in the set, or of an all without members
 abbrev pub IsUnlimitedIn : Tables → ℕ → Fault → Type 0
-IsUnlimitedIn t p f = Stands t p × IsUnlimitedAt t p f
+IsUnlimitedIn t p f = (Stands t p × IsUnlimitedAt t p f) ⊎ IsEmptyRepeated t p f
 
 -- of one of the first
 abbrev pub IsUnlimitedBelow : Tables → ℕ → Fault → Type 0

@@ -1,7 +1,7 @@
 use Rattle.std.proofs.Common.{◌↔◌, sym, subst}
 use Rattle.std.specs.Prelude.{IfOk, IsTrue}
 use Rattle.derive_restriction.specs.Contents.{IsTextDerived}
-use Rattle.derive_restriction.proofs.contents.is_text_derived.Goals as goal
+use Rattle.derive_restriction.proofs.texts.is_text_derived.Goals as goal
 
 pub returns-in-Some : goal.returns-in-Some
 returns-in-Some c = record {
