@@ -12,8 +12,8 @@ use Rattle.particle_restrict.specs.declared.terms.Term.{Term}
 use Rattle.particle_restrict.specs.declared.terms.Term.TheVariants.{Element, Any}
 use Rattle.derive_models.specs.Terms.{declaration_of, IsSpace, AreTerms}
 use Rattle.derive_models.proofs.Numbered.{Keeps}
-use Rattle.derive_models.proofs.Standing.{IsWild, Stands}
-use Rattle.derive_models.proofs.Compared.{AreOfOneKind, elements as both_elements, spaces as both_spaces}
+use Rattle.derive_models.proofs.StandingParts.{IsWild, Stands}
+use Rattle.derive_models.proofs.ComparedLaws.{AreOfOneKind, elements as both_elements, spaces as both_spaces}
 
 -- an element with its number of a fixed value by the one and by the other, or one wildcard
 pub data AreAlike (t : Tables) (names : NameTable) (f g : List (Option ℕ)) : ℕ → Option Term → Option Term → Type 0 where

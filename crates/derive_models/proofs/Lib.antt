@@ -11,8 +11,8 @@ pub mod NumberLaws
 pub mod FaultLaws
 pub mod Firsts
 pub mod Numbered
-pub mod Standing
+pub mod StandingParts
 pub mod Inside
-pub mod Compared
+pub mod ComparedLaws
 pub mod Alike
-pub mod Faults
+pub mod LeastFaults

@@ -4,9 +4,9 @@
 mod above;
 mod contents;
 mod names;
-mod reading;
 mod rows;
 mod tree;
+mod tree_reading;
 
-pub use reading::read_tree;
 pub use tree::DocTree;
+pub use tree_reading::read_tree;

@@ -10,7 +10,7 @@ use Rattle.derive_restriction.specs.DerivationFaults.{IsDerivationFault}
 use Rattle.derive_models.specs.ModelFaults.{IsFirstModelFault}
 use Rattle.schema_models.specs.SetModels.{IsBroken}
 use Rattle.derive_models.proofs.Firsts.{least-one}
-use Rattle.derive_models.proofs.Faults.{one-first}
+use Rattle.derive_models.proofs.LeastFaults.{one-first}
 use Rattle.schema_check.specs.Phases.{IsFirstOfPhases}
 use Rattle.schema_check.specs.declared.documents.CompiledSet.{CompiledSet}
 use Rattle.schema_compile.specs.Outcomes.{IsPropertyFault, attr_phase, derivation_phase, model_phase, restriction_phase, late_phases}

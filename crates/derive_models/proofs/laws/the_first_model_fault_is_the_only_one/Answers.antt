@@ -1,4 +1,4 @@
-use Rattle.derive_models.proofs.Faults.{one-first}
+use Rattle.derive_models.proofs.LeastFaults.{one-first}
 use Rattle.derive_models.proofs.laws.the_first_model_fault_is_the_only_one.Goals as goal
 
 pub returns : goal.returns

@@ -28,9 +28,9 @@ use Rattle.derive_models.specs.GroupRestrictions.{group_form, IsPairFault, IsRes
 use Rattle.derive_models.specs.ModelFaults.{IsReading, IsFirstModelFault}
 use Rattle.derive_models.proofs.Firsts.{least-one}
 use Rattle.derive_models.proofs.Numbered.{kept-too}
-use Rattle.derive_models.proofs.Standing.{Stands, all-stand}
+use Rattle.derive_models.proofs.StandingParts.{Stands, all-stand}
 use Rattle.derive_models.proofs.Inside.{FormInside, formed-inside}
-use Rattle.derive_models.proofs.Compared.{form-same, form-case-same}
+use Rattle.derive_models.proofs.ComparedLaws.{form-same, form-case-same}
 use Rattle.derive_models.proofs.Alike.{AreAlike, turned, kind-same, terms-too, alike}
 
 -- ---- forms

@@ -1,7 +1,7 @@
 use Rattle.std.proofs.Common.{sym, ◌∙◌, subst}
 use Rattle.tree_rows.specs.Whole.{IsTree}
 use Rattle.doc_tree.proofs.Below.{root_of, all_rows, tree_is, sound_rows}
-use Rattle.doc_tree.proofs.reading.read_tree.Goals as goal
+use Rattle.doc_tree.proofs.tree_reading.read_tree.Goals as goal
 
 pub from_rows-requires-clause-sound : goal.from_rows-requires-clause-sound
 from_rows-requires-clause-sound c =
