@@ -3,6 +3,7 @@ use Rattle.std.proofs.Common.{◌≡◌, ◌≤◌, ◌↔◌, ◌⊎◌, inl, i
 use Rattle.std.specs.Prelude.{Contains, IsTrue}
 use Rattle.std.proofs.lemmas.Bool.{true≢false}
 use Rattle.std.proofs.lemmas.List.Elements.{All-contains}
+use Rattle.std.proofs.lemmas.Option.{none-some, same_Some}
 use Rattle.xs_components.specs.Tables.{Tables}
 use Rattle.xs_components.specs.declared.common.Methods.{Methods}
 use Rattle.xs_components.specs.declared.common.TypeId.{TypeId}
@@ -11,7 +12,7 @@ use Rattle.component_references.specs.Ranked.{IsRanked}
 use Rattle.type_derivation.specs.Derives.{above, members_of, is_simple}
 use Rattle.type_derivation.specs.Chains.{Derives, same, by_base, by_member, DerivesFromMember}
 use Rattle.type_derivation.specs.Within.{IsWithin, itself, inside, AreSimple, Marks, IsMarked, AreWithin}
-use Rattle.type_derivation.proofs.ChainLaws.{marked-simple, none-some, some-same, within-derives, up, Up}
+use Rattle.type_derivation.proofs.ChainLaws.{marked-simple, within-derives, up, Up}
 use Rattle.type_derivation.proofs.MemberLaws.{members-lower, member-simple}
 
 module _ (t : Tables) (ranked : IsRanked t) where
@@ -68,6 +69,6 @@ module _ (t : Tables) (excluded : Methods) (ranked : IsRanked t) (simple : AreSi
 
     pub goes-on : b ≡ false → (next : TypeId) → above t excluded at ≡ Some next → DerivesFromMember t excluded at marks.base ↔ DerivesFromMember t excluded next marks.base
     goes-on e next there = (
-      (λ d. let u = goes e d in (free, d.1, d.2, subst (λ x. Derives t excluded x d.1) (some-same u.next next (sym u.there ∙ there)) u.derives)),
+      (λ d. let u = goes e d in (free, d.1, d.2, subst (λ x. Derives t excluded x d.1) (same_Some u.next next (sym u.there ∙ there)) u.derives)),
       (λ d. (free, d.1, d.2, by_base at next d.1 there d.3)),
     )
