@@ -5,9 +5,9 @@ mod extent;
 mod inhabited;
 mod made;
 mod model;
-mod model_nodes;
 mod node_made;
 mod nodes;
+mod ordered_nodes;
 mod ranges;
 mod unrolling;
 

@@ -5,8 +5,8 @@ ghost use Rattle.component_references.specs.Ranked.{IsRanked};
 ghost use Rattle.particle_forms.specs.Models.{model_of};
 ghost use Rattle.particle_models.specs.Nodes.{model_in, IsOrdered};
 
-use crate::model_nodes::{Nodes, nodes_of, number_of};
 use crate::node_made::parts_by_rank;
+use crate::ordered_nodes::{Nodes, nodes_of, number_of};
 use particle_models::Node;
 use std::alloc::{AllocError, Global};
 use xs_components::{Components, ParticleId};

@@ -4,7 +4,7 @@ use Rattle.std.specs.HashMap.{get}
 use Rattle.particle_forms.specs.Models.{term_model, model_of}
 use Rattle.particle_forms.specs.Made.{number_at}
 use Rattle.particle_forms.proofs.NodeLaws.{added-leaf, added-sequence, added-choice, added-all, added-none}
-use Rattle.particle_forms.proofs.model_nodes.add_term.Goals as goal
+use Rattle.particle_forms.proofs.ordered_nodes.add_term.Goals as goal
 
 pub returns-in-None : goal.returns-in-None
 returns-in-None c =

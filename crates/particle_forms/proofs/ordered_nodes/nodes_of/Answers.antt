@@ -3,7 +3,7 @@ use Rattle.std.specs.Prelude.{IsSome, nat_eq}
 use Rattle.std.specs.HashMap.{get}
 use Rattle.std.proofs.lemmas.List.Elements.{All-more, All-weaker, Contains-get_or}
 use Rattle.particle_forms.proofs.NodeLaws.{before}
-use Rattle.particle_forms.proofs.model_nodes.nodes_of.Goals as goal
+use Rattle.particle_forms.proofs.ordered_nodes.nodes_of.Goals as goal
 
 pub add_part-requires-clause-known : goal.add_part-requires-clause-known
 add_part-requires-clause-known c =

@@ -4,7 +4,7 @@ use Rattle.std.specs.HashMap.{get}
 use Rattle.particle_forms.proofs.ModelLaws.{part-read}
 use Rattle.particle_forms.proofs.MadeLaws.{part-group, term-known}
 use Rattle.particle_forms.proofs.NodeLaws.{part-right}
-use Rattle.particle_forms.proofs.model_nodes.add_part.Goals as goal
+use Rattle.particle_forms.proofs.ordered_nodes.add_part.Goals as goal
 
 pub add_term-requires-clause-group : goal.add_term-requires-clause-group
 add_term-requires-clause-group c =
