@@ -45,15 +45,17 @@ class Node:
 class Listing:
     """The lines of a document, and its nodes, as the program numbers them: the node 1 is nodes[0].
 
-    In a schema document texts of white space alone are left out. Comments, processing instructions and the document type are left
+    The data are bytes, or a text, whose XML declaration then says nothing of bytes. In a schema document texts of white space alone are left out. Comments, processing instructions and the document type are left
     out, and entities are replaced, those apart whose text stands in another file: these are refused."""
 
     def __init__(self, name, data, schema=False):
-        self.name, self.schema = name, schema
+        self.name, self.schema, encoding = name, schema, None
+        if isinstance(data, str):
+            data, encoding = data.encode('utf-8', 'surrogatepass'), 'utf-8'
         self.lines, self.nodes, self.line_nodes = [], [], []
         self._text, self._text_place, self._open = [], None, []
         self._data, self._unread, self._declared = data, False, {'lt', 'gt', 'amp', 'quot', 'apos'}
-        self._parser = parser = expat.ParserCreate()
+        self._parser = parser = expat.ParserCreate(encoding)
         parser.ordered_attributes, parser.buffer_text = True, True
         parser.StartElementHandler, parser.EndElementHandler = self._start, self._end
         parser.CharacterDataHandler = self._characters
