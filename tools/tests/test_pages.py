@@ -95,3 +95,24 @@ class Pages(Case):
 
     def test_the_program_is_there(self):
         self.assertTrue(os.access(PROGRAM, os.X_OK))
+
+
+class Chapters(Case):
+    def test_pages(self):
+        top = os.path.join(self.folder, 'top')
+        for name in 'tools', 'docs':
+            shutil.copytree(os.path.join(TOP, name), os.path.join(top, name))
+        self.assertEqual(self.tool('chapters', '--write', top=top)[0], 0)
+        self.assertEqual(self.tool('chapters', '--check', top=top)[0], 0)
+        self.put('top/docs/chapters/old.md', 'old\n')
+        self.put('top/docs/chapters/own.md', 'old\n')
+        status, written, _ = self.tool('chapters', '--check', top=top)
+        self.assertEqual((status, written.count('not as it should be')), (1, 2))
+        self.assertEqual(self.tool('chapters', '--write', top=top)[0], 0)
+        self.assertFalse(os.path.exists(os.path.join(top, 'docs', 'chapters', 'old.md')))
+        with open(os.path.join(top, 'docs', 'chapters', 'structures-3.3.md'), encoding='utf-8') as file:
+            self.assertIn('| `cvc-elt.1` | no element of this name is declared | [`', file.read())
+
+    def test_words(self):
+        self.says('chapters', status=64, error='chapters: --write or --check')
+        self.says('chapters', 'x', status=64, error='chapters: unknown words x')
