@@ -18,7 +18,7 @@ test:
 	XSV=out/xsv tools/test
 
 prove:
-	cd crates/xsv && rt run -- assess < ../../examples/order.pyx || [ $$? -eq 1 ]
+	cd crates/xsv && rt run -- session < ../../examples/session.pyx
 	mkdir -p out && cp -f crates/xsv/out/xsv out/xsv
 
 gate:
