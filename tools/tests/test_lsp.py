@@ -148,6 +148,13 @@ class Server(Case):
         at = len(text[:text.index('<b/>')].encode('utf-16-le')) // 2
         self.assertEqual(found[0]['range'], {'start': {'line': 0, 'character': at}, 'end': {'line': 0, 'character': at + 2}})
 
+    def test_attributes(self):
+        client, uri = Client(self), self.uri('a.xml')
+        self.schema('a.xsd', '<xs:element name="a"><xs:complexType><xs:attribute name="m" type="xs:byte"/></xs:complexType></xs:element>')
+        client.start()
+        found = client.opened(uri, '<a xmlns:xsi="http://www.w3.org/2001/XMLSchema-instance" xsi:noNamespaceSchemaLocation="a.xsd"\n\tm="300"/>')
+        self.assertEqual(found[0]['range'], {'start': {'line': 1, 'character': 1}, 'end': {'line': 1, 'character': 8}})
+
     def test_a_code_in_a_text(self):
         client, uri = Client(self), self.uri('a.xml')
         client.start()

@@ -44,9 +44,20 @@ class Documents(Case):
         self.put('a.xml', '<!-- one line -->\n  <a m="300"/>')
         lines = self.lines('a.xsd', 'a.xml', status=1)
         self.assertTrue(lines[0].startswith('a.xml:2:3: error: cvc-complex-type.4: a required attribute is missing: <a>'), lines)
-        self.assertTrue(lines[1].startswith('a.xml:2:3: error: cvc-attribute.3: the value of the attribute is not valid by its type: m="300" of <a>'))
-        self.assertTrue(lines[2].startswith('a.xml:2:3: error: cvc-maxInclusive-valid: '))
+        self.assertTrue(lines[1].startswith('a.xml:2:6: error: cvc-attribute.3: the value of the attribute is not valid by its type: m="300" of <a>'))
+        self.assertTrue(lines[2].startswith('a.xml:2:6: error: cvc-maxInclusive-valid: '))
         self.assertEqual(lines[3], '3 errors: invalid')
+        self.put('a.xml', '<!DOCTYPE a [<!ENTITY e "x">]>\n<a n="1"\n  z=">é" m = \'300\'/>')
+        places = [line.split(' ')[0] for line in self.lines('a.xsd', 'a.xml', status=1)[:-1]]
+        self.assertEqual(places, ['a.xml:3:3:', 'a.xml:3:10:', 'a.xml:3:10:'])
+
+    def test_what_is_not_assessed_yet(self):
+        self.schema('a.xsd', '<xs:element name="a">\n <xs:unique name="u"><xs:selector xpath="b"/><xs:field xpath="c"/></xs:unique></xs:element>')
+        self.put('a.xml', '<a/>')
+        status, written, _ = self.tool('validate', 'a.xsd', 'a.xml')
+        # A program that assesses identity constraints says that it is valid.
+        if status:
+            self.assertTrue(written.startswith('a.xsd:3:2: error: NotYet: '))
 
     def test_an_element_that_is_not_declared(self):
         self.schema('a.xsd', '')

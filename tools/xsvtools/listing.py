@@ -9,6 +9,7 @@ from .failures import NO_FILE, NO_XML, Failure, told
 # A text is written in lines of at most so many characters, of four bytes at most; the program makes one text of them again.
 LONGEST = 200_000
 WHITE = ' \t\n\r'
+ATTRIBUTE = re.compile(rb'\s([^\s=]+)\s*=\s*(?:"[^"]*"|\'[^\']*\')')
 START_TAG = re.compile(rb'<[^\s/>]+(?:\s+[^\s=]+\s*=\s*(?:"[^"]*"|\'[^\']*\'))*')
 ESCAPES = str.maketrans({'\\': '\\\\', '\n': '\\n', '\t': '\\t', '\r': '\\r'})
 
@@ -29,7 +30,7 @@ class NoXml(Failure):
 @dataclass
 class Node:
     """An element or a text of a document: where it begins, and where an element's end tag begins. Lines and columns count from 1.
-    A text has no tag, an element no text."""
+    A text has no tag, an element no text, and a text no byte at which it begins."""
 
     line: int
     column: int
@@ -38,6 +39,7 @@ class Node:
     attributes: dict = field(default_factory=dict)
     children: list = field(default_factory=list)
     parent: int = None
+    byte: int = None
     end_line: int = None
     end_column: int = None
 
@@ -85,6 +87,17 @@ class Listing:
         behind = self.nodes[number] if number < len(self.nodes) else None
         return behind.text if behind and behind.parent == number else ''
 
+    def attribute_place(self, number, local):
+        """Where the one attribute of this local name of an element begins, or None where it cannot be told, as within an entity."""
+        node = self.node(number)
+        tag = START_TAG.match(self._data, node.byte) if node.byte is not None else None
+        found = [it for it in ATTRIBUTE.finditer(tag[0]) if it[1].rpartition(b':')[2] == local.encode()] if tag else []
+        if len(found) != 1:
+            return None
+        before = tag[0][:found[0].start(1)].decode('utf-8', 'replace').replace('\r\n', '\n').replace('\r', '\n')
+        lines = before.split('\n')
+        return node.line + len(lines) - 1, (node.column if len(lines) == 1 else 1) + len(lines[-1])
+
     def _put(self, line, node):
         self.lines.append(line)
         self.line_nodes.append(node)
@@ -106,7 +119,8 @@ class Listing:
         if self._unread:
             self._look_at_values()
         given = dict(zip(attributes[::2], attributes[1::2]))
-        self.nodes.append(Node(*self._place(), tag, attributes=given, parent=self._open[-1] if self._open else None))
+        parent = self._open[-1] if self._open else None
+        self.nodes.append(Node(*self._place(), tag, attributes=given, parent=parent, byte=self._parser.CurrentByteIndex))
         number = len(self.nodes)
         if self._open:
             self.node(self._open[-1]).children.append(number)

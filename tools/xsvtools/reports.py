@@ -94,8 +94,7 @@ class Reading:
                 errors.append(self.of_line(int(fields[1]), fields[2]))
                 understood = True
             elif word == 'unsupported' and len(fields) == 2:
-                section, _ = self.schemas.place(1, 1)
-                errors.append(self.error(section.listing, 1, 'answer', fields[1]))
+                errors.append(self.error(*self.unassessed(), 'answer', fields[1]))
                 understood = True
             elif word == 'end':
                 verdict = fields[1]
@@ -108,6 +107,14 @@ class Reading:
         node = listing.node(number)
         line, column = place or (node.line, node.column)
         return Error(listing.name, line, column, row.code, row.words + detail, row.section)
+
+    def unassessed(self):
+        """The first element of the schemas that is not assessed yet, or else their first root."""
+        for section in self.schemas.sections:
+            for number, node in enumerate(section.listing.nodes, 1):
+                if node.tag and node.tag.rpartition(':')[2] in ('unique', 'key', 'keyref'):
+                    return section.listing, number
+        return self.schemas.sections[0].listing, 1
 
     def of_record(self, word, line):
         """The errors of a record of an element or an attribute: one for each code."""
@@ -129,7 +136,8 @@ class Reading:
             return self.error(document, number, 'code', code, f': {named(node.tag)} ends too early', ends)
         if attribute:
             values = [value for key, value in node.attributes.items() if key.rpartition(':')[2] == attribute]
-            return self.error(document, number, 'code', code, f': {attribute}' + (quoted(values[0]) if len(values) == 1 else '') + f' of {named(node.tag)}')
+            detail = f': {attribute}' + (quoted(values[0]) if len(values) == 1 else '') + f' of {named(node.tag)}'
+            return self.error(document, number, 'code', code, detail, document.attribute_place(number, attribute))
         value = document.value(number) if code.startswith(VALUES) else None
         return self.error(document, number, 'code', code, f': {named(node.tag)}' + ('' if value is None else quoted(value)))
 
