@@ -74,7 +74,7 @@ module _ (resolve : (t : NameTable) (origins : List Origin) (reps : List Represe
     set-simple set originals made of is =
         let parts = is.1.1 in
         let ranked = is.1.3.same in
-        grown parts made.parts ranked.0 (parts-simple set originals parts of is.0.0 is.1.2) ranked.1
+        grown parts made.parts ranked.0 (parts-simple set originals parts of is.0.0 is.1.2) ranked.1.filled.grown
 
     pub compiled-simple : (documents : List SchemaInput) (made : CompiledSet) → All (λ input. IsTree input.tree) documents → IsCompilation documents (Ok made) → HasSimpleTypes made.parts
     compiled-simple documents made trees is = let s = shaped-set documents trees made is in set-simple s.0 s.1 made s.2 s.3

@@ -6,7 +6,8 @@ use Rattle.xs_components.specs.Tables.{Tables}
 use Rattle.xs_codes.specs.Least.{IsLeast}
 use Rattle.component_references.specs.Ranked.{IsRanked}
 use Rattle.component_references.specs.Circles.{Ranks, with_all_ranks}
-use Rattle.type_derivation.specs.Cycles.{IsBroken, IsAfter}
+use Rattle.type_derivation.specs.Cycles.{IsBroken}
+use Rattle.type_derivation.specs.Filled.{IsAfter}
 use Rattle.type_derivation.specs.Particles.{AreContentsSet}
 use Rattle.simple_types.specs.declared.types.SimpleTypes.{SimpleTypes}
 use Rattle.simple_types.specs.SimpleTypes.{IsBuilt}

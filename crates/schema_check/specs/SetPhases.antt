@@ -6,7 +6,8 @@ use Rattle.xs_components.specs.Tables.{Tables}
 use Rattle.xs_codes.specs.Least.{IsLeast}
 use Rattle.component_references.specs.Ranked.{IsRanked}
 use Rattle.component_references.specs.Circles.{Ranks, with_all_ranks}
-use Rattle.type_derivation.specs.Cycles.{IsBroken, IsGrown}
+use Rattle.type_derivation.specs.Cycles.{IsBroken}
+use Rattle.type_derivation.specs.Filled.{IsCompleted}
 use Rattle.type_derivation.specs.Particles.{AreContentsSet}
 use Rattle.simple_types.specs.declared.types.SimpleTypes.{SimpleTypes}
 use Rattle.simple_types.specs.SimpleTypes.{AreTypesOf, AreWhole, first_fault_of}
@@ -21,9 +22,9 @@ use Rattle.schema_check.specs.Phases.{IsFirstOfPhases}
 abbrev pub base_phase : Tables → Option Fault → Type 0
 base_phase parts found = IsLeast (IsBroken parts) found
 
--- the components as phase 4 leaves them: with ranks, contents, and the particles that these add
+-- the components as phase 4 leaves them: with their heights as ranks, with contents, and the particles that these add
 abbrev pub AreRanked : Tables → Tables → Type 0
-AreRanked parts new = (ranks : Ranks) × IsGrown (with_all_ranks parts ranks) new
+AreRanked parts new = (ranks : Ranks) × IsCompleted (with_all_ranks parts ranks) new
 
 -- phase 5, of the components that phase 4 leaves: simple types and facets (Structures 3.14.6; Datatypes 4.3)
 abbrev pub type_phase : Tables → Option Fault → Type 0

@@ -91,7 +91,7 @@ module _ (closed : (source : Source) (t : Tables) → t ≡ built source → IsC
         let old = is.1.1 in
         let ready = is.1.3 in
         let ranks = ready.same.0 in
-        let grown = ready.same.1 in
+        let grown = ready.same.1.filled.grown in
         let alike = grown-alike old made.parts ranks grown in
         let was-there = parts-there set originals old is.1.2 in
         let types = simple set originals made of_trees is in

@@ -147,7 +147,7 @@ module _ (ds : List SetDocument) (originals : List (Option ℕ)) where
       let old = is.1.1 in
       let same = is.1.3.same in
       subst (λ (t : NameTable). AreNamed t made.parts) (sym is.1.0)
-      (grown-named (all_names own ds originals) old made.parts same.0 same.1 (parts-named old is.1.2))
+      (grown-named (all_names own ds originals) old made.parts same.0 same.1.filled.grown (parts-named old is.1.2))
 
   pub set-once : (made : CompiledSet) → IsSetCompiled ds originals (Ok made) → HasNoRepeats made.names.names
   unfolding names own

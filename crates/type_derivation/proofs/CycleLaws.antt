@@ -6,7 +6,8 @@ use Rattle.xs_components.specs.Tables.{Tables}
 use Rattle.xs_codes.specs.Least.{is_before, sooner, IsLeast}
 use Rattle.xs_codes.proofs.LeastLaws.{least-sum}
 use Rattle.type_derivation.specs.Bases.{IsWrongBase}
-use Rattle.component_references.specs.Circles.{IsCircular}
+use Rattle.component_references.specs.Circles.{IsCircular, Ranks, with_all_ranks, HaveHeights}
+use Rattle.type_derivation.specs.Filled.{IsFilled, IsAfter}
 use Rattle.type_derivation.specs.Cycles.{IsBroken}
 
 -- where neither is there, the first is not
@@ -21,3 +22,7 @@ no-first (Some f) (Some g) e = by (is_before g f) e
 
 pub least-of-both : (t : Tables) (circle base found result : Option Fault) → IsLeast (IsCircular t) circle → IsLeast (IsWrongBase t) base → found ≡ sooner circle base → found ≡ result → IsLeast (IsBroken t) result
 least-of-both t circle base found result c b e r = subst (IsLeast (IsBroken t)) (sym e ∙ r) (least-sum (IsCircular t) (IsWrongBase t) circle base c b)
+
+-- ranks are heights, and all types have their contents
+pub after-none : (old ranked new : Tables) → ((ranks : Ranks) × (ranked ≡ with_all_ranks old ranks)) → HaveHeights ranked → IsFilled ranked new → (ranks : Ranks) × IsAfter None (with_all_ranks old ranks) new
+after-none old ranked new h heights filled = (h.0, record { heights = subst HaveHeights h.1 heights; filled = subst (λ (t : Tables). IsFilled t new) h.1 filled })

@@ -1,5 +1,5 @@
 -- Contents of types are set one by one.
-use Rattle.std.proofs.Common.{◌≡◌, ◌≢◌, ℕ, zero, suc, ◌+◌, ◌<◌, ◌≤◌, inl, inr, List, [], ◌∷◌, Bool, true, false, Option, None, Some, length, length-set, replicate, set, take, get_or, slice_get, slice_index, refl, sym, ap, ◌∙◌, subst, arith}
+use Rattle.std.proofs.Common.{◌≡◌, ◌≢◌, ℕ, zero, suc, ◌+◌, ◌<◌, ◌≤◌, ◌⊎◌, inl, inr, List, [], ◌∷◌, Bool, true, false, Option, None, Some, length, length-set, replicate, set, take, get_or, slice_get, slice_index, refl, sym, ap, ◌∙◌, subst, arith}
 use Rattle.std.specs.Prelude.{All, Contains, IfSome}
 use Rattle.std.proofs.lemmas.Bool.{cases_eq, cases_lt, true≢false}
 use Rattle.std.proofs.lemmas.Option.{none-some, same_Some, slice_get-get_or, slice_get_within, get_or_from_slice_get}
@@ -49,6 +49,15 @@ done-here done n h = get-set done n true h
 
 pub done-kept : (done : List Bool) (n m : ℕ) → n < length done → IsDone done m → IsDone (set done n true) m
 done-kept done n m h is = elim (cases_eq m n) [ inl same ↦ subst (IsDone (set done n true)) (sym same) (done-here done n h) | inr other ↦ get-other done n m true other ∙ is ]
+
+pub done-only : (done : List Bool) (n m : ℕ) → IsDone (set done n true) m → (m ≡ n) ⊎ IsDone done m
+done-only done n m is = elim (cases_eq m n) [ inl same ↦ inl same | inr other ↦ inr (sym (get-other done n m true other) ∙ is) ]
+
+pub none-done : (count n : ℕ) → IsDone (replicate count false) n → ⊥
+none-done count n is =
+    let h = slice_get_within (replicate count false) n true is in
+    let e : true ≡ false = sym (get_or_from_slice_get (replicate count false) n true false is) ∙ get_or-replicate count n false false (omega (arith, h, length-replicate count false)) in
+    true≢false e
 
 base-done-kept : (done : List Bool) (n : ℕ) (base : TypeId) → n < length done → IsBaseDone done base → IsBaseDone (set done n true) base
 base-done-kept done n AnyType h is = tt
@@ -201,7 +210,7 @@ filling-none t count all contents ranked effectives none = record {
     not n b e = let h = slice_get_within (replicate count false) n b e in
         slice_get-get_or (replicate count false) n false h ∙ ap Some (get_or-replicate count n false false (omega (arith, h, length-replicate count false)))
 
-get-there : {X : Type 0} (xs : List X) (n : ℕ) → n < length xs → (x : X) × (slice_get xs n ≡ Some x)
+pub get-there : {X : Type 0} (xs : List X) (n : ℕ) → n < length xs → (x : X) × (slice_get xs n ≡ Some x)
 get-there [] n h = absurd (omega arith)
 get-there (x ∷ xs) zero h = (x, refl)
 get-there (x ∷ xs) (suc n) h = get-there xs n (omega (arith, h))
@@ -217,7 +226,7 @@ set-filling a b new done n id content filling h same none base adds of sets =
     subst (λ t. IsFilling t (set done n true)) (sym s.tables)
     (filling-more a b done n p.0 content s.contents filling p.1 none (base p.0 p.1) adds (of p.0 at) s.here s.others)
 
-same-complexes : (old t : Tables) → IsGrown old t → t.complexes ≡ old.complexes
+pub same-complexes : (old t : Tables) → IsGrown old t → t.complexes ≡ old.complexes
 same-complexes old t grown = ap (λ (u : Tables). u.complexes) grown.tables
 
 order-kept : (old t : Tables) (order : List ℕ) → IsGrown old t → IsOrder (length old.complexes.parts) old.complexes.ranks order → IsOrder (length t.complexes.parts) t.complexes.ranks order

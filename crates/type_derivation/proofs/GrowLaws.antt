@@ -19,7 +19,8 @@ use Rattle.component_references.specs.inside.Parts.{AreTypesRanked}
 use Rattle.component_references.proofs.RankLaws.{types-kept}
 use Rattle.type_derivation.specs.Cycles.{IsGrown}
 use Rattle.type_derivation.specs.Particles.{once, any_elements, IsAnything, IsBaseContent, IsExtended, IsDerivedContent, IsContentOf, goes_on}
-use Rattle.type_derivation.specs.inside.Filling.{with_particle, AreMore, Adds, AreContentsThere}
+use Rattle.type_derivation.specs.Filled.{with_particle}
+use Rattle.type_derivation.specs.inside.Filling.{AreMore, Adds, AreContentsThere}
 
 pub get-kept : {X : Type 0} (xs ys : List X) (n : ℕ) (x : X) → slice_get xs n ≡ Some x → slice_get (xs ++ ys) n ≡ Some x
 get-kept [] ys n x e = absurd (none-some x e)

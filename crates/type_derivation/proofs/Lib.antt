@@ -1,6 +1,8 @@
 pub mod KindLaws
 pub mod FaultLaws
 pub mod GrowLaws
+pub mod TypeOrderLaws
+pub mod FilledLaws
 pub mod FillLaws
 pub mod CycleLaws
 pub mod BaseLaws

@@ -1,5 +1,5 @@
 -- The faults that keep ranks from being given, and what is written where there are none.
-use Rattle.std.specs.Prelude.{◌≡◌, ℕ, ◌⊎◌, ◌++◌, List, Option, None, Some}
+use Rattle.std.specs.Prelude.{◌≡◌, ℕ, ◌⊎◌, ◌++◌, List, Option}
 use Rattle.xs_codes.specs.declared.fault.Fault.{Fault}
 use Rattle.xs_components.specs.Tables.{Tables}
 use Rattle.xs_components.specs.declared.particle.Particle.{Particle}
@@ -16,8 +16,3 @@ pub record IsGrown (old new : Tables) : Type 0 where
   pub particles : List Particle
   pub ranks : List ℕ
   pub tables : new ≡ record old { contents = contents; particles = record { parts = old.particles.parts ++ particles; ranks = old.particles.ranks ++ ranks } }
-
--- where a fault was found nothing but ranks was written
-abbrev pub IsAfter : Option Fault → Tables → Tables → Type 0
-IsAfter None old new = IsGrown old new
-IsAfter (Some fault) old new = new ≡ old

@@ -2,6 +2,7 @@ pub mod Contents
 pub mod Bases
 pub mod Particles
 pub mod Cycles
+pub mod Filled
 pub mod Derives
 pub mod Chains
 pub mod Within

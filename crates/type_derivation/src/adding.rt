@@ -1,8 +1,10 @@
-ghost use Rattle.std.specs.Prelude.{◌≡◌, ◌<◌, ◌∷◌, [], None, Some, length, slice_get, slice_index, IfOk, OnOk};
+ghost use Rattle.std.specs.Prelude.{◌≡◌, ◌+◌, ◌<◌, ◌∷◌, [], None, Some, length, slice_get, slice_index, IfOk, OnOk};
 ghost use Rattle.xs_components.specs.declared.particle.Term.TheVariants.{Sequence};
 ghost use Rattle.component_references.specs.Ranked.{IsRanked};
 ghost use Rattle.type_derivation.specs.Particles as spec;
-ghost use Rattle.type_derivation.specs.inside.Filling.{with_particle, Adds};
+ghost use Rattle.type_derivation.specs.Filled as filled;
+ghost use Rattle.type_derivation.specs.Filled.{with_particle};
+ghost use Rattle.type_derivation.specs.inside.Filling.{Adds};
 
 use std::alloc::{AllocError, Global};
 use xs_components::{
@@ -14,6 +16,7 @@ use xs_lists::Listed;
 fn rank_above(parts: &Components, id: ParticleId) -> Result<u32, AllocError>
     requires there { id < length parts.now.particles.parts }
     ensures above { IfOk result (λ rank. slice_index parts.now.particles.ranks id < rank) }
+    ensures least { IfOk result (λ rank. rank ≡ filled.above parts.now id) }
     ensures alike { length parts.now.particles.ranks ≡ length parts.now.particles.parts }
 {
     match parts.particle_ranks()[id.number() as usize].checked_add(1) {
@@ -66,6 +69,8 @@ pub(crate) fn add_sequence(
     requires second { second < length parts.old.particles.parts }
     ensures sequence { IfOk result (λ id. slice_get parts.new.particles.parts id ≡ Some (spec.once at (Sequence (first ∷ second ∷ [])))) }
     ensures added { IfOk result (λ id. Adds parts.old parts.new (Some id)) }
+    ensures number { IfOk result (λ id. id ≡ length parts.old.particles.parts) }
+    ensures filled { OnOk result (parts.new ≡ filled.with_sequence parts.old at first second) }
 {
     let above_first = rank_above(parts, first)?;
     let above_second = rank_above(parts, second)?;
@@ -111,6 +116,8 @@ pub(crate) fn add_anything(
     requires ranked { IsRanked parts.old }
     ensures anything { IfOk result (λ id. spec.IsAnything parts.new at id) }
     ensures added { IfOk result (λ id. Adds parts.old parts.new (Some id)) }
+    ensures number { IfOk result (λ id. id ≡ length parts.old.particles.parts + 1) }
+    ensures filled { OnOk result (parts.new ≡ filled.with_alone parts.old at (spec.any_elements at)) }
 {
     let any = parts.add_particle(anything(at))?;
     let rank = rank_above(parts, any)?;

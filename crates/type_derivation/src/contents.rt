@@ -4,6 +4,7 @@ ghost use Rattle.component_references.specs.Heights.{IsType};
 ghost use Rattle.component_references.specs.Ranked.{IsRanked};
 ghost use Rattle.component_references.specs.References.{effective_of, IsPart};
 ghost use Rattle.type_derivation.specs.Particles as spec;
+ghost use Rattle.type_derivation.specs.Filled.{IsContent, base_filled, extended_filled, part_filled};
 ghost use Rattle.type_derivation.specs.inside.Filling.{Adds, AreContentsThere};
 
 use crate::adding::{add_anything, add_sequence};
@@ -22,6 +23,7 @@ fn base_content(
     requires there { IsType parts.old base }
     ensures content { IfOk result (λ content. spec.IsBaseContent parts.new at base content) }
     ensures added { IfOk result (λ content. Adds parts.old parts.new content) }
+    ensures filled { IfOk result (λ content. IsContent (base_filled parts.old at base) parts.new content) }
 {
     match base {
         TypeId::AnyType => Ok(Some(add_anything(alloc, parts, at)?)),
@@ -44,6 +46,7 @@ fn extended(
     requires effective { IfSome effective (IsPart parts.old.particles) }
     ensures content { IfOk result (λ content. spec.IsExtended parts.new at inner effective content) }
     ensures added { IfOk result (λ content. Adds parts.old parts.new content) }
+    ensures filled { IfOk result (λ content. IsContent (extended_filled parts.old at inner effective) parts.new content) }
 {
     let Some(base) = inner else {
         return Ok(effective);
@@ -86,6 +89,7 @@ pub(crate) fn content_of(
     requires effective { (part : ComplexTypeValue) → slice_get parts.old.complexes.parts id ≡ Some part → IfSome (effective_of part.content) (IsPart parts.old.particles) }
     ensures content { IfOk result (λ content. (part : ComplexTypeValue) → slice_get parts.old.complexes.parts id ≡ Some part → spec.IsContentOf parts.new part.by_extension part.at part.base part.content content) }
     ensures added { IfOk result (λ content. Adds parts.old parts.new content) }
+    ensures filled { IfOk result (λ content. (part : ComplexTypeValue) → slice_get parts.old.complexes.parts id ≡ Some part → IsContent (part_filled parts.old part) parts.new content) }
 {
     let part = parts.complex(id);
     let own = effective(&part.content);

@@ -10,6 +10,7 @@ mod kinds;
 mod rounds;
 mod setting;
 mod steps;
+mod type_order;
 mod within;
 
 pub use bases::first_base;

@@ -1,14 +1,14 @@
-ghost use Rattle.std.specs.Prelude.{◌≡◌, ◌<◌, ℕ, None, Some, All, length, slice_get, OnOk, IfSome};
+ghost use Rattle.std.specs.Prelude.{◌≡◌, ◌<◌, ◌⊎◌, ℕ, false, None, Some, All, length, slice_get, OnOk, IfSome};
 ghost use Rattle.xs_components.specs.declared.complex.ComplexType.{ComplexType as ComplexTypeValue};
-ghost use Rattle.component_references.specs.Order.{IsOrder};
 ghost use Rattle.component_references.specs.Ranked.{IsRanked};
 ghost use Rattle.component_references.specs.References.{effective_of, IsPart, Each};
 ghost use Rattle.type_derivation.specs.Cycles.{IsGrown};
 ghost use Rattle.type_derivation.specs.Particles.{AreContentsSet};
+ghost use Rattle.type_derivation.specs.Filled as filled;
 ghost use Rattle.type_derivation.specs.inside.Filling.{IsFilling, IsDone, IsBaseDone, Sets};
 
 use crate::contents::content_of;
-use component_references::order_of;
+use crate::type_order::types_in_order;
 use std::alloc::{AllocError, Global};
 use xs_components::{ComplexId, Components, ParticleId};
 
@@ -17,6 +17,7 @@ fn write_content(parts: &mut Components, id: ComplexId, content: Option<Particle
     requires there { id < length parts.old.complexes.parts }
     requires none { slice_get parts.old.contents id ≡ Some None }
     ensures set { Sets parts.old parts.new id content }
+    ensures filled { parts.new ≡ filled.with_content parts.old id content }
 {
     if let Some(particle) = content {
         parts.set_content(id, particle);
@@ -32,15 +33,15 @@ fn set_content(
 ) -> Result<(), AllocError>
     requires there { number < length parts.old.complexes.parts }
     requires filling { IsFilling parts.old done.old }
+    requires undone { slice_get done.old number ≡ Some false }
     requires base { (part : ComplexTypeValue) → slice_get parts.old.complexes.parts number ≡ Some part → IsBaseDone done.old part.base }
     ensures filling { OnOk result (IsFilling parts.new done.new) }
     ensures here { OnOk result (IsDone done.new number) }
     ensures kept { OnOk result ((n : ℕ) → IsDone done.old n → IsDone done.new n) }
+    ensures only { OnOk result ((n : ℕ) → IsDone done.new n → (n ≡ number) ⊎ IsDone done.old n) }
     ensures grown { OnOk result (IsGrown parts.old parts.new) }
+    ensures filled { OnOk result (parts.new ≡ filled.type_filled parts.old number) }
 {
-    if done[number as usize] {
-        return Ok(());
-    }
     let Some(id) = parts.complex_at(number) else {
         return Ok(());
     };
@@ -57,11 +58,12 @@ fn set_all(
     order: &[u32],
     done: &mut [bool],
 ) -> Result<(), AllocError>
-    requires order { IsOrder (length parts.old.complexes.parts) parts.old.complexes.ranks order.now }
+    requires order { filled.IsTypeOrder (length parts.old.complexes.parts) parts.old.complexes.ranks order.now }
     requires filling { IsFilling parts.old done.old }
+    requires none { (n : ℕ) → IsDone done.old n → ⊥ }
     ensures ranked { OnOk result (IsRanked parts.new) }
     ensures contents { OnOk result (AreContentsSet parts.new) }
-    ensures grown { OnOk result (IsGrown parts.old parts.new) }
+    ensures filled { OnOk result (filled.IsFilled parts.old parts.new) }
 {
     for number in order {
         set_content(alloc, parts, done, *number)?;
@@ -76,9 +78,9 @@ pub(crate) fn set_contents(alloc: Global, parts: &mut Components) -> Result<(), 
     requires none { All (λ content. content ≡ None) parts.old.contents }
     ensures ranked { OnOk result (IsRanked parts.new) }
     ensures contents { OnOk result (AreContentsSet parts.new) }
-    ensures grown { OnOk result (IsGrown parts.old parts.new) }
+    ensures filled { OnOk result (filled.IsFilled parts.old parts.new) }
 {
-    let order = order_of(alloc, parts.complex_ranks())?;
+    let order = types_in_order(alloc, parts.complex_ranks())?;
     let mut done = Vec::from_elem(alloc, false, parts.contents().len())?;
     set_all(alloc, parts, order.as_slice(), done.as_mut_slice())
 }

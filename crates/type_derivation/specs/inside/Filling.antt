@@ -1,5 +1,5 @@
 -- What is so while the contents of types are set, those of bases first.
-use Rattle.std.specs.Prelude.{◌≡◌, ◌≢◌, ℕ, ◌<◌, ◌++◌, ◌∷◌, [], List, Bool, true, false, Option, None, Some, length, slice_get, IfSome}
+use Rattle.std.specs.Prelude.{◌≡◌, ◌≢◌, ℕ, ◌<◌, ◌++◌, ◌∷◌, [], List, Bool, true, false, Option, None, Some, length, slice_get, slice_index, IfSome}
 use Rattle.xs_components.specs.Tables.{Tables}
 use Rattle.xs_components.specs.declared.common.TypeId.{TypeId}
 use Rattle.xs_components.specs.declared.common.TypeId.TheVariants.{AnyType, Builtin, Simple, Complex}
@@ -8,10 +8,6 @@ use Rattle.xs_components.specs.declared.particle.Particle.{Particle}
 use Rattle.component_references.specs.Ranked.{IsRanked}
 use Rattle.component_references.specs.References.{effective_of, IsPart, Each}
 use Rattle.type_derivation.specs.Particles.{IsContentAt}
-
--- the tables with a particle more, of this rank
-abbrev pub with_particle : Tables → Particle → ℕ → Tables
-with_particle t part rank = record t { particles = record { parts = t.particles.parts ++ part ∷ []; ranks = t.particles.ranks ++ rank ∷ [] } }
 
 -- the tables with more particles
 pub record AreMore (old new : Tables) : Type 0 where
@@ -54,3 +50,8 @@ pub record Sets (old new : Tables) (number : ℕ) (content : Option ℕ) : Type 
   pub tables : new ≡ record old { contents = contents }
   pub here : slice_get contents number ≡ Some content
   pub others : (n : ℕ) → n ≢ number → slice_get contents n ≡ slice_get old.contents n
+
+-- numbers from 0 on
+pub record AreCounted (count : ℕ) (numbers : List ℕ) : Type 0 where
+  pub len : length numbers ≡ count
+  pub each : (n : ℕ) → n < length numbers → slice_index numbers n ≡ n
