@@ -9,8 +9,8 @@ use Rattle.component_tables.specs.declared.properties.Properties.{Properties}
 some-same : (a b : Properties) → Some a ≡ Some b → a ≡ b
 some-same a b e = cc
 
-both-same : (a b : Properties) → a.name ≡ b.name → a.of ≡ b.of → a ≡ b
-both-same a b name of i = record { name = name i; of = of i }
+both-same : (a b : Properties) → a.name ≡ b.name → a.of ≡ b.of → a.allowed ≡ b.allowed → a ≡ b
+both-same a b name of allowed i = record { name = name i; of = of i; allowed = allowed i }
 
 module _ (t : Tables) (own : Properties) where
   -- none before has them
@@ -34,8 +34,11 @@ module _ (t : Tables) (own : Properties) where
       pub other-type : found.of ≢ own.of → HasNoneBelow (number + 1)
       other-type differs = differs-here (λ has. differs (ap (λ (p : Properties). p.of) (some-same found own (sym some ∙ has))))
 
-      pub first-here : found.name ≡ own.name → found.of ≡ own.of → IsFirstWith t own other
-      first-here name of = record {
-        has = sym is ∙ (some ∙ ap Some (both-same found own name of));
+      pub other-allowance : found.allowed ≢ own.allowed → HasNoneBelow (number + 1)
+      other-allowance differs = differs-here (λ has. differs (ap (λ (p : Properties). p.allowed) (some-same found own (sym some ∙ has))))
+
+      pub first-here : found.name ≡ own.name → found.of ≡ own.of → found.allowed ≡ own.allowed → IsFirstWith t own other
+      first-here name of allowed = record {
+        has = sym is ∙ (some ∙ ap Some (both-same found own name of allowed));
         first = λ m l. none m (subst (λ k. m < k) same l);
       }

@@ -5,7 +5,7 @@ ghost use Rattle.component_tables.specs.Types.{AreDeclarationsOf};
 ghost use Rattle.component_tables.specs.Classes as spec;
 
 use crate::Declarations;
-use crate::properties::{Properties, properties_of};
+use crate::properties::{Properties, allow_the_same, properties_of, same_type};
 use std::alloc::{AllocError, Global};
 use xs_components::{Components, ElementId};
 
@@ -30,7 +30,10 @@ fn first_with(
         if found.name != own.name {
             continue;
         }
-        if found.of == own.of {
+        if !same_type(&found.of, &own.of) {
+            continue;
+        }
+        if allow_the_same(&found.allowed, &own.allowed) {
             return other.number();
         }
     }

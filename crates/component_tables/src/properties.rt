@@ -1,6 +1,6 @@
 //! The properties that element declarations share.
 
-ghost use Rattle.std.specs.Prelude.{◌≡◌, ◌<◌, length};
+ghost use Rattle.std.specs.Prelude.{◌≡◌, ◌↔◌, ◌<◌, IsTrue, length};
 ghost use Rattle.component_tables.specs.Types.{AreDeclarationsOf};
 ghost use Rattle.component_tables.specs.Classes as spec;
 
@@ -8,39 +8,85 @@ use crate::Declarations;
 use xs_components::{Components, ElementDecl, ElementId, Methods, TypeId};
 use xs_names::NameId;
 
-/// The name and the type of an element declaration that has no other properties.
+/// How elements may stand and be derived by a declaration (Structures 3.3.1).
+#[derive(Clone, Copy, Debug, PartialEq, Eq)]
+pub(crate) struct Allowance {
+    pub(crate) nillable: bool,
+    pub(crate) is_abstract: bool,
+    pub(crate) finals: Methods,
+    pub(crate) blocks: Methods,
+}
+
+/// The properties of an element declaration without a value constraint and identity constraints.
 #[derive(Clone, Copy, Debug)]
 pub(crate) struct Properties {
     pub(crate) name: NameId,
     pub(crate) of: TypeId,
+    pub(crate) allowed: Allowance,
 }
 
-// Whether there are any methods.
-fn has_methods(methods: &Methods) -> bool
-    ensures { result ≡ spec.has_methods methods.now }
+// Whether two sets of methods are the same.
+fn same_methods(a: &Methods, b: &Methods) -> bool
+    ensures { IsTrue result ↔ (a.now ≡ b.now) }
 {
-    methods.extension
-        || methods.restriction
-        || methods.substitution
-        || methods.by_list
-        || methods.by_union
+    if a.extension != b.extension {
+        return false;
+    }
+    if a.restriction != b.restriction {
+        return false;
+    }
+    if a.substitution != b.substitution {
+        return false;
+    }
+    if a.by_list != b.by_list {
+        return false;
+    }
+    a.by_union == b.by_union
 }
 
-// Whether a declaration has more properties than its name and its type.
+/// Whether two types are the same.
+pub(crate) fn same_type(a: &TypeId, b: &TypeId) -> bool
+    ensures { IsTrue result ↔ (a.now ≡ b.now) }
+{
+    *a == *b
+}
+
+/// Whether two declarations allow the same.
+pub(crate) fn allow_the_same(a: &Allowance, b: &Allowance) -> bool
+    ensures { IsTrue result ↔ (a.now ≡ b.now) }
+{
+    if a.nillable != b.nillable {
+        return false;
+    }
+    if a.is_abstract != b.is_abstract {
+        return false;
+    }
+    if !same_methods(&a.finals, &b.finals) {
+        return false;
+    }
+    same_methods(&a.blocks, &b.blocks)
+}
+
+// What a declaration allows.
+fn allowance_of(part: &ElementDecl) -> Allowance
+    ensures { result ≡ spec.allowance_of part.now }
+{
+    Allowance {
+        nillable: part.nillable,
+        is_abstract: part.is_abstract,
+        finals: part.finals,
+        blocks: part.blocks,
+    }
+}
+
+// Whether a declaration has a value constraint or identity constraints.
 fn has_more(part: &ElementDecl) -> bool
     ensures { result ≡ spec.has_more part.now }
 {
-    part.global
-        || part.head.is_some()
-        || part.value.is_some()
-        || !part.constraints.is_empty()
-        || part.nillable
-        || part.is_abstract
-        || has_methods(&part.finals)
-        || has_methods(&part.blocks)
+    part.value.is_some() || !part.constraints.is_empty()
 }
 
-/// The name and the type of a declaration (Structures 3.3.1); none where it has other properties.
+/// The properties of a declaration (Structures 3.3.1); none where it has a value constraint or identity constraints.
 pub(crate) fn properties_of(
     parts: &Components,
     declarations: &Declarations,
@@ -57,5 +103,6 @@ pub(crate) fn properties_of(
     Some(Properties {
         name: part.name,
         of: declarations.type_of(element),
+        allowed: allowance_of(part),
     })
 }
