@@ -26,5 +26,5 @@ up-preserved-then-not-same_type c =
     let told : c.same_type.result ≡ false = search rules in (
       omega (arith, there),
       other-type c.args.parts.now c.args.own.now c.up.number c.in-Some.other c.properties_of.result c.in-Some.ensures.there.0 c.properties_of.ensures c.up.invariant.1 c.in-Some-properties_of.found c.in-Some-properties_of.is
-      (λ e. true≢false (sym (c.same_type.ensures.1 e) ∙ told)),
+          (λ e. true≢false (sym (c.same_type.ensures.1 e) ∙ told)),
     )
