@@ -1,0 +1,148 @@
+-- What becomes of documents is determined.
+use Rattle.std.proofs.Common.{◌≡◌, ◌↔◌, inl, inr, ℕ, Bool, List, [], ◌∷◌, Option, None, Some, Result, Ok, Err, refl, sym, ap, ◌∙◌, subst}
+use Rattle.std.specs.Prelude.{Contains}
+use Rattle.std.proofs.lemmas.Option.{none-some, same_Some}
+use Rattle.xs_codes.specs.declared.fault.Fault.{Fault}
+use Rattle.xs_codes.specs.Least.{IsLeast}
+use Rattle.xs_codes.proofs.LeastLaws.{least-same}
+use Rattle.xs_names.specs.Names.{NameTable}
+use Rattle.xs_components.specs.Tables.{Tables}
+use Rattle.redefine_names.specs.declared.pairs.RedefinedPair.{RedefinedPair}
+use Rattle.subst_groups.specs.Groups.{AreGroups}
+use Rattle.component_tables.specs.Classes.{AreClassesOf}
+use Rattle.derive_faults.specs.AttrFaults.{AreIdMarks}
+use Rattle.schema_models.specs.SetModels.{IsBroken}
+use Rattle.derive_restriction.specs.DerivationFaults.{IsDerivationFault}
+use Rattle.derive_models.specs.GroupRestrictions.{IsRestrictionFault}
+use Rattle.derive_models.specs.ModelFaults.{IsFirstModelFault}
+use Rattle.schema_set.specs.declared.inputs.SchemaInput.{SchemaInput}
+use Rattle.schema_check.specs.Phases.{IsFirstOfPhases}
+use Rattle.schema_check.specs.Compilation.{IsCompilation}
+use Rattle.schema_check.specs.declared.documents.CompiledSet.{CompiledSet}
+use Rattle.schema_check.specs.declared.documents.Refusal.{Refusal}
+use Rattle.schema_check.specs.declared.documents.Refusal.TheVariants as refusals
+use Rattle.compiled_schema.specs.Usable.{set_of}
+use Rattle.compiled_schema.specs.declared.compiled.Compiled.{Compiled}
+use Rattle.schema_compile.specs.Outcomes.{IsPropertyFault, attr_phase, derivation_phase, model_phase, restriction_phase, late_phases, IsSetOutcome, of_refusal, IsOutcome}
+use Rattle.schema_compile.specs.declared.outcome.Outcome.{Outcome}
+use Rattle.schema_compile.specs.declared.outcome.Outcome.TheVariants.{Accepted, Broken, NotYet}
+use Rattle.schema_compile.proofs.Members.{groups-same}
+use Rattle.schema_compile.proofs.Classes.{classes-same}
+use Rattle.schema_compile.proofs.Phases.{late-one}
+use Rattle.set_laws.specs.Same.{AreSamePairs, IsSameMade}
+use Rattle.set_laws.proofs.CompileLaws.{compilations-same}
+use Rattle.outcome_laws.specs.Same.{IsSameOutcome}
+
+-- ---- a set that is the same has the same first faults in the late phases
+module _ (t : Tables) (names : NameTable) (a b : List RedefinedPair) (same : AreSamePairs a b) where
+  derivation-to : (f : Fault) → IsDerivationFault t names a f → IsDerivationFault t names b f
+  derivation-to f (inl is) = inl is
+  derivation-to f (inr (inl (inl is))) = inr (inl (inl is))
+  derivation-to f (inr (inl (inr is))) = inr (inl (inr (is.0, (same is.0).0 is.1, is.2)))
+  derivation-to f (inr (inr is)) = inr (inr is)
+
+  derivation-from : (f : Fault) → IsDerivationFault t names b f → IsDerivationFault t names a f
+  derivation-from f (inl is) = inl is
+  derivation-from f (inr (inl (inl is))) = inr (inl (inl is))
+  derivation-from f (inr (inl (inr is))) = inr (inl (inr (is.0, (same is.0).1 is.1, is.2)))
+  derivation-from f (inr (inr is)) = inr (inr is)
+
+  derivation-kept : (found : Option Fault) → IsLeast (IsDerivationFault t names a) found → IsLeast (IsDerivationFault t names b) found
+  derivation-kept found p = least-same (IsDerivationFault t names a) (IsDerivationFault t names b) derivation-to derivation-from found p
+
+  restriction-kept : (members : List (List ℕ)) (found : Option Fault) → IsFirstModelFault t names members a found → IsFirstModelFault t names members b found
+  restriction-kept members found (terms, reading, least) =
+      (terms, reading, least-same _ _ (λ f is. to f is) (λ f is. from f is) found least)
+    where
+      to : (f : Fault) → IsRestrictionFault t members terms _ a f → IsRestrictionFault t members terms _ b f
+      to f (inl is) = inl is
+      to f (inr is) = inr (is.0, (same is.0).0 is.1, is.2)
+
+      from : (f : Fault) → IsRestrictionFault t members terms _ b f → IsRestrictionFault t members terms _ a f
+      from f (inl is) = inl is
+      from f (inr is) = inr (is.0, (same is.0).1 is.1, is.2)
+
+-- phases, each of which has what another has
+abbrev Each : List (Option Fault → Type 0) → List (Option Fault → Type 0) → Type 0
+Each [] [] = Unit {0}
+Each [] (q ∷ qs) = ⊥
+Each (p ∷ ps) [] = ⊥
+Each (p ∷ ps) (q ∷ qs) = ((found : Option Fault) → p found → q found) × Each ps qs
+
+phases-kept : (ps qs : List (Option Fault → Type 0)) → Each ps qs → (found : Option Fault) → IsFirstOfPhases ps found → IsFirstOfPhases qs found
+phases-kept [] [] each None is = is
+phases-kept [] [] each (Some f) is = is
+phases-kept [] (q ∷ qs) each found is = absurd each
+phases-kept (p ∷ ps) [] each found is = absurd each
+phases-kept (p ∷ ps) (q ∷ qs) each None is = (each.0 None is.0, phases-kept ps qs each.1 None is.1)
+phases-kept (p ∷ ps) (q ∷ qs) each (Some f) (inl is) = inl (each.0 (Some f) is)
+phases-kept (p ∷ ps) (q ∷ qs) each (Some f) (inr is) = inr (each.0 None is.0, phases-kept ps qs each.1 (Some f) is.1)
+
+module _ (a b : CompiledSet) (same : IsSameMade a b) where
+  attrs : (found : Option Fault) → attr_phase a found → attr_phase b found
+  attrs found p = subst (λ (t : Tables). (ids : List Bool) × AreIdMarks t ids × IsLeast (IsPropertyFault t ids) found) same.parts p
+
+  derivation : (found : Option Fault) → derivation_phase a found → derivation_phase b found
+  derivation found p =
+      derivation-kept b.parts b.names a.redefined.attr_groups.items b.redefined.attr_groups.items same.attr_groups found
+      (subst (λ (t : Tables). IsLeast (IsDerivationFault t b.names a.redefined.attr_groups.items) found) same.parts
+      (subst (λ (names : NameTable). IsLeast (IsDerivationFault a.parts names a.redefined.attr_groups.items) found) same.names p))
+
+  models : (found : Option Fault) → model_phase a found → model_phase b found
+  models found p =
+      subst (λ (t : Tables). (members : List (List ℕ)) × (classes : List ℕ) × AreGroups t members × AreClassesOf t classes × IsLeast (IsBroken b.names t members classes) found) same.parts
+      (subst (λ (names : NameTable). (members : List (List ℕ)) × (classes : List ℕ) × AreGroups a.parts members × AreClassesOf a.parts classes × IsLeast (IsBroken names a.parts members classes) found) same.names p)
+
+  restriction : (found : Option Fault) → restriction_phase a found → restriction_phase b found
+  restriction found p =
+      let q : restriction_phase_at b.parts b.names a.redefined.groups.items found =
+          subst (λ (t : Tables). restriction_phase_at t b.names a.redefined.groups.items found) same.parts
+          (subst (λ (names : NameTable). restriction_phase_at a.parts names a.redefined.groups.items found) same.names p) in
+      (q.0, q.1, restriction-kept b.parts b.names a.redefined.groups.items b.redefined.groups.items same.groups q.0 found q.2)
+    where
+      abbrev restriction_phase_at : Tables → NameTable → List RedefinedPair → Option Fault → Type 0
+      restriction_phase_at t names pairs found = (members : List (List ℕ)) × AreGroups t members × IsFirstModelFault t names members pairs found
+
+  pub late-kept : (found : Option Fault) → IsFirstOfPhases (late_phases a) found → IsFirstOfPhases (late_phases b) found
+  late-kept = phases-kept (late_phases a) (late_phases b) (attrs, (derivation, (models, (restriction, tt))))
+
+-- ---- what the components of a set come to
+module _ (a b : CompiledSet) (same : IsSameMade a b) where
+  late-same : (x y : Option Fault) → IsFirstOfPhases (late_phases a) x → IsFirstOfPhases (late_phases b) y → x ≡ y
+  late-same x y p q = late-one b x y (late-kept a b same x p) q
+
+  accepted-same : (c d : Compiled) → IsSetOutcome a (Accepted c) → IsSetOutcome b (Accepted d) → set_of c ≡ set_of d
+  accepted-same c d p q =
+      let names : c.names ≡ d.names = p.1.names ∙ (same.names ∙ sym q.1.names) in
+      let parts : c.parts ≡ d.parts = p.1.parts ∙ (same.parts ∙ sym q.1.parts) in
+      let members : c.members ≡ d.members = groups-same d.parts c.members d.members (subst (λ (t : Tables). AreGroups t c.members) parts p.2.groups) q.2.groups in
+      let classes : c.classes.items ≡ d.classes.items = classes-same d.parts c.classes.items d.classes.items (subst (λ (t : Tables). AreClassesOf t c.classes.items) parts p.2.classes_are) q.2.classes_are in
+      λ i. record { names = names i; parts = parts i; members = members i; classes = classes i }
+
+  set-outcomes-same : (x y : Outcome) → IsSetOutcome a x → IsSetOutcome b y → IsSameOutcome x y
+  set-outcomes-same (Accepted c) (Accepted d) p q = accepted-same c d p q
+  set-outcomes-same (Accepted c) (Broken g) p q = absurd (none-some g (late-same None (Some g) p.0 q))
+  set-outcomes-same (Accepted c) NotYet p q = absurd q
+  set-outcomes-same (Broken f) (Accepted d) p q = absurd (none-some f (sym (late-same (Some f) None p q.0)))
+  set-outcomes-same (Broken f) (Broken g) p q = same_Some f g (late-same (Some f) (Some g) p q)
+  set-outcomes-same (Broken f) NotYet p q = absurd q
+  set-outcomes-same NotYet y p q = absurd p
+
+-- ---- what documents come to
+module _ (inputs : List SchemaInput) where
+  refusals-same : (r s : Refusal) → IsCompilation inputs (Err r) → IsCompilation inputs (Err s) → IsSameOutcome (of_refusal r) (of_refusal s)
+  refusals-same (refusals.Broken f) (refusals.Broken g) p q = compilations-same inputs (Err (refusals.Broken f)) (Err (refusals.Broken g)) p q
+  refusals-same (refusals.Broken f) refusals.NotYet p q = absurd (compilations-same inputs (Err (refusals.Broken f)) (Err refusals.NotYet) p q)
+  refusals-same refusals.NotYet (refusals.Broken g) p q = absurd (compilations-same inputs (Err refusals.NotYet) (Err (refusals.Broken g)) p q)
+  refusals-same refusals.NotYet refusals.NotYet p q = tt
+
+  refused-or-made : (r : Refusal) (made : CompiledSet) → IsCompilation inputs (Err r) → IsCompilation inputs (Ok made) → ⊥
+  refused-or-made (refusals.Broken f) made p q = compilations-same inputs (Err (refusals.Broken f)) (Ok made) p q
+  refused-or-made refusals.NotYet made p q = compilations-same inputs (Err refusals.NotYet) (Ok made) p q
+
+  pub outcomes-same : (x y : Outcome) → IsOutcome inputs x → IsOutcome inputs y → IsSameOutcome x y
+  outcomes-same x y (inl p) (inl q) =
+      subst (λ (o : Outcome). IsSameOutcome o y) (sym p.2) (subst (IsSameOutcome (of_refusal p.0)) (sym q.2) (refusals-same p.0 q.0 p.1 q.1))
+  outcomes-same x y (inl p) (inr q) = absurd (refused-or-made p.0 q.0 p.1 q.1)
+  outcomes-same x y (inr p) (inl q) = absurd (refused-or-made q.0 p.0 q.1 p.1)
+  outcomes-same x y (inr p) (inr q) = set-outcomes-same p.0 q.0 (compilations-same inputs (Ok p.0) (Ok q.0) p.1 q.1) x y p.2 q.2

@@ -1,0 +1,113 @@
+-- What documents are compiled to is determined.
+use Rattle.std.proofs.Common.{◌≡◌, ◌↔◌, inl, inr, ℕ, Bool, true, false, List, [], ◌∷◌, Option, None, Some, Result, Ok, Err, map, refl, sym, ap, ◌∙◌, subst, true≢false}
+use Rattle.std.proofs.lemmas.Option.{none-some, same_Some}
+use Rattle.std.proofs.Math.Path.{transport}
+use Rattle.std.specs.Prelude.{Contains}
+use Rattle.xs_codes.specs.declared.fault.Fault.{Fault}
+use Rattle.xs_components.specs.Tables.{Tables}
+use Rattle.representations.specs.declared.parts.Representation.{Representation}
+use Rattle.redefine_names.specs.Groups.{AreRedefined}
+use Rattle.redefine_names.specs.declared.groups.RedefinedGroups.{RedefinedGroups}
+use Rattle.redefine_names.specs.declared.pairs.RedefinedPair.{RedefinedPair}
+use Rattle.set_representations.specs.Documents.{representations, set_table}
+use Rattle.xs_names.specs.Names.{no_names}
+use Rattle.schema_set.specs.declared.documents.SetDocument.{SetDocument}
+use Rattle.schema_set.specs.declared.inputs.SchemaInput.{SchemaInput}
+use Rattle.schema_set.specs.Documents.{available, IsSet}
+use Rattle.schema_check.specs.Components.{versions, AreRedefining}
+use Rattle.schema_check.specs.Phases.{IsFirstOfPhases}
+use Rattle.schema_check.specs.SetPhases.{AreRanked, AreRedefiningGroups, IsSetCompiled}
+use Rattle.schema_check.specs.Compilation.{are_unassessed, shape_phase, later_phases, phases, IsAssessed, IsCompilation}
+use Rattle.schema_check.specs.declared.documents.CompiledSet.{CompiledSet}
+use Rattle.schema_check.specs.declared.documents.Refusal.{Refusal}
+use Rattle.schema_check.specs.declared.documents.Refusal.TheVariants.{Broken, NotYet}
+use Rattle.set_laws.specs.Same.{AreSamePairs, IsSameMade, IsSameCompilation}
+use Rattle.set_laws.proofs.BareLaws.{bare, unassessed-bare, set-originals-same}
+use Rattle.set_laws.proofs.PhaseLaws.{HasOne, first-one, sets-bare, names-same, own-bare, versions-bare, set-parts-same, shapes-one, later-one, each-one}
+use Rattle.set_laws.proofs.RankedLaws.{ranked-same}
+
+-- ---- the components that redefine others
+pairs-same : (reps : List Representation) (originals : List (Option ℕ)) (a b : RedefinedGroups) → AreRedefined reps originals a → AreRedefined reps originals b
+    → AreSamePairs a.groups.items b.groups.items × AreSamePairs a.attr_groups.items b.attr_groups.items
+pairs-same reps originals a b p q = (
+  λ pair. (λ has. (q.groups pair).1 ((p.groups pair).0 has), λ has. (p.groups pair).1 ((q.groups pair).0 has)),
+  λ pair. (λ has. (q.attr_groups pair).1 ((p.attr_groups pair).0 has), λ has. (p.attr_groups pair).1 ((q.attr_groups pair).0 has)),
+)
+
+module _ (a b : List SetDocument) (xs ys : List (Option ℕ)) (same : map bare a ≡ map bare b) (originals : xs ≡ ys) where
+  redefined-bare : (ds : List SetDocument) (zs : List (Option ℕ)) (redefined : RedefinedGroups) → AreRedefiningGroups (map bare ds) zs redefined ≡ AreRedefiningGroups ds zs redefined
+  unfolding AreRedefiningGroups
+  redefined-bare ds zs redefined =
+      ap (λ t. AreRedefining t (map bare ds) zs redefined) (own-bare ds zs) ∙ ap (λ (reps : List Representation). AreRedefined reps zs redefined) (versions-bare ds zs (set_table no_names ds))
+
+  to-other : (redefined : RedefinedGroups) → AreRedefiningGroups a xs redefined ≡ AreRedefiningGroups b ys redefined
+  to-other redefined =
+      sym (redefined-bare a xs redefined)
+      ∙ (ap (λ (ds : List SetDocument). AreRedefiningGroups ds xs redefined) same ∙ (redefined-bare b xs redefined ∙ ap (λ (zs : List (Option ℕ)). AreRedefiningGroups b zs redefined) originals))
+
+  in-set : (p q : RedefinedGroups) → AreRedefiningGroups b ys p → AreRedefiningGroups b ys q → AreSamePairs p.groups.items q.groups.items × AreSamePairs p.attr_groups.items q.attr_groups.items
+  unfolding AreRedefiningGroups
+  in-set p q x y = pairs-same (versions (set_table no_names b) b ys) ys p q x y
+
+  redefined-same : (p q : RedefinedGroups) → AreRedefiningGroups a xs p → AreRedefiningGroups b ys q → AreSamePairs p.groups.items q.groups.items × AreSamePairs p.attr_groups.items q.attr_groups.items
+  redefined-same p q x y = in-set p q (transport (to-other p) x) y
+
+  pub made-same : (made other : CompiledSet) → IsSetCompiled a xs (Ok made) → IsSetCompiled b ys (Ok other) → IsSameMade made other
+  made-same made other p q =
+      let old = set-parts-same a b xs ys same originals p.1.1 q.1.1 p.1.2 q.1.2 in
+      let pairs = redefined-same made.redefined other.redefined p.1.4 q.1.4 in
+      record {
+        names = p.1.0 ∙ (names-same a b xs ys same originals ∙ sym q.1.0);
+        parts = ranked-same q.1.1 made.parts other.parts (subst (λ (t : Tables). AreRanked t made.parts) old p.1.3.same) q.1.3.same;
+        groups = pairs.0;
+        attr_groups = pairs.1;
+      }
+
+module _ (inputs : List SchemaInput) where
+  -- whether something is not assessed yet
+  unassessed-one : (x y : Bool) → IsAssessed inputs x → IsAssessed inputs y → x ≡ y
+  unassessed-one x y (a, set_a, p) (b, set_b, q) =
+      sym p ∙ (sym (unassessed-bare a) ∙ (ap are_unassessed (sets-bare inputs a b set_a set_b) ∙ (unassessed-bare b ∙ q)))
+
+  first : HasOne (IsFirstOfPhases (phases inputs))
+  first = first-one (phases inputs) (each-one inputs)
+
+  later : HasOne (IsFirstOfPhases (later_phases inputs))
+  later = first-one (later_phases inputs) (later-one inputs)
+
+  not-assessed : IsAssessed inputs true → IsAssessed inputs false → ⊥
+  not-assessed p q = true≢false (unassessed-one true false p q)
+
+  -- a set that is compiled has no fault
+  made-or-broken : (made : CompiledSet) (fault : Fault) → IsCompilation inputs (Ok made) → IsCompilation inputs (Err (Broken fault)) → ⊥
+  made-or-broken made fault p (inl q) = none-some fault (shapes-one inputs None (Some fault) p.0.0 q)
+  made-or-broken made fault p (inr q) = none-some fault (later None (Some fault) p.0.1 q.2)
+
+  made-or-not : (made : CompiledSet) → IsCompilation inputs (Ok made) → IsCompilation inputs (Err NotYet) → ⊥
+  made-or-not made p q = not-assessed q.1 (p.1, p.3, p.5)
+
+  broken-or-not : (fault : Fault) → IsCompilation inputs (Err (Broken fault)) → IsCompilation inputs (Err NotYet) → ⊥
+  broken-or-not fault (inl p) q = none-some fault (shapes-one inputs None (Some fault) q.0 p)
+  broken-or-not fault (inr p) q = not-assessed q.1 p.1
+
+  broken-same : (f g : Fault) → IsCompilation inputs (Err (Broken f)) → IsCompilation inputs (Err (Broken g)) → f ≡ g
+  broken-same f g (inl p) (inl q) = same_Some f g (shapes-one inputs (Some f) (Some g) p q)
+  broken-same f g (inl p) (inr q) = absurd (none-some f (shapes-one inputs None (Some f) q.0 p))
+  broken-same f g (inr p) (inl q) = absurd (none-some g (shapes-one inputs None (Some g) p.0 q))
+  broken-same f g (inr p) (inr q) = same_Some f g (later (Some f) (Some g) p.2 q.2)
+
+  sets-made-same : (made other : CompiledSet) → IsCompilation inputs (Ok made) → IsCompilation inputs (Ok other) → IsSameMade made other
+  sets-made-same made other (none, a, xs, set_a, orig_a, assessed, p) (none', b, ys, set_b, orig_b, assessed', q) =
+      let same = sets-bare inputs a b set_a set_b in
+      made-same a b xs ys same (set-originals-same (available inputs) a b xs ys same orig_a orig_b) made other p q
+
+  pub compilations-same : (x y : Result CompiledSet Refusal) → IsCompilation inputs x → IsCompilation inputs y → IsSameCompilation x y
+  compilations-same (Ok made) (Ok other) p q = sets-made-same made other p q
+  compilations-same (Ok made) (Err (Broken g)) p q = absurd (made-or-broken made g p q)
+  compilations-same (Ok made) (Err NotYet) p q = absurd (made-or-not made p q)
+  compilations-same (Err (Broken f)) (Ok other) p q = absurd (made-or-broken other f q p)
+  compilations-same (Err (Broken f)) (Err (Broken g)) p q = broken-same f g p q
+  compilations-same (Err (Broken f)) (Err NotYet) p q = absurd (broken-or-not f p q)
+  compilations-same (Err NotYet) (Ok other) p q = absurd (made-or-not other q p)
+  compilations-same (Err NotYet) (Err (Broken g)) p q = absurd (broken-or-not g q p)
+  compilations-same (Err NotYet) (Err NotYet) p q = tt

@@ -1,0 +1,63 @@
+//! The laws.
+
+ghost use Rattle.std.specs.Prelude.{◌≡◌, ℕ, List, Option, Result};
+ghost use Rattle.std.specs.List.{AllZip};
+ghost use Rattle.pattern_syntax.specs.Reading.{Reads};
+ghost use Rattle.pattern_syntax.specs.Regex.{Regex};
+ghost use Rattle.pattern_syntax.specs.declared.fault.PatternFault.{PatternFault};
+ghost use Rattle.redefine_originals.specs.Originals.{AreOriginals};
+ghost use Rattle.schema_check.specs.Compilation.{composition_phase, by_set, shape_phase, IsCompilation};
+ghost use Rattle.schema_check.specs.SetPhases.{AreParts, AreRanked, base_phase, by_components, name_phase, names, type_phase};
+ghost use Rattle.schema_check.specs.declared.documents.CompiledSet.{CompiledSet};
+ghost use Rattle.schema_check.specs.declared.documents.Refusal.{Refusal};
+ghost use Rattle.schema_set.specs.Documents.{available, IsSet};
+ghost use Rattle.schema_set.specs.declared.documents.SetDocument.{SetDocument};
+ghost use Rattle.schema_set.specs.declared.inputs.SchemaInput.{SchemaInput};
+ghost use Rattle.set_laws.specs.Same.{IsSameDocument, IsSameCompilation};
+ghost use Rattle.xs_codes.specs.declared.fault.Fault.{Fault};
+ghost use Rattle.xs_components.specs.Tables.{Tables};
+
+/// A text is read as a pattern in one way: as one expression up to what it means, or with one fault (Datatypes, appendix F).
+pub fn patterns_are_read_in_one_way()
+    ensures only { (text : List ℕ) (a b : Result Regex PatternFault) → Reads text a → Reads text b → a ≡ b }
+{}
+
+/// The documents of the set that the first one leads to are one list (Structures 4.2).
+pub fn the_effective_set_is_one()
+    ensures only { (inputs : List SchemaInput) (a b : List SetDocument) → IsSet inputs a → IsSet inputs b → AllZip IsSameDocument a b }
+{}
+
+/// The originals of what documents redefine are one, by places (Structures 4.2.2).
+pub fn originals_are_one()
+    ensures only { (inputs : List SchemaInput) (a b : List SetDocument) (xs ys : List (Option ℕ)) → IsSet inputs a → IsSet inputs b
+        → AreOriginals (available inputs) a xs → AreOriginals (available inputs) b ys → xs ≡ ys }
+{}
+
+/// What the documents of a set represent has one table of names and one list of components of each kind, to the number (Structures 3.15.1).
+pub fn components_are_one()
+    ensures names { (inputs : List SchemaInput) (a b : List SetDocument) (xs ys : List (Option ℕ)) → IsSet inputs a → IsSet inputs b
+        → AreOriginals (available inputs) a xs → AreOriginals (available inputs) b ys → names a xs ≡ names b ys }
+    ensures parts { (inputs : List SchemaInput) (a b : List SetDocument) (xs ys : List (Option ℕ)) (p q : Tables) → IsSet inputs a → IsSet inputs b
+        → AreOriginals (available inputs) a xs → AreOriginals (available inputs) b ys → AreParts a xs p → AreParts b ys q → p ≡ q }
+{}
+
+/// The ranks of components, the contents of complex types and the particles that these add are one, to the number (Structures 3.4.2).
+pub fn ranks_and_contents_are_one()
+    ensures only { (parts a b : Tables) → AreRanked parts a → AreRanked parts b → a ≡ b }
+{}
+
+/// Each phase up to simple types has at most one answer: shapes, composition, names, circles and bases, simple types and facets.
+pub fn early_faults_are_one()
+    ensures shapes { (inputs : List SchemaInput) (a b : Option Fault) → shape_phase inputs a → shape_phase inputs b → a ≡ b }
+    ensures composition { (inputs : List SchemaInput) (a b : Option Fault) → composition_phase inputs a → composition_phase inputs b → a ≡ b }
+    ensures names { (inputs : List SchemaInput) (a b : Option Fault) → by_set inputs name_phase a → by_set inputs name_phase b → a ≡ b }
+    ensures bases { (inputs : List SchemaInput) (a b : Option Fault) → by_set inputs (λ set originals. by_components set originals base_phase) a
+        → by_set inputs (λ set originals. by_components set originals base_phase) b → a ≡ b }
+    ensures types { (inputs : List SchemaInput) (a b : Option Fault) → by_set inputs (λ set originals. by_components set originals type_phase) a
+        → by_set inputs (λ set originals. by_components set originals type_phase) b → a ≡ b }
+{}
+
+/// Documents are compiled to one set, up to the order of the pairs of redefining components, or to one refusal.
+pub fn documents_are_compiled_to_one()
+    ensures only { (inputs : List SchemaInput) (x y : Result CompiledSet Refusal) → IsCompilation inputs x → IsCompilation inputs y → IsSameCompilation x y }
+{}
