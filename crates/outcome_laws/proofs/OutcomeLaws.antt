@@ -78,6 +78,9 @@ phases-kept (p ∷ ps) (q ∷ qs) each None is = (each.0 None is.0, phases-kept 
 phases-kept (p ∷ ps) (q ∷ qs) each (Some f) (inl is) = inl (each.0 (Some f) is)
 phases-kept (p ∷ ps) (q ∷ qs) each (Some f) (inr is) = inr (each.0 None is.0, phases-kept ps qs each.1 (Some f) is.1)
 
+abbrev restriction_phase_at : Tables → NameTable → List RedefinedPair → Option Fault → Type 0
+restriction_phase_at t names pairs found = (members : List (List ℕ)) × AreGroups t members × IsFirstModelFault t names members pairs found
+
 module _ (a b : CompiledSet) (same : IsSameMade a b) where
   attrs : (found : Option Fault) → attr_phase a found → attr_phase b found
   attrs found p = subst (λ (t : Tables). (ids : List Bool) × AreIdMarks t ids × IsLeast (IsPropertyFault t ids) found) same.parts p
@@ -96,12 +99,9 @@ module _ (a b : CompiledSet) (same : IsSameMade a b) where
   restriction : (found : Option Fault) → restriction_phase a found → restriction_phase b found
   restriction found p =
       let q : restriction_phase_at b.parts b.names a.redefined.groups.items found =
-          subst (λ (t : Tables). restriction_phase_at t b.names a.redefined.groups.items found) same.parts
-          (subst (λ (names : NameTable). restriction_phase_at a.parts names a.redefined.groups.items found) same.names p) in
+      subst (λ (t : Tables). restriction_phase_at t b.names a.redefined.groups.items found) same.parts
+      (subst (λ (names : NameTable). restriction_phase_at a.parts names a.redefined.groups.items found) same.names p) in
       (q.0, q.1, restriction-kept b.parts b.names a.redefined.groups.items b.redefined.groups.items same.groups q.0 found q.2)
-    where
-      abbrev restriction_phase_at : Tables → NameTable → List RedefinedPair → Option Fault → Type 0
-      restriction_phase_at t names pairs found = (members : List (List ℕ)) × AreGroups t members × IsFirstModelFault t names members pairs found
 
   pub late-kept : (found : Option Fault) → IsFirstOfPhases (late_phases a) found → IsFirstOfPhases (late_phases b) found
   late-kept = phases-kept (late_phases a) (late_phases b) (attrs, (derivation, (models, (restriction, tt))))

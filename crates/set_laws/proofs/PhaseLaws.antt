@@ -117,6 +117,12 @@ pub set-parts-same : (a b : List SetDocument) (xs ys : List (Option ℕ)) → ma
 set-parts-same a b xs ys same originals p q x y = parts-one b ys p q (transport (parts-same-set a b xs ys same originals p) x) y
 
 -- ---- the phases
+in-names : (set : List SetDocument) (originals : List (Option ℕ)) → HasOne (name_phase set originals)
+unfolding name_phase
+in-names set originals f g p q =
+    let t = set_table no_names set in
+    least-one (IsNameFault t set originals) 3 (name-three (all_names t set originals) (origins t set) (versions t set originals) originals) f g p q
+
 module _ (inputs : List SchemaInput) where
   pub shapes-one : HasOne (shape_phase inputs)
   unfolding shape_phase
@@ -140,16 +146,7 @@ module _ (inputs : List SchemaInput) where
         one b ys f g (kept a b xs ys same originals f p) q
 
   pub names-one : HasOne (by_set inputs name_phase)
-  names-one =
-      by-set-one name_phase
-      (λ set originals f g p q. in-names set originals f g p q)
-      (λ a b xs ys same originals found p. transport (names-broken-same a b xs ys same originals found) p)
-    where
-      in-names : (set : List SetDocument) (originals : List (Option ℕ)) → HasOne (name_phase set originals)
-      unfolding name_phase
-      in-names set originals f g p q =
-          let t = set_table no_names set in
-          least-one (IsNameFault t set originals) 3 (name-three (all_names t set originals) (origins t set) (versions t set originals) originals) f g p q
+  names-one = by-set-one name_phase in-names (λ a b xs ys same originals found p. transport (names-broken-same a b xs ys same originals found) p)
 
   module _ (phase : Tables → Option Fault → Type 0) (one : (parts : Tables) → HasOne (phase parts)) where
     by-components-one : HasOne (by_set inputs (λ set originals. by_components set originals phase))

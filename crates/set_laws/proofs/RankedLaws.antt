@@ -9,9 +9,8 @@ use Rattle.component_references.specs.NumberedCircles.{IsRanking}
 use Rattle.component_references.specs.References.{type_references, element_references, attr_group_references, model_references}
 use Rattle.component_references.specs.Circles.{Ranks, with_all_ranks, AreBothHeights, HaveHeights}
 use Rattle.component_references.proofs.FirstLaws.{rankings-same}
-use Rattle.type_derivation.specs.Filled.{IsBefore, IsTypeOrder, all_filled, IsFilled}
+use Rattle.type_derivation.specs.Filled.{IsBefore, IsTypeOrder, all_filled, IsFilled, IsCompleted}
 use Rattle.type_derivation.proofs.TypeOrderLaws.{never-both}
-use Rattle.schema_check.specs.SetPhases.{AreRanked}
 use Rattle.set_laws.proofs.Ordered.{AreOrdered, AreAmong, ordered-same}
 
 module _ (refs : List (List ℕ)) (count : ℕ) (a b c d : List ℕ) (p : AreBothHeights refs count a b) (q : AreBothHeights refs count c d) where
@@ -70,7 +69,7 @@ filled-same old a b p q =
     let order = orders-same (length old.complexes.parts) old.complexes.ranks p.order q.order p.ordered q.ordered in
     p.filled ∙ (ap (all_filled old) order ∙ sym q.filled)
 
-pub ranked-same : (parts a b : Tables) → AreRanked parts a → AreRanked parts b → a ≡ b
-ranked-same parts a b p q =
-    let ranks = ranks-same parts p.0 q.0 p.1.heights q.1.heights in
-    filled-same (with_all_ranks parts q.0) a b (subst (λ (r : Ranks). IsFilled (with_all_ranks parts r) a) ranks p.1.filled) q.1.filled
+pub ranked-same : (t a b : Tables) → ((ranks : Ranks) × IsCompleted (with_all_ranks t ranks) a) → ((ranks : Ranks) × IsCompleted (with_all_ranks t ranks) b) → a ≡ b
+ranked-same t a b p q =
+    let ranks = ranks-same t p.0 q.0 p.1.heights q.1.heights in
+    filled-same (with_all_ranks t q.0) a b (subst (λ (r : Ranks). IsFilled (with_all_ranks t r) a) ranks p.1.filled) q.1.filled

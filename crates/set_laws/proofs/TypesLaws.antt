@@ -254,7 +254,7 @@ judged-one : (t : Tables) → SimplesFall t → ComplexesFall t → (a b : Simpl
 judged-one t simples_fall complexes_fall a b p q =
     let simples : a.simples ≡ b.simples = simples-one t simples_fall a.simples b.simples p.simples q.simples in
     let complexes : a.complexes ≡ b.complexes =
-        contents-one t complexes_fall b.simples a.complexes b.complexes (subst (λ (s : List JudgedType). AreContentsJudged t s a.complexes) simples p.complexes) q.complexes in
+    contents-one t complexes_fall b.simples a.complexes b.complexes (subst (λ (s : List JudgedType). AreContentsJudged t s a.complexes) simples p.complexes) q.complexes in
     λ i. first_of (first_of None (simples i)) (complexes i)
 
 pub types-one : (parts : Tables) (f g : Option Fault) → type_phase parts f → type_phase parts g → f ≡ g
