@@ -24,7 +24,7 @@ use Rattle.schema_check.specs.declared.documents.Refusal.TheVariants.{Broken, No
 use Rattle.set_laws.specs.Same.{AreSamePairs, IsSameMade, IsSameCompilation}
 use Rattle.set_laws.proofs.BareLaws.{bare, unassessed-bare, set-originals-same}
 use Rattle.set_laws.proofs.PhaseLaws.{HasOne, first-one, sets-bare, names-same, own-bare, versions-bare, set-parts-same, shapes-one, later-one, each-one}
-use Rattle.set_laws.proofs.RankedLaws.{ranked-same}
+use Rattle.type_laws.proofs.RankedLaws.{ranked-same}
 
 -- ---- the components that redefine others
 pairs-same : (reps : List Representation) (originals : List (Option ℕ)) (a b : RedefinedGroups) → AreRedefined reps originals a → AreRedefined reps originals b

@@ -1,10 +1,5 @@
-pub mod Ordered
 pub mod SetLaws
 pub mod BareLaws
-pub mod RankedLaws
-pub mod PatternLaws
-pub mod StepLaws
-pub mod TypesLaws
 pub mod Firsts
 pub mod FaultLaws
 pub mod PhaseLaws

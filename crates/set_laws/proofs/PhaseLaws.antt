@@ -27,7 +27,7 @@ use Rattle.schema_check.specs.Compilation.{BreaksComposition, shape_phase, compo
 use Rattle.set_laws.specs.Same.{IsSameDocument}
 use Rattle.set_laws.proofs.SetLaws.{sets-same}
 use Rattle.set_laws.proofs.BareLaws.{bare, bare-same, table-bare, representations-bare, scopes-bare, origins-bare, set-originals-same}
-use Rattle.set_laws.proofs.TypesLaws.{types-one}
+use Rattle.type_laws.proofs.TypesLaws.{types-one}
 use Rattle.set_laws.proofs.FaultLaws.{shape-one, composition-two, name-three, base-four}
 
 -- a phase that has at most one answer

@@ -11,7 +11,7 @@ use Rattle.schema_set.specs.EffectiveSet.{InSet, IsDocument, IsEffectiveSet}
 use Rattle.schema_set.specs.Order.{target_place, Precedes}
 use Rattle.schema_set.specs.Documents.{available, IsSet}
 use Rattle.set_laws.specs.Same.{IsSameDocument}
-use Rattle.set_laws.proofs.Ordered.{AreAmong, ordered-same}
+use Rattle.type_laws.proofs.Ordered.{AreAmong, ordered-same}
 
 pub turned : (d e : SetDocument) → IsSameDocument d e → IsSameDocument e d
 turned d e s = (sym s.0, sym s.1, sym s.2)

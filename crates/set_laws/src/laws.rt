@@ -2,12 +2,9 @@
 
 ghost use Rattle.std.specs.Prelude.{◌≡◌, ℕ, List, Option, Result};
 ghost use Rattle.std.specs.List.{AllZip};
-ghost use Rattle.pattern_syntax.specs.Reading.{Reads};
-ghost use Rattle.pattern_syntax.specs.Regex.{Regex};
-ghost use Rattle.pattern_syntax.specs.declared.fault.PatternFault.{PatternFault};
 ghost use Rattle.redefine_originals.specs.Originals.{AreOriginals};
 ghost use Rattle.schema_check.specs.Compilation.{composition_phase, by_set, shape_phase, IsCompilation};
-ghost use Rattle.schema_check.specs.SetPhases.{AreParts, AreRanked, base_phase, by_components, name_phase, names, type_phase};
+ghost use Rattle.schema_check.specs.SetPhases.{AreParts, base_phase, by_components, name_phase, names, type_phase};
 ghost use Rattle.schema_check.specs.declared.documents.CompiledSet.{CompiledSet};
 ghost use Rattle.schema_check.specs.declared.documents.Refusal.{Refusal};
 ghost use Rattle.schema_set.specs.Documents.{available, IsSet};
@@ -16,11 +13,6 @@ ghost use Rattle.schema_set.specs.declared.inputs.SchemaInput.{SchemaInput};
 ghost use Rattle.set_laws.specs.Same.{IsSameDocument, IsSameCompilation};
 ghost use Rattle.xs_codes.specs.declared.fault.Fault.{Fault};
 ghost use Rattle.xs_components.specs.Tables.{Tables};
-
-/// A text is read as a pattern in one way: as one expression up to what it means, or with one fault (Datatypes, appendix F).
-pub fn patterns_are_read_in_one_way()
-    ensures only { (text : List ℕ) (a b : Result Regex PatternFault) → Reads text a → Reads text b → a ≡ b }
-{}
 
 /// The documents of the set that the first one leads to are one list (Structures 4.2).
 pub fn the_effective_set_is_one()
@@ -39,11 +31,6 @@ pub fn components_are_one()
         → AreOriginals (available inputs) a xs → AreOriginals (available inputs) b ys → names a xs ≡ names b ys }
     ensures parts { (inputs : List SchemaInput) (a b : List SetDocument) (xs ys : List (Option ℕ)) (p q : Tables) → IsSet inputs a → IsSet inputs b
         → AreOriginals (available inputs) a xs → AreOriginals (available inputs) b ys → AreParts a xs p → AreParts b ys q → p ≡ q }
-{}
-
-/// The ranks of components, the contents of complex types and the particles that these add are one, to the number (Structures 3.4.2).
-pub fn ranks_and_contents_are_one()
-    ensures only { (parts a b : Tables) → AreRanked parts a → AreRanked parts b → a ≡ b }
 {}
 
 /// Each phase up to simple types has at most one answer: shapes, composition, names, circles and bases, simple types and facets.

@@ -5,5 +5,5 @@ mod laws;
 
 pub use laws::{
     components_are_one, documents_are_compiled_to_one, early_faults_are_one, originals_are_one,
-    patterns_are_read_in_one_way, ranks_and_contents_are_one, the_effective_set_is_one,
+    the_effective_set_is_one,
 };

@@ -40,9 +40,9 @@ use Rattle.simple_types.specs.Forms.{left_behind, IsStepMade, list_by, members_b
 use Rattle.simple_types.specs.Judging.{Holds, IsSimpleAt, IsContentAt, AreSimplesJudged, AreContentsJudged}
 use Rattle.simple_types.specs.SimpleTypes.{AreTypesOf, first_of, first_fault_of}
 use Rattle.type_derivation.specs.Filled.{IsFilled}
-use Rattle.schema_check.specs.SetPhases.{AreRanked, type_phase}
-use Rattle.set_laws.proofs.StepLaws.{step-one}
-use Rattle.set_laws.proofs.RankedLaws.{ranked-same}
+use Rattle.type_laws.specs.Completed.{IsFirstTypeFault}
+use Rattle.type_laws.proofs.StepLaws.{step-one}
+use Rattle.type_laws.proofs.RankedLaws.{ranked-same}
 
 -- ---- one type, by what is in force for those that it is made of
 step-made-one : (a b : TypeFacets) → a ≡ b → (step : List FacetItem) (x y : JudgedType) → IsStepMade a step x → IsStepMade b step y → x ≡ y
@@ -257,7 +257,7 @@ judged-one t simples_fall complexes_fall a b p q =
     contents-one t complexes_fall b.simples a.complexes b.complexes (subst (λ (s : List JudgedType). AreContentsJudged t s a.complexes) simples p.complexes) q.complexes in
     λ i. first_of (first_of None (simples i)) (complexes i)
 
-pub types-one : (parts : Tables) (f g : Option Fault) → type_phase parts f → type_phase parts g → f ≡ g
+pub types-one : (parts : Tables) (f g : Option Fault) → IsFirstTypeFault parts f → IsFirstTypeFault parts g → f ≡ g
 types-one parts f g (a, ranked, types, of, e) (b, ranked', types', of', e') =
     let same : a ≡ b = ranked-same parts a b ranked ranked' in
     let fall = simples-kept (with_all_ranks parts ranked'.0) b ranked'.1.filled (simples-fall parts ranked'.0 ranked'.1.heights) in

@@ -16,7 +16,7 @@ use Rattle.facets.specs.Source.{family, builtin}
 use Rattle.facets.specs.Reading.{value_read, is_read_by_base, IsFitReadIf, IsReadIf, IsReadBehind}
 use Rattle.facets.specs.Facets.{judged_by, IsStepJudged}
 use Rattle.simple_types.proofs.Tried.{facets-read-is}
-use Rattle.set_laws.proofs.PatternLaws.{pattern-reads-one}
+use Rattle.type_laws.proofs.PatternLaws.{pattern-reads-one}
 
 text-one : (kind : FacetKind) (of : Builtin) (item : FacetItem) (a b : FacetRead) → IsTextRead kind of item a → IsTextRead kind of item b → a ≡ b
 text-one kinds.Pattern of item a b p q = pattern-reads-one item.text a b p q

@@ -11,7 +11,7 @@ use Rattle.component_references.specs.Circles.{Ranks, with_all_ranks, AreBothHei
 use Rattle.component_references.proofs.FirstLaws.{rankings-same}
 use Rattle.type_derivation.specs.Filled.{IsBefore, IsTypeOrder, all_filled, IsFilled, IsCompleted}
 use Rattle.type_derivation.proofs.TypeOrderLaws.{never-both}
-use Rattle.set_laws.proofs.Ordered.{AreOrdered, AreAmong, ordered-same}
+use Rattle.type_laws.proofs.Ordered.{AreOrdered, AreAmong, ordered-same}
 
 module _ (refs : List (List ℕ)) (count : ℕ) (a b c d : List ℕ) (p : AreBothHeights refs count a b) (q : AreBothHeights refs count c d) where
   all-same : p.0 ≡ q.0

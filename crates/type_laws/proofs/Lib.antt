@@ -1,0 +1,5 @@
+pub mod Ordered
+pub mod RankedLaws
+pub mod PatternLaws
+pub mod StepLaws
+pub mod TypesLaws
