@@ -111,25 +111,28 @@ module _ (t : Tables) (fall : SimplesFall t) (a b : List JudgedType) (p : AreSim
       let ky = subst (λ (o : Option SimpleType). Holds (λ (s : SimpleType). IsFormMade t (looked_up b) s.at s.form y) o) at k in
       ap Some (form-one (looked_up a) (looked_up b) t part.at part.form alike x y hx ky)
 
+  part-there : (xs : List SimpleType) (k : ℕ) → k < length xs → (part : SimpleType) × (slice_get xs k ≡ Some part)
+  part-there [] k l = absurd (omega (arith, l))
+  part-there (x ∷ xs) zero l = (x, refl)
+  part-there (x ∷ xs) (suc k) l = part-there xs k (omega (arith, l))
+
+  -- the types that a part names, where those of lower rank are the same
+  alike : (bound : ℕ) → ((id : ℕ) → slice_index t.simples.ranks id < bound → slice_get a id ≡ slice_get b id) → (k : ℕ) (part : SimpleType) → slice_get t.simples.parts k ≡ Some part
+      → slice_index t.simples.ranks k < suc bound → (of : TypeId) → Contains (named_types part.form) of → looked_up a of ≡ looked_up b of
+  alike bound lower k part at low AnyType has = refl
+  alike bound lower k part at low (Builtin kind) has = refl
+  alike bound lower k part at low (Simple id) has = let l = fall k id part at has in ap entry_of (lower id (omega (arith, l, low)))
+  alike bound lower k part at low (Complex id) has = refl
+
   -- those of lower rank first
   entries-one : (bound n : ℕ) → slice_index t.simples.ranks n < bound → slice_get a n ≡ slice_get b n
   entries-one zero n low = absurd (omega (arith, low))
   entries-one (suc bound) n low = elim (cases_lt n (length t.simples.parts)) [
     | inr not ↦ none-past n (omega (arith, not)) a p.alike ∙ sym (none-past n (omega (arith, not)) b q.alike)
-    | inl there ↦ (let part = part-there t.simples.parts n there in
-        holds-one n part.0 part.1 (λ of has. alike n part.0 part.1 low of has) (slice_get a n) (slice_get b n) (p.each n there) (q.each n there))
+    | inl there ↦
+        (let part = part-there t.simples.parts n there in
+        holds-one n part.0 part.1 (λ of has. alike bound (λ id l. entries-one bound id l) n part.0 part.1 low of has) (slice_get a n) (slice_get b n) (p.each n there) (q.each n there))
   ]
-    where
-      part-there : (xs : List SimpleType) (k : ℕ) → k < length xs → (part : SimpleType) × (slice_get xs k ≡ Some part)
-      part-there [] k l = absurd (omega (arith, l))
-      part-there (x ∷ xs) zero l = (x, refl)
-      part-there (x ∷ xs) (suc k) l = part-there xs k (omega (arith, l))
-
-      alike : (k : ℕ) (part : SimpleType) → slice_get t.simples.parts k ≡ Some part → slice_index t.simples.ranks k < suc bound → (of : TypeId) → Contains (named_types part.form) of → looked_up a of ≡ looked_up b of
-      alike k part at low' AnyType has = refl
-      alike k part at low' (Builtin kind) has = refl
-      alike k part at low' (Simple id) has = let l = fall k id part at has in ap entry_of (entries-one bound id (omega (arith, l, low')))
-      alike k part at low' (Complex id) has = refl
 
   pub simples-one : a ≡ b
   simples-one = lists-one a b (p.alike ∙ sym q.alike) (λ n. entries-one (suc (slice_index t.simples.ranks n)) n (omega arith))
@@ -169,25 +172,26 @@ module _ (t : Tables) (fall : ComplexesFall t) (simples a b : List JudgedType) (
       let ky = subst (λ (o : Option ComplexType). Holds (λ (c : ComplexType). IsContentMade (looked_up simples) (content_of simples b) c.by_extension c.base c.content y) o) at k in
       ap Some (content-one (looked_up simples) (content_of simples a) (content_of simples b) part.base same part.by_extension part.content x y hx ky)
 
+  complex-there : (xs : List ComplexType) (k : ℕ) → k < length xs → (part : ComplexType) × (slice_get xs k ≡ Some part)
+  complex-there [] k l = absurd (omega (arith, l))
+  complex-there (x ∷ xs) zero l = (x, refl)
+  complex-there (x ∷ xs) (suc k) l = complex-there xs k (omega (arith, l))
+
+  base-alike : (bound : ℕ) → ((id : ℕ) → slice_index t.complexes.ranks id < bound → slice_get a id ≡ slice_get b id) → (k : ℕ) (part : ComplexType) → slice_get t.complexes.parts k ≡ Some part
+      → slice_index t.complexes.ranks k < suc bound → (base : TypeId) → part.base ≡ base → content_of simples a base ≡ content_of simples b base
+  base-alike bound lower k part at low AnyType is = refl
+  base-alike bound lower k part at low (Builtin kind) is = refl
+  base-alike bound lower k part at low (Simple id) is = refl
+  base-alike bound lower k part at low (Complex id) is = let l = fall k id part at is in ap entry_of (lower id (omega (arith, l, low)))
+
   contents-below : (bound n : ℕ) → slice_index t.complexes.ranks n < bound → slice_get a n ≡ slice_get b n
   contents-below zero n low = absurd (omega (arith, low))
   contents-below (suc bound) n low = elim (cases_lt n (length t.complexes.parts)) [
     | inr not ↦ none-behind a n (omega (arith, not, p.alike)) ∙ sym (none-behind b n (omega (arith, not, q.alike)))
-    | inl there ↦ (let part = part-there t.complexes.parts n there in
-        contents-hold n part.0 part.1 (base-alike n part.0 part.1 low part.0.base refl) (slice_get a n) (slice_get b n) (p.each n there) (q.each n there))
+    | inl there ↦
+        (let part = complex-there t.complexes.parts n there in
+        contents-hold n part.0 part.1 (base-alike bound (λ id l. contents-below bound id l) n part.0 part.1 low part.0.base refl) (slice_get a n) (slice_get b n) (p.each n there) (q.each n there))
   ]
-    where
-      part-there : (xs : List ComplexType) (k : ℕ) → k < length xs → (part : ComplexType) × (slice_get xs k ≡ Some part)
-      part-there [] k l = absurd (omega (arith, l))
-      part-there (x ∷ xs) zero l = (x, refl)
-      part-there (x ∷ xs) (suc k) l = part-there xs k (omega (arith, l))
-
-      base-alike : (k : ℕ) (part : ComplexType) → slice_get t.complexes.parts k ≡ Some part → slice_index t.complexes.ranks k < suc bound → (base : TypeId) → part.base ≡ base
-          → content_of simples a base ≡ content_of simples b base
-      base-alike k part at low' AnyType is = refl
-      base-alike k part at low' (Builtin kind) is = refl
-      base-alike k part at low' (Simple id) is = refl
-      base-alike k part at low' (Complex id) is = let l = fall k id part at is in ap entry_of (contents-below bound id (omega (arith, l, low')))
 
   pub contents-one : a ≡ b
   contents-one = lists-one a b (p.alike ∙ sym q.alike) (λ n. contents-below (suc (slice_index t.complexes.ranks n)) n (omega arith))
