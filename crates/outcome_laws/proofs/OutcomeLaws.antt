@@ -7,6 +7,8 @@ use Rattle.xs_codes.specs.Least.{IsLeast}
 use Rattle.xs_codes.proofs.LeastLaws.{least-same}
 use Rattle.xs_names.specs.Names.{NameTable}
 use Rattle.xs_components.specs.Tables.{Tables}
+use Rattle.xs_components.specs.declared.common.TypeId.{TypeId}
+use Rattle.particle_restrict.specs.declared.terms.Term.{Term}
 use Rattle.redefine_names.specs.declared.pairs.RedefinedPair.{RedefinedPair}
 use Rattle.subst_groups.specs.Groups.{AreGroups}
 use Rattle.component_tables.specs.Classes.{AreClassesOf}
@@ -50,17 +52,16 @@ module _ (t : Tables) (names : NameTable) (a b : List RedefinedPair) (same : Are
   derivation-kept : (found : Option Fault) → IsLeast (IsDerivationFault t names a) found → IsLeast (IsDerivationFault t names b) found
   derivation-kept found p = least-same (IsDerivationFault t names a) (IsDerivationFault t names b) derivation-to derivation-from found p
 
-  restriction-kept : (members : List (List ℕ)) (found : Option Fault) → IsFirstModelFault t names members a found → IsFirstModelFault t names members b found
-  restriction-kept members found (terms, reading, least) =
-      (terms, reading, least-same _ _ (λ f is. to f is) (λ f is. from f is) found least)
-    where
-      to : (f : Fault) → IsRestrictionFault t members terms _ a f → IsRestrictionFault t members terms _ b f
-      to f (inl is) = inl is
-      to f (inr is) = inr (is.0, (same is.0).0 is.1, is.2)
+-- the same of restrictions of content models
+restriction-to : (t : Tables) (members : List (List ℕ)) (terms : List Term) (derives : TypeId → TypeId → Bool) (a b : List RedefinedPair) → AreSamePairs a b → (f : Fault)
+    → IsRestrictionFault t members terms derives a f → IsRestrictionFault t members terms derives b f
+restriction-to t members terms derives a b same f (inl is) = inl is
+restriction-to t members terms derives a b same f (inr is) = inr (is.0, (same is.0).0 is.1, is.2)
 
-      from : (f : Fault) → IsRestrictionFault t members terms _ b f → IsRestrictionFault t members terms _ a f
-      from f (inl is) = inl is
-      from f (inr is) = inr (is.0, (same is.0).1 is.1, is.2)
+restriction-kept : (t : Tables) (names : NameTable) (a b : List RedefinedPair) → AreSamePairs a b → (members : List (List ℕ)) (found : Option Fault) → IsFirstModelFault t names members a found
+    → IsFirstModelFault t names members b found
+restriction-kept t names a b same members found (terms, reading, least) =
+    (terms, reading, least-same _ _ (restriction-to t members terms _ a b same) (restriction-to t members terms _ b a (λ pair. ((same pair).1, (same pair).0))) found least)
 
 -- phases, each of which has what another has
 abbrev Each : List (Option Fault → Type 0) → List (Option Fault → Type 0) → Type 0
