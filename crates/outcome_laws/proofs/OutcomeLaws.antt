@@ -17,6 +17,8 @@ use Rattle.schema_models.specs.SetModels.{IsBroken}
 use Rattle.derive_restriction.specs.DerivationFaults.{IsDerivationFault}
 use Rattle.derive_models.specs.GroupRestrictions.{IsRestrictionFault}
 use Rattle.derive_models.specs.ModelFaults.{IsFirstModelFault}
+use Rattle.elem_governing.specs.Derived.{derives}
+use Rattle.derive_models.specs.Derivation.{excluded}
 use Rattle.schema_set.specs.declared.inputs.SchemaInput.{SchemaInput}
 use Rattle.schema_check.specs.Phases.{IsFirstOfPhases}
 use Rattle.schema_check.specs.Compilation.{IsCompilation}
@@ -61,7 +63,8 @@ restriction-to t members terms derives a b same f (inr is) = inr (is.0, (same is
 restriction-kept : (t : Tables) (names : NameTable) (a b : List RedefinedPair) → AreSamePairs a b → (members : List (List ℕ)) (found : Option Fault) → IsFirstModelFault t names members a found
     → IsFirstModelFault t names members b found
 restriction-kept t names a b same members found (terms, reading, least) =
-    (terms, reading, least-same _ _ (restriction-to t members terms _ a b same) (restriction-to t members terms _ b a (λ pair. ((same pair).1, (same pair).0))) found least)
+    let by : TypeId → TypeId → Bool = derives t excluded in
+    (terms, reading, least-same (IsRestrictionFault t members terms by a) (IsRestrictionFault t members terms by b) (restriction-to t members terms by a b same) (restriction-to t members terms by b a (λ pair. ((same pair).1, (same pair).0))) found least)
 
 -- phases, each of which has what another has
 abbrev Each : List (Option Fault → Type 0) → List (Option Fault → Type 0) → Type 0
