@@ -1,0 +1,2 @@
+mod Roots
+pub mod Trees

@@ -1,0 +1,4 @@
+pub mod Numbers
+pub mod Table
+pub mod Found
+pub mod inside
