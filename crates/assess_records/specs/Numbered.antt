@@ -1,6 +1,7 @@
 -- The names of a document by their numbers in the table of names of a schema set, and what its elements have to show.
 use Rattle.std.specs.Prelude.{ℕ, List, [], ◌∷◌, ◌++◌, map, reverse, Option, None, Some, unwrap_or}
-use Rattle.xs_names.specs.Names.{NameTable, absent_space, space_number, name_number}
+use Rattle.xs_names.specs.Names.{NameTable, absent_space, space_number}
+pub use Rattle.tree_names.specs.Numbers.{space_in, name_in}
 use Rattle.xs_codes.specs.declared.fault.Found.{Found}
 use Rattle.tree_rows.specs.Forest.{Forest, none, text, element}
 use Rattle.tree_rows.specs.declared.name.Expanded.{Expanded}
@@ -17,17 +18,8 @@ abbrev pub Scope : Type 0
 Scope = List (List ℕ × ℕ)
 
 module _ (names : NameTable) where
-  -- the number of a namespace
-  abbrev pub space_in : Option (List ℕ) → ℕ
-  space_in None = absent_space
-  space_in (Some space) = unwrap_or (space_number names space) absent_space
-
-  -- the number of a name
-  abbrev pub name_in : Expanded → ℕ
-  name_in name = unwrap_or (name_number names (space_in name.namespace) name.local) 0
-
   abbrev pub named_text : Attribute → NamedText
-  named_text attribute = record { name = name_in attribute.name; text = attribute.value }
+  named_text attribute = record { name = name_in names attribute.name; text = attribute.value }
 
   -- the attributes of an element, by the numbers of their names
   abbrev pub named_texts : List Attribute → List NamedText

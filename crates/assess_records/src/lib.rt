@@ -1,20 +1,16 @@
 //! What schema-validity assessment finds out about elements and attributes (Structures 5.2, 3.2.5, 3.3.5): the records,
 #![tactic(auto)]
 
-mod adding;
 mod counts;
 mod instance_names;
-mod laws;
 mod outcome;
 mod record;
 mod shape;
 
-pub use adding::add_names;
 pub use counts::ChildCounts;
 pub use instance_names::{
     INSTANCE_NAMESPACE, InstanceAttribute, instance_attribute, instance_text, is_named,
 };
-pub use laws::document_names_are_found;
 pub use outcome::{Attempted, Validity, ValueSource};
 pub use record::{AttrRecord, AttrRecords, Codes, ElementRecord};
 pub use shape::{ElementShape, NamedText, NamedTextList};

@@ -1,17 +1,17 @@
 //! What is known of a tree.
 
 ghost use Rattle.std.specs.Prelude.{◌≡◌, IfOk, OnOk};
-ghost use Rattle.assess_records.specs.Found.{HasNames};
+ghost use Rattle.tree_names.specs.Found.{HasNames};
 ghost use Rattle.session_model.specs.State.{with_names};
 ghost use Rattle.compiled_schema.specs.Usable.{IsUsable};
 ghost use Rattle.plain_session.specs.Stocks.{IsReady, IsStock};
 
-use assess_records::{add_names, document_names_are_found};
 use compiled_schema::{Compiled, usable_with_more_names};
 use plain_tree::Tree;
 use session_model::{count_codes, entries_are_named, entries_have_few_codes};
 use std::alloc::{AllocError, Global};
 use tree_assess::{ElementEntry, assess};
+use tree_names::{add_names, document_names_are_found};
 use xs_names::NsId;
 
 /// What is known of a tree.

@@ -24,7 +24,7 @@ use Rattle.assessment_laws.proofs.There.{attrs-there}
 use Rattle.report_text.specs.Named.{IsName, IsTypeNamed, IsNamed, AreNamed}
 use Rattle.compiled_schema.specs.Usable.{IsUsable, set_of}
 use Rattle.compiled_schema.specs.declared.compiled.Compiled.{Compiled}
-use Rattle.assess_records.specs.Found.{HasName, HasAttributes, HasNames}
+use Rattle.tree_names.specs.Found.{HasName, HasAttributes, HasNames}
 use Rattle.assess_records.specs.Numbered.{Scope, Head, head_of, heads, scope_in, space_in, name_in, named_text, named_texts}
 use Rattle.assessment.specs.Assessment.{Entry, Assessed, Beside, entries, first_pair, other_pairs, governed, root_pairs, IsEntry, AreAssessed, IsAssessment}
 use Rattle.session_model.specs.Reports.{IsEntryNamed}

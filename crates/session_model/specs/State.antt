@@ -4,7 +4,7 @@ use Rattle.tree_rows.specs.Forest.{Forest, Document}
 use Rattle.compiled_schema.specs.Usable.{set_of}
 use Rattle.compiled_schema.specs.declared.compiled.Compiled.{Compiled}
 use Rattle.assessment.specs.Assessment.{Entry, entries}
-use Rattle.assess_records.specs.Table.{document_table}
+use Rattle.tree_names.specs.Table.{document_table}
 use Rattle.session_model.specs.Assessor.{RightAssessor}
 
 -- the schema set, whose table of names has those of the document, the document, how many edits were made, and whether want of memory

@@ -7,7 +7,7 @@ ghost use Rattle.assessment.specs.Attribution.{SchemaSet};
 ghost use Rattle.session_model.specs.Asking.{code_total};
 ghost use Rattle.assessment.specs.Assessment.{Assessed, Beside, IsAssessment, entries};
 ghost use Rattle.compiled_schema.specs.declared.compiled.Compiled.{Compiled as CompiledData};
-ghost use Rattle.assess_records.specs.Found.{HasNames};
+ghost use Rattle.tree_names.specs.Found.{HasNames};
 ghost use Rattle.assessment.specs.Joined.{beside_of};
 ghost use Rattle.session_model.specs.Reports.{IsEntryNamed};
 ghost use Rattle.compiled_schema.specs.Usable.{IsUsable, set_of};

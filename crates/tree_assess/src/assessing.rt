@@ -6,7 +6,7 @@ ghost use Rattle.xs_names.specs.Scope.{first_scope};
 ghost use Rattle.tree_rows.specs.Whole.{IsTree};
 ghost use Rattle.elem_governing.specs.View.{AreKnown};
 ghost use Rattle.compiled_schema.specs.Usable.{IsUsable, set_of};
-ghost use Rattle.assess_records.specs.Found.{HasNames};
+ghost use Rattle.tree_names.specs.Found.{HasNames};
 ghost use Rattle.assess_records.specs.Numbered.{heads};
 ghost use Rattle.tree_assess.specs.Entries.{AreEntries};
 ghost use Rattle.tree_assess.specs.declared.entry.ElementEntry.{ElementEntry as ElementEntryData};

@@ -1,5 +1,5 @@
 use Rattle.std.proofs.Common.{sym, subst}
-use Rattle.assess_records.specs.Found.{HasNames}
+use Rattle.tree_names.specs.Found.{HasNames}
 use Rattle.plain_session.proofs.stock.take_stock.Goals as goal
 
 pub assessed-requires : goal.assessed-requires
