@@ -80,8 +80,8 @@ module _ (t : Tables) where
         from f (others, e', q, c, m) = (q, subst (λ xs. Contains xs q) (same_Some others members (sym e' ∙ (all-is ∙ e))) c, m)
 
     -- an all without members
-    pub not-empty : (r : Option Fault) → all_in part.term ≡ None → r ≡ None → IsLeast (IsEmptyRepeated t p) r
-    not-empty r none is = subst (IsLeast (IsEmptyRepeated t p)) (sym is) (λ f h. none-some [] (sym none ∙ (sym all-is ∙ h.0)))
+    pub not-empty : all_in part.term ≡ None → IsLeast (IsEmptyRepeated t p) None
+    not-empty none f h = none-some [] (sym none ∙ (sym all-is ∙ h.0))
 
     pub has-members : (members : List ℕ) → all_in part.term ≡ Some members → (0 < length members) → IsLeast (IsEmptyRepeated t p) None
     has-members members e some f h = let z : length members ≡ 0 = ap length (same_Some members [] (sym e ∙ (sym all-is ∙ h.0))) in omega (arith, z, some)

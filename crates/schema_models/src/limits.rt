@@ -20,11 +20,10 @@ fn first_in(parts: &Components, marks: &[bool], p: ParticleId) -> Option<Fault>
     requires marks { AreStanding parts.now marks.now }
     ensures { IsLeast (IsUnlimitedIn parts.now p) result }
 {
-    if marks[p.number() as usize] {
-        first_at(parts, p)
-    } else {
-        repeated_empty(parts, p)
+    if !marks[p.number() as usize] {
+        return repeated_empty(parts, p);
     }
+    first_at(parts, p)
 }
 
 // The first fault of all particles.
