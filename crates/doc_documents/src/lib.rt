@@ -4,6 +4,6 @@
 mod laws;
 
 pub use laws::{
-    documents_have_their_names, documents_keep_their_nodes, nodes_are_read, nodes_give_their_document,
-    scopes_go_down,
+    documents_have_their_names, documents_keep_their_nodes, nodes_are_read,
+    nodes_give_their_document, scopes_go_down,
 };

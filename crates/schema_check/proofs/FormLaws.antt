@@ -1,18 +1,21 @@
 -- What the elements of each kind represent.
-use Rattle.std.proofs.Common.{◌≡◌, Bool, true, false, List, refl, sym, ◌∙◌, true≢false}
+use Rattle.std.proofs.Common.{◌≡◌, ℕ, Bool, true, false, List, Option, None, Some, refl, sym, ap, ◌∙◌, true≢false}
 use Rattle.tree_rows.specs.declared.row.Attribute.{Attribute}
 use Rattle.tree_rows.specs.declared.row.Binding.{Binding}
 use Rattle.xs_names.specs.Names.{NameTable}
-use Rattle.schema_values.specs.Places.{root_kind, top_kind, inner_kind, below_simple_content, below_complex_content, below_top_group, kind_below}
+use Rattle.schema_values.specs.Attributes.{value_of}
+use Rattle.schema_values.specs.Places.{root_kind, top_kind, below_redefine, inner_kind, below_simple_content, below_complex_content, below_top_group, kind_below}
 use Rattle.schema_values.specs.Table.{is_in}
+use Rattle.schema_values.specs.declared.grammar_kinds.AttributeName.TheVariants as an
 use Rattle.schema_values.specs.declared.grammar_kinds.Class.TheVariants as c
 use Rattle.schema_values.specs.declared.grammar_kinds.Kind.{Kind}
 use Rattle.schema_values.specs.declared.grammar_kinds.Kind.TheVariants as k
 use Rattle.schema_values.specs.declared.grammar_kinds.Tag.{Tag}
 use Rattle.schema_values.specs.declared.grammar_kinds.Tag.TheVariants as tags
-use Rattle.schema_shape.specs.Shapes.{form_of, declares}
+use Rattle.schema_shape.specs.Shapes.{form_of, declares, including, redefining}
 use Rattle.representations.specs.declared.naming.Naming.{Naming}
 use Rattle.representations.specs.declared.parts.Represented.{Represented}
+use Rattle.representations.specs.declared.parts.Represented.TheVariants as forms
 use Rattle.representations.specs.Members.{is_type}
 use Rattle.representation_forms.specs.declared.defaults.Defaults.{Defaults}
 use Rattle.representation_forms.specs.Forms.{represented}
@@ -31,6 +34,13 @@ root-plain _ = refl
 top-plain : (tag : Tag) → is_complex_tag tag ≡ false → is_complex_kind (top_kind tag) ≡ false
 top-plain tags.ComplexType other = absurd (true≢false other)
 top-plain _ other = refl
+
+redefine-plain : (tag : Tag) → is_complex_tag tag ≡ false → is_complex_kind (below_redefine tag) ≡ false
+redefine-plain tags.Include other = refl
+redefine-plain tags.Import other = refl
+redefine-plain tags.Redefine other = refl
+redefine-plain tags.ComplexType other = absurd (true≢false other)
+redefine-plain _ other = refl
 
 inner-plain : (tag : Tag) → is_complex_tag tag ≡ false → is_complex_kind (inner_kind tag) ≡ false
 inner-plain tags.ComplexType other = absurd (true≢false other)
@@ -55,7 +65,7 @@ kind-plain k.NoSchema tag other = refl
 kind-plain k.Ignored tag other = refl
 kind-plain k.Document tag other = root-plain tag
 kind-plain k.Schema tag other = top-plain tag other
-kind-plain k.Redefine tag other = top-plain tag other
+kind-plain k.Redefine tag other = redefine-plain tag other
 kind-plain k.SimpleContent tag other = simple-content-plain tag other
 kind-plain k.ComplexContent tag other = complex-content-plain tag other
 kind-plain k.TopGroup tag other = group-plain tag other
@@ -66,9 +76,26 @@ module _ (t : NameTable) (naming : Naming) (defaults : Defaults) where
   abbrev pub form_at : Kind → List Binding → List Attribute → Represented
   form_at kind scope attributes = represented t naming defaults (form_of kind scope attributes)
 
+  -- an include and a redefine represent nothing, with a location and without
+  pub including-nothing : (location : Option (List ℕ)) → represented t naming defaults (including location) ≡ forms.Nothing
+  including-nothing None = refl
+  including-nothing (Some location) = refl
+
+  pub redefining-nothing : (location : Option (List ℕ)) → represented t naming defaults (redefining location) ≡ forms.Nothing
+  redefining-nothing None = refl
+  redefining-nothing (Some location) = refl
+
+  pub include-nothing : (scope : List Binding) (attributes : List Attribute) → form_at k.Include scope attributes ≡ forms.Nothing
+  include-nothing scope attributes = including-nothing (value_of an.SchemaLocation attributes)
+
+  pub redefine-nothing : (scope : List Binding) (attributes : List Attribute) → form_at k.Redefine scope attributes ≡ forms.Nothing
+  redefine-nothing scope attributes = redefining-nothing (value_of an.SchemaLocation attributes)
+
   complex-form : (kind : Kind) (scope : List Binding) (attributes : List Attribute) → is_complex_type (form_at kind scope attributes) ≡ is_complex_kind kind
   complex-form k.TopComplexType scope attributes = refl
   complex-form k.LocalComplexType scope attributes = refl
+  complex-form k.Include scope attributes = ap is_complex_type (include-nothing scope attributes)
+  complex-form k.Redefine scope attributes = ap is_complex_type (redefine-nothing scope attributes)
   complex-form _ scope attributes = refl
 
   -- no complex type by another name
@@ -78,9 +105,9 @@ module _ (t : NameTable) (naming : Naming) (defaults : Defaults) where
   -- elements, and what nothing is represented of, may hold complex types
   pub may-hold : (kind : Kind) (scope : List Binding) (attributes : List Attribute) → may_hold_complex (form_at kind scope attributes) ≡ false → holds_complex kind ≡ false
   may-hold k.Schema scope attributes other = absurd (true≢false other)
-  may-hold k.Include scope attributes other = absurd (true≢false other)
+  may-hold k.Include scope attributes other = absurd (true≢false (sym (ap may_hold_complex (include-nothing scope attributes)) ∙ other))
   may-hold k.Import scope attributes other = absurd (true≢false other)
-  may-hold k.Redefine scope attributes other = absurd (true≢false other)
+  may-hold k.Redefine scope attributes other = absurd (true≢false (sym (ap may_hold_complex (redefine-nothing scope attributes)) ∙ other))
   may-hold k.TopElement scope attributes other = absurd (true≢false other)
   may-hold k.LocalElement scope attributes other = absurd (true≢false other)
   may-hold k.Annotation scope attributes other = absurd (true≢false other)

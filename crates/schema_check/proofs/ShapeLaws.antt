@@ -36,7 +36,7 @@ use Rattle.schema_check.proofs.TagLaws.{holds_complex, tags-plain, annotated, fi
 use Rattle.schema_check.proofs.KidLaws.{Kid, kids, name_of as kid_name, numbers-are, names-are, kids-plain, kids-simple}
 use Rattle.schema_check.proofs.SoundLaws.{IsRight, right}
 use Rattle.schema_check.proofs.WalkLaws.{KidIn}
-use Rattle.schema_check.proofs.FormLaws.{form_at, may-hold, Becomes, top-variety, local-variety, simple-derivation, complex-derivation, restriction-type, list-type, variety-apart, derivation-apart}
+use Rattle.schema_check.proofs.FormLaws.{form_at, include-nothing, redefine-nothing, may-hold, Becomes, top-variety, local-variety, simple-derivation, complex-derivation, restriction-type, list-type, variety-apart, derivation-apart}
 use Rattle.schema_check.proofs.NameLaws.{no-base, no-item}
 use Rattle.schema_check.proofs.LaidLaws.{AreLaid, IsPlaced, places, kid-placed, members-plain, members-first, members-type}
 
@@ -85,11 +85,15 @@ module _ (t : NameTable) (naming : Naming) (defaults : Defaults) (reps : List Re
   made : (kind : Kind) → Right kind → ArePlaced kind → is_simple_type (form kind) ≡ true → is_kind_in is_variety (first_member reps list) ≡ true
   made k.TopSimpleType fine placed is = first-made k.TopSimpleType c.Variety variety-apart is_variety refl (top-variety t naming defaults) (fine refl refl) placed
   made k.LocalSimpleType fine placed is = first-made k.LocalSimpleType c.Variety variety-apart is_variety refl (local-variety t naming defaults) (fine refl refl) placed
+  made k.Include fine placed is = absurd (true≢false (sym is ∙ ap is_simple_type (include-nothing t naming defaults scope attributes)))
+  made k.Redefine fine placed is = absurd (true≢false (sym is ∙ ap is_simple_type (redefine-nothing t naming defaults scope attributes)))
   made _ fine placed is = absurd (true≢false (sym is))
 
   derived : (kind : Kind) → Right kind → ArePlaced kind → is_content (form kind) ≡ true → is_kind_in is_derivation (first_member reps list) ≡ true
   derived k.SimpleContent fine placed is = first-made k.SimpleContent c.Derivation derivation-apart is_derivation refl (simple-derivation t naming defaults) (fine refl refl) placed
   derived k.ComplexContent fine placed is = first-made k.ComplexContent c.Derivation derivation-apart is_derivation refl (complex-derivation t naming defaults) (fine refl refl) placed
+  derived k.Include fine placed is = absurd (true≢false (sym is ∙ ap is_content (include-nothing t naming defaults scope attributes)))
+  derived k.Redefine fine placed is = absurd (true≢false (sym is ∙ ap is_content (redefine-nothing t naming defaults scope attributes)))
   derived _ fine placed is = absurd (true≢false (sym is))
 
   -- a name that is not there
@@ -116,6 +120,8 @@ module _ (t : NameTable) (naming : Naming) (defaults : Defaults) (reps : List Re
       let missing = no-item scope attributes here.values (no-list-name (name_of an.ItemType scope attributes) is) in
       let child = simple-child (has an.ItemType attributes) missing here.item in
       members-type t naming defaults reps look k.List (list-type t naming defaults) (kids children) placed (sym (kids-simple children) ∙ child)
+  given k.Include fine placed is = absurd (true≢false (sym is ∙ ap names_no_type (include-nothing t naming defaults scope attributes)))
+  given k.Redefine fine placed is = absurd (true≢false (sym is ∙ ap names_no_type (redefine-nothing t naming defaults scope attributes)))
   given _ fine placed is = absurd (true≢false (sym is))
 
   plain : (kind : Kind) → Right kind → ArePlaced kind → may_hold_complex (form kind) ≡ false → list_any (is_kind_at is_complex_type reps) list ≡ false
