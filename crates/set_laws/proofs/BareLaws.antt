@@ -23,7 +23,7 @@ use Rattle.set_laws.specs.Same.{IsSameDocument}
 
 -- the same document, its shapes nowhere
 abbrev pub bare : SetDocument → SetDocument
-bare d = record { number = d.number; target = d.target; shaped = record { ref_ptr = 0; now = d.shaped.now } }
+bare d = record { number = d.number; target = d.target; shaped = record { ref_ptr = (0, 0); now = d.shaped.now } }
 
 pub bare-same : (a b : List SetDocument) → AllZip IsSameDocument a b → map bare a ≡ map bare b
 bare-same [] [] all = refl
@@ -31,7 +31,7 @@ bare-same [] (e ∷ es) all = absurd all
 bare-same (d ∷ ds) [] all = absurd all
 bare-same (d ∷ ds) (e ∷ es) all =
     let rest = bare-same ds es all.1 in
-    λ i. record { number = all.0.0 i; target = all.0.1 i; shaped = record { ref_ptr = 0; now = all.0.2 i } } ∷ rest i
+    λ i. record { number = all.0.0 i; target = all.0.1 i; shaped = record { ref_ptr = (0, 0); now = all.0.2 i } } ∷ rest i
 
 -- ---- names, representations, scopes and origins
 pub table-bare : (t : NameTable) (ds : List SetDocument) → set_table t (map bare ds) ≡ set_table t ds

@@ -1,5 +1,5 @@
 -- The faults of each of the first phases have its number.
-use Rattle.std.proofs.Common.{◌≡◌, inl, inr, ℕ, List, Option, None, Some, sym, ap, ◌∙◌}
+use Rattle.std.proofs.Common.{◌≡◌, inl, inr, ℕ, ◌-◌, List, slice_get, Option, None, Some, sym, ap, ◌∙◌}
 use Rattle.std.specs.Option.{option_and_then}
 use Rattle.std.proofs.lemmas.Option.{none-some, same_Some}
 use Rattle.xs_codes.specs.declared.fault.Fault.{Fault}
@@ -31,7 +31,7 @@ input-one number None f e = absurd (none-some f e)
 input-one number (Some input) f e = broken-one number (least_fault (constructs_of input.tree.forest)) f e
 
 pub shape-one : (inputs : List SchemaInput) (f : Fault) → IsShapeFault inputs f → f.phase ≡ 1
-shape-one inputs f is = input-one f.document _ f is.first
+shape-one inputs f is = input-one f.document (slice_get inputs (f.document - 1)) f is.first
 
 -- phase 2, of composition
 pub composition-two : (sources : List Available) (f : Fault) → BreaksComposition sources f → f.phase ≡ 2
