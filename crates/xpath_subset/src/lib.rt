@@ -1,8 +1,10 @@
 //! The paths of identity constraints: reading a selector or a field, and which nodes a path reaches.
 #![tactic(auto)]
 
+mod laws;
 mod path;
 mod reading;
 
+pub use laws::reached_is_a_test;
 pub use path::{NameTest, Path, Paths, Step, is_reached};
 pub use reading::{XPathFault, read_field, read_selector};
