@@ -1,5 +1,5 @@
 -- The assessment of a document with the codes of its identity constraints and of its IDs: Structures 3.3.4, 3.3.5, 3.11.4, 5.2.
-use Rattle.std.specs.Prelude.{ℕ, ◌==◌, ◌||◌, Bool, true, false, if◌then◌else◌, List, [], ◌∷◌, ◌++◌, Option}
+use Rattle.std.specs.Prelude.{ℕ, ◌||◌, Bool, false, if◌then◌else◌, List, [], ◌∷◌, ◌++◌, Option}
 use Rattle.xs_codes.specs.declared.fault.Found.{Found}
 use Rattle.simple_values.specs.declared.value.Value.{Value}
 use Rattle.tree_rows.specs.Forest.{Forest}
@@ -8,6 +8,7 @@ use Rattle.assess_records.specs.declared.outcome.Validity.{Validity}
 use Rattle.assess_records.specs.declared.outcome.Validity.TheVariants.{Valid, Invalid, NotKnown}
 use Rattle.assess_records.specs.declared.record.AttrRecord.{AttrRecord}
 use Rattle.assess_records.specs.declared.record.ElementRecord.{ElementRecord}
+use Rattle.elem_codes.specs.Records.{is_invalid}
 use Rattle.assessment.specs.Attribution.{SchemaSet}
 use Rattle.assessment.specs.Assessment.{Entry, Assessed, nothing, entry, Beside}
 use Rattle.assessment.specs.Bearings.{borne_values}
@@ -59,21 +60,16 @@ validity_again [] below Valid = if below then Invalid else Valid
 abbrev pub with_more : List Found → Bool → ElementRecord → ElementRecord
 with_more codes below r = record r { validity = validity_again codes below r.validity; codes = r.codes ++ codes }
 
-abbrev pub is_invalid : Validity → Bool
-is_invalid Valid = false
-is_invalid Invalid = true
-is_invalid NotKnown = false
-
 -- one of the siblings is invalid
-abbrev pub any_invalid : Assessed → Bool
-any_invalid nothing = false
-any_invalid (entry own below next) = is_invalid own.element.validity || any_invalid next
+abbrev pub has_invalid : Assessed → Bool
+has_invalid nothing = false
+has_invalid (entry own below next) = is_invalid own.element.validity || has_invalid next
 
 -- what was found, with these codes by the numbers of elements, from the leaves upwards
 abbrev pub with_all : (ℕ → List Found) → Assessed → Assessed
 with_all codes nothing = nothing
 with_all codes (entry own below next) =
-    entry (record own { element = with_more (codes own.number) (any_invalid (with_all codes below)) own.element }) (with_all codes below) (with_all codes next)
+    entry (record own { element = with_more (codes own.number) (has_invalid (with_all codes below)) own.element }) (with_all codes below) (with_all codes next)
 
 abbrev pub said : Beside → ℕ → List Found
 said b number = b.identity number ++ b.ids number
