@@ -37,7 +37,7 @@ module _ {Y : Type 0} (eq : Y → Y → Bool) (decides : (x y : Y) → Decides (
 
   pub touched : IsLinked t → (own said own1 said1 : ℕ → Y → ℕ) (n : ℕ) (x : Y) (waits : Option (Change Y)) →
       Changes own said own1 said1 n x waits → IsPending eq t own said waits → IsTouched eq t own1 said1 n x (seen own said x n)
-  touched i own said own1 said1 n x waits ch p m y =
+  touched i own said own1 said1 n x waits ch p = λ m y.
       let old = p m y in
       let up = above i own said own1 said1 n x (λ c w off. ap (λ a. is_seen a (said1 c w)) (ch.own_others c w off) ∙ ap (is_seen (own c w)) (ch.said_others c w off)) (t.parent n) refl m y in
       let move : said1 m y + falls eq waits m y ≡ said m y + rises eq waits m y =
@@ -52,11 +52,11 @@ module _ {Y : Type 0} (eq : Y → Y → Bool) (decides : (x y : Y) → Decides (
   module _ (own said : ℕ → Y → ℕ) (n : ℕ) (x : Y) (was : Bool) (h : IsTouched eq t own said n x was) where
     -- nothing, where it is seen there as it was
     pub told_same : seen own said x n ≡ was → IsSettled eq t own said
-    told_same e m y = let a = h m y in let b = ap (λ w. told eq (t.parent n) x w m y) e in omega (arith, a, b)
+    told_same e = λ m y. let a = h m y in let b = ap (λ w. told eq (t.parent n) x w m y) e in omega (arith, a, b)
 
     -- nothing, where there is none
     pub told_root : t.parent n ≡ None → IsSettled eq t own said
-    told_root root m y =
+    told_root root = λ m y.
         let a = h m y in
         let b : told eq (t.parent n) x (seen own said x n) m y ≡ 0 = ap (λ o. told eq o x (seen own said x n) m y) root in
         let c : told eq (t.parent n) x was m y ≡ 0 = ap (λ o. told eq o x was m y) root in omega (arith, a, b, c)
@@ -69,7 +69,7 @@ module _ {Y : Type 0} (eq : Y → Y → Bool) (decides : (x y : Y) → Decides (
 
     -- one bearer more or one less
     pub told_up : (p : ℕ) → t.parent n ≡ Some p → seen own said x n ≢ was → IsPending eq t own said (Some (record { at = p; what = x; grows = seen own said x n }))
-    told_up p up off m y =
+    told_up p up off = λ m y.
         let a = h m y in
         let b : told eq (t.parent n) x (seen own said x n) m y ≡ told eq (Some p) x (seen own said x n) m y = ap (λ o. told eq o x (seen own said x n) m y) up in
         let c : told eq (t.parent n) x was m y ≡ told eq (Some p) x (if seen own said x n then false else true) m y =
@@ -111,7 +111,7 @@ module _ {Y : Type 0} (eq : Y → Y → Bool) (decides : (x y : Y) → Decides (
 
   -- nothing waits
   pub settled : (own said : ℕ → Y → ℕ) → IsPending eq t own said None → IsSettled eq t own said
-  settled own said p m y = let a = p m y in omega (arith, a)
+  settled own said p = λ m y. let a = p m y in omega (arith, a)
 
   pub pending : (own said : ℕ → Y → ℕ) → IsSettled eq t own said → IsPending eq t own said None
-  pending own said s m y = let a = s m y in omega (arith, a)
+  pending own said s = λ m y. let a = s m y in omega (arith, a)
