@@ -13,6 +13,7 @@ use xs_codes::{Code, Fault, sooner};
 use xs_components::{Components, Constraint, ConstraintKind};
 
 // The least fault of a constraint, or without one its paths.
+#[derive(Drop)]
 struct ConstraintReading {
     fault: Option<Fault>,
     paths: IdentityPaths,
@@ -68,9 +69,12 @@ pub fn read_identities(
     let mut best = None;
     let mut identities = Vec::new(alloc);
     for constraint in parts.constraints() {
-        let reading = constraint_reading(alloc, parts, constraint)?;
-        best = sooner(best, reading.fault);
-        identities.push(reading.paths)?;
+        let ConstraintReading {
+            fault: found,
+            paths: read,
+        } = constraint_reading(alloc, parts, constraint)?;
+        best = sooner(best, found);
+        identities.push(read)?;
     }
     match best {
         None => Ok(Ok(identities)),

@@ -17,12 +17,14 @@ use xs_lists::Listed;
 const PHASE: u8 = 10;
 
 /// The fault of a path, or without one what it is read as.
+#[derive(Drop)]
 pub(crate) struct PathReading {
     pub fault: Option<Fault>,
     pub paths: Paths,
 }
 
 /// The least fault of the fields of a constraint, or without one what they are read as.
+#[derive(Drop)]
 pub(crate) struct FieldsReading {
     pub fault: Option<Fault>,
     pub paths: Listed<Paths>,
@@ -84,9 +86,12 @@ pub(crate) fn fields_reading(
     let mut fault = None;
     let mut paths = Listed::new(alloc);
     for field in fields {
-        let reading = field_reading(alloc, field)?;
-        fault = sooner(fault, reading.fault);
-        paths.push(reading.paths)?;
+        let PathReading {
+            fault: found,
+            paths: read,
+        } = field_reading(alloc, field)?;
+        fault = sooner(fault, found);
+        paths.push(read)?;
     }
     Ok(FieldsReading { fault, paths })
 }
