@@ -29,7 +29,10 @@ fn is_seen(tables: &KeyTables, n: u32, key: u32, tuple: &Tuple) -> bool
 fn parent_of(parents: &[Option<u32>], n: u32) -> Option<u32>
     ensures { (t : Links) → AreParents t parents.now → t.parent n ≡ result }
 {
-    *parents.get(n as usize)?
+    match parents.get(n as usize) {
+        None => None,
+        Some(parent) => *parent,
+    }
 }
 
 // What the parent of an element does not count yet, where a count of the element has changed.
@@ -50,11 +53,10 @@ fn note(
     if now == was {
         return None;
     }
-    let parent = parent_of(parents, n)?;
-    Some(Waiting {
-        at: parent,
-        grows: now,
-    })
+    match parent_of(parents, n) {
+        None => None,
+        Some(at) => Some(Waiting { at, grows: now }),
+    }
 }
 
 // Counts one child element more, or one less, where one waits.
