@@ -102,10 +102,10 @@ module _ (codes : ℕ → List Found) where
   invalid-stays nothing e = e
   invalid-stays (entry own below next) e =
       elim (or-cases (is_invalid own.element.validity) (has_invalid next) e) [
-          inl here ↦ or_left (is_invalid (validity_again (codes own.number) (has_invalid (with_all codes below)) own.element.validity)) (has_invalid (with_all codes next))
-              (still-invalid (codes own.number) (has_invalid (with_all codes below)) own.element.validity here)
+        | inl here ↦ or_left (is_invalid (validity_again (codes own.number) (has_invalid (with_all codes below)) own.element.validity)) (has_invalid (with_all codes next))
+            (still-invalid (codes own.number) (has_invalid (with_all codes below)) own.element.validity here)
         | inr later ↦ or_right (is_invalid (validity_again (codes own.number) (has_invalid (with_all codes below)) own.element.validity)) (has_invalid (with_all codes next))
-              (invalid-stays next later)
+            (invalid-stays next later)
       ]
 
   pub tried-stays : (f : Assessed) → IsTriedAlike (counts_of (sibling_records (with_all codes f))) (counts_of (sibling_records f))

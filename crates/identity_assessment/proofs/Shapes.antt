@@ -135,7 +135,7 @@ module _ (shape : ElementShape) (counts : ChildCounts) (identity ids : List Foun
           let bare : plain ≡ own = ap (λ behind. own ++ behind) none ∙ append-nil own in
           let all : all_codes names t g other said missing outcome ≡ plain ++ (identity ++ ids) = ap (λ front. front ++ (identity ++ ids)) (local-same ∙ sym bare) in
           let validity : validity_of (all_codes names t g other said missing outcome) strictly (a || not (counts.invalid == 0)) ≡ validity_again (identity ++ ids) (not (counts.invalid == 0)) (validity_of plain strictly (a || not (shape.counts.invalid == 0)))
-              = ap (λ codes. validity_of codes strictly (a || not (counts.invalid == 0))) all ∙ validity-again plain (identity ++ ids) strictly a (not (shape.counts.invalid == 0)) (not (counts.invalid == 0)) stays in
+          = ap (λ codes. validity_of codes strictly (a || not (counts.invalid == 0))) all ∙ validity-again plain (identity ++ ids) strictly a (not (shape.counts.invalid == 0)) (not (counts.invalid == 0)) stays in
           let attempted = attempted-same strictly attrs counts shape.counts tried in
           let source = ap source_of (taken-same is c) in
           λ i. record { name = shape.name; of = g.of; validity = validity i; attempted = attempted i; source = source i; codes = all i }
