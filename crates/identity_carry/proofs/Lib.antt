@@ -1,2 +1,2 @@
-pub mod Entries
-pub mod Carrying
+pub mod EntryLaws
+pub mod CarryLaws

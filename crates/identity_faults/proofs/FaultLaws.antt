@@ -53,7 +53,7 @@ module _ {X : Type 0} (P : X → Type 0) where
       let within = a.2 in
       let is = a.3 in
       elim (cases_lt a.0 (length xs)) [
-          inl early ↦ inl (a.0, a.1, early, grind (arith, common_steps), a.4)
+        | inl early ↦ inl (a.0, a.1, early, grind (arith, common_steps), a.4)
         | inr late ↦ let last : a.1 ≡ y = grind (arith, common_steps) in inr (subst P last a.4)
       ]
 

@@ -1,5 +1,5 @@
 use Rattle.std.proofs.Common.{◌≡◌, ◌≢◌, sym, ◌∙◌, rules, arith}
-use Rattle.identity_carry.proofs.Carrying.{noted-same, noted-root, noted-up}
+use Rattle.identity_carry.proofs.CarryLaws.{noted-same, noted-root, noted-up}
 use Rattle.identity_carry.proofs.carrying.note.Goals as goal
 
 pub returns-then-now-was-clause-pending : goal.returns-then-now-was-clause-pending

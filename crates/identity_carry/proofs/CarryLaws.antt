@@ -6,7 +6,7 @@ use Rattle.identity_counts.specs.Counting.{Links, Change, IsLinked, IsPending, I
 use Rattle.identity_counts.proofs.Touching.{Changes, touched, told_same, told_root, told_up, one_bearer_more, one_bearer_less, can_fall, pending, settled}
 use Rattle.identity_carry.specs.Tables.{KeyTuple, same_key_tuple, for_key, own, said, change_of, AreSettled, ArePending, is_in_table}
 use Rattle.identity_carry.specs.declared.carrying.Waiting.{Waiting}
-use Rattle.identity_carry.proofs.Entries.{decides, own_kept, said_more, said_others, said_kept, own_others}
+use Rattle.identity_carry.proofs.EntryLaws.{decides, own_kept, said_more, said_others, said_kept, own_others}
 
 module _ (t : Links) (i : IsLinked t) (old new : Tables) (at k : ℕ) (tuple : List Key) where
   abbrev Waits : Bool → Type 0
