@@ -1,10 +1,10 @@
 -- The names of elements and attributes by the numbers of a table.
-use Rattle.std.proofs.Common.{◌≡◌, ◌≢◌, ℕ, ◌+◌, ◌<◌, ◌≤◌, List, [], ◌∷◌, length, map, sym, ap, ◌∙◌, subst, Bool, true, false, ◌==◌, ◌||◌, if◌then◌else◌, Option, Some, None, Result, Ok, Err, refl, inl, inr, arith, All}
+use Rattle.std.proofs.Common.{◌≡◌, ◌≢◌, ℕ, zero, suc, drop, ◌+◌, ◌<◌, ◌≤◌, List, [], ◌∷◌, length, map, sym, ap, ◌∙◌, subst, Bool, true, false, ◌==◌, ◌||◌, if◌then◌else◌, Option, Some, None, Result, Ok, Err, refl, inl, inr, arith, All}
 use Rattle.std.specs.Prelude.{slice_get, slice_index_or, bytes_eq, MatchOption, IsSome, not, ◌&&◌, nat_le}
 use Rattle.std.specs.List.{list_any}
-use Rattle.std.proofs.lemmas.Bool.{eqb-true, ne_eqb, or_cases, or_left, or_right, true≢false}
+use Rattle.std.proofs.lemmas.Bool.{eqb-true, eq-eqb, ne_eqb, or_cases, or_left, or_right, true≢false}
 use Rattle.std.proofs.lemmas.List.{length-map}
-use Rattle.std.proofs.lemmas.Option.{same_Some, get_or_from_slice_get}
+use Rattle.std.proofs.lemmas.Option.{same_Some, none-some, slice_get_past, get_or_from_slice_get}
 use Rattle.std.proofs.lemmas.Slice.Eq.{bytes_eq-Decides}
 use Rattle.xs_names.specs.Names as names
 use Rattle.xs_names.specs.Names.{NameTable, IsSound, absent_space, space_number, name_number}
@@ -153,3 +153,26 @@ module _ (t : NameTable) (ns : Nodes) (d : Document) (z : StandsFor t ns d) (n :
       → IsThere t ns d n name r
   there_is name None h = none_there name h
   there_is name (Some number) h = one_there name number h.0 h.1 h.2
+
+-- one attribute after another
+module _ (test : NameAttribute → Bool) where
+  pub skip_one : (xs : List NameAttribute) (i : ℕ) (a : NameAttribute) → slice_get xs i ≡ Some a → test a ≡ false → list_any test (drop (suc i) xs) ≡ list_any test (drop i xs)
+  skip_one [] i a e f = absurd (none-some a (sym (slice_get_past [] i (omega arith)) ∙ e))
+  skip_one (x ∷ xs) zero a e f = sym (ap (λ b. b || list_any test xs) (ap test (same_Some x a e) ∙ f))
+  skip_one (x ∷ xs) (suc i) a e f = skip_one xs i a e f
+
+  pub none_left : (xs : List NameAttribute) (i : ℕ) → slice_get xs i ≡ None → list_any test (drop i xs) ≡ false
+  none_left [] zero e = refl
+  none_left [] (suc i) e = refl
+  none_left (x ∷ xs) zero e = absurd (none-some x (sym e))
+  none_left (x ∷ xs) (suc i) e = none_left xs i e
+
+pub has_at_place : (xs : List NameAttribute) (i : ℕ) (a : NameAttribute) → slice_get xs i ≡ Some a → has_number a.name xs ≡ true
+has_at_place [] i a e = absurd (none-some a (sym (slice_get_past [] i (omega arith)) ∙ e))
+has_at_place (x ∷ xs) zero a e = or_left (x.name == a.name) (list_any (λ (b : NameAttribute). b.name == a.name) xs) (eq-eqb x.name a.name (ap (λ (b : NameAttribute). b.name) (same_Some x a e)))
+has_at_place (x ∷ xs) (suc i) a e = or_right (x.name == a.name) (list_any (λ (b : NameAttribute). b.name == a.name) xs) (has_at_place xs i a e)
+
+pub place_within : (xs : List NameAttribute) (i : ℕ) (a : NameAttribute) → slice_get xs i ≡ Some a → i < length xs
+place_within [] i a e = absurd (none-some a (sym (slice_get_past [] i (omega arith)) ∙ e))
+place_within (x ∷ xs) zero a e = omega arith
+place_within (x ∷ xs) (suc i) a e = let l = place_within xs i a e in omega (arith, l)

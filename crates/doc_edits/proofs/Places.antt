@@ -24,7 +24,6 @@ use Rattle.doc_changes.specs.Stands.{firsts, StandFor, StandsFor}
 use Rattle.doc_changes.specs.Held.{kind_in, kind_at, parent_at}
 use Rattle.doc_changes.proofs.Lain.{at, depth_at}
 use Rattle.doc_changes.proofs.Holding.{IsElementOf, IsTextOf, holds_element, holds_chars, element_of, text_of}
-use Rattle.doc_tree.proofs.Answering.{no_such}
 use Rattle.doc_edits.specs.Tested.{IsNoElement, HasPlace, HasRoom, HasRoomFor, HasNoRoom}
 
 no_node : {A B : Type 0} (f : A → B) (o : Option A) → option_map f o ≡ None → o ≡ None
@@ -54,6 +53,24 @@ deeper_least levels depth (element n name bindings attributes children next) =
 
 from_one : (depth : ℕ) (f : Forest) → deepest_of (depth + 1) f ≡ deepest_of (1 + depth) f
 from_one depth f = ap (λ d. deepest_of d f) (omega arith)
+
+-- a number that is of a node of the tree is of a node
+stands_there : (t : NameTable) (ns : Nodes) (n : ℕ) (f : Forest) → StandFor t ns f → has n f ≡ true → (it : Node) × IsNode ns n it
+stands_there t ns n none s h = absurd (false≢true h)
+stands_there t ns n (text number chars next) s h = elim (or_cases (number == n) (has n next) h) [
+  | inl e ↦ (s.0.text, sym (ap (node ns) (eqb-true number n e)) ∙ s.0.is)
+  | inr k ↦ stands_there t ns n next s.1 k
+]
+stands_there t ns n (element number name bindings attributes children next) s h = elim (or_cases (number == n) (has n children || has n next) h) [
+  | inl e ↦ (s.0.it, sym (ap (node ns) (eqb-true number n e)) ∙ s.0.is)
+  | inr k ↦ elim (or_cases (has n children) (has n next) k) [
+    | inl j ↦ stands_there t ns n children s.1 j
+    | inr j ↦ stands_there t ns n next s.2 j
+  ]
+]
+
+no_such : (t : NameTable) (ns : Nodes) (d : Document) → StandsFor t ns d → (n : ℕ) → node ns n ≡ None → has n d.forest ≡ false
+no_such t ns d z n absent = false_from_ne_true (has n d.forest) (λ h. let x = stands_there t ns n d.forest z.nodes h in none-some x.0 (sym absent ∙ x.1))
 
 -- a node without a parent stands at the top
 top : (t : NameTable) (ns : Nodes) → IsSound ns → (n : ℕ) → parent_at ns n ≡ None → (f : Forest) → StandFor t ns f → has n f ≡ true → Has n (firsts f)
