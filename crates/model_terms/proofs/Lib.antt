@@ -1,0 +1,5 @@
+pub mod Along
+pub mod Stuck
+pub mod Words
+pub mod Given
+pub mod Unique
