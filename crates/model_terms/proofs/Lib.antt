@@ -3,3 +3,5 @@ pub mod Stuck
 pub mod Words
 pub mod Given
 pub mod Unique
+pub mod Runs
+pub mod Reading
