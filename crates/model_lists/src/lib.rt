@@ -2,9 +2,11 @@
 #![tactic(auto)]
 
 pub use crate::handle::{ListedChild, ModelList};
+pub use crate::laws::more_children_take_no_fewer_digits;
 pub use crate::lists::ModelLists;
 
 mod handle;
+mod laws;
 mod leaves;
 mod lists;
 mod members;

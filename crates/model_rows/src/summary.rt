@@ -140,6 +140,6 @@ impl Summary for RowSummary {
     }
 
     fn dead(&self, state: u16) -> bool {
-        state + 1 == self.width
+        u32::from(state) + 1 == u32::from(self.width)
     }
 }

@@ -5,3 +5,4 @@ pub mod Given
 pub mod Unique
 pub mod Runs
 pub mod Reading
+pub mod Naming
