@@ -69,9 +69,10 @@ module _ (a : ModelAutomaton) (symbols : List ℕ) (xs : List (Entry (List ℕ))
   add-one-take k P h = subst P (omega arith) h
 
   pub first-stuck : (p : ℕ) → IsFirstDead slice_index (λ s. s + 1 == width_of a) (start_of a.machine) xs p → Some p ≡ stuck_in (Some (States a)) symbols
-  first-stuck p h = one-stuck (States a) symbols (Some p) (stuck_in (Some (States a)) symbols)
-      ((λ k l. live-is (suc k) (add-one-take k (λ n. (acts_along slice_index (start_of a.machine) (take n xs) + 1 == width_of a) ≡ false) (h.before k l))),
-        inl ((let m = many in let w = h.within in omega arith), dead-is (suc p) (add-one-take p (λ n. (acts_along slice_index (start_of a.machine) (take n xs) + 1 == width_of a) ≡ true) h.dead)))
+  first-stuck p h = one-stuck (States a) symbols (Some p) (stuck_in (Some (States a)) symbols) (
+    (λ k l. live-is (suc k) (add-one-take k (λ n. (acts_along slice_index (start_of a.machine) (take n xs) + 1 == width_of a) ≡ false) (h.before k l))),
+    inl ((let m = many in let w = h.within in omega arith), dead-is (suc p) (add-one-take p (λ n. (acts_along slice_index (start_of a.machine) (take n xs) + 1 == width_of a) ≡ true) h.dead)),
+  )
       (stuck-is (States a) symbols)
 
   module _ (none : NoneIsDead slice_index (λ s. s + 1 == width_of a) (start_of a.machine) xs) (end : ℕ) (at_end : end ≡ acts_along slice_index (start_of a.machine) xs) where
@@ -108,9 +109,10 @@ module _ (a : AllModel) (symbols : List ℕ) (xs : List (Entry AllMap)) (maps : 
   add-one-first k P h = subst P (omega arith) h
 
   pub all-first_stuck : (p : ℕ) → IsFirstDead acts (λ (s : AllState). s.dead) (alls.start_of a.machine) xs p → Some p ≡ stuck_in (Some (All a)) symbols
-  all-first_stuck p h = one-stuck (All a) symbols (Some p) (stuck_in (Some (All a)) symbols)
-      ((λ k l. all-live (suc k) (add-one-first k (λ n. (acts_along acts (alls.start_of a.machine) (take n xs)).dead ≡ false) (h.before k l))),
-        inl ((let m = all-many in let w = h.within in omega arith), all-dead (suc p) (add-one-first p (λ n. (acts_along acts (alls.start_of a.machine) (take n xs)).dead ≡ true) h.dead)))
+  all-first_stuck p h = one-stuck (All a) symbols (Some p) (stuck_in (Some (All a)) symbols) (
+    (λ k l. all-live (suc k) (add-one-first k (λ n. (acts_along acts (alls.start_of a.machine) (take n xs)).dead ≡ false) (h.before k l))),
+    inl ((let m = all-many in let w = h.within in omega arith), all-dead (suc p) (add-one-first p (λ n. (acts_along acts (alls.start_of a.machine) (take n xs)).dead ≡ true) h.dead)),
+  )
       (stuck-is (All a) symbols)
 
   module _ (none : NoneIsDead acts (λ (s : AllState). s.dead) (alls.start_of a.machine) xs) (end : AllState) (at_end : end ≡ acts_along acts (alls.start_of a.machine) xs) where

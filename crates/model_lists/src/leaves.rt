@@ -21,9 +21,10 @@ pub(crate) fn remove_at<M: Summary, L: Ledger>(
     ensures least { steps.old ≤ steps.new }
     ensures steps { (xs : List (Entry M.Map)) → get seqs.old list ≡ Some xs → steps.new ≤ steps.old + 16 * (bits (length xs + 1) + 1) }
 {
-    if let Some(item) = seqs.at(list, place) {
-        seqs.remove(item, steps);
-    }
+    let Some(item) = seqs.at(list, place) else {
+        return;
+    };
+    seqs.remove(item, steps);
 }
 
 /// Writes a leaf in the place of another.
@@ -41,9 +42,10 @@ pub(crate) fn set_at<M: Summary, L: Ledger>(
     ensures least { steps.old ≤ steps.new }
     ensures steps { (xs : List (Entry M.Map)) → get seqs.old list ≡ Some xs → steps.new ≤ steps.old + 16 * (bits (length xs + 1) + 1) }
 {
-    if let Some(item) = seqs.at(list, place) {
-        seqs.update(item, leaf, source, steps);
-    }
+    let Some(item) = seqs.at(list, place) else {
+        return;
+    };
+    seqs.update(item, leaf, source, steps);
 }
 
 /// The place of a marked leaf, by its number among the marked leaves of the list, from 0, or none past the last.

@@ -167,7 +167,14 @@ impl ModelLists {
         match (list.kind, automaton) {
             (Kind::Rows { dead, list }, ContentAutomaton::States(states)) => {
                 let leaf = leaf_with(child.symbol, marked);
-                set_at(&mut self.rows[dead as usize], list, child.place, leaf, states, steps);
+                set_at(
+                    &mut self.rows[dead as usize],
+                    list,
+                    child.place,
+                    leaf,
+                    states,
+                    steps,
+                );
             }
             (Kind::Members(list), ContentAutomaton::All(members)) => {
                 let leaf = leaf_with(members.letter(child.symbol), marked);
@@ -236,7 +243,10 @@ impl ModelLists {
             (Kind::Rows { dead, list }, ContentAutomaton::States(states)) => {
                 term_row(&self.rows[dead as usize], list, states, child, steps)
             }
-            (Kind::Members(_), ContentAutomaton::All(members)) => member_term(members, child.symbol),
+            (Kind::Members(_), ContentAutomaton::All(members)) => member_term(
+                members,
+                child.symbol,
+            ),
             _ => unreachable!(),
         }
     }

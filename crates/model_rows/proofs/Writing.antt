@@ -51,7 +51,7 @@ pub all-written : (first now : RowMap) (row width : ℕ) (f : ℕ → ℕ) (i : 
 all-written first now row width f i h some l = record {
   changed = h.is ∙ ap Some (same_number_lists h.written (values_from f 0 width) (h.size (omega arith) ∙ sym (length-values f 0 width))
       (λ k less. let w = h.size (omega arith) in
-        h.below k (omega arith) ∙ sym (values_at f 0 width k (omega arith) ∙ ap f (omega arith))));
+      h.below k (omega arith) ∙ sym (values_at f 0 width k (omega arith) ∙ ap f (omega arith))));
   others = h.others;
   width = h.width_is;
   cap = h.cap_is;

@@ -83,7 +83,7 @@ module _ (s : SchemaSet) (p : ℕ) (a : ContentAutomaton) (kept : IsKept s p a) 
           (ambivalent-is s p a kept name).0 e,
           found.begins-before s p children (stuck_in (Some a) symbols) place i l begun,
           subst (λ xs. IsTermAt (accepts s.names s.members s.parts) (model_of s.parts p) (expanded s (take i children)) name (term_after a xs (symbol name))) (sym (first-are i))
-            (term-is s p a kept (expanded s (take i children)) name (subst (λ xs. BeginsBy s p xs) ends begun)),
+              (term-is s p a kept (expanded s (take i children)) name (subst (λ xs. BeginsBy s p xs) ends begun)),
         )
     by-tests true false e f = inr ((λ own before. false≢true (sym f ∙ (begins-at (suc i)).1 (found.before-begins s p children (stuck_in (Some a) symbols) place i before))), first-is s p a kept name)
     by-tests false begun e f = inr ((λ own before. false≢true (sym e ∙ (ambivalent-is s p a kept name).1 own)), first-is s p a kept name)
