@@ -1,6 +1,6 @@
 //! Nodes by number, linked.
 
-ghost use Rattle.std.specs.Prelude.{◌≡◌, ◌≢◌, ℕ, ◌+◌, ◌^◌, ◌<◌, ◌≤◌, ◌++◌, [], ◌∷◌, length, map, drop, take, find, slice_get, None, Some, OnOk, OnErr, IfOk};
+ghost use Rattle.std.specs.Prelude.{◌≡◌, ◌≢◌, ℕ, ◌+◌, ◌^◌, ◌<◌, ◌≤◌, ◌++◌, [], ◌∷◌, length, map, drop, take, filter, find, slice_get, None, Some, OnOk, OnErr, IfOk};
 ghost use Rattle.std.specs.Option.{option_map, option_and_then, option_copied};
 ghost use Rattle.child_trees.specs.Lists.{Entry, IsLive, IsUpTo, IsEntryOf, acts_along};
 ghost use Rattle.doc_nodes.specs.Firsts.{no_child, first_found};
@@ -89,6 +89,18 @@ fn child_of(lists: &Seqs<Firsts>, item: ItemId) -> u32
     match lists.act(item, NO_CHILD, &mut Steps::new(Silent)).child {
         Some(child) => child,
         None => unreachable!(),
+    }
+}
+
+/// The element that has this place among the elements of a list, counted from 0.
+fn nth_element(lists: &Seqs<Firsts>, list: SeqId, place: u32) -> Option<u32>
+    requires live { IsLive lists.now list }
+    requires full { (e : Entry First) → Has e (entries lists.now list) → e.act.child ≡ Some (number_of e) }
+    ensures { result ≡ slice_get (numbers (filter (λ e. e.marked) (entries lists.now list))) place }
+{
+    match lists.nth_marked(list, place) {
+        None => None,
+        Some(item) => Some(child_of(lists, item)),
     }
 }
 
@@ -266,6 +278,29 @@ impl NodeLinks {
                     None
                 }
             }
+        }
+    }
+
+    /// The child element that has this place among the child elements of a node, counted from 0; `None` where there is none.
+    /// It takes steps logarithmic in the number of children.
+    pub fn element_at(&self, number: u32, place: u32) -> Option<u32>
+        ensures element { result ≡ slice_get (filter (is_element_at self.now) (children_by (node self.now number))) place }
+        ensures sound { IsSound self.now }
+    {
+        match self.slots.get(number) {
+            None => None,
+            Some(slot) => nth_element(&self.lists, slot.list, place),
+        }
+    }
+
+    /// How many of the children of a node before a place are elements. It takes steps logarithmic in the number of children.
+    pub fn elements_upto(&self, number: u32, place: u32) -> u32
+        ensures count { result ≡ length (filter (is_element_at self.now) (take place (children_by (node self.now number)))) }
+        ensures sound { IsSound self.now }
+    {
+        match self.slots.get(number) {
+            None => 0,
+            Some(slot) => self.lists.elements_upto(slot.list, place.min(slot.count)),
         }
     }
 

@@ -1,6 +1,6 @@
 //! What is found from a node upwards: the next element, and the scope.
 
-ghost use Rattle.std.specs.Prelude.{◌≡◌, ◌<◌, ◌+◌, ℕ, ◌++◌, map, find, drop, All, length, slice_get, Some, None, OnOk, IfOk};
+ghost use Rattle.std.specs.Prelude.{◌≡◌, ◌<◌, ◌+◌, ℕ, ◌++◌, map, find, filter, take, drop, All, length, slice_get, Some, None, OnOk, IfOk};
 ghost use Rattle.std.specs.Option.{option_map, option_and_then};
 ghost use Rattle.xs_names.specs.Names.{NameTable};
 ghost use Rattle.tree_rows.specs.Forest.{Document};
@@ -50,6 +50,17 @@ pub(crate) fn element_past(links: &NodeLinks, node: u32) -> Option<u32>
         below = parent;
     }
     None
+}
+
+/// How many elements come before a node among the children of its parent.
+pub(crate) fn elements_before(links: &NodeLinks, node: u32) -> Option<u32>
+    ensures before { (p place : ℕ) → IsChildAt links.now p place node → result ≡ Some (length (filter (is_element_at links.now) (take place (children_by (nodes.node links.now p))))) }
+    ensures none { parent_at links.now node ≡ None → result ≡ None }
+    ensures sound { IsSound links.now }
+{
+    let parent = links.parent(node)?;
+    let place = links.place(node)?;
+    Some(links.elements_upto(parent, place))
 }
 
 /// Binds these prefixes, so that the first is the latest.
