@@ -13,4 +13,4 @@ pieces_text p more = lines_text-append (piece_lines p) (pieces_lines more)
 
 pub set_text : (node value : List ℕ) → codes "set " ++ (node ++ (codes " v " ++ (value ++ 10 ∷ []))) ≡ (((codes "set " ++ node) ++ codes " v ") ++ value) ++ 10 ∷ []
 set_text node value = sym (append_assoc ((codes "set " ++ node) ++ codes " v ") value (10 ∷ [])
-  ∙ append_assoc (codes "set " ++ node) (codes " v ") (value ++ 10 ∷ []) ∙ append_assoc (codes "set ") node (codes " v " ++ (value ++ 10 ∷ [])))
+    ∙ append_assoc (codes "set " ++ node) (codes " v ") (value ++ 10 ∷ []) ∙ append_assoc (codes "set ") node (codes " v " ++ (value ++ 10 ∷ [])))

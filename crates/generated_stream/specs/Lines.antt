@@ -12,9 +12,9 @@ item_lines value = codes "(item" ∷ (codes "Av " ++ decimal value) ∷ codes ")
 -- a list of items, each with an attribute v of type xs:unsignedShort
 abbrev pub schema_lines : List (List ℕ)
 schema_lines = codes "schema\tgen" ∷ codes "(xs:schema" ∷ codes "Axmlns:xs http://www.w3.org/2001/XMLSchema" ∷ codes "(xs:element" ∷ codes "Aname list"
-  ∷ codes "(xs:complexType" ∷ codes "(xs:sequence" ∷ codes "(xs:element" ∷ codes "Aname item" ∷ codes "AminOccurs 0" ∷ codes "AmaxOccurs unbounded"
-  ∷ codes "(xs:complexType" ∷ codes "(xs:attribute" ∷ codes "Aname v" ∷ codes "Atype xs:unsignedShort" ∷ codes ")xs:attribute" ∷ codes ")xs:complexType"
-  ∷ codes ")xs:element" ∷ codes ")xs:sequence" ∷ codes ")xs:complexType" ∷ codes ")xs:element" ∷ codes ")xs:schema" ∷ []
+    ∷ codes "(xs:complexType" ∷ codes "(xs:sequence" ∷ codes "(xs:element" ∷ codes "Aname item" ∷ codes "AminOccurs 0" ∷ codes "AmaxOccurs unbounded"
+    ∷ codes "(xs:complexType" ∷ codes "(xs:attribute" ∷ codes "Aname v" ∷ codes "Atype xs:unsignedShort" ∷ codes ")xs:attribute" ∷ codes ")xs:complexType"
+    ∷ codes ")xs:element" ∷ codes ")xs:sequence" ∷ codes ")xs:complexType" ∷ codes ")xs:element" ∷ codes ")xs:schema" ∷ []
 
 abbrev pub piece_lines : Piece → List (List ℕ)
 piece_lines Front = schema_lines ++ codes "document" ∷ codes "(list" ∷ []

@@ -11,7 +11,7 @@ module _ (count : ℕ) where
   -- The edit that is drawn behind a state. Its kind is drawn first, then its node or its place, then its value.
   abbrev pub edit_of : ℕ → ℕ → Piece
   edit_of kind x = if kind == 0 then Set (2 + drawn count x) (drawn 70000 (next x))
-    else if kind == 1 then Insert (drawn count x) (drawn 65536 (next x)) else Remove (2 + drawn count x)
+      else if kind == 1 then Insert (drawn count x) (drawn 65536 (next x)) else Remove (2 + drawn count x)
 
   abbrev pub edit_behind : ℕ → Piece
   edit_behind x = edit_of (drawn 3 (next x)) (next (next x))

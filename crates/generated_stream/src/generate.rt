@@ -5,7 +5,8 @@ ghost use Rattle.generated_stream.specs.Lines.{piece_lines, lines_text, stream_l
 use crate::{Piece, Pieces};
 use xsv_io::{Failed, Part, Sink, write_parts, write_text};
 
-const FRONT: &str = "schema\tgen\n(xs:schema\nAxmlns:xs http://www.w3.org/2001/XMLSchema\n(xs:element\nAname list\n(xs:complexType\n(xs:sequence\n(xs:element\nAname item\nAminOccurs 0\nAmaxOccurs unbounded\n(xs:complexType\n(xs:attribute\nAname v\nAtype xs:unsignedShort\n)xs:attribute\n)xs:complexType\n)xs:element\n)xs:sequence\n)xs:complexType\n)xs:element\n)xs:schema\ndocument\n(list\n";
+const FRONT: &str =
+    "schema\tgen\n(xs:schema\nAxmlns:xs http://www.w3.org/2001/XMLSchema\n(xs:element\nAname list\n(xs:complexType\n(xs:sequence\n(xs:element\nAname item\nAminOccurs 0\nAmaxOccurs unbounded\n(xs:complexType\n(xs:attribute\nAname v\nAtype xs:unsignedShort\n)xs:attribute\n)xs:complexType\n)xs:element\n)xs:sequence\n)xs:complexType\n)xs:element\n)xs:schema\ndocument\n(list\n";
 
 /// Writes the lines of a piece.
 ///

@@ -16,6 +16,6 @@ pub returns-in-Set : goal.returns-in-Set
 returns-in-Set g c = record {
   written = subst (Written g.W.Sink.taken g.W.Sink.faults g.W.Sink.fault_bound c.args.sink.now c.write_parts-in-Set.new.sink c.write_parts-in-Set.result)
       (set_text (decimal c.from-in-Set.result) (decimal c.from-in-Set-2.result)
-        ∙ ap (λ n. lines_text (piece_lines (Set n c.from-in-Set-2.result))) c.from-in-Set.ensures
-        ∙ ap (λ n. lines_text (piece_lines (Set c.in-Set.node n))) c.from-in-Set-2.ensures ∙ sym (ap (λ p. lines_text (piece_lines p)) c.in-Set.is)) c.write_parts-in-Set.ensures.written;
+      ∙ ap (λ n. lines_text (piece_lines (Set n c.from-in-Set-2.result))) c.from-in-Set.ensures
+      ∙ ap (λ n. lines_text (piece_lines (Set c.in-Set.node n))) c.from-in-Set-2.ensures ∙ sym (ap (λ p. lines_text (piece_lines p)) c.in-Set.is)) c.write_parts-in-Set.ensures.written;
 }
