@@ -6,7 +6,7 @@ help:
 	@echo 'make try    builds the program without proof, as out/xsv: three to ten minutes'
 	@echo 'make test   tries out/xsv on all streams of examples/streams, and the tools: under a minute'
 	@echo 'make prove  proves the program and builds it, as out/xsv: one to three hours, minutes where the kit kept what it proved'
-	@echo 'make pages  makes the pages anew that tools make: the table of sizes in docs/MAP.md, and docs/chapters'
+	@echo 'make pages  makes the pages anew that tools make: the rooms of crates, the table of sizes in docs/MAP.md, and docs/chapters'
 	@echo 'make gate   proves and tests everything, as .ci/run does: one to three hours, minutes where the kit kept what it proved'
 
 # tools/build keeps a program that is newer than all sources.
@@ -25,5 +25,6 @@ gate:
 	.ci/run
 
 pages:
+	tools/rooms --write
 	tools/sizes --write
 	tools/chapters --write

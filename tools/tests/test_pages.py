@@ -1,4 +1,4 @@
-"""tools/sizes, compare and build, and what the pages say of commands."""
+"""tools/sizes, rooms, compare and build, and what the pages say of commands."""
 import os
 import re
 import shutil
@@ -45,6 +45,39 @@ class Sizes(Case):
 
     def test_those_of_the_repository(self):
         self.assertEqual(self.tool('sizes')[0], 0)
+
+
+class Rooms(Case):
+    def copy(self):
+        top = os.path.join(self.folder, 'top')
+        shutil.copytree(os.path.join(TOP, 'tools'), os.path.join(top, 'tools'))
+        self.put('top/crates.txt', '# Ground.\n# The first.\na: std\n# The second.\nb: a\n')
+        self.put('top/crates/a/README.md', '# a\n\nWords.\n')
+        self.put('top/crates/a/specs/Lib.antt', 'pub mod Z\n')
+        self.put('top/crates/a/specs/Z.antt', '')
+        self.put('top/crates/b/README.md', '# b\n\n## Callers and definitions\n\nOld.\n')
+        self.put('top/crates/README.md', '# Plan\n\n- **`a`**: old\n- **`gone`**: old\n\nBehind.\n')
+        return top
+
+    def test_pages(self):
+        top = self.copy()
+        self.assertEqual(self.tool('rooms', '--check', top=top)[0], 1)
+        self.assertEqual(self.tool('rooms', '--write', top=top)[0], 0)
+        self.assertEqual(self.tool('rooms', '--check', top=top)[0], 0)
+        rows = ['- **`a`**: The first. Named by `b`. Definitions: `Z`.', '- **`b`**: The second. Nothing names it.']
+        self.assertEqual(self.tool('rooms', top=top)[1], '\n'.join(['# Plan', '', *rows, '', 'Behind.', '']))
+        for crate, text in ('a', '# a\n\nWords.\n\n## Callers and definitions\n\nNamed by `b`. Its definitions, which a reader of contracts trusts, are in `specs/`: `Z`.\n'), ('b', '# b\n\n## Callers and definitions\n\nNo crate names it. It has no definitions of its own.\n'):
+            with open(os.path.join(top, 'crates', crate, 'README.md'), encoding='utf-8') as file:
+                self.assertEqual(file.read(), text)
+
+    def test_words(self):
+        self.says('rooms', 'x', status=64, error='rooms: the words are')
+        top = self.copy()
+        os.remove(os.path.join(top, 'crates', 'b', 'README.md'))
+        self.says('rooms', status=66, error='crates/b/README.md: ', top=top)
+
+    def test_those_of_the_repository(self):
+        self.assertEqual(self.tool('rooms', '--check')[0], 0)
 
 
 class Compare(Case):
