@@ -1,4 +1,3 @@
-mod Entries
-mod Changed
 pub mod Accepted
-pub mod Standing
+pub mod Edits
+mod Entries

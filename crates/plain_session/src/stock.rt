@@ -3,7 +3,7 @@
 ghost use Rattle.std.specs.Prelude.{◌≡◌, IfOk, OnOk};
 ghost use Rattle.tree_names.specs.Found.{HasNames};
 ghost use Rattle.session_model.specs.State.{with_names};
-ghost use Rattle.compiled_schema.specs.Usable.{IsUsable};
+ghost use Rattle.compiled_schema.specs.Usable.{IsUsable, set_of};
 ghost use Rattle.plain_session.specs.Stocks.{IsReady, IsStock};
 
 use compiled_schema::{Compiled, usable_with_more_names};
@@ -51,7 +51,7 @@ pub(crate) fn take_stock(
 ) -> Result<Stock, AllocError>
     requires ready { IsReady set.old }
     ensures ready { OnOk result (IsReady set.new) }
-    ensures named { OnOk result (set.new ≡ with_names set.old tree.now.forest) }
+    ensures named { OnOk result (set_of set.new ≡ with_names (set_of set.old) tree.now.forest) }
     ensures stock { IfOk result (IsStock set.new tree.now) }
 {
     document_names_are_found();
@@ -72,7 +72,7 @@ pub(crate) fn first_stock(
 ) -> Result<Stock, AllocError>
     requires usable { IsUsable set.old }
     ensures ready { OnOk result (IsReady set.new) }
-    ensures named { OnOk result (set.new ≡ with_names set.old tree.now.forest) }
+    ensures named { OnOk result (set_of set.new ≡ with_names (set_of set.old) tree.now.forest) }
     ensures stock { IfOk result (IsStock set.new tree.now) }
 {
     // Who reads a table of names is told that it is sound.

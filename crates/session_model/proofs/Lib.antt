@@ -3,3 +3,5 @@ mod Found
 mod FewCodes
 mod NamedEntries
 mod FewEntries
+pub mod Telling
+pub mod Walking
