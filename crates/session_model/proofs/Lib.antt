@@ -5,3 +5,4 @@ mod NamedEntries
 mod FewEntries
 pub mod Telling
 pub mod Walking
+pub mod Lines

@@ -1,7 +1,9 @@
 -- How the lines of a report are told, one after another.
-use Rattle.std.proofs.Common.{◌≡◌, ◌==◌, ◌-◌, ◌++◌, ℕ, zero, suc, List, [], ◌∷◌, Bool, true, false, length, Option, Some, None, Result, Ok, Err, refl, sym, ap, ◌∙◌, subst, append_assoc, arith}
+use Rattle.std.proofs.Common.{◌≡◌, ◌≤◌, ◌==◌, ◌-◌, ◌++◌, ℕ, zero, suc, List, [], ◌∷◌, Bool, true, false, length, Option, Some, None, Result, Ok, Err, refl, sym, ap, ◌∙◌, subst, append_assoc, arith}
 use Rattle.std.specs.Prelude.{◌&&◌, not, take, filter, if◌then◌else◌, OnOk}
 use Rattle.std.proofs.lemmas.Bool.Decides.{nat_tests}
+use Rattle.std.proofs.KnownBytes.{Appends-nil}
+use Rattle.xsv_io.specs.Written.{Written}
 use Rattle.xs_codes.specs.declared.fault.Found.{Found}
 use Rattle.session_model.specs.Reports.{Line, has_code, lines_text, told_lines}
 use Rattle.session_model.specs.inside.Telling.{is_told, told_text, left_behind, left_all, text_of}
@@ -27,7 +29,7 @@ pub line-then : (left : Option ℕ) (l : Line) (later : List Line) → text_of l
 line-then None l later = refl
 line-then (Some most) l later = counted (has_code l) most l later
 
-no-lines : (left : Option ℕ) → text_of left [] ≡ []
+pub no-lines : (left : Option ℕ) → text_of left [] ≡ []
 no-lines None = refl
 no-lines (Some zero) = refl
 no-lines (Some (suc m)) = refl
@@ -40,5 +42,14 @@ lines-then left (l ∷ lines) later =
     ∙ (sym (append_assoc (told_text left l) (text_of (left_behind left l.codes) lines) (text_of (left_all (left_behind left l.codes) lines) later))
     ∙ ap (λ (t : List ℕ). t ++ text_of (left_all (left_behind left l.codes) lines) later) (sym (line-then left l lines))))
 
-pub no-more : (left : Option ℕ) → text_of left [] ≡ []
-no-more = no-lines
+-- ---- what was written of a line
+
+pub told-yes : (left : Option ℕ) (l : Line) → is_told left l.codes ≡ true → l.text ≡ told_text left l
+told-yes left l is = ap (λ (told : Bool). if told then l.text else []) (sym is)
+
+pub told-no : (left : Option ℕ) (l : Line) → is_told left l.codes ≡ false → [] ≡ told_text left l
+told-no left l is = ap (λ (told : Bool). if told then l.text else []) (sym is)
+
+-- nothing was written
+pub nothing-written : {W E : Type 0} (taken : W → Option (List ℕ)) (faults : W → ℕ) (bound : W → Option ℕ) (sink : W) → Written {W = W} {E = E} taken faults bound sink sink (Ok tt) []
+nothing-written taken faults bound sink = record { all = Appends-nil (taken sink); front = tt; cause = record { later = omega arith; failed = tt }; kept = refl }

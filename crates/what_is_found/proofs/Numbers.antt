@@ -23,7 +23,7 @@ module _ (s : SchemaSet) (b : Beside) where
       let under = times-within key children (scope_in s.names bindings scope) a.1 a.2 a.6 in
       let behind = times-within key next scope (other_pairs pairs) a.3 a.7 in
       let parts = append-times key (entries a.2) (entries a.3) in
-      let own : (if a.0.number == key then 1 else 0) ≡ (if number == key then 1 else 0) = ap (λ (n : ℕ). if n == key then 1 else 0) a.5.number_is in
+      let own : ◌≡◌ {A = ℕ} (if a.0.number == key then 1 else 0) (if number == key then 1 else 0) = ap (λ (n : ℕ). if n == key then 1 else 0) a.5.number_is in
       let all : times_found key (a.0 ∷ (entries a.2 ++ entries a.3)) ≤ times key (element number name bindings attributes children next) = omega (arith, under, behind, parts, own) in
       subst (λ (x : Assessed). times_found key (entries x) ≤ times key (element number name bindings attributes children next)) (sym a.4) all
 
