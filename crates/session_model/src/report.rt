@@ -11,15 +11,14 @@ ghost use Rattle.session_model.specs.inside.Telling as telling;
 ghost use Rattle.session_model.specs.inside.Telling.{element_line_of, lines_of, told_text, text_of, left_all};
 
 use crate::Session;
-use assess_records::{AttrRecord, ElementRecord};
+use assess_records::{AttrRecord, Codes, ElementRecord};
 use compiled_schema::Compiled;
 use report_text::{Records, write_attr, write_record};
 use what_is_found::{each_element_is_found_once, the_root_is_found_first};
-use xs_codes::Found;
 use xsv_io::{Failed, Sink};
 
 /// Whether a line with these codes is told, where so many more may be: each line where it is not said how many.
-fn is_told(left: Option<u32>, codes: &[Found]) -> bool
+fn is_told(left: Option<u32>, codes: &Codes) -> bool
     ensures { result ≡ telling.is_told left codes.now }
 {
     match left {
@@ -29,7 +28,7 @@ fn is_told(left: Option<u32>, codes: &[Found]) -> bool
 }
 
 /// How many more lines may be told behind one with these codes.
-fn left_behind(left: Option<u32>, codes: &[Found]) -> Option<u32>
+fn left_behind(left: Option<u32>, codes: &Codes) -> Option<u32>
     ensures { result ≡ telling.left_behind left codes.now }
 {
     match left {
@@ -55,7 +54,7 @@ fn tell_element<W: Sink>(
     requires named { IsNamed set.now.names set.now.parts record.now.name record.now.of }
     ensures written { Written W.taken W.faults W.fault_bound sink.old sink.new result (told_text left (element_line_of (set_of set.now) node record.now)) }
 {
-    if is_told(left, record.codes.as_slice()) {
+    if is_told(left, &record.codes) {
         write_record(sink, &set.names, &set.parts, node, record)
     } else {
         Ok(())
@@ -73,7 +72,7 @@ fn tell_attr<W: Sink>(
     requires named { IsNamed set.now.names set.now.parts record.now.name record.now.of }
     ensures written { Written W.taken W.faults W.fault_bound sink.old sink.new result (told_text left (attr_line_of (set_of set.now) node record.now)) }
 {
-    if is_told(left, record.codes.as_slice()) {
+    if is_told(left, &record.codes) {
         write_attr(sink, &set.names, &set.parts, node, record)
     } else {
         Ok(())
@@ -95,7 +94,7 @@ fn tell_attrs<W: Sink>(
     let mut rest = attrs;
     'attrs: while let Some((record, more)) = rest.split_first() {
         tell_attr(sink, set, node, record, *left)?;
-        *left = left_behind(*left, record.codes.as_slice());
+        *left = left_behind(*left, &record.codes);
         rest = more;
     }
     Ok(())
@@ -116,7 +115,7 @@ fn tell_records<W: Sink>(
     ensures left { OnOk result (left.new ≡ left_all left.old (lines_of (set_of set.now) node records.entry.element.now records.entry.attrs.now)) }
 {
     tell_element(sink, set, node, records.element, *left)?;
-    *left = left_behind(*left, records.element.codes.as_slice());
+    *left = left_behind(*left, &records.element.codes);
     tell_attrs(sink, set, node, records.attrs, left)
 }
 

@@ -10,7 +10,7 @@ use Rattle.session_model.proofs.report.write_report.Goals as goal
 pub elements-init : goal.elements-init
 elements-init g c =
     let s = g.S.Session.state c.args.session.now in
-    let first = c.the_root_is_found_first.ensures.first s.set s.document s.found (c.compiled-_set.ensures.found c.requires) in
+    let first = c.the_root_is_found_first.ensures.first s.set s.document s.found (c.compiled-set.ensures.found c.requires) in
     record { walks = walks-first s c.args.most (g.W.Sink.taken c.args.sink.now) first.0 first.1 first.2 first.3; later = omega arith; kept = refl }
 
 pub returns-in_err-tell_entry : goal.returns-in_err-tell_entry
@@ -18,7 +18,7 @@ returns-in_err-tell_entry g c =
     let s = g.S.Session.state c.args.session.now in
     let old = g.W.Sink.taken c.args.sink.now in
     let before = c.elements.invariant in
-    let once = c.each_element_is_found_once.ensures.once s.set s.document s.found (c.compiled-_set.ensures.found c.requires) in
+    let once = c.each_element_is_found_once.ensures.once s.set s.document s.found (c.compiled-set.ensures.found c.requires) in
     let n = walks-on s c.args.most old (g.W.Sink.taken c.elements.sink) c.elements.left c.elements.next c.in-Some.node c.in-Some.is before.walks in
     let w = c.in_err-tell_entry.ensures.written n.own (entry-next s c.args.most old (g.W.Sink.taken c.elements.sink) c.elements.left once c.in-Some.node n) in
     record {
@@ -33,7 +33,7 @@ elements-preserved g c =
     let old = g.W.Sink.taken c.args.sink.now in
     let now = g.W.Sink.taken c.elements.sink in
     let before = c.elements.invariant in
-    let once = c.each_element_is_found_once.ensures.once s.set s.document s.found (c.compiled-_set.ensures.found c.requires) in
+    let once = c.each_element_is_found_once.ensures.once s.set s.document s.found (c.compiled-set.ensures.found c.requires) in
     let n = walks-on s c.args.most old now c.elements.left c.elements.next c.in-Some.node c.in-Some.is before.walks in
     let at = entry-next s c.args.most old now c.elements.left once c.in-Some.node n in
     let w = c.in_ok-tell_entry.ensures.written n.own at in
@@ -50,7 +50,7 @@ elements-smaller g c =
     let s = g.S.Session.state c.args.session.now in
     let old = g.W.Sink.taken c.args.sink.now in
     let now = g.W.Sink.taken c.elements.sink in
-    let once = c.each_element_is_found_once.ensures.once s.set s.document s.found (c.compiled-_set.ensures.found c.requires) in
+    let once = c.each_element_is_found_once.ensures.once s.set s.document s.found (c.compiled-set.ensures.found c.requires) in
     let n = walks-on s c.args.most old now c.elements.left c.elements.next c.in-Some.node c.in-Some.is c.elements.invariant.walks in
     walks-smaller s c.args.most old now c.elements.left once c.in-Some.node n c.node_after.result (c.node_after.ensures c.requires)
 
