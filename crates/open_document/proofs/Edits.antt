@@ -22,11 +22,9 @@ use Rattle.told.proofs.Saying.{said_answers, free_answers, looked_answers, looks
 use Rattle.open_document.specs.Replies.{refusal, made_reply, made_said, edit_told}
 use Rattle.open_document.specs.State.{OpenState, with_session}
 
-up-to : (n m k : ℕ) → Counts n m k → m ≤ n + k
-up-to n m k h = h.few
-
-none-more : (n m : ℕ) → m ≡ n → n ≤ m
-none-more n m h = omega arith
+-- the text of a refusal
+pub refusal-is : (n k : ℕ) (name word : List ℕ) → n ≡ k → name ≡ word → refusal n name ≡ refusal k word
+refusal-is n k name word e h = λ i. refusal (e i) (h i)
 
 -- the cases of what a session answers, where it is known which it is
 module _ (budget : State → Edit → State → ℕ) (old : State) (edit : Edit) (new : State) (n m : ℕ) (x : SessionError) where

@@ -5,6 +5,8 @@ use Rattle.edit_script.specs.declared.command.Command.TheVariants as commands
 use Rattle.edit_script.specs.declared.command.ScriptFault.{ScriptFault}
 use Rattle.told.proofs.Saying.{free_answers}
 use Rattle.told.specs.Going.{Answers, trace}
+use Rattle.told.specs.Tells.{Wrote}
+use Rattle.open_document.proofs.Edits.{refusal-is}
 use Rattle.open_document.specs.Replies.{refusal, assess_reply, total_reply, line_told}
 use Rattle.open_document.specs.State.{with_session}
 use Rattle.open_document.proofs.line.answer_read.Goals as goal
@@ -40,4 +42,7 @@ returns-in-Err-clause-answers g c = λ s next.
     subst (λ (read : Result Command ScriptFault). Answers (line_told g.S.Session.budget (with_session s x) read next) c.write_refusal.result
     (trace (g.W.Sink.taken c.args.sink.now) c.args.steps.now) (trace (g.W.Sink.taken c.write_refusal.new.sink) c.args.steps.now) (λ done. next (with_session s x))) (sym c.in-Err.is)
     (free_answers (refusal (faults.number_of c.in-Err.fault) (faults.name_of c.in-Err.fault)) (λ done. next (with_session s x)) (next (with_session s x)) c.write_refusal.result
-    (g.W.Sink.taken c.args.sink.now) (g.W.Sink.taken c.write_refusal.new.sink) c.args.steps.now (λ done. refl) c.write_refusal.ensures.tells.wrote)
+    (g.W.Sink.taken c.args.sink.now) (g.W.Sink.taken c.write_refusal.new.sink) c.args.steps.now (λ done. refl)
+    (subst (Wrote c.write_refusal.result (g.W.Sink.taken c.args.sink.now) (g.W.Sink.taken c.write_refusal.new.sink))
+    (refusal-is c.number.result (faults.number_of c.in-Err.fault) c.name.result.now (faults.name_of c.in-Err.fault) c.number.ensures c.name.ensures)
+    c.write_refusal.ensures.tells.wrote))

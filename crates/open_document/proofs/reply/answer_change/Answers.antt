@@ -1,7 +1,8 @@
-use Rattle.std.specs.Prelude.{false}
-use Rattle.std.proofs.Common.{◌≡◌, sym, ap, ◌∙◌}
+use Rattle.std.proofs.Common.{ap, subst}
+use Rattle.tree_edits.specs.Refusals as refusals
 use Rattle.session_model.specs.State.{State}
-use Rattle.open_document.proofs.Edits.{made_answers, refused_answers, broken_answers, refused_of, memory_of}
+use Rattle.told.specs.Tells.{Wrote}
+use Rattle.open_document.proofs.Edits.{refusal-is, made_answers, refused_answers, broken_answers, refused_of, memory_of}
 use Rattle.open_document.proofs.reply.answer_change.Goals as goal
 
 pub answer_made-requires : goal.answer_made-requires
@@ -21,7 +22,10 @@ returns-in-Err-Refused-clause-answers g c = λ s next.
     let gone = refused_of g.S.Session.budget old c.args.edit.now new c.args.steps.now c.apply.new.steps c.in-Err-Refused.field-0 c.in-Err-Refused.refused c.in-Err-Refused.field-0-is
     c.in-Err-Refused.ensures.applies c.in-Err-Refused.ensures.spends in
     refused_answers g.S.Session.budget s old c.args.edit.now next c.write_refusal.result (g.W.Sink.taken c.args.sink.now) (g.W.Sink.taken c.write_refusal.new.sink) c.args.steps.now c.apply.new.steps
-    c.in-Err-Refused.refused new gone c.write_refusal.ensures.tells.wrote
+    c.in-Err-Refused.refused new gone
+    (subst (Wrote c.write_refusal.result (g.W.Sink.taken c.args.sink.now) (g.W.Sink.taken c.write_refusal.new.sink))
+    (refusal-is c.number.result (refusals.number_of c.in-Err-Refused.refused) c.name.result.now (refusals.name_of c.in-Err-Refused.refused) c.number.ensures c.name.ensures)
+    c.write_refusal.ensures.tells.wrote)
 
 pub returns-in-Err-Memory-clause-answers : goal.returns-in-Err-Memory-clause-answers
 returns-in-Err-Memory-clause-answers g c = λ s next.

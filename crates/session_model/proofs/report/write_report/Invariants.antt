@@ -4,7 +4,7 @@ use Rattle.session_model.proofs.report.write_report.Given as goal
 
 abbrev pub invariant-elements : goal.invariant-elements
 invariant-elements g l = record {
-  walks : Walks (g.S.Session.state l.session) l.most (g.W.Sink.taken l.fn.sink) (g.W.Sink.taken l.sink) l.left l.next;
+  walks : Walks (g.S.Session.state l.session) l.fn.most (g.W.Sink.taken l.fn.sink) (g.W.Sink.taken l.sink) l.left l.next;
   later : g.W.Sink.faults l.fn.sink ≤ g.W.Sink.faults l.sink;
   kept : g.W.Sink.fault_bound l.sink ≡ g.W.Sink.fault_bound l.fn.sink;
 }
