@@ -64,7 +64,7 @@ leads_looked set document next found is = inr (found, is, leads_here (next found
 
 -- ---- to one output
 
-abbrev IsOver : Told → Type 0
+abbrev pub IsOver : Told → Type 0
 IsOver (over ending) = Unit {0}
 IsOver (says first more) = ⊥
 IsOver (asks question next) = ⊥

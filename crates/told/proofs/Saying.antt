@@ -1,5 +1,5 @@
 -- One text that is said.
-use Rattle.std.proofs.Common.{◌≡◌, ◌≤◌, ◌+◌, ◌-◌, ℕ, List, [], ◌++◌, take, Option, Result, Ok, Err, refl, sym, ap, ◌∙◌, subst, append-nil, arith}
+use Rattle.std.proofs.Common.{◌≡◌, ◌≤◌, ◌+◌, ◌-◌, ℕ, List, [], ◌++◌, take, Option, Some, Result, Ok, Err, IfOk, refl, sym, ap, ◌∙◌, subst, append-nil, arith}
 use Rattle.std.specs.Io.KnownBytes.{Appends}
 use Rattle.std.proofs.KnownBytes.{Appends-nil, Appends-trans}
 use Rattle.tree_rows.specs.Forest.{Document}
@@ -8,10 +8,11 @@ use Rattle.assessment.specs.Assessment.{Entry}
 use Rattle.what_is_found.specs.IsFound.{IsFound}
 use Rattle.told.specs.Outcomes.{Question, SetOutcome, IsOutcomeOf}
 use Rattle.told.specs.Told.{Said, free, silent, joined, Told, over, says, asks, looks, Leads, CostsNow, CostsNext}
-use Rattle.told.specs.Going.{Trace, trace, Goes, Breaks, Answers}
+use Rattle.told.specs.Going.{Trace, trace, Goes, Breaks, Answers, Ends}
 use Rattle.told.specs.Tells.{Wrote}
 use Rattle.told.specs.declared.break_off.BreakOff.{BreakOff}
 use Rattle.told.specs.declared.break_off.BreakOff.TheVariants.{Memory, WriteFault}
+use Rattle.told.specs.declared.ending.Ending.{Ending}
 use Rattle.told.proofs.Leading.{leads_here, leads_says, leads_asked, leads_looked}
 use Rattle.told.proofs.Going.{answers_behind}
 
@@ -34,11 +35,11 @@ stays : (a b : Option (List ℕ)) → b ≡ a → Appends a b []
 stays a b is = subst (λ (x : Option (List ℕ)). Appends a x []) (sym is) (Appends-nil a)
 
 -- a text was said, or memory was wanting for it, or a front of it was written; and steps were counted for it
-pub said_answers : {T : Type 0} (said : Said) (after : T → Told) (u : Told) (r : Result T BreakOff) (old new : Option (List ℕ)) (n m : ℕ)
-    → ((x : T) → after x ≡ u) → Wrote r old new said.text → n ≤ m → m ≤ n + said.cost → Answers (says said u) r (trace old n) (trace new m) after
-said_answers said after u (Ok x) old new n m is w later few =
-    record { said = said; leads = subst (Leads (says said u) said) (sym (is x)) (leads_says said u); wrote = w; later = later; few = few }
-said_answers said after u (Err Memory) old new n m is w later few = record {
+pub said_where : {T : Type 0} (said : Said) (after : T → Told) (u : Told) (r : Result T BreakOff) (old new : Option (List ℕ)) (n m : ℕ)
+    → IfOk r (λ x. after x ≡ u) → Wrote r old new said.text → n ≤ m → m ≤ n + said.cost → Answers (says said u) r (trace old n) (trace new m) after
+said_where said after u (Ok x) old new n m is w later few =
+    record { said = said; leads = subst (Leads (says said u) said) (sym is) (leads_says said u); wrote = w; later = later; few = few }
+said_where said after u (Err Memory) old new n m is w later few = record {
   said = silent;
   rest = says said u;
   part = [];
@@ -50,7 +51,7 @@ said_answers said after u (Err Memory) old new n m is w later few = record {
   later = later;
   few = within_next n m said.cost few;
 }
-said_answers said after u (Err WriteFault) old new n m is w later few = record {
+said_where said after u (Err WriteFault) old new n m is w later few = record {
   said = silent;
   rest = says said u;
   part = take w.0 said.text;
@@ -64,9 +65,29 @@ said_answers said after u (Err WriteFault) old new n m is w later few = record {
 }
 
 -- a text that costs no step
+pub free_where : {T : Type 0} (text : List ℕ) (after : T → Told) (u : Told) (r : Result T BreakOff) (old new : Option (List ℕ)) (n : ℕ)
+    → IfOk r (λ x. after x ≡ u) → Wrote r old new text → Answers (says (free text) u) r (trace old n) (trace new n) after
+free_where text after u r old new n is w = said_where (free text) after u r old new n n is w (none_less n n refl) (no_more n n refl)
+
+if_always : {T : Type 0} (after : T → Told) (u : Told) (r : Result T BreakOff) → ((x : T) → after x ≡ u) → IfOk r (λ x. after x ≡ u)
+if_always after u (Ok x) h = h x
+if_always after u (Err why) h = tt
+
+-- the same is told behind each answer
+pub said_answers : {T : Type 0} (said : Said) (after : T → Told) (u : Told) (r : Result T BreakOff) (old new : Option (List ℕ)) (n m : ℕ)
+    → ((x : T) → after x ≡ u) → Wrote r old new said.text → n ≤ m → m ≤ n + said.cost → Answers (says said u) r (trace old n) (trace new m) after
+said_answers said after u r old new n m is w later few = said_where said after u r old new n m (if_always after u r is) w later few
+
 pub free_answers : {T : Type 0} (text : List ℕ) (after : T → Told) (u : Told) (r : Result T BreakOff) (old new : Option (List ℕ)) (n : ℕ)
     → ((x : T) → after x ≡ u) → Wrote r old new text → Answers (says (free text) u) r (trace old n) (trace new n) after
-free_answers text after u r old new n is w = said_answers (free text) after u r old new n n is w (none_less n n refl) (no_more n n refl)
+free_answers text after u r old new n is w = free_where text after u r old new n (if_always after u r is) w
+
+-- the last text
+pub free_ends : (text : List ℕ) (ending : Ending) (r : Result Ending BreakOff) (old new : Option (List ℕ)) (n : ℕ)
+    → IfOk r (λ given. given ≡ ending) → Wrote r old new text → Ends (says (free text) (over (Some ending))) r (trace old n) (trace new n)
+free_ends text ending (Ok given) old new n is w =
+    free_where text (λ e. over (Some e)) (over (Some ending)) (Ok given) old new n (ap (λ e. over (Some e)) is) w
+free_ends text ending (Err why) old new n is w = free_where text (λ e. over (Some e)) (over (Some ending)) (Err why) old new n tt w
 
 -- memory was wanting before anything was said, and nothing was counted
 pub none_breaks : (t u : Told) (a : Trace) → Leads t silent u → CostsNext u 0 → Breaks t Memory a a
