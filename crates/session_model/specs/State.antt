@@ -1,18 +1,10 @@
 -- What contracts see of a session.
 use Rattle.std.specs.Prelude.{◌≡◌, ℕ, ◌+◌, ◌-◌, ◌^◌, min, List, Bool, false}
 use Rattle.tree_rows.specs.Forest.{Forest, Document}
-<<<<<<< HEAD
-use Rattle.compiled_schema.specs.Usable.{set_of}
-use Rattle.compiled_schema.specs.declared.compiled.Compiled.{Compiled}
-use Rattle.assessment.specs.Assessment.{Entry, entries}
-use Rattle.tree_names.specs.Table.{document_table}
-use Rattle.session_model.specs.Assessor.{RightAssessor}
-=======
 use Rattle.assessment.specs.Attribution.{SchemaSet}
 use Rattle.assessment.specs.Assessment.{Entry}
 use Rattle.tree_names.specs.Table.{document_table}
 use Rattle.what_is_found.specs.IsFound.{IsFound}
->>>>>>> 094760de (What is found of a document stands in a session's state; replies are told for whatever is told behind them)
 
 -- The schema set, whose table of names has those of the document, the document, what is found out about its elements, in document order, how
 -- many edits were made, and whether want of memory has closed it. What is found is the assessment of the present document by the set while it

@@ -1,10 +1,6 @@
 use Rattle.std.proofs.Common.{sym, subst}
-<<<<<<< HEAD
-use Rattle.tree_names.specs.Found.{HasNames}
-=======
 use Rattle.tree_names.specs.Found.{HasNames}
 use Rattle.plain_session.proofs.Known.{set_named}
->>>>>>> 094760de (What is found of a document stands in a session's state; replies are told for whatever is told behind them)
 use Rattle.plain_session.proofs.stock.take_stock.Goals as goal
 
 pub assessed-requires : goal.assessed-requires
