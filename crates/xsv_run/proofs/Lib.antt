@@ -1,5 +1,4 @@
 pub mod Digits
-pub mod Tracing
 pub mod Telling
 pub mod Items
 pub mod Going
