@@ -157,7 +157,11 @@ impl Stream {
 
     /// Lets go of it.
     pub fn close(self) {
-        let Stream { place, work, .. } = self;
+        let Stream {
+            asked: _,
+            place,
+            work,
+        } = self;
         work.close();
         drop(place);
     }

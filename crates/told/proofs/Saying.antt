@@ -154,7 +154,3 @@ pub asked_answers : {T : Type 0} (question : Question) (next : SetOutcome → To
     → IsOutcomeOf question o → Answers (next o) r a b after → Answers (asks question next) r a b after
 asked_answers question next o r a b after is h =
     answers_behind (asks question next) (next o) r a b after (leads_asked question next o is) h
-
--- memory was wanting where nothing was done, whatever the answer is called
-pub lacking_answers : {T : Type 0} (t : Told) (r : Result T BreakOff) (a : Trace) (after : T → Told) → r ≡ Err Memory → Answers t r a a after
-lacking_answers t r a after is = subst (λ (x : Result T BreakOff). Answers t x a a after) (sym is) (memory_breaks t a)

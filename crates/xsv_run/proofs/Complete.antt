@@ -1,5 +1,5 @@
 -- Streams of which no line is refused, and that there is one output.
-use Rattle.std.proofs.Common.{◌≡◌, ◌⊎◌, inl, inr, ℕ, List, ◌++◌, Bool, true, Option, Some, None, refl, sym, ap, ◌∙◌, subst}
+use Rattle.std.proofs.Common.{◌≡◌, ◌⊎◌, inl, inr, ℕ, ◌+◌, List, ◌++◌, Bool, true, Option, Some, None, refl, sym, ap, ◌∙◌, subst, arith}
 use Rattle.std.specs.Option.{option_map}
 use Rattle.item_listing.specs.Listed.{listed}
 use Rattle.item_listing.specs.State.{unread}
@@ -8,21 +8,25 @@ use Rattle.tree_rows.specs.Forest.{Document}
 use Rattle.assessment.specs.Attribution.{SchemaSet}
 use Rattle.assessment.specs.Assessment.{Entry}
 use Rattle.what_is_found.specs.IsFound.{IsFound}
+use Rattle.session_model.specs.State.{with_names}
 use Rattle.told.specs.Outcomes.{Question, SetOutcome, accepted, broken, not_yet, IsOutcomeOf}
 use Rattle.told.specs.Told.{Said, free, silent, joined, Told, over, says, asks, Leads}
 use Rattle.told.specs.declared.ending.Ending.{Ending}
 use Rattle.told.specs.declared.ending.Ending.TheVariants as endings
-use Rattle.told.proofs.Leading.{IsOver, silent_last, leads_here, leads_says, leads_to_one}
+use Rattle.told.proofs.Leading.{IsOver, leads_says, leads_to_one}
+use Rattle.open_document.specs.Answers.{opened, opening_cost}
+use Rattle.open_document.specs.State.{OpenState}
 use Rattle.stream_sections.specs.Sections as sections
-use Rattle.stream_sections.specs.Spelled.{whole, given, Order, SpellsCheck, SpellsStream}
+use Rattle.stream_sections.specs.Spelled.{whole, given, has_document, Order, SpellsCheck, SpellsStream}
 use Rattle.stream_sections.specs.declared.asked.Asked.{Asked}
 use Rattle.stream_sections.specs.declared.asked.Asked.TheVariants.{Check, Assess, Session}
 use Rattle.stream_sections.specs.declared.schemas.SchemaSection.{SchemaSection}
 use Rattle.stream_answers.specs.Faults.{fault_line, fault_ending}
-use Rattle.stream_answers.specs.Output.{ends, schema_ok, not_yet_line, question_of, compiled_told, check_told, opened_told, opening_told, commands_told, stream_told, sections_told}
+use Rattle.stream_answers.specs.Output.{ends, schema_ok, not_yet_line, question_of, compiled_told, check_told, opening, opened_told, commands_told, stream_told, sections_told}
 use Rattle.xsv_run.specs.Statuses.{status_of}
 use Rattle.xsv_run.specs.Output.{Output, ComesTo, IsOutput, output_of, told_of}
-use Rattle.xsv_run.specs.Complete.{IsByOutcome, IsCheckOutput, IsStreamOutput, answer, check_output}
+use Rattle.xsv_run.specs.Complete.{IsByOutcome, IsCheckOutput, IsStreamOutput, answer, answered_output}
+use Rattle.xsv_run.proofs.Replies.{says_back, says_on, last_back, last_said, last_ending, commands_back, commands_on}
 
 -- ---- one output
 
@@ -54,19 +58,12 @@ module _ (question : Question) (next : SetOutcome → Told) (out : Output) where
 -- ---- one text
 
 module _ (text : List ℕ) (ending : Ending) where
-  last_by : (out : Output) (said : Said) (given_ending : Option Ending) → Leads (ends text ending) said (over given_ending) → out ≡ output_of said given_ending
-      → out ≡ answer text (status_of ending)
-  last_by out said given_ending (inl h) is = absurd (subst IsOver h.1 tt)
-  last_by out said given_ending (inr h) is =
-      let same : over given_ending ≡ over (Some ending) = h.1.1 in
-      let ended : given_ending ≡ Some ending = cc in
-      let whole_text : said ≡ free text = h.2 ∙ (ap (joined (free text)) h.1.0 ∙ silent_last (free text)) in
-      is ∙ (ap (λ (s : Said). output_of s given_ending) whole_text ∙ ap (output_of (free text)) ended)
+  last_is : (out : Output) → ComesTo (ends text ending) out → out ≡ answer text 0 (status_of ending)
+  last_is out h =
+      let one = last_back text ending h.said h.ending h.leads in
+      h.output_is ∙ (ap (λ (x : Said). output_of x h.ending) one.0 ∙ ap (output_of (free text)) one.1)
 
-  last_is : (out : Output) → ComesTo (ends text ending) out → out ≡ answer text (status_of ending)
-  last_is out h = last_by out h.said h.ending h.leads h.output_is
-
-  last_comes : (out : Output) → out ≡ answer text (status_of ending) → ComesTo (ends text ending) out
+  last_comes : (out : Output) → out ≡ answer text 0 (status_of ending) → ComesTo (ends text ending) out
   last_comes out is = record { said = free text; ending = Some ending; leads = leads_says (free text) (over (Some ending)); output_is = is }
 
 -- ---- a stream for `check`
@@ -107,21 +104,81 @@ module _ (law : (all : List SchemaSection) (its : List Item) → SpellsCheck all
 abbrev stream_next : Asked → Document → List Order → SetOutcome → Told
 stream_next a d orders = compiled_told (λ set. opened_told a set (sections.document d (given orders)))
 
+module _ (a : Asked) (set : SchemaSet) (d : Document) (orders : List Order) where
+  abbrev said_of : OpenState → Said
+  said_of s = record { text = opening a s; cost = opening_cost d }
+
+  -- all that is said of a document that was opened
+  abbrev whole_said : OpenState → Said → OpenState → Said
+  whole_said s replies last = joined (free schema_ok) (joined (said_of s) (joined replies (last_said last)))
+
+  cost_is : (x y : ℕ) → 0 + (x + (y + 0)) ≡ x + y
+  cost_is x y = omega arith
+
+  output_is : (s : OpenState) (replies : Said) (last : OpenState) → output_of (whole_said s replies last) (Some (last_ending last)) ≡ answered_output a d s replies last
+  output_is s replies last = ap (λ (n : ℕ). answer (whole_said s replies last).text n (status_of (last_ending last))) (cost_is (opening_cost d) replies.cost)
+
+  looked_back : (said : Said) (e : Option Ending) → Leads (opened_told a set (sections.document d (given orders))) said (over e)
+      → (found : List Entry) × IsFound (with_names set d.forest) d found × (rest : Said) × Leads (commands_told (opened set d found) (given orders)) rest (over e)
+      × (said ≡ joined (said_of (opened set d found)) rest)
+  looked_back said e (inl h) = absurd (subst IsOver h.1 tt)
+  looked_back said e (inr h) =
+      let one = says_back (said_of (opened set d h.0)) (commands_told (opened set d h.0) (given orders)) said e h.2 in
+      (h.0, h.1, one.0, one.1, one.2)
+
+  opened_answered : (out : Output) → ComesTo (stream_next a d orders (accepted set)) out → IsStreamOutput a d orders (accepted set) out
+  opened_answered out h =
+      let one = says_back (free schema_ok) (opened_told a set (sections.document d (given orders))) h.said h.ending h.leads in
+      let two = looked_back one.0 h.ending one.1 in
+      let all = commands_back (opened set d two.0) orders two.2 h.ending two.3 in
+      let s = opened set d two.0 in
+      let said_is : h.said ≡ whole_said s all.0 all.1 = one.2 ∙ ap (joined (free schema_ok)) (two.4 ∙ ap (joined (said_of s)) all.3) in
+      (two.0, two.1, all.0, all.1, all.2,
+      h.output_is ∙ (ap (λ (x : Said). output_of x h.ending) said_is ∙ (ap (output_of (whole_said s all.0 all.1)) all.4 ∙ output_is s all.0 all.1)))
+
+  opened_comes : (out : Output) → IsStreamOutput a d orders (accepted set) out → ComesTo (stream_next a d orders (accepted set)) out
+  opened_comes out h =
+      let s = opened set d h.0 in
+      let behind = commands_on s orders h.2 h.3 h.4 in
+      let to : Told = over (Some (last_ending h.3)) in
+      let looked : Leads (opened_told a set (sections.document d (given orders))) (joined (said_of s) (joined h.2 (last_said h.3))) to =
+      inr (h.0, h.1, says_on (said_of s) (commands_told s (given orders)) (joined h.2 (last_said h.3)) to behind) in
+      record {
+        said = whole_said s h.2 h.3;
+        ending = Some (last_ending h.3);
+        leads = says_on (free schema_ok) (opened_told a set (sections.document d (given orders))) (joined (said_of s) (joined h.2 (last_said h.3))) to looked;
+        output_is = h.5 ∙ sym (output_is s h.2 h.3);
+      }
+
+stream_is : (a : Asked) (d : Document) (orders : List Order) (o : SetOutcome) (out : Output) → ComesTo (stream_next a d orders o) out → IsStreamOutput a d orders o out
+stream_is a d orders (accepted set) out h = opened_answered a set d orders out h
+stream_is a d orders (broken fault) out h = last_is (fault_line fault) (fault_ending fault) out h
+stream_is a d orders not_yet out h = last_is not_yet_line endings.Unsupported out h
+
+stream_comes_by : (a : Asked) (d : Document) (orders : List Order) (o : SetOutcome) (out : Output) → IsStreamOutput a d orders o out → ComesTo (stream_next a d orders o) out
+stream_comes_by a d orders (accepted set) out h = opened_comes a set d orders out h
+stream_comes_by a d orders (broken fault) out h = last_comes (fault_line fault) (fault_ending fault) out h
+stream_comes_by a d orders not_yet out h = last_comes not_yet_line endings.Unsupported out h
+
 module _ (law : (a : Asked) (all : List SchemaSection) (d : Document) (orders : List Order) (its : List Item) → SpellsStream a all d orders its
     → sections.with_document a (whole its) ≡ sections.schemas all (sections.document d (given orders))) where
-  sections_are : (a : Asked) (all : List SchemaSection) (d : Document) (orders : List Order) (its : List Item) → SpellsStream a all d orders its
+  -- `check` has no document
+  sections_are : (a : Asked) (all : List SchemaSection) (d : Document) (orders : List Order) (its : List Item) → has_document a ≡ true → SpellsStream a all d orders its
       → sections_told a (whole its) ≡ asks (question_of all) (stream_next a d orders)
-  sections_are Check all d orders its spells = absurd (cc_false spells.asks)
-  sections_are Assess all d orders its spells = ap (stream_told (opened_told Assess)) (law Assess all d orders its spells)
-  sections_are Session all d orders its spells = ap (stream_told (opened_told Session)) (law Session all d orders its spells)
+  sections_are Check all d orders its asks_for spells = cc
+  sections_are Assess all d orders its asks_for spells = ap (stream_told (opened_told Assess)) (law Assess all d orders its spells)
+  sections_are Session all d orders its asks_for spells = ap (stream_told (opened_told Session)) (law Session all d orders its spells)
 
   module _ (a : Asked) (bytes : List ℕ) (its : List Item) (all : List SchemaSection) (d : Document) (orders : List Order) (out : Output)
       (reads : listed unread bytes true ≡ whole its) (spells : SpellsStream a all d orders its) where
     stream_told_is : told_of a bytes true ≡ asks (question_of all) (stream_next a d orders)
-    stream_told_is = told_is a bytes its (asks (question_of all) (stream_next a d orders)) reads (sections_are a all d orders its spells)
+    stream_told_is = told_is a bytes its (asks (question_of all) (stream_next a d orders)) reads (sections_are a all d orders its spells.asks spells)
 
     pub stream_answered : IsOutput (Some a) bytes true out → IsByOutcome all (IsStreamOutput a d orders) out
-    stream_answered h = known (question_of all) (stream_next a d orders) out (subst (λ (t : Told). ComesTo t out) stream_told_is h)
+    stream_answered h =
+        let o = known (question_of all) (stream_next a d orders) out (subst (λ (t : Told). ComesTo t out) stream_told_is h) in
+        (o.0, o.1, stream_is a d orders o.0 out o.2)
 
     pub stream_comes : IsByOutcome all (IsStreamOutput a d orders) out → IsOutput (Some a) bytes true out
-    stream_comes h = subst (λ (t : Told). ComesTo t out) (sym stream_told_is) (asked (question_of all) (stream_next a d orders) out h.0 h.1 h.2)
+    stream_comes h =
+        subst (λ (t : Told). ComesTo t out) (sym stream_told_is) (asked (question_of all) (stream_next a d orders) out h.0 h.1 (stream_comes_by a d orders h.0 out h.2))

@@ -3,4 +3,5 @@ pub mod Telling
 pub mod Items
 pub mod Going
 pub mod Streams
+pub mod Replies
 pub mod Complete

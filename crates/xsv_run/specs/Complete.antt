@@ -1,35 +1,82 @@
 -- What is written for a whole stream of which no line is refused.
-use Rattle.std.specs.Prelude.{◌≡◌, ℕ, List, Option, Some}
+use Rattle.std.specs.Prelude.{◌≡◌, ℕ, ◌+◌, List, [], ◌∷◌, ◌++◌, Option, Some, Result, Ok, Err}
 use Rattle.tree_rows.specs.Forest.{Document}
+use Rattle.tree_edits.specs.Refusals as refusals
+use Rattle.tree_edits.specs.Tests.{edited}
+use Rattle.tree_edits.specs.declared.edit.Edit.{Edit}
+use Rattle.tree_edits.specs.declared.edit.EditError.{EditError}
+use Rattle.edit_script.specs.Commands.{command}
+use Rattle.edit_script.specs.Faults as faults
+use Rattle.edit_script.specs.declared.command.Command.{Command}
+use Rattle.edit_script.specs.declared.command.Command.TheVariants as commands
+use Rattle.edit_script.specs.declared.command.ScriptFault.{ScriptFault}
+use Rattle.assessment.specs.Assessment.{Entry}
+use Rattle.assessment.specs.Attribution.{SchemaSet}
+use Rattle.what_is_found.specs.IsFound.{IsFound}
+use Rattle.session_model.specs.State.{with_names, after_edit}
+use Rattle.plain_session.specs.Costs.{edit_cost}
 use Rattle.told.specs.Outcomes.{SetOutcome, accepted, broken, not_yet, IsOutcomeOf}
-use Rattle.stream_sections.specs.Sections as sections
-use Rattle.stream_sections.specs.Spelled.{given, Order}
+use Rattle.told.specs.Told.{Said, free, silent, joined}
+use Rattle.open_document.specs.Answers.{opened, opening_cost, verdict}
+use Rattle.open_document.specs.Replies.{refusal, assess_reply, total_reply, made_said}
+use Rattle.open_document.specs.State.{OpenState, with_session}
+use Rattle.stream_sections.specs.Spelled.{Order}
 use Rattle.stream_sections.specs.declared.asked.Asked.{Asked}
 use Rattle.stream_sections.specs.declared.schemas.SchemaSection.{SchemaSection}
 use Rattle.stream_answers.specs.Faults.{fault_line, fault_ending}
-use Rattle.stream_answers.specs.Output.{schema_ok, not_yet_line, question_of, compiled_told, opening_told, commands_told}
+use Rattle.stream_answers.specs.Output.{schema_ok, not_yet_line, question_of, opening, end_line, ending_of}
+use Rattle.xsv_run.specs.Output.{Output}
 use Rattle.xsv_run.specs.Statuses.{status_of}
-use Rattle.xsv_run.specs.Output.{Output, ComesTo}
 use Rattle.xsv_run.specs.declared.status.Status.{Status}
 use Rattle.xsv_run.specs.declared.status.Status.TheVariants.{Valid, Unsupported}
 
--- a text that costs no step, and the status of a run that has ended
-abbrev pub answer : List ℕ → Status → Output
-answer text status = record { text = text; cost = 0; status = Some status }
+-- a text, the steps that it costs at most, and the status of a run that has ended
+abbrev pub answer : List ℕ → ℕ → Status → Output
+answer text cost status = record { text = text; cost = cost; status = Some status }
+
+-- ---- the replies to commands
+
+-- The reply to an edit that gives this document, and the document behind it with what is found of it; or to one that is refused.
+abbrev pub IsEditReply : OpenState → Edit → Result Document EditError → Said → OpenState → Type 0
+IsEditReply s edit (Ok d) own next =
+    (found : List Entry) × IsFound (with_names s.session.set d.forest) d found
+    × (own ≡ made_said edit_cost s.session edit (after_edit s.session d found)) × (next ≡ with_session s (after_edit s.session d found))
+IsEditReply s edit (Err e) own next = (own ≡ free (refusal (refusals.number_of e) (refusals.name_of e))) × (next ≡ s)
+
+-- the reply to a line, and the document behind it
+abbrev pub IsReply : OpenState → Result Command ScriptFault → Said → OpenState → Type 0
+IsReply s (Ok (commands.Change edit)) own next = IsEditReply s edit (edited s.session.document edit) own next
+IsReply s (Ok (commands.Assess node)) own next = (own ≡ free (assess_reply s.session node)) × (next ≡ s)
+IsReply s (Ok commands.Total) own next = (own ≡ free (total_reply s.session)) × (next ≡ s)
+IsReply s (Err fault) own next = (own ≡ free (refusal (faults.number_of fault) (faults.name_of fault))) × (next ≡ s)
+
+-- the replies to commands, one behind another, and the document behind them
+abbrev pub AreReplies : OpenState → List Order → Said → OpenState → Type 0
+AreReplies s [] all last = (all ≡ silent) × (last ≡ s)
+AreReplies s (o ∷ more) all last =
+    (own : Said) × (next : OpenState) × (later : Said) × IsReply s (command o.line o.block) own next × AreReplies next more later last × (all ≡ joined own later)
+
+-- ---- the whole output
+
+-- all that is written of a document that was opened, where these are the replies and this is the document behind them
+abbrev pub answered_output : Asked → Document → OpenState → Said → OpenState → Output
+answered_output a d first replies last =
+    answer (schema_ok ++ (opening a first ++ (replies.text ++ end_line (verdict last)))) (opening_cost d + replies.cost) (status_of (ending_of (verdict last).validity))
+
+-- What is written for a stream with a document where the schema documents come to this: the acceptance, the report or the first line of the document as it
+-- is found by the set, the reply to each command and the last line; or the first broken constraint.
+abbrev pub IsStreamOutput : Asked → Document → List Order → SetOutcome → Output → Type 0
+IsStreamOutput a d orders (accepted set) out =
+    (found : List Entry) × IsFound (with_names set d.forest) d found
+    × (replies : Said) × (last : OpenState) × AreReplies (opened set d found) orders replies last × (out ≡ answered_output a d (opened set d found) replies last)
+IsStreamOutput a d orders (broken fault) out = out ≡ answer (fault_line fault) 0 (status_of (fault_ending fault))
+IsStreamOutput a d orders not_yet out = out ≡ answer not_yet_line 0 Unsupported
 
 -- what is written for `check` where the schema documents come to this
-abbrev pub check_output : SetOutcome → Output
-check_output (accepted set) = answer schema_ok Valid
-check_output (broken fault) = answer (fault_line fault) (status_of (fault_ending fault))
-check_output not_yet = answer not_yet_line Unsupported
-
 abbrev pub IsCheckOutput : SetOutcome → Output → Type 0
-IsCheckOutput o out = out ≡ check_output o
-
--- What is written for a stream with a document where the schema documents come to this: the acceptance, the report or the first line of the document as it is
--- found by the set, the reply to each command and the last line; or the first broken constraint.
-abbrev pub IsStreamOutput : Asked → Document → List Order → SetOutcome → Output → Type 0
-IsStreamOutput a d orders o out = ComesTo (compiled_told (λ set. opening_told a set d (λ s. commands_told s (given orders))) o) out
+IsCheckOutput (accepted set) out = out ≡ answer schema_ok 0 Valid
+IsCheckOutput (broken fault) out = out ≡ answer (fault_line fault) 0 (status_of (fault_ending fault))
+IsCheckOutput not_yet out = out ≡ answer not_yet_line 0 Unsupported
 
 -- this is written where the schema documents of these sections come to one of their outcomes
 abbrev pub IsByOutcome : List SchemaSection → (SetOutcome → Output → Type 0) → Output → Type 0
