@@ -9,7 +9,12 @@ use Rattle.assessment.specs.Attribution.{SchemaSet}
 use Rattle.assessment.specs.Assessment.{Entry}
 use Rattle.what_is_found.specs.IsFound.{IsFound}
 use Rattle.session_model.specs.State.{with_names}
-use Rattle.told.specs.Outcomes.{Question, SetOutcome, accepted, broken, not_yet, IsOutcomeOf}
+use Rattle.schema_set.specs.declared.inputs.SchemaInput.{SchemaInput}
+use Rattle.schema_compile.specs.Outcomes.{IsOutcome}
+use Rattle.schema_compile.specs.declared.outcome.Outcome.{Outcome}
+use Rattle.schema_compile.specs.declared.outcome.Outcome.TheVariants as outcomes
+use Rattle.outcome_laws.specs.Same.{IsSameOutcome}
+use Rattle.told.specs.Outcomes.{told_of as outcome_told, Question, SetOutcome, accepted, broken, not_yet, IsOutcomeOf}
 use Rattle.told.specs.Told.{Said, free, silent, joined, Told, over, says, asks, Leads}
 use Rattle.told.specs.declared.ending.Ending.{Ending}
 use Rattle.told.specs.declared.ending.Ending.TheVariants as endings
@@ -29,6 +34,22 @@ use Rattle.xsv_run.specs.Complete.{IsByOutcome, IsCheckOutput, IsStreamOutput, a
 use Rattle.xsv_run.proofs.Replies.{says_back, says_on, last_back, last_said, last_ending, commands_back, commands_on}
 
 -- ---- one output
+
+same_told : (a b : Outcome) → IsSameOutcome a b → outcome_told a ≡ outcome_told b
+same_told (outcomes.Accepted a) (outcomes.Accepted b) h = ap accepted h
+same_told (outcomes.Accepted a) (outcomes.Broken g) h = absurd h
+same_told (outcomes.Accepted a) outcomes.NotYet h = absurd h
+same_told (outcomes.Broken f) (outcomes.Accepted b) h = absurd h
+same_told (outcomes.Broken f) (outcomes.Broken g) h = ap broken h
+same_told (outcomes.Broken f) outcomes.NotYet h = absurd h
+same_told outcomes.NotYet (outcomes.Accepted b) h = absurd h
+same_told outcomes.NotYet (outcomes.Broken g) h = absurd h
+same_told outcomes.NotYet outcomes.NotYet h = refl
+
+pub one_outcome : ((documents : List SchemaInput) (a b : Outcome) → IsOutcome documents a → IsOutcome documents b → IsSameOutcome a b)
+    → (question : Question) (x y : SetOutcome) → IsOutcomeOf question x → IsOutcomeOf question y → x ≡ y
+one_outcome law question x y h l =
+    h.told_is ∙ (same_told h.outcome l.outcome (law question.documents h.outcome l.outcome h.is_outcome l.is_outcome) ∙ sym l.told_is)
 
 module _ (found_is : (s : SchemaSet) (d : Document) (x y : List Entry) → IsFound s d x → IsFound s d y → x ≡ y)
     (outcome_is : (question : Question) (x y : SetOutcome) → IsOutcomeOf question x → IsOutcomeOf question y → x ≡ y) where

@@ -3,7 +3,6 @@ ghost use Rattle.item_listing.specs.Listed.{listed};
 ghost use Rattle.item_listing.specs.State.{unread};
 ghost use Rattle.item_listing.specs.declared.item.Item.{Item};
 ghost use Rattle.tree_rows.specs.Forest.{Document};
-ghost use Rattle.told.specs.Outcomes.{Question, SetOutcome, IsOutcomeOf};
 ghost use Rattle.stream_sections.specs.Spelled.{whole, Order, SpellsCheck, SpellsStream};
 ghost use Rattle.stream_sections.specs.declared.asked.Asked.{Asked};
 ghost use Rattle.stream_sections.specs.declared.asked.Asked.TheVariants.{Check};
@@ -11,15 +10,16 @@ ghost use Rattle.stream_sections.specs.declared.schemas.SchemaSection.{SchemaSec
 ghost use Rattle.xsv_run.specs.Output.{Output, IsOutput};
 ghost use Rattle.xsv_run.specs.Complete.{IsByOutcome, IsCheckOutput, IsStreamOutput};
 
+use outcome_laws::outcomes_are_one;
 use stream_sections::streams_are_read;
 use what_is_found::what_is_found_is_the_only_one;
 
-/// For what is asked and the bytes of a source there is one output, where schema documents have one outcome.
+/// For what is asked and the bytes of a source there is one output.
 pub fn outputs_are_one()
-    ensures only { ((question : Question) (x y : SetOutcome) → IsOutcomeOf question x → IsOutcomeOf question y → x ≡ y)
-        → (what : Option Asked) (bytes : List ℕ) (closed : Bool) (x y : Output) → IsOutput what bytes closed x → IsOutput what bytes closed y → x ≡ y }
+    ensures only { (what : Option Asked) (bytes : List ℕ) (closed : Bool) (x y : Output) → IsOutput what bytes closed x → IsOutput what bytes closed y → x ≡ y }
 {
     what_is_found_is_the_only_one();
+    outcomes_are_one();
 }
 
 /// Where no line of a stream is refused, its output goes by what its schema documents come to: a broken constraint is named; else `check` is answered Valid, and `assess` and
