@@ -11,10 +11,10 @@ use Rattle.told.specs.declared.break_off.BreakOff.{BreakOff}
 use Rattle.told.specs.declared.ending.Ending.{Ending}
 use Rattle.told.proofs.Going.{goes_nowhere, goes_then, goes_ends, ends_as}
 use Rattle.stream_answers.specs.inside.Turns.{told, finished}
-use Rattle.stream_answers.specs.inside.Turning.{IsStanding, stands}
+use Rattle.stream_answers.specs.inside.Turning.{stands}
 use Rattle.stream_answers.specs.declared.stream.Stream.{Stream}
 use Rattle.xsv_run.specs.declared.reader.Reader.{Reader}
-use Rattle.xsv_run.specs.inside.Progress.{GoesOn, HasEnded, Progresses, Feeds, EndsFed, FeedsOn, Pauses, PausesBy, PausesFedBy, to_tell}
+use Rattle.xsv_run.specs.inside.Progress.{GoesOn, HasEnded, Progresses, Feeds, EndsFed, FeedsOn, PausesBy, PausesFedBy, to_tell}
 
 pub stays_on : (r : Reader) (o : Trace) → GoesOn r o r o
 stays_on r o = λ more closed. goes_nowhere (to_tell r more closed) o
@@ -48,9 +48,6 @@ module _ (r f : Reader) (bytes : List ℕ) (past : f.listing.past ≡ r.listing.
   fed_on s o n (Ok None) h = feeds s o n h
   fed_on s o n (Ok (Some ending)) h = ends_fed o n (Ok ending) h
   fed_on s o n (Err why) h = ends_fed o n (Err why) h
-
-pub pauses_here : (s : Reader) → IsStanding s.stream × Waits s.listing × (bytes_taken s.listing ≤ MOST_BYTES) → Pauses s
-pauses_here s h = record { is_open = h.0; waits = h.1; few = h.2 }
 
 pub pauses_fed : (r : Reader) (bytes : List ℕ) (s : Reader) (found : Result (Option Ending) BreakOff) → IfOk found (PausesBy s)
     → bytes_taken s.listing ≡ bytes_taken r.listing + length bytes → s.listing.finished ≡ false → IfOk found (PausesFedBy r bytes s)

@@ -2,7 +2,7 @@
 use Rattle.std.proofs.Common.{◌≡◌, ℕ, ◌+◌, ◌<◌, ◌≤◌, List, length, Bool, Option, Some, None, Result, Ok, Err, IfOk, refl, sym, ap, ◌∙◌, subst, arith}
 use Rattle.item_listing.specs.State.{Reading}
 use Rattle.item_listing.specs.declared.limits.TheConstants.{MOST_BYTES}
-use Rattle.item_listing.specs.Listing.{after, bytes_taken, Leaves}
+use Rattle.item_listing.specs.Listing.{after, bytes_taken, Leaves, IsDrained}
 use Rattle.item_listing.specs.Listed.{gives, refused, listed, ReadsOn}
 use Rattle.item_listing.specs.declared.item.Item.{Item}
 use Rattle.item_listing.specs.declared.past.ListingFault.{ListingFault}
@@ -25,7 +25,8 @@ use Rattle.stream_answers.specs.declared.stream.Stream.{Stream}
 use Rattle.xsv_run.specs.declared.reader.Reader.{Reader}
 use Rattle.xsv_run.specs.declared.next.Next.{Next}
 use Rattle.xsv_run.specs.declared.next.Next.TheVariants as nexts
-use Rattle.xsv_run.specs.inside.Progress.{HasEnded, EndsFed, Progresses, TakesNext, Holds, next_by, to_tell}
+use Rattle.xsv_run.specs.inside.Progress.{GoesOn, HasEnded, EndsFed, Progresses, Pauses, TakesNext, Holds, next_by, to_tell}
+use Rattle.xsv_run.proofs.Going.{waits_on}
 
 -- what is told of a stream behind an item
 abbrev pub TakesItem : Asked → ℕ → Stream → Item → Stream → Trace → Trace → Result (Option Ending) BreakOff → Type 0
@@ -87,6 +88,19 @@ pub item_holds : (r s : Reader) (read : Result (Option Item) ListingFault) (it :
 item_holds r s read it found n is leaves taken h by =
     subst (λ (x : Result Next BreakOff). IfOk x (Holds r s)) (sym by)
     (holds_by r s it found (subst (λ x. Leaves r.listing x s.listing) is leaves) taken h)
+
+-- no whole line is left
+module _ (r : Reader) (l : Reading) (read : Result (Option Item) ListingFault) (is : read ≡ Ok None) (leaves : Leaves r.listing read l) where
+  none_left : l ≡ r.listing
+  none_left = subst (λ x. Leaves r.listing x l) is leaves
+
+  pub none_read : (o : Trace) → GoesOn r o (record r { listing = l }) o
+  none_read o = waits_on r l o none_left
+
+  pub none_pauses : ReadsOn r.listing read l → IsDrained r.listing read → IsStanding r.stream → Pauses (record r { listing = l })
+  none_pauses reads drained standing =
+      subst (λ (x : Reading). Pauses (record r { listing = x })) (sym none_left)
+      (record { is_open = standing; waits = subst (λ x. ReadsOn r.listing x l) is reads; few = (subst (λ x. IsDrained r.listing x) is drained).1 })
 
 -- nothing was written for want of memory
 pub memory_ends : (r : Reader) (old : Trace) → HasEnded r old old (Err Memory)

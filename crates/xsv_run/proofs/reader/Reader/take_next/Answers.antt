@@ -1,7 +1,6 @@
 use Rattle.std.proofs.Common.{Ok, ap, ◌∙◌}
 use Rattle.told.specs.Going.{trace}
-use Rattle.xsv_run.proofs.Going.{waits_on, pauses_here}
-use Rattle.xsv_run.proofs.Items.{item_read, item_holds, fault_read, memory_ends}
+use Rattle.xsv_run.proofs.Items.{item_read, item_holds, none_read, none_pauses, fault_read, memory_ends}
 use Rattle.xsv_run.specs.declared.reader.Reader.{Reader}
 use Rattle.xsv_run.proofs.reader.Reader.take_next.Goals as goal
 
@@ -26,3 +25,12 @@ returns-in-Ok-Err-clause-takes g c =
     let s : Reader = record { listing = c.next_item.new.self; stream = c.args.self.now.stream } in
     fault_read c.args.self.now s _ c.in-Ok-Err.fault _ _ c.args.steps.now c.refuse_line.result
     c.in-Ok-Err.field-0-is c.in-Ok-Err.ensures.listed c.refuse_line.ensures.tells.wrote c.refuse_line.ensures.ends
+
+pub returns-in-Ok-Ok-None-clause-takes : goal.returns-in-Ok-Ok-None-clause-takes
+returns-in-Ok-Ok-None-clause-takes g c =
+    none_read c.args.self.now c.next_item.new.self _ (c.in-Ok-Ok-None.field-0-is ∙ ap Ok c.in-Ok-Ok-None.field-0-0-is) c.in-Ok-Ok-None.ensures.leaves _
+
+pub returns-in-Ok-Ok-None-clause-holds : goal.returns-in-Ok-Ok-None-clause-holds
+returns-in-Ok-Ok-None-clause-holds g c =
+    none_pauses c.args.self.now c.next_item.new.self _ (c.in-Ok-Ok-None.field-0-is ∙ ap Ok c.in-Ok-Ok-None.field-0-0-is) c.in-Ok-Ok-None.ensures.leaves
+    c.in-Ok-Ok-None.ensures.listed c.in-Ok-Ok-None.ensures.drained c.requires
