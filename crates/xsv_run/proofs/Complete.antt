@@ -153,9 +153,14 @@ module _ (a : Asked) (set : SchemaSet) (d : Document) (orders : List Order) wher
       let two = looked_back one.0 h.ending one.1 in
       let all = commands_back (opened set d two.0) orders two.2 h.ending two.3 in
       let s = opened set d two.0 in
-      let said_is : h.said ≡ whole_said s all.0 all.1 = one.2 ∙ ap (joined (free schema_ok)) (two.4 ∙ ap (joined (said_of s)) all.3) in
-      (two.0, two.1, all.0, all.1, all.2,
-      h.output_is ∙ (ap (λ (x : Said). output_of x h.ending) said_is ∙ (ap (output_of (whole_said s all.0 all.1)) all.4 ∙ output_is s all.0 all.1)))
+      let said_is : h.said ≡ whole_said s all.0 all.1 = one.2 ∙ ap (joined (free schema_ok)) (two.4 ∙ ap (joined (said_of s)) all.3) in (
+        two.0,
+        two.1,
+        all.0,
+        all.1,
+        all.2,
+        h.output_is ∙ (ap (λ (x : Said). output_of x h.ending) said_is ∙ (ap (output_of (whole_said s all.0 all.1)) all.4 ∙ output_is s all.0 all.1)),
+      )
 
   opened_comes : (out : Output) → IsStreamOutput a d orders (accepted set) out → ComesTo (stream_next a d orders (accepted set)) out
   opened_comes out h =

@@ -73,8 +73,12 @@ module _ (s : OpenState) (k : OpenState → Told) (own : Said) (next : OpenState
   edit_on : (edit : Edit) (r : Result Document EditError) → IsEditReply s edit r own next → Leads (edit_told edit_cost s edit r k) (joined own later) rest
   edit_on edit (Ok d) h =
       let new = after_edit s.session d h.0 in
-      inr (h.0, h.1, subst (λ (x : Said). Leads (says (made_said edit_cost s.session edit new) (k (with_session s new))) (joined x later) rest) (sym h.2)
-      (says_on (made_said edit_cost s.session edit new) (k (with_session s new)) later rest (subst (λ (x : OpenState). Leads (k x) later rest) h.3 behind)))
+      inr (
+        h.0,
+        h.1,
+        subst (λ (x : Said). Leads (says (made_said edit_cost s.session edit new) (k (with_session s new))) (joined x later) rest) (sym h.2)
+            (says_on (made_said edit_cost s.session edit new) (k (with_session s new)) later rest (subst (λ (x : OpenState). Leads (k x) later rest) h.3 behind)),
+      )
   edit_on edit (Err why) h = stays_on _ h
 
   pub reply_on : (r : Result Command ScriptFault) → IsReply s r own next → Leads (line_told edit_cost s r k) (joined own later) rest
@@ -98,9 +102,13 @@ commands_back s [] said e h =
     (silent, s, (refl, refl), one.0 ∙ sym (silent_first (last_said s)), one.1)
 commands_back s (o ∷ more) said e h =
     let one = reply_back s (λ next. commands_told next (given more)) said e (command o.line o.block) h in
-    let rest = commands_back one.1 more one.2 e one.4 in
-    (joined one.0 rest.0, rest.1, (one.0, one.1, rest.0, one.3, rest.2, refl),
-    one.5 ∙ (ap (joined one.0) rest.3 ∙ sym (joined_assoc one.0 rest.0 (last_said rest.1))), rest.4)
+    let rest = commands_back one.1 more one.2 e one.4 in (
+      joined one.0 rest.0,
+      rest.1,
+      (one.0, one.1, rest.0, one.3, rest.2, refl),
+      one.5 ∙ (ap (joined one.0) rest.3 ∙ sym (joined_assoc one.0 rest.0 (last_said rest.1))),
+      rest.4,
+    )
 
 pub commands_on : (s : OpenState) (orders : List Order) (replies : Said) (last : OpenState) → AreReplies s orders replies last
     → Leads (commands_told s (given orders)) (joined replies (last_said last)) (over (Some (last_ending last)))
