@@ -1,3 +1,4 @@
 pub mod Accepted
 pub mod Edits
+pub mod Worked
 mod Entries
