@@ -46,7 +46,7 @@ attrs-preserved g c =
           (then_more _ _ _ (told_text c.attrs.left (line c.in-Some.record.now)) (text_of (left_behind c.attrs.left c.in-Some.record.now.codes) more) _ begun w.all);
       left_is =
           let behind : left_all c.left_behind.result more ≡ left_all (left_behind c.attrs.left c.in-Some.record.now.codes) more = ap (λ (n : Option ℕ). left_all n more) (sym left) in
-          let here : left_all (left_behind c.attrs.left c.in-Some.record.now.codes) more ≡ left_all c.attrs.left (map line c.attrs.rest) =
+          let here : left_all (left_behind c.attrs.left c.in-Some.record.now.codes) more ≡ left_all c.attrs.left (map line c.attrs.rest.now) =
           ap (λ (l : List AttrRecord). left_all c.attrs.left (map line l)) (sym c.in-Some.ensures.cases.0) in
           behind ∙ (here ∙ before.left_is);
       later = omega (arith, before.later, w.cause.later);

@@ -1,10 +1,10 @@
-use Rattle.std.proofs.Common.{◌≡◌, ◌++◌, ℕ, List, Option, refl, sym, ap, ◌∙◌, subst, arith}
+use Rattle.std.proofs.Common.{◌≡◌, ◌<◌, ◌++◌, ℕ, List, Option, refl, sym, ap, ◌∙◌, subst, arith}
 use Rattle.xsv_io.proofs.Failing.{failed, rose-later}
 use Rattle.xsv_io.proofs.Sequence.{IsBegun, then_more, then_front, to_the_end}
 use Rattle.session_model.specs.Reports.{entry_lines, record_lines, report}
 use Rattle.session_model.specs.inside.Telling.{text_of, left_all}
 use Rattle.session_model.proofs.Telling.{no-lines}
-use Rattle.session_model.proofs.Walking.{walks-first, walks-on, walks-end, entry-next, walks-next, walks-smaller}
+use Rattle.session_model.proofs.Walking.{count_from, walks-first, walks-on, walks-end, entry-next, walks-next, walks-smaller}
 use Rattle.session_model.proofs.report.write_report.Goals as goal
 
 pub elements-init : goal.elements-init
@@ -38,8 +38,8 @@ elements-preserved g c =
     let at = entry-next s c.args.most old now c.elements.left once c.in-Some.node n in
     let w = c.in_ok-tell_entry.ensures.written n.own at in
     record {
-      walks = walks-next s c.args.most old now c.elements.left once c.in-Some.node n (g.W.Sink.taken c.tell_entry.new.sink) c.tell_entry.new.left c.node_after.result
-          (c.node_after.ensures c.requires) (c.in_ok-tell_entry.ensures.left n.own at)
+      walks = walks-next s c.args.most old now c.elements.left once c.in-Some.node n (g.W.Sink.taken c.tell_entry.new.sink) c.tell_entry.new.left c.node_after-next.result
+          (c.node_after-next.ensures c.requires) (c.in_ok-tell_entry.ensures.left n.own at)
           (then_more _ _ _ (text_of c.elements.left (entry_lines s.set n.own)) (text_of (left_all c.elements.left (entry_lines s.set n.own)) (record_lines s.set n.later)) _ n.begun w.all);
       later = omega (arith, before.later, w.cause.later);
       kept = w.kept ∙ before.kept;
@@ -52,7 +52,8 @@ elements-smaller g c =
     let now = g.W.Sink.taken c.elements.sink in
     let once = c.each_element_is_found_once.ensures.once s.set s.document s.found (c.compiled-set.ensures.found c.requires) in
     let n = walks-on s c.args.most old now c.elements.left c.elements.next c.in-Some.node c.in-Some.is c.elements.invariant.walks in
-    walks-smaller s c.args.most old now c.elements.left once c.in-Some.node n c.node_after.result (c.node_after.ensures c.requires)
+    subst (λ (x : Option ℕ). count_from c.node_after-next.result s.found < count_from x s.found) (sym c.in-Some.is)
+    (walks-smaller s c.args.most old now c.elements.left once c.in-Some.node n c.node_after-next.result (c.node_after-next.ensures c.requires))
 
 pub returns : goal.returns
 returns g c =
