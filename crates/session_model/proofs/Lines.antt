@@ -1,5 +1,5 @@
 -- The lines of an entry, by its records.
-use Rattle.std.proofs.Common.{◌≡◌, ◌==◌, ℕ, List, [], ◌∷◌, Bool, true, false, Option, Some, None, refl, sym, ap, ◌∙◌, subst, map, arith}
+use Rattle.std.proofs.Common.{◌≡◌, ◌==◌, ℕ, List, [], ◌∷◌, Bool, true, false, Option, Some, None, refl, sym, ap, ◌∙◌, arith}
 use Rattle.std.specs.Option.{option_map}
 use Rattle.std.specs.Prelude.{if◌then◌else◌}
 use Rattle.std.proofs.lemmas.Bool.Decides.{nat_tests}
@@ -9,7 +9,7 @@ use Rattle.assess_records.specs.declared.record.ElementRecord.{ElementRecord}
 use Rattle.assessment.specs.Assessment.{Entry}
 use Rattle.assessment.specs.Attribution.{SchemaSet}
 use Rattle.session_model.specs.Asking.{entry_at}
-use Rattle.session_model.specs.Reports.{Line, entry_lines}
+use Rattle.session_model.specs.Reports.{entry_lines}
 use Rattle.session_model.specs.inside.Telling.{lines_of}
 
 -- the entry that is found has the number

@@ -1,11 +1,10 @@
 -- How the lines of a report are told, one after another.
-use Rattle.std.proofs.Common.{◌≡◌, ◌≤◌, ◌==◌, ◌-◌, ◌++◌, ℕ, zero, suc, List, [], ◌∷◌, Bool, true, false, length, Option, Some, None, Result, Ok, Err, refl, sym, ap, ◌∙◌, subst, append_assoc, arith}
-use Rattle.std.specs.Prelude.{◌&&◌, not, take, filter, if◌then◌else◌, OnOk}
+use Rattle.std.proofs.Common.{◌≡◌, ◌==◌, ◌-◌, ◌++◌, ℕ, zero, suc, List, [], ◌∷◌, Bool, true, false, Option, Some, None, Ok, refl, sym, ap, ◌∙◌, append_assoc, arith}
+use Rattle.std.specs.Prelude.{◌&&◌, not, take, filter, if◌then◌else◌}
 use Rattle.std.proofs.lemmas.Bool.Decides.{nat_tests}
 use Rattle.std.proofs.KnownBytes.{Appends-nil}
 use Rattle.xsv_io.specs.Written.{Written}
-use Rattle.xs_codes.specs.declared.fault.Found.{Found}
-use Rattle.session_model.specs.Reports.{Line, has_code, lines_text, told_lines}
+use Rattle.session_model.specs.Reports.{Line, has_code, lines_text}
 use Rattle.session_model.specs.inside.Telling.{is_told, told_text, left_behind, left_all, text_of}
 
 is-some : (m : ℕ) → (suc m == 0) ≡ false

@@ -1,5 +1,5 @@
 -- How the lines of a report are told, one after another.
-use Rattle.std.specs.Prelude.{◌≡◌, ◌==◌, ◌&&◌, ◌-◌, ℕ, List, [], ◌∷◌, Bool, true, not, length, map, Option, Some, None, if◌then◌else◌}
+use Rattle.std.specs.Prelude.{◌==◌, ◌&&◌, ◌-◌, ℕ, List, [], ◌∷◌, Bool, true, not, length, map, Option, Some, None, if◌then◌else◌}
 use Rattle.xs_codes.specs.declared.fault.Found.{Found}
 use Rattle.assess_records.specs.declared.record.AttrRecord.{AttrRecord}
 use Rattle.assess_records.specs.declared.record.ElementRecord.{ElementRecord}

@@ -1,14 +1,11 @@
-use Rattle.std.proofs.Common.{◌≡◌, ℕ, List, Option, Some, None, Result, sym, ap, ◌∙◌, subst, map}
-use Rattle.std.specs.Option.{option_map}
+use Rattle.std.proofs.Common.{◌≡◌, List, sym, subst}
 use Rattle.std.specs.Prelude.{OnOk}
 use Rattle.xsv_io.specs.Written.{Written}
-use Rattle.assessment.specs.Assessment.{Entry}
 use Rattle.assessment.specs.Attribution.{SchemaSet}
 use Rattle.compiled_schema.specs.Usable.{set_of}
 use Rattle.report_text.specs.Named.{IsNamed, AreNamed}
-use Rattle.session_model.specs.Asking.{entry_at}
-use Rattle.session_model.specs.Reports.{Line, entry_lines}
-use Rattle.session_model.specs.inside.Telling.{lines_of, text_of, left_all}
+use Rattle.session_model.specs.Reports.{Line}
+use Rattle.session_model.specs.inside.Telling.{text_of, left_all}
 use Rattle.session_model.proofs.Lines.{entry-lines, no-entry}
 use Rattle.session_model.proofs.report.tell_entry.Goals as goal
 

@@ -1,9 +1,9 @@
-use Rattle.std.proofs.Common.{◌≡◌, ◌++◌, ℕ, List, Option, refl, sym, ap, ◌∙◌, subst, map}
-use Rattle.std.specs.Prelude.{OnOk, Result}
+use Rattle.std.proofs.Common.{◌≡◌, ◌++◌, ℕ, Option, sym, ap, ◌∙◌, subst, map}
+use Rattle.std.specs.Prelude.{OnOk}
 use Rattle.xsv_io.proofs.Sequence.{written_then, written_short}
 use Rattle.compiled_schema.specs.Usable.{set_of}
 use Rattle.session_model.specs.Reports.{attr_line_of}
-use Rattle.session_model.specs.inside.Telling.{element_line_of, lines_of, told_text, text_of, left_behind, left_all}
+use Rattle.session_model.specs.inside.Telling.{element_line_of, told_text, text_of, left_behind, left_all}
 use Rattle.session_model.proofs.Telling.{line-then}
 use Rattle.session_model.proofs.report.tell_records.Goals as goal
 

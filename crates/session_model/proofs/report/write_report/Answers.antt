@@ -1,4 +1,4 @@
-use Rattle.std.proofs.Common.{◌≡◌, ◌<◌, ◌++◌, ℕ, List, Option, refl, sym, ap, ◌∙◌, subst, arith}
+use Rattle.std.proofs.Common.{◌<◌, ℕ, List, Option, refl, sym, ◌∙◌, subst, arith}
 use Rattle.xsv_io.proofs.Failing.{failed, rose-later}
 use Rattle.xsv_io.proofs.Sequence.{IsBegun, then_more, then_front, to_the_end}
 use Rattle.session_model.specs.Reports.{entry_lines, record_lines, report}
