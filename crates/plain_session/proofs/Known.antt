@@ -1,12 +1,10 @@
 -- What is known of a tree is what is found of it.
-use Rattle.std.proofs.Common.{◌≡◌, ◌*◌, ◌≤◌, ◌<◌, ◌^◌, ℕ, List, Bool, Result, Ok, Err, map, refl, sym, ap, subst, ◌∙◌, arith}
+use Rattle.std.proofs.Common.{◌≡◌, ◌*◌, ◌≤◌, ◌<◌, ◌^◌, ℕ, List, Bool, Result, Ok, Err, map, sym, ap, subst, ◌∙◌, arith}
 use Rattle.std.specs.Prelude.{All, false, OnOk}
 use Rattle.xs_names.specs.Names.{NameTable}
 use Rattle.tree_rows.specs.Forest.{Forest, Document, count}
 use Rattle.tree_rows.specs.Whole.{IsTree}
 use Rattle.tree_rows.specs.declared.limits.TheConstants.{MAX_NODES}
-use Rattle.tree_edits.specs.Tests.{edited}
-use Rattle.tree_edits.specs.declared.edit.Edit.{Edit}
 use Rattle.tree_names.specs.Table.{document_table}
 use Rattle.assessment.specs.Assessment.{entries}
 use Rattle.assessment.specs.Attribution.{SchemaSet}
@@ -15,11 +13,10 @@ use Rattle.compiled_schema.specs.declared.compiled.Compiled.{Compiled}
 use Rattle.tree_assess.specs.Entries.{AreEntries, entry_of}
 use Rattle.tree_assess.specs.declared.entry.ElementEntry.{ElementEntry}
 use Rattle.what_is_found.specs.IsFound.{IsFound}
-use Rattle.session_model.specs.Applying.{IsEdited}
 use Rattle.session_model.specs.Asking.{code_total}
 use Rattle.session_model.specs.Few.{most_codes}
 use Rattle.session_model.specs.Reports.{IsEntryNamed}
-use Rattle.session_model.specs.State.{State, with_names, next_revision, IsOpened}
+use Rattle.session_model.specs.State.{State, with_names, IsOpened}
 use Rattle.plain_session.specs.Held.{state_of, IsPresent, IsUpToDate}
 use Rattle.plain_session.specs.Stocks.{IsReady, IsStock}
 use Rattle.plain_session.specs.declared.session.PlainSession.TheInside.{Inside}
@@ -43,7 +40,7 @@ pub set_named : {T E : Type 0} (r : Result T E) (set new : Compiled) (names : Na
 set_named (Ok x) set new names f same is = ap set_of same ∙ ap (λ (t : NameTable). record (set_of set) { names = t }) is
 set_named (Err e) set new names f same is = tt
 
--- a session that was just opened, or that has made an edit
+-- a session that was just opened
 module _ (set : SchemaSet) (new : Compiled) (d : Document) (stock : Stock) (named : set_of new ≡ with_names set d.forest) (is : IsStock new d stock) where
   found_so : IsFound (with_names set d.forest) d (map entry_of stock.entries.items)
   found_so = subst (λ (x : SchemaSet). IsFound x d (map entry_of stock.entries.items)) named is.found_is
@@ -53,19 +50,6 @@ module _ (set : SchemaSet) (new : Compiled) (d : Document) (stock : Stock) (name
 
   pub opened_so : IsOpened set d (stands 0 false)
   opened_so = record { found_is = found_so; new_is = λ i. record { set = named i; document = d; found = map entry_of stock.entries.items; revision = 0; closed = false } }
-
-module _ (s : Inside) (old : State) (is : state_of s ≡ old) (edit : Edit) (new : Compiled) (d : Document) (stock : Stock) where
-  pub edited_so : (revision : ℕ) (closed : Bool) → s.closed ≡ false → closed ≡ false → edited s.tree edit ≡ Ok d → set_of new ≡ with_names (set_of s.set.value) d.forest
-      → IsStock new d stock → revision ≡ next_revision s.revision
-      → IsEdited old edit (record { set = set_of new; document = d; found = map entry_of stock.entries.items; revision = revision; closed = closed })
-  edited_so revision closed before open_now made named known next =
-      subst (λ (x : State). IsEdited x edit (record { set = set_of new; document = d; found = map entry_of stock.entries.items; revision = revision; closed = closed })) is
-      (record {
-        open_before = before;
-        document_is = made;
-        found_is = found_so (set_of s.set.value) new d stock named known;
-        new_is = λ i. record { set = named i; document = d; found = map entry_of stock.entries.items; revision = next i; closed = open_now i };
-      })
 
 -- what a session holds is what contracts see
 module _ (s : Inside) (v : State) (is : state_of s ≡ v) where
