@@ -6,13 +6,13 @@ use Rattle.tree_rows.specs.Forest.{Forest, Document, count}
 use Rattle.tree_rows.specs.Whole.{IsTree}
 use Rattle.tree_rows.specs.declared.limits.TheConstants.{MAX_NODES}
 use Rattle.tree_names.specs.Table.{document_table}
-use Rattle.assessment.specs.Assessment.{entries}
+use Rattle.assessment.specs.Assessment.{Entry, entries}
 use Rattle.assessment.specs.Attribution.{SchemaSet}
 use Rattle.compiled_schema.specs.Usable.{set_of}
 use Rattle.compiled_schema.specs.declared.compiled.Compiled.{Compiled}
 use Rattle.tree_assess.specs.Entries.{AreEntries, entry_of}
 use Rattle.tree_assess.specs.declared.entry.ElementEntry.{ElementEntry}
-use Rattle.what_is_found.specs.IsFound.{IsFound}
+use Rattle.what_is_found.specs.IsFound.{IsFound, times_found}
 use Rattle.session_model.specs.Asking.{code_total}
 use Rattle.session_model.specs.Few.{most_codes}
 use Rattle.session_model.specs.Reports.{IsEntryNamed}
@@ -74,3 +74,8 @@ module _ (s : Inside) (v : State) (is : state_of s ≡ v) where
 
     pub total_now : s.stock.total ≡ code_total v.found
     total_now = present.stock.total_is ∙ ap (λ (x : State). code_total x.found) is
+
+    -- where each element is found once
+    pub once_now : ((x : SchemaSet) (d : Document) (found : List Entry) → IsFound x d found → (key : ℕ) → times_found key found ≤ 1)
+        → (es : List ElementEntry) → es ≡ s.stock.entries.items → (key : ℕ) → times_found key (map entry_of es) ≤ 1
+    once_now once es e key = subst (λ (found : List Entry). times_found key found ≤ 1) (sym (entries_now es e)) (once v.set v.document v.found found_now key)

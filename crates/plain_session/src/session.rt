@@ -8,6 +8,7 @@ use std::alloc::{AllocError, Global};
 use std::marker::Model;
 use tree_edits::{Edit, EditError};
 use tree_rows::NodeKind;
+use what_is_found::each_element_is_found_once;
 use xsv_steps::{Ledger, Steps};
 
 /// A session that assesses the whole tree again after each edit.
@@ -106,11 +107,13 @@ impl Session for PlainSession {
     }
 
     fn records(&self, node: u32) -> Option<Records<'_>> {
-        find_records(&self.stock.entries, node)
+        each_element_is_found_once();
+        find_records(&self.stock.entries, self.stock.place_of(node), node)
     }
 
     fn node_after(&self, node: u32) -> Option<u32> {
-        find_next(&self.stock.entries, node)
+        each_element_is_found_once();
+        find_next(&self.stock.entries, self.stock.place_of(node), node)
     }
 
     fn compiled(&self) -> &Compiled {

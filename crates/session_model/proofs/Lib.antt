@@ -1,5 +1,6 @@
 mod Empty
 mod Found
+mod Near
 mod FewCodes
 mod NamedEntries
 mod FewEntries

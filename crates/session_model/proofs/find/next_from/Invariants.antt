@@ -1,7 +1,7 @@
 use Rattle.std.proofs.Common.{◌≡◌, length, map}
 use Rattle.session_model.specs.Asking.{number_after}
 use Rattle.tree_assess.specs.Entries.{entry_of}
-use Rattle.session_model.proofs.find.find_next.Given as goal
+use Rattle.session_model.proofs.find.next_from.Given as goal
 
 abbrev pub invariant-entries : goal.invariant-entries
 invariant-entries l = number_after l.node (map entry_of l.left) ≡ number_after l.node (map entry_of l.entries)
