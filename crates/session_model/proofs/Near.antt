@@ -1,5 +1,5 @@
 -- The entry of a number that is found once.
-use Rattle.std.proofs.Common.{◌≡◌, ◌==◌, ◌≤◌, ℕ, zero, suc, ◌+◌, Bool, true, false, List, [], ◌∷◌, Option, Some, refl, sym, ap, ◌∙◌, arith}
+use Rattle.std.proofs.Common.{◌≡◌, ◌==◌, ◌≤◌, ℕ, zero, suc, Bool, true, false, List, [], ◌∷◌, Some, refl, ap, ◌∙◌, arith}
 use Rattle.std.specs.Prelude.{if◌then◌else◌, slice_get}
 use Rattle.std.specs.Option.{option_map}
 use Rattle.std.proofs.lemmas.Bool.Decides.{nat_tests}
@@ -24,12 +24,12 @@ module _ (node : ℕ) (e : Entry) (is : e.number ≡ node) where
   counted [] i at = cc
   counted (x ∷ es) zero at =
       let own : (x.number == node) ≡ true = hit x.number node (ap number_of (same_Some x e at) ∙ is) in
-      omega (arith, ap (λ (b : Bool). if b then 1 else 0) own)
+      omega (arith, ap {B = ℕ} (λ (b : Bool). if b then 1 else 0) own)
   counted (x ∷ es) (suc i) at = omega (arith, counted es i at)
 
   -- an entry before it has another number, where the number is found once
   before : (x : Entry) (es : List Entry) (b : Bool) → (x.number == node) ≡ b → 1 ≤ times_found node es → times_found node (x ∷ es) ≤ 1 → b ≡ false
-  before x es true own later once = absurd (omega (arith, ap (λ (t : Bool). if t then 1 else 0) own, later, once))
+  before x es true own later once = absurd (omega (arith, ap {B = ℕ} (λ (t : Bool). if t then 1 else 0) own, later, once))
   before x es false own later once = refl
 
   fewer : (x : Entry) (es : List Entry) → times_found node (x ∷ es) ≤ 1 → times_found node es ≤ 1
