@@ -1,6 +1,9 @@
 -- What schema documents come to.
 use Rattle.std.specs.Prelude.{◌≡◌, ◌⊎◌, List, Result, Ok, Err, IfOk, OnOk}
-use Rattle.std.proofs.Common.{arith, inl, inr}
+use Rattle.std.proofs.Common.{arith, inl, inr, refl, sym, ap, ◌∙◌, subst}
+use Rattle.tree_rows.specs.Forest.{Document}
+use Rattle.assessment.specs.Attribution.{SchemaSet}
+use Rattle.session_model.specs.State.{State, IsOpened}
 use Rattle.compiled_schema.specs.declared.compiled.Compiled.{Compiled}
 use Rattle.compiled_schema.specs.Usable.{IsUsable}
 use Rattle.schema_compile.specs.Outcomes.{IsOutcome}
@@ -8,8 +11,9 @@ use Rattle.schema_check.specs.declared.documents.Refusal.TheVariants as refusals
 use Rattle.schema_set.specs.declared.inputs.SchemaInput.{SchemaInput}
 use Rattle.schema_compile.specs.declared.outcome.Outcome.{Outcome}
 use Rattle.schema_compile.specs.declared.outcome.Outcome.TheVariants.{Accepted}
-use Rattle.open_document.specs.Answers.{IsCompiled, verdict_of, work_after}
-use Rattle.open_document.specs.State.{WorkState}
+use Rattle.told.specs.Outcomes.{told_of}
+use Rattle.open_document.specs.Answers.{IsCompiled, IsOpenedBy, verdict_of, work_after}
+use Rattle.open_document.specs.State.{WorkState, ready, working, IsOpen}
 use Rattle.open_document.specs.declared.verdict.SetVerdict.{SetVerdict}
 
 module _ (documents : List SchemaInput) where
@@ -21,6 +25,34 @@ module _ (documents : List SchemaInput) where
 
   -- one of their outcomes is told and worked by
   pub told_and_worked : {E : Type 0} (r : Result SetVerdict E) (old new : WorkState) (o : Outcome) → IsOutcome documents o
-      → IfOk r (λ told. told ≡ verdict_of o) → OnOk r (new ≡ work_after old o) → IfOk r (λ told. IsCompiled documents old told new)
-  told_and_worked (Ok told) old new o is told_is work_is = record { outcome = o; is_outcome = is; told_is = told_is; work_is = work_is }
+      → IfOk r (λ told. told ≡ verdict_of (told_of o)) → OnOk r (new ≡ work_after old (told_of o)) → IfOk r (λ told. IsCompiled documents old told new)
+  told_and_worked (Ok told) old new o is told_is work_is = record {
+    outcome = told_of o;
+    is_outcome = record { first = refl; rules_are = refl; outcome = o; is_outcome = is; told_is = refl };
+    told_is = told_is;
+    work_is = work_is;
+  }
   told_and_worked (Err e) old new o is told_is work_is = tt
+
+-- a document that was opened is open
+pub opened_open : {T E : Type 0} (r : Result T E) (set : SchemaSet) (d : Document) (w : WorkState) → OnOk r (IsOpenedBy set d w) → OnOk r (IsOpen w)
+opened_open (Ok x) set d w h =
+    subst IsOpen (sym (h.work_is ∙ ap working h.document_is)) refl
+opened_open (Err e) set d w h = tt
+
+-- a session that was opened is that of the document
+pub opened_by : {T E : Type 0} (r : Result T E) (set : SchemaSet) (d : Document) (w : WorkState) (session : State) → IsOpened set d session
+    → OnOk r (w ≡ working (record { session = session })) → OnOk r (IsOpenedBy set d w)
+opened_by (Ok x) set d w session is h = record {
+  document = record { session = session };
+  work_is = h;
+  found_is = is.found_is;
+  document_is = ap (λ (s : State). record { session = s }) is.new_is;
+}
+opened_by (Err e) set d w session is h = tt
+
+-- the set that was ready is the one that is spoken of
+pub opened_for : {T E : Type 0} (r : Result T E) (a b : SchemaSet) (d : Document) (w : WorkState) → ready a ≡ ready b → OnOk r (IsOpenedBy a d w) → OnOk r (IsOpenedBy b d w)
+opened_for r a b d w is h =
+    let same : a ≡ b = cc in
+    subst (λ (s : SchemaSet). OnOk r (IsOpenedBy s d w)) same h

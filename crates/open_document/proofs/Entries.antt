@@ -5,7 +5,7 @@ use Rattle.std.proofs.lemmas.Bool.Decides.{nat_tests}
 use Rattle.tree_rows.specs.declared.row.NodeKind.{NodeKind}
 use Rattle.session_model.specs.Asking.{entry_at}
 use Rattle.assessment.specs.Assessment.{Entry}
-use Rattle.compiled_schema.specs.declared.compiled.Compiled.{Compiled}
+use Rattle.assessment.specs.Attribution.{SchemaSet}
 use Rattle.report_text.specs.Lines.{records_text}
 use Rattle.assess_records.specs.declared.record.AttrRecord.{AttrRecord}
 use Rattle.assess_records.specs.declared.record.ElementRecord.{ElementRecord}
@@ -24,7 +24,7 @@ entry_at-number : (key : ℕ) (es : List Entry) (found : Entry) → entry_at key
 entry_at-number key [] found h = cc
 entry_at-number key (e ∷ more) found h = number_step key e more found (entry_at-number key more found) (e.number == key) refl h
 
-module _ (set : Compiled) (kind : Option NodeKind) where
+module _ (set : SchemaSet) (kind : Option NodeKind) where
   text_of : (key : ℕ) (found : Option Entry) (element : ElementRecord) (attrs : List AttrRecord) → ((e : Entry) → found ≡ Some e → e.number ≡ key)
       → Some element ≡ option_map (λ (e : Entry). e.element) found → Some attrs ≡ option_map (λ (e : Entry). e.attrs) found
       → records_reply set kind found ≡ records_text set.names set.parts key element attrs

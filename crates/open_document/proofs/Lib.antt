@@ -1,4 +1,4 @@
-mod Entries
-mod Changed
 pub mod Accepted
-pub mod Standing
+pub mod Edits
+pub mod Worked
+mod Entries

@@ -1,85 +1,80 @@
--- What schema documents come to, what is written of an open document, and what a command does to it.
-use Rattle.std.specs.Prelude.{◌≡◌, ℕ, List, ◌++◌, Option, Result}
+-- What schema documents come to, what is written of an open document, and what is told of a command.
+use Rattle.std.specs.Prelude.{◌≡◌, ℕ, List, ◌++◌, Option}
 use Rattle.item_listing.specs.declared.item.Item.{Item}
 use Rattle.tree_rows.specs.Forest.{Document}
+use Rattle.edit_script.specs.Commands.{command}
+use Rattle.xs_components.specs.declared.common.Rules.TheVariants.{V10}
 use Rattle.assessment.specs.Assessment.{Entry}
-use Rattle.session_model.specs.Assessor.{RightAssessor}
+use Rattle.assessment.specs.Attribution.{SchemaSet}
+use Rattle.schema_set.specs.declared.inputs.SchemaInput.{SchemaInput}
+use Rattle.what_is_found.specs.IsFound.{IsFound}
 use Rattle.session_model.specs.Asking.{code_total, root_validity}
-use Rattle.compiled_schema.specs.declared.compiled.Compiled.{Compiled}
 use Rattle.session_model.specs.Reports as reports
 use Rattle.session_model.specs.State as sessions
-use Rattle.session_model.specs.State.{State, known}
-use Rattle.schema_compile.specs.Outcomes.{IsOutcome}
-use Rattle.schema_set.specs.declared.inputs.SchemaInput.{SchemaInput}
-use Rattle.schema_compile.specs.declared.outcome.Outcome.{Outcome}
-use Rattle.schema_compile.specs.declared.outcome.Outcome.TheVariants as outcomes
-use Rattle.plain_session.specs.Costs.{edit_cost}
-use Rattle.edit_script.specs.Commands.{command}
-use Rattle.open_document.specs.Costs.{command_cost}
-use Rattle.open_document.specs.Replies.{made, next_state, reply, total_line}
-use Rattle.open_document.specs.State.{OpenState, WorkState, ready}
+use Rattle.session_model.specs.State.{with_names}
+use Rattle.plain_session.specs.Costs as costs
+use Rattle.told.specs.Outcomes.{Question, SetOutcome, accepted, broken, not_yet, IsOutcomeOf}
+use Rattle.told.specs.Told.{Told}
+use Rattle.open_document.specs.Replies.{line_told, made_reply, total_reply}
+use Rattle.open_document.specs.State.{OpenState, WorkState, ready, working}
 use Rattle.open_document.specs.declared.verdict.SetVerdict.{SetVerdict}
 use Rattle.open_document.specs.declared.verdict.SetVerdict.TheVariants.{Accepted, Broken, NotYet}
 use Rattle.open_document.specs.declared.verdict.Verdict.{Verdict}
 
 -- ---- schema documents
 
--- what is told of schema documents
-abbrev pub verdict_of : Outcome → SetVerdict
-verdict_of (outcomes.Accepted set) = Accepted
-verdict_of (outcomes.Broken fault) = Broken fault
-verdict_of outcomes.NotYet = NotYet
+-- a set starts at the first of them, and is read by the rules of XML Schema 1.0
+abbrev pub question : List SchemaInput → Question
+question documents = record { documents = documents; start = 0; rules = V10 }
+
+-- what is told of what schema documents come to
+abbrev pub verdict_of : SetOutcome → SetVerdict
+verdict_of (accepted set) = Accepted
+verdict_of (broken fault) = Broken fault
+verdict_of not_yet = NotYet
 
 -- a set that is accepted is worked by from then on
-abbrev pub work_after : WorkState → Outcome → WorkState
-work_after work (outcomes.Accepted set) = ready set
-work_after work (outcomes.Broken fault) = work
-work_after work outcomes.NotYet = work
+abbrev pub work_after : WorkState → SetOutcome → WorkState
+work_after work (accepted set) = ready set
+work_after work (broken fault) = work
+work_after work not_yet = work
 
 -- schema documents were compiled: one of their outcomes is told and worked by
 pub record IsCompiled (documents : List SchemaInput) (old : WorkState) (told : SetVerdict) (new : WorkState) : Type 0 where
-  pub outcome : Outcome
-  pub is_outcome : IsOutcome documents outcome
+  pub outcome : SetOutcome
+  pub is_outcome : IsOutcomeOf (question documents) outcome
   pub told_is : told ≡ verdict_of outcome
   pub work_is : new ≡ work_after old outcome
 
 -- ---- an open document
 
--- a document that was just opened by a schema set, whose table gets the names of the document; its revision is 0
-abbrev pub opened : Compiled → Document → OpenState
-opened set d = record { session = sessions.opened set d }
+-- a document that was just opened by a schema set, whose table gets the names of the document, and of which this is found; its revision is 0
+abbrev pub opened : SchemaSet → Document → List Entry → OpenState
+opened set d found = record { session = sessions.opened set d found }
 
--- a command with its block does this to the document, whatever its reply is
-abbrev pub next_of : OpenState → List ℕ → Option (List Item) → OpenState
-next_of s line block = record { session = next_state s.session (command line block) }
+-- so many steps it takes to open a document, at most
+abbrev pub opening_cost : Document → ℕ
+opening_cost d = costs.opening_cost d
 
--- and costs so many steps at most
-abbrev pub cost_of : OpenState → List ℕ → Option (List Item) → ℕ
-cost_of s line block = command_cost (edit_cost s.session) (command line block)
+-- a document was opened by a set: what is found stands in its state
+pub record IsOpenedBy (set : SchemaSet) (d : Document) (work : WorkState) : Type 0 where
+  pub document : OpenState
+  pub work_is : work ≡ working document
+  pub found_is : IsFound (with_names set d.forest) d document.session.found
+  pub document_is : document ≡ opened set d document.session.found
 
-module _ (p : RightAssessor) where
-  -- what is found out about its elements, in document order, and how many codes there are
-  abbrev pub records : OpenState → List Entry
-  records s = known p s.session
+-- what is told of a command with its block, and behind it
+abbrev pub command_told : OpenState → List ℕ → Option (List Item) → (OpenState → Told) → Told
+command_told s line block next = line_told costs.edit_cost s (command line block) next
 
-  abbrev pub total : OpenState → ℕ
-  total s = code_total (records s)
+-- the report: the record lines of each element and attribute, or so many at most of those that have a code; and how many codes there are
+abbrev pub report : Option ℕ → OpenState → List ℕ
+report most s = reports.report most s.session ++ total_reply s.session
 
-  abbrev pub records_text : State → List ℕ
-  records_text s = reports.report p s ++ total_line (code_total (known p s))
+-- the first line of a session
+abbrev pub first_line : OpenState → List ℕ
+first_line s = made_reply s.session
 
-  -- the report: the lines of each element, and how many codes there are
-  abbrev pub report : OpenState → List ℕ
-  report s = records_text s.session
-
-  -- the first line of a session
-  abbrev pub first_line : OpenState → List ℕ
-  first_line s = made s.session.revision (total s)
-
-  -- the reply to a command with its block
-  abbrev pub reply_of : OpenState → List ℕ → Option (List Item) → List ℕ
-  reply_of s line block = reply p s.session (command line block)
-
-  -- what the last line tells
-  abbrev pub verdict : OpenState → Verdict
-  verdict s = record { validity = root_validity (records s); total = total s }
+-- what the last line tells
+abbrev pub verdict : OpenState → Verdict
+verdict s = record { validity = root_validity s.session.found; total = code_total s.session.found }

@@ -1,12 +1,12 @@
 -- What a workspace keeps.
-use Rattle.compiled_schema.specs.Usable.{IsUsable}
+use Rattle.compiled_schema.specs.Usable.{IsUsable, set_of}
 use Rattle.open_document.specs.State.{WorkState, empty, ready, working}
 use Rattle.open_document.specs.declared.held.Held.{Held}
 use Rattle.open_document.specs.declared.held.Held.TheVariants as held
 
 abbrev pub work_of : Held → WorkState
 work_of held.Empty = empty
-work_of (held.Ready set) = ready set.value
+work_of (held.Ready set) = ready (set_of set.value)
 work_of (held.Working session) = working (record { session = session.value })
 
 -- documents may be assessed by a set that is ready

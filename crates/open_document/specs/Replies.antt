@@ -1,38 +1,25 @@
--- The replies to the lines of an edit script, and what these do to a session.
+-- The replies to the lines of an edit script, and what is told of these lines.
 use Rattle.std.specs.Prelude.{ℕ, List, [], ◌∷◌, ◌++◌, Option, Some, None, Result, Ok, Err, codes}
 use Rattle.std.specs.Fmt.{decimal}
 use Rattle.tree_rows.specs.Forest.{Document}
 use Rattle.tree_rows.specs.Kinds.{kind_of}
 use Rattle.tree_rows.specs.declared.row.NodeKind.{NodeKind}
 use Rattle.tree_rows.specs.declared.row.NodeKind.TheVariants.{Element, Chars}
-use Rattle.tree_edits.specs.Tests.{edited}
 use Rattle.tree_edits.specs.Refusals as refusals
+use Rattle.tree_edits.specs.Tests.{edited}
+use Rattle.tree_edits.specs.declared.edit.Edit.{Edit}
 use Rattle.tree_edits.specs.declared.edit.EditError.{EditError}
 use Rattle.edit_script.specs.Faults as faults
 use Rattle.edit_script.specs.declared.command.Command.{Command}
 use Rattle.edit_script.specs.declared.command.Command.TheVariants as commands
 use Rattle.edit_script.specs.declared.command.ScriptFault.{ScriptFault}
-use Rattle.session_model.specs.Applying.{next_revision}
-use Rattle.session_model.specs.Asking.{entry_at, code_total}
 use Rattle.assessment.specs.Assessment.{Entry}
-use Rattle.session_model.specs.Assessor.{RightAssessor}
-use Rattle.compiled_schema.specs.declared.compiled.Compiled.{Compiled}
-use Rattle.session_model.specs.Reports.{entry_lines}
-use Rattle.session_model.specs.State.{State, with_names, known}
-
--- ---- how the session stands then
-
--- an edit that is made gives the next revision, and the set has the names of the new tree; one that is refused changes nothing
-abbrev pub changed : State → Result Document EditError → State
-changed s (Ok d) = record { set = with_names s.set d.forest; document = d; revision = next_revision s.revision; closed = s.closed }
-changed s (Err e) = s
-
--- a question, or a line that is no command, changes nothing
-abbrev pub next_state : State → Result Command ScriptFault → State
-next_state s (Ok (commands.Change edit)) = changed s (edited s.document edit)
-next_state s (Ok (commands.Assess node)) = s
-next_state s (Ok commands.Total) = s
-next_state s (Err fault) = s
+use Rattle.assessment.specs.Attribution.{SchemaSet}
+use Rattle.session_model.specs.Asking.{entry_at, code_total}
+use Rattle.session_model.specs.Reports.{entry_text}
+use Rattle.session_model.specs.State.{State, with_names, after_edit}
+use Rattle.told.specs.Told.{Said, free, Told, says, looks}
+use Rattle.open_document.specs.State.{OpenState, with_session}
 
 -- ---- what is written
 
@@ -52,25 +39,38 @@ no_element (Some Element) = refusal 1 (codes "UnknownNode")
 no_element None = refusal 1 (codes "UnknownNode")
 
 -- the record lines of an element and its attributes
-abbrev pub records_reply : Compiled → Option NodeKind → Option Entry → List ℕ
-records_reply set kind (Some e) = entry_lines set e
+abbrev pub records_reply : SchemaSet → Option NodeKind → Option Entry → List ℕ
+records_reply set kind (Some e) = entry_text set e
 records_reply set kind None = no_element kind
 
-module _ (p : RightAssessor) where
-  -- the number of codes of the present document
-  abbrev pub total_of : State → ℕ
-  total_of s = code_total (known p s)
+abbrev pub assess_reply : State → ℕ → List ℕ
+assess_reply s node = records_reply s.set (kind_of node s.document.forest) (entry_at node s.found)
 
-  -- the revision and the number of codes of the new tree; or why the edit is refused
-  abbrev pub change_reply : State → Result Document EditError → List ℕ
-  change_reply s (Ok d) = made (next_revision s.revision) (total_of (changed s (Ok d)))
-  change_reply s (Err e) = refusal (refusals.number_of e) (refusals.name_of e)
+abbrev pub total_reply : State → List ℕ
+total_reply s = total_line (code_total s.found)
 
-  abbrev pub assess_reply : State → ℕ → List ℕ
-  assess_reply s node = records_reply s.set (kind_of node s.document.forest) (entry_at node (known p s))
+-- the revision, and the number of codes
+abbrev pub made_reply : State → List ℕ
+made_reply s = made s.revision (code_total s.found)
 
-  abbrev pub reply : State → Result Command ScriptFault → List ℕ
-  reply s (Ok (commands.Change edit)) = change_reply s (edited s.document edit)
-  reply s (Ok (commands.Assess node)) = assess_reply s node
-  reply s (Ok commands.Total) = total_line (total_of s)
-  reply s (Err fault) = refusal (faults.number_of fault) (faults.name_of fault)
+-- ---- what is told
+
+-- where an edit costs this, by the states before and after it
+module _ (budget : State → Edit → State → ℕ) where
+  -- an edit that is made, behind which what is found is this: the reply, and what it costs
+  abbrev pub made_said : State → Edit → State → Said
+  made_said old edit new = record { text = made_reply new; cost = budget old edit new }
+
+  -- Of an edit that gives this document, or is refused: what is found of the document is looked at, and the document stands with it then; a
+  -- refusal changes nothing and costs no step.
+  abbrev pub edit_told : OpenState → Edit → Result Document EditError → (OpenState → Told) → Told
+  edit_told s edit (Ok d) next =
+      looks (with_names s.session.set d.forest) d (λ found. says (made_said s.session edit (after_edit s.session d found)) (next (with_session s (after_edit s.session d found))))
+  edit_told s edit (Err e) next = says (free (refusal (refusals.number_of e) (refusals.name_of e))) (next s)
+
+  -- of a line, and what is told behind it: a question, or a line that is no command, changes nothing
+  abbrev pub line_told : OpenState → Result Command ScriptFault → (OpenState → Told) → Told
+  line_told s (Ok (commands.Change edit)) next = edit_told s edit (edited s.session.document edit) next
+  line_told s (Ok (commands.Assess node)) next = says (free (assess_reply s.session node)) (next s)
+  line_told s (Ok commands.Total) next = says (free (total_reply s.session)) (next s)
+  line_told s (Err fault) next = says (free (refusal (faults.number_of fault) (faults.name_of fault))) (next s)

@@ -4,7 +4,8 @@ ghost use Rattle.std.specs.Prelude.{◌≡◌, ◌<◌, List, All, length, IfOk,
 ghost use Rattle.tree_rows.specs.Whole.{IsTree};
 ghost use Rattle.schema_compile.specs.Outcomes.{IsOutcome};
 ghost use Rattle.schema_set.specs.declared.inputs.SchemaInput.{SchemaInput as SchemaInputData};
-ghost use Rattle.compiled_schema.specs.Usable.{IsUsable};
+ghost use Rattle.compiled_schema.specs.Usable.{IsUsable, set_of};
+ghost use Rattle.told.specs.Outcomes.{told_of};
 ghost use Rattle.open_document.specs.Answers as answers;
 ghost use Rattle.open_document.specs.Held.{work_of, IsKept};
 ghost use Rattle.open_document.specs.State.{ready};
@@ -30,7 +31,7 @@ fn accept(held: &mut Held, alloc: Global, set: Compiled) -> Result<SetVerdict, A
     requires usable { IsUsable set }
     requires kept { IsKept held.old }
     ensures told { IfOk result (λ told. told ≡ SetVerdict.Accepted) }
-    ensures ready { OnOk result (work_of held.new ≡ ready set) }
+    ensures ready { OnOk result (work_of held.new ≡ ready (set_of set)) }
     ensures kept { IsKept held.new }
 {
     match make_ready(held, alloc, set) {
@@ -43,8 +44,8 @@ fn accept(held: &mut Held, alloc: Global, set: Compiled) -> Result<SetVerdict, A
 fn take(held: &mut Held, alloc: Global, outcome: Outcome) -> Result<SetVerdict, AllocError>
     requires usable { (documents : List SchemaInputData) × IsOutcome documents outcome }
     requires kept { IsKept held.old }
-    ensures told { IfOk result (λ told. told ≡ answers.verdict_of outcome) }
-    ensures work { OnOk result (work_of held.new ≡ answers.work_after (work_of held.old) outcome) }
+    ensures told { IfOk result (λ told. told ≡ answers.verdict_of (told_of outcome)) }
+    ensures work { OnOk result (work_of held.new ≡ answers.work_after (work_of held.old) (told_of outcome)) }
     ensures kept { IsKept held.new }
 {
     match outcome {

@@ -1,17 +1,20 @@
 //! What a workspace keeps.
 
 ghost use Rattle.std.specs.Prelude.{◌≡◌, false, IfOk, OnOk};
-ghost use Rattle.compiled_schema.specs.Usable.{IsUsable};
+ghost use Rattle.assessment.specs.Attribution.{SchemaSet};
+ghost use Rattle.compiled_schema.specs.Usable.{IsUsable, set_of};
+ghost use Rattle.session_model.specs.Spending.{Counts};
 ghost use Rattle.open_document.specs.Answers as answers;
 ghost use Rattle.open_document.specs.Held.{work_of, IsKept};
 ghost use Rattle.open_document.specs.State.{working, ready, IsReady, IsOpen};
-ghost use Rattle.compiled_schema.specs.declared.compiled.Compiled.{Compiled as CompiledData};
 
 use compiled_schema::Compiled;
 use plain_session::{PlainSession, let_go};
 use plain_tree::Tree;
+use session_model::Session;
 use std::alloc::{AllocError, Global};
 use std::mem;
+use xsv_steps::{Ledger, Steps};
 
 /// What a workspace keeps, boxed, since it is large.
 #[derive(Drop)]
@@ -55,7 +58,7 @@ fn keep(held: &mut Held, next: Held)
 pub(crate) fn make_ready(held: &mut Held, alloc: Global, set: Compiled) -> Result<(), AllocError>
     requires usable { IsUsable set }
     requires kept { IsKept held.old }
-    ensures ready { OnOk result (work_of held.new ≡ ready set) }
+    ensures ready { OnOk result (work_of held.new ≡ ready (set_of set)) }
     ensures kept { IsKept held.new }
 {
     match Box::new(alloc, set) {
@@ -74,7 +77,6 @@ pub(crate) fn make_ready(held: &mut Held, alloc: Global, set: Compiled) -> Resul
 fn work_on(held: &mut Held, alloc: Global, session: PlainSession) -> Result<(), AllocError>
     requires kept { IsKept held.old }
     ensures working { OnOk result (work_of held.new ≡ working (record { session = session })) }
-    ensures open { session.closed ≡ false → OnOk result (IsOpen (work_of held.new)) }
     ensures kept { IsKept held.new }
 {
     match Box::new(alloc, session) {
@@ -90,29 +92,42 @@ fn work_on(held: &mut Held, alloc: Global, session: PlainSession) -> Result<(), 
 }
 
 // Opens a document by a set.
-fn open_by(held: &mut Held, alloc: Global, set: Box<Compiled>, tree: Tree) -> Result<(), AllocError>
+fn open_by<L: Ledger>(
+    held: &mut Held,
+    alloc: Global,
+    set: Box<Compiled>,
+    tree: Tree,
+    steps: &mut Steps<L>,
+) -> Result<(), AllocError>
     requires usable { IsUsable set.value }
     requires kept { IsKept held.old }
-    ensures opened { OnOk result (work_of held.new ≡ working (answers.opened set.value tree)) }
+    ensures opened { OnOk result (answers.IsOpenedBy (set_of set.value) tree (work_of held.new)) }
     ensures open { OnOk result (IsOpen (work_of held.new)) }
+    ensures steps { Counts steps.old steps.new (answers.opening_cost tree) }
     ensures kept { IsKept held.new }
 {
-    match PlainSession::open(alloc, set, tree) {
+    match PlainSession::open(alloc, set, tree, steps) {
         Ok(session) => work_on(held, alloc, session),
         Err(error) => Err(error),
     }
 }
 
 /// Opens a document by the set that is ready. For want of memory the set is let go of.
-pub(crate) fn open(held: &mut Held, alloc: Global, tree: Tree) -> Result<(), AllocError>
+pub(crate) fn open<L: Ledger>(
+    held: &mut Held,
+    alloc: Global,
+    tree: Tree,
+    steps: &mut Steps<L>,
+) -> Result<(), AllocError>
     requires ready { IsReady (work_of held.old) }
     requires kept { IsKept held.old }
-    ensures opened { (set : CompiledData) → work_of held.old ≡ ready set → OnOk result (work_of held.new ≡ working (answers.opened set tree)) }
+    ensures opened { (set : SchemaSet) → work_of held.old ≡ ready set → OnOk result (answers.IsOpenedBy set tree (work_of held.new)) }
     ensures open { OnOk result (IsOpen (work_of held.new)) }
+    ensures steps { Counts steps.old steps.new (answers.opening_cost tree) }
     ensures kept { IsKept held.new }
 {
     match mem::replace(held, Held::Empty) {
-        Held::Ready(set) => open_by(held, alloc, set, tree),
+        Held::Ready(set) => open_by(held, alloc, set, tree, steps),
         Held::Empty | Held::Working(_) => unreachable!(),
     }
 }

@@ -1,7 +1,7 @@
-//! The replies of a session to the commands of an edit script, written to a sink.
+//! What a stream works on, a schema set and then the document that is open, and the replies to the commands of an edit script,
+//! written to a sink.
 #![tactic(auto)]
 
-mod break_off;
 mod compiling;
 mod held;
 mod line;
@@ -10,7 +10,6 @@ mod verdict;
 mod working;
 mod workspace;
 
-pub use break_off::BreakOff;
 pub use held::boxed;
 pub use line::answer_line;
 pub use reply::{write_answer, write_made, write_total};

@@ -1,20 +1,21 @@
-ghost use Rattle.std.specs.Prelude.{◌≡◌, Some, IfSome, true, false, OnOk};
+ghost use Rattle.std.specs.Prelude.{◌≡◌, ◌≤◌, Some, IfSome, true, false, OnOk};
 ghost use Rattle.xsv_io.specs.Causes.{KeepsCount};
 ghost use Rattle.xsv_io.specs.Parts.{parts_text};
 ghost use Rattle.xsv_io.specs.Written.{Written};
 ghost use Rattle.tree_edits.specs.Edits.{can_be_made};
 ghost use Rattle.tree_edits.specs.Tests.{edited};
-ghost use Rattle.session_model.specs.Assessor.{RightAssessor};
-ghost use Rattle.session_model.specs.Counting.{Counts};
 ghost use Rattle.report_text.specs.Lines.{records_text};
 ghost use Rattle.report_text.specs.Named.{IsNamed, AreNamed};
-ghost use Rattle.open_document.specs.Replies.{made, total_line, total_of, refusal, no_element, change_reply, assess_reply, changed};
-ghost use Rattle.open_document.specs.Tells.{Tells, Wrote, IsWriteFault};
+ghost use Rattle.told.specs.Going.{Answers, trace};
+ghost use Rattle.told.specs.Tells.{Tells, Wrote, IsWriteFault};
+ghost use Rattle.told.specs.Told.{Told};
+ghost use Rattle.open_document.specs.Replies.{made, total_line, total_reply, refusal, no_element, assess_reply, made_reply, edit_told};
+ghost use Rattle.open_document.specs.State.{OpenState, with_session};
 
-use crate::BreakOff;
 use compiled_schema::Compiled;
 use report_text::{Records, write_records};
 use session_model::{Session, SessionError};
+use told::BreakOff;
 use tree_edits::Edit;
 use tree_rows::NodeKind;
 use xsv_io::{Failed, Part, Sink, write_parts};
@@ -54,6 +55,15 @@ pub fn write_made<W: Sink>(sink: &mut W, revision: u64, total: u64) -> Result<()
     )
 }
 
+/// Answers with the revision and the number of codes.
+pub fn answer_made<S: Session, W: Sink>(session: &S, sink: &mut W) -> Result<(), BreakOff>
+    requires { (S.state session.now).closed ≡ false }
+    ensures wrote { Wrote result (W.taken sink.old) (W.taken sink.new) (made_reply (S.state session.now)) }
+    ensures writes { KeepsCount W.faults W.fault_bound sink.old sink.new (IsWriteFault result) }
+{
+    write_made(sink, session.revision(), session.code_total())
+}
+
 /// Writes the number of codes.
 ///
 /// # Errors
@@ -81,7 +91,7 @@ fn tell_total<W: Sink>(sink: &mut W, total: u64) -> Result<(), BreakOff>
 /// Answers with the number of codes.
 pub fn answer_total<S: Session, W: Sink>(session: &S, sink: &mut W) -> Result<(), BreakOff>
     requires { (S.state session.now).closed ≡ false }
-    ensures wrote { (p : RightAssessor) → Wrote result (W.taken sink.old) (W.taken sink.new) (total_line (total_of p (S.state session.now))) }
+    ensures wrote { Wrote result (W.taken sink.old) (W.taken sink.new) (total_reply (S.state session.now)) }
     ensures writes { KeepsCount W.faults W.fault_bound sink.old sink.new (IsWriteFault result) }
 {
     tell_total(sink, session.code_total())
@@ -129,13 +139,14 @@ pub fn answer_change<S: Session, W: Sink, L: Ledger>(
 ) -> Result<(), BreakOff>
     requires made { can_be_made edit.now ≡ true }
     requires live { (S.state session.old).closed ≡ false }
-    ensures wrote { (p : RightAssessor) → Wrote result (W.taken sink.old) (W.taken sink.new) (change_reply p (S.state session.old) (edited (S.state session.old).document edit.now)) }
+    ensures answers { (s : OpenState) (next : OpenState → Told) → Answers (edit_told S.budget (with_session s (S.state session.old)) edit.now (edited (S.state session.old).document edit.now) next)
+        result (trace (W.taken sink.old) steps.old) (trace (W.taken sink.new) steps.new) (λ done. next (with_session s (S.state session.new))) }
+    ensures open { OnOk result ((S.state session.new).closed ≡ false) }
     ensures writes { KeepsCount W.faults W.fault_bound sink.old sink.new (IsWriteFault result) }
-    ensures stands { OnOk result (S.state session.new ≡ changed (S.state session.old) (edited (S.state session.old).document edit.now)) }
-    ensures steps { Counts steps.old steps.new (S.cost session.old edit.now) }
+    ensures later { steps.old ≤ steps.new }
 {
     match session.apply(edit, steps) {
-        Ok(()) => write_made(sink, session.revision(), session.code_total()),
+        Ok(()) => answer_made(session, sink),
         Err(SessionError::Refused(refused)) => write_refusal(
             sink,
             refused.number(),
@@ -173,7 +184,7 @@ pub fn answer_assess<S: Session, W: Sink>(
     sink: &mut W,
 ) -> Result<(), BreakOff>
     requires { (S.state session.now).closed ≡ false }
-    ensures wrote { (p : RightAssessor) → Wrote result (W.taken sink.old) (W.taken sink.new) (assess_reply p (S.state session.now) node) }
+    ensures wrote { Wrote result (W.taken sink.old) (W.taken sink.new) (assess_reply (S.state session.now) node) }
     ensures writes { KeepsCount W.faults W.fault_bound sink.old sink.new (IsWriteFault result) }
 {
     match session.records(node) {

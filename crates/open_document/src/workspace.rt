@@ -1,21 +1,23 @@
-ghost use Rattle.std.specs.Prelude.{◌≡◌, ◌<◌, length, IfOk, OnOk};
+ghost use Rattle.std.specs.Prelude.{◌≡◌, ◌<◌, ◌≤◌, length, Option, IfOk, OnOk};
 ghost use Rattle.xsv_io.specs.Causes.{KeepsCount};
-ghost use Rattle.session_model.specs.Assessor.{RightAssessor};
-ghost use Rattle.compiled_schema.specs.declared.compiled.Compiled.{Compiled as CompiledData};
-ghost use Rattle.session_model.specs.Counting.{Counts};
-ghost use Rattle.open_document.specs.Tells.{Wrote, IsWriteFault};
+ghost use Rattle.assessment.specs.Attribution.{SchemaSet};
+ghost use Rattle.session_model.specs.Spending.{Counts};
+ghost use Rattle.told.specs.Going.{Answers, trace};
+ghost use Rattle.told.specs.Tells.{Wrote, IsWriteFault};
+ghost use Rattle.told.specs.Told.{Told};
 ghost use Rattle.open_document.specs.Answers as answers;
-ghost use Rattle.open_document.specs.State.{OpenState, empty, ready, working, IsReady, IsOpen};
+ghost use Rattle.open_document.specs.State.{OpenState, WorkState, empty, ready, working, IsReady, IsOpen};
 
 use crate::compiling::compile_into;
 use crate::held::{Held, close, open};
-use crate::working::{answer, verdict, write_first, write_report};
-use crate::{BreakOff, SetVerdict, Verdict};
+use crate::working::{answer, tell_first, tell_report, verdict};
+use crate::{SetVerdict, Verdict};
 use item_listing::Items;
 use plain_tree::Tree;
 use schema_set::SchemaInput;
 use std::alloc::{AllocError, Global};
 use std::marker::Model;
+use told::BreakOff;
 use xs_names::Text;
 use xsv_io::Sink;
 use xsv_steps::{Ledger, Steps};
@@ -71,26 +73,33 @@ impl Workspace {
     /// # Errors
     ///
     /// `AllocError` is want of memory.
-    pub fn open(&mut self, alloc: Global, tree: Tree) -> Result<(), AllocError>
+    pub fn open<L: Ledger>(
+        &mut self,
+        alloc: Global,
+        tree: Tree,
+        steps: &mut Steps<L>,
+    ) -> Result<(), AllocError>
         requires { IsReady self.old }
-        ensures opened { (set : CompiledData) → self.old ≡ ready set → OnOk result (self.new ≡ working (answers.opened set tree)) }
+        ensures opened { (set : SchemaSet) → self.old ≡ ready set → OnOk result (answers.IsOpenedBy set tree self.new) }
         ensures open { OnOk result (IsOpen self.new) }
+        ensures steps { Counts steps.old steps.new (answers.opening_cost tree) }
     {
-        open(&mut self.held, alloc, tree)
+        open(&mut self.held, alloc, tree, steps)
     }
 
-    /// Writes the report: the record lines of each element, and the number of codes.
+    /// Writes the report: the record line of each element and attribute, or so many at most of those that have a code; and the
+    /// number of all codes.
     ///
     /// # Errors
     ///
     /// `WriteFault` where the sink failed; a front was then written.
-    pub fn write_report<W: Sink>(&self, sink: &mut W) -> Result<(), BreakOff>
+    pub fn write_report<W: Sink>(&self, most: Option<u32>, sink: &mut W) -> Result<(), BreakOff>
         requires { IsOpen self.now }
-        ensures wrote { (p : RightAssessor) (s : OpenState) → self.now ≡ working s → Wrote result (W.taken sink.old) (W.taken sink.new) (answers.report p s) }
+        ensures wrote { (s : OpenState) → self.now ≡ working s → Wrote result (W.taken sink.old) (W.taken sink.new) (answers.report most s) }
         ensures writes { KeepsCount W.faults W.fault_bound sink.old sink.new (IsWriteFault result) }
     {
         match &self.held {
-            Held::Working(session) => write_report(session, sink),
+            Held::Working(session) => tell_report(session, most, sink),
             Held::Empty | Held::Ready(_) => unreachable!(),
         }
     }
@@ -102,11 +111,11 @@ impl Workspace {
     /// `WriteFault` where the sink failed; a front was then written.
     pub fn write_first<W: Sink>(&self, sink: &mut W) -> Result<(), BreakOff>
         requires { IsOpen self.now }
-        ensures wrote { (p : RightAssessor) (s : OpenState) → self.now ≡ working s → Wrote result (W.taken sink.old) (W.taken sink.new) (answers.first_line p s) }
+        ensures wrote { (s : OpenState) → self.now ≡ working s → Wrote result (W.taken sink.old) (W.taken sink.new) (answers.first_line s) }
         ensures writes { KeepsCount W.faults W.fault_bound sink.old sink.new (IsWriteFault result) }
     {
         match &self.held {
-            Held::Working(session) => write_first(session, sink),
+            Held::Working(session) => tell_first(session, sink),
             Held::Empty | Held::Ready(_) => unreachable!(),
         }
     }
@@ -126,11 +135,12 @@ impl Workspace {
         steps: &mut Steps<L>,
     ) -> Result<(), BreakOff>
         requires { IsOpen self.old }
-        ensures wrote { (p : RightAssessor) (s : OpenState) → self.old ≡ working s → Wrote result (W.taken sink.old) (W.taken sink.new) (answers.reply_of p s line.now block) }
-        ensures writes { KeepsCount W.faults W.fault_bound sink.old sink.new (IsWriteFault result) }
-        ensures stands { (s : OpenState) → self.old ≡ working s → OnOk result (self.new ≡ working (answers.next_of s line.now block)) }
+        // What is told of the command was written, whatever is told behind it; or the answer was broken off on the way.
+        ensures answers { (s : OpenState) (next : WorkState → Told) → self.old ≡ working s → Answers (answers.command_told s line.now block (λ q. next (working q)))
+            result (trace (W.taken sink.old) steps.old) (trace (W.taken sink.new) steps.new) (λ done. next self.new) }
         ensures open { OnOk result (IsOpen self.new) }
-        ensures steps { (s : OpenState) → self.old ≡ working s → Counts steps.old steps.new (answers.cost_of s line.now block) }
+        ensures writes { KeepsCount W.faults W.fault_bound sink.old sink.new (IsWriteFault result) }
+        ensures later { steps.old ≤ steps.new }
     {
         match &mut self.held {
             Held::Working(session) => answer(alloc, session, line, block, sink, steps),
@@ -141,7 +151,7 @@ impl Workspace {
     /// What the last line tells: the validity of the root, and the number of codes.
     pub fn verdict(&self) -> Verdict
         requires { IsOpen self.now }
-        ensures { (p : RightAssessor) (s : OpenState) → self.now ≡ working s → result ≡ answers.verdict p s }
+        ensures { (s : OpenState) → self.now ≡ working s → result ≡ answers.verdict s }
     {
         match &self.held {
             Held::Working(session) => verdict(session),

@@ -2,12 +2,12 @@
 use Rattle.std.specs.Prelude.{◌≡◌, All, map}
 use Rattle.xs_names.specs.Names.{IsSound}
 use Rattle.tree_rows.specs.Forest.{Document}
-use Rattle.tree_rows.specs.Whole.{IsTree}
-use Rattle.tree_assess.specs.Entries.{AreEntries, entry_of}
-use Rattle.session_model.specs.Asking.{code_total}
 use Rattle.compiled_schema.specs.declared.compiled.Compiled.{Compiled}
-use Rattle.session_model.specs.Reports.{IsEntryNamed}
 use Rattle.compiled_schema.specs.Usable.{IsUsable, set_of}
+use Rattle.tree_assess.specs.Entries.{entry_of}
+use Rattle.what_is_found.specs.IsFound.{IsFound}
+use Rattle.session_model.specs.Asking.{code_total}
+use Rattle.session_model.specs.Reports.{IsEntryNamed}
 use Rattle.plain_session.specs.declared.stock.Stock.{Stock}
 
 -- documents may be assessed by the set, and names may be put into its table
@@ -15,9 +15,8 @@ pub record IsReady (set : Compiled) : Type 0 where
   pub usable : IsUsable set
   pub sound : IsSound set.names
 
--- the entries are those of the document, by names and types of the set, and the total is the number of their codes
+-- the entries are what is found of the document, by names and types of the set, and the total is the number of their codes
 pub record IsStock (set : Compiled) (d : Document) (s : Stock) : Type 0 where
-  pub tree : IsTree d
-  pub entries_are : AreEntries (set_of set) d.forest s.entries.items
-  pub named : All (IsEntryNamed set) (map entry_of s.entries.items)
+  pub found_is : IsFound (set_of set) d (map entry_of s.entries.items)
+  pub named : All (IsEntryNamed (set_of set)) (map entry_of s.entries.items)
   pub total_is : s.total ≡ code_total (map entry_of s.entries.items)

@@ -1,22 +1,14 @@
-ghost use Rattle.std.specs.Prelude.{◌≡◌, false, IfOk};
-ghost use Rattle.xsv_io.specs.Written.{Written};
-ghost use Rattle.xsv_io.specs.Causes.{HasCause};
-ghost use Rattle.session_model.specs.Assessor.{RightAssessor};
-ghost use Rattle.session_model.specs.Reports.{report};
-ghost use Rattle.session_model.specs.State.{opened};
-ghost use Rattle.compiled_schema.specs.Usable.{IsUsable};
-
 use crate::stock::{Stock, first_stock, take_stock};
 use assess_records::Validity;
 use compiled_schema::Compiled;
 use plain_tree::Tree;
 use report_text::Records;
-use session_model::{Session, SessionError, find_records, root_validity, write_report};
+use session_model::{Session, SessionError, find_next, find_records, root_validity};
 use std::alloc::{AllocError, Global};
 use std::marker::Model;
 use tree_edits::{Edit, EditError};
 use tree_rows::NodeKind;
-use xsv_io::{Failed, Sink};
+use what_is_found::each_element_is_found_once;
 use xsv_steps::{Ledger, Steps};
 
 /// A session that assesses the whole tree again after each edit.
@@ -46,16 +38,35 @@ impl Model for PlainSession {
 }
 
 impl PlainSession {
-    /// Opens a session over a document, by a set that documents may be assessed by: its revision is 0, and the set has the names of
-    /// the document.
-    ///
-    /// # Errors
-    ///
-    /// `AllocError` is want of memory.
-    pub fn open(alloc: Global, set: Box<Compiled>, tree: Tree) -> Result<Self, AllocError>
-        requires usable { IsUsable set.value }
-        ensures opened { IfOk result (λ s. s ≡ opened set.value tree) }
-    {
+    /// Lets go of it.
+    pub fn close(self) {
+        let PlainSession {
+            set,
+            tree,
+            stock,
+            ..
+        } = self;
+        drop(set);
+        drop(tree);
+        drop(stock);
+    }
+}
+
+impl Session for PlainSession {
+    ghost use Rattle.plain_session.specs.Costs.{edit_cost, opening_cost};
+
+    ghost state = { λ s. s };
+
+    ghost budget = { edit_cost };
+
+    ghost opening = { opening_cost };
+
+    fn open<L: Ledger>(
+        alloc: Global,
+        set: Box<Compiled>,
+        tree: Tree,
+        _steps: &mut Steps<L>,
+    ) -> Result<Self, AllocError> {
         let mut set = set;
         match first_stock(alloc, &mut set, &tree) {
             Ok(stock) => Ok(PlainSession {
@@ -69,41 +80,6 @@ impl PlainSession {
             Err(error) => Err(error),
         }
     }
-
-    /// Lets go of it.
-    pub fn close(self) {
-        let PlainSession {
-            set,
-            tree,
-            stock,
-            ..
-        } = self;
-        drop(set);
-        drop(tree);
-        drop(stock);
-    }
-
-    /// Writes the record line of each element, in document order.
-    ///
-    /// # Errors
-    ///
-    /// `Failed` where the sink failed; a front was then written.
-    pub fn write_report<W: Sink>(&self, sink: &mut W) -> Result<(), Failed>
-        requires { self.now.closed ≡ false }
-        ensures written { (p : RightAssessor) → Written W.taken W.faults W.fault_bound sink.old sink.new result (report p self.now) }
-        ensures cause { HasCause (W.faults sink.old) (W.faults sink.new) result }
-        ensures kept { W.fault_bound sink.new ≡ W.fault_bound sink.old }
-    {
-        write_report(sink, &self.set, &self.stock.entries)
-    }
-}
-
-impl Session for PlainSession {
-    ghost use Rattle.plain_session.specs.Costs.{edit_cost};
-
-    ghost state = { λ s. s };
-
-    ghost cost = { edit_cost };
 
     fn apply<L: Ledger>(&mut self, edit: &Edit, _steps: &mut Steps<L>) -> Result<(), SessionError> {
         if self.closed {
@@ -131,7 +107,13 @@ impl Session for PlainSession {
     }
 
     fn records(&self, node: u32) -> Option<Records<'_>> {
-        find_records(&self.stock.entries, node)
+        each_element_is_found_once();
+        find_records(&self.stock.entries, self.stock.place_of(node), node)
+    }
+
+    fn node_after(&self, node: u32) -> Option<u32> {
+        each_element_is_found_once();
+        find_next(&self.stock.entries, self.stock.place_of(node), node)
     }
 
     fn compiled(&self) -> &Compiled {

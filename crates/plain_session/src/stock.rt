@@ -3,7 +3,7 @@
 ghost use Rattle.std.specs.Prelude.{◌≡◌, IfOk, OnOk};
 ghost use Rattle.tree_names.specs.Found.{HasNames};
 ghost use Rattle.session_model.specs.State.{with_names};
-ghost use Rattle.compiled_schema.specs.Usable.{IsUsable};
+ghost use Rattle.compiled_schema.specs.Usable.{IsUsable, set_of};
 ghost use Rattle.plain_session.specs.Stocks.{IsReady, IsStock};
 
 use compiled_schema::{Compiled, usable_with_more_names};
@@ -21,6 +21,29 @@ pub(crate) struct Stock {
     pub entries: Vec<ElementEntry>,
     /// How many codes their records have.
     pub total: u64,
+    /// At each number the place of its element among the entries. It is but where to look first.
+    places: Vec<u32>,
+}
+
+impl Stock {
+    /// Where to look for the entry of a number.
+    pub fn place_of(&self, node: u32) -> usize {
+        match self.places.get(node as usize) {
+            Some(place) => *place as usize,
+            None => 0,
+        }
+    }
+}
+
+/// At each number below `free` the place of its element among the entries.
+fn places_in(alloc: Global, entries: &[ElementEntry], free: u32) -> Result<Vec<u32>, AllocError> {
+    let mut places = vec![in alloc; 0; free as usize]?;
+    for (place, entry) in entries.iter().enumerate() {
+        if let Some(slot) = places.get_mut(entry.number as usize) {
+            *slot = place as u32;
+        }
+    }
+    Ok(places)
 }
 
 // The entries of a tree whose names are in the table of the set.
@@ -31,12 +54,22 @@ fn assessed(alloc: Global, set: &mut Compiled, tree: &Tree) -> Result<Stock, All
     ensures same { set.new ≡ set.old }
 {
     // Who reads a tree is told that it is one, and within the limits: its codes can be counted.
-    let _whole = tree.next_free();
+    let free = tree.next_free();
     entries_are_named();
     entries_have_few_codes();
     let entries = assess(alloc, set, tree)?;
     let total = count_codes(&entries);
-    Ok(Stock { entries, total })
+    match places_in(alloc, &entries, free) {
+        Ok(places) => Ok(Stock {
+            entries,
+            total,
+            places,
+        }),
+        Err(error) => {
+            drop(entries);
+            Err(error)
+        }
+    }
 }
 
 /// Puts the names of a tree into the table of a set, and assesses it.
@@ -51,7 +84,7 @@ pub(crate) fn take_stock(
 ) -> Result<Stock, AllocError>
     requires ready { IsReady set.old }
     ensures ready { OnOk result (IsReady set.new) }
-    ensures named { OnOk result (set.new ≡ with_names set.old tree.now.forest) }
+    ensures named { OnOk result (set_of set.new ≡ with_names (set_of set.old) tree.now.forest) }
     ensures stock { IfOk result (IsStock set.new tree.now) }
 {
     document_names_are_found();
@@ -72,7 +105,7 @@ pub(crate) fn first_stock(
 ) -> Result<Stock, AllocError>
     requires usable { IsUsable set.old }
     ensures ready { OnOk result (IsReady set.new) }
-    ensures named { OnOk result (set.new ≡ with_names set.old tree.now.forest) }
+    ensures named { OnOk result (set_of set.new ≡ with_names (set_of set.old) tree.now.forest) }
     ensures stock { IfOk result (IsStock set.new tree.now) }
 {
     // Who reads a table of names is told that it is sound.

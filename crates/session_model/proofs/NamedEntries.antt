@@ -67,7 +67,7 @@ module _ (c : Compiled) (usable : IsUsable c) (b : Beside) where
 
   -- the record of an element with this head, and those of its attributes
   own-named : (g : Governing) (h : Head) (number : ℕ) (attributes : List Attribute) (children : Forest) (inner : List Governing) (below : Assessed) (own : Entry) → IsName c.names h.name →
-      HasAttributes c.names attributes → IsGoverned g → IsEntry (set_of c) b g h number attributes children inner below own → IsEntryNamed c own
+      HasAttributes c.names attributes → IsGoverned g → IsEntry (set_of c) b g h number attributes children inner below own → IsEntryNamed (set_of c) own
   own-named g h number attributes children inner below own named has governed_there e =
       let is = e.known.known.record_is in
       let attrs = attrs-there c.names c.parts usable.named.attributes usable.attribute_types.ranked usable.attribute_types.simple own.governing.of h.scope (named_texts c.names attributes)
@@ -103,22 +103,22 @@ module _ (c : Compiled) (usable : IsUsable c) (b : Beside) where
   others-there (g ∷ gs) h = All-tail IsGoverned g gs h
 
   named : (scope : Scope) (pairs : List Governing) (f : Forest) (found : Assessed) → All IsGoverned pairs → HasNames c.names f → AreAssessed (set_of c) b scope pairs f found
-      → All (IsEntryNamed c) (entries found)
-  named scope pairs none found ps has are = subst (λ x. All (IsEntryNamed c) (entries x)) (sym are) (All-nil (IsEntryNamed c))
+      → All (IsEntryNamed (set_of c)) (entries found)
+  named scope pairs none found ps has are = subst (λ x. All (IsEntryNamed (set_of c)) (entries x)) (sym are) (All-nil (IsEntryNamed (set_of c)))
   named scope pairs (text number chars next) found ps has are = named scope pairs next found ps has are
   named scope pairs (element number name bindings attributes children next) found ps has are =
       let h = head_of c.names scope name bindings attributes in
       let e = are.5 in
       let inside = scope_in c.names bindings scope in
       let inner = subst (All IsGoverned) (sym e.inner_is) (inner-there (first_pair pairs) e.terms (heads c.names inside children)) in
-      subst (λ x. All (IsEntryNamed c) (entries x)) (sym are.4)
-      (All-cons (IsEntryNamed c) are.0 (entries are.2 ++ entries are.3)
+      subst (λ x. All (IsEntryNamed (set_of c)) (entries x)) (sym are.4)
+      (All-cons (IsEntryNamed (set_of c)) are.0 (entries are.2 ++ entries are.3)
       (own-named (first_pair pairs) h number attributes children are.1 are.2 are.0 (name-within c.names name has.0.own) has.0.names (first-there pairs ps) e)
-      (All-append (IsEntryNamed c) (entries are.2) (entries are.3)
+      (All-append (IsEntryNamed (set_of c)) (entries are.2) (entries are.3)
       (named inside are.1 children are.2 inner has.1 are.6)
       (named scope (other_pairs pairs) next are.3 (others-there pairs ps) has.2 are.7)))
 
-pub all-named : (c : Compiled) (b : Beside) (f : Forest) (found : Assessed) → IsUsable c → HasNames c.names f → IsAssessment (set_of c) b f found → All (IsEntryNamed c) (entries found)
+pub all-named : (c : Compiled) (b : Beside) (f : Forest) (found : Assessed) → IsUsable c → HasNames c.names f → IsAssessment (set_of c) b f found → All (IsEntryNamed (set_of c)) (entries found)
 all-named c b f found usable has is =
     let hs = heads c.names first_scope f in
     named c usable b first_scope (root_pairs (set_of c) hs) f found (root-pairs-there c usable b hs) has is

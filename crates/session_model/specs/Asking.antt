@@ -10,6 +10,16 @@ abbrev pub entry_at : ℕ → List Entry → Option Entry
 entry_at key [] = None
 entry_at key (e ∷ more) = if e.number == key then Some e else entry_at key more
 
+-- the number of the first entry
+abbrev pub first_number : List Entry → Option ℕ
+first_number [] = None
+first_number (e ∷ more) = Some e.number
+
+-- the element that comes next in document order after the one of a number; none where that is the last, or no element has the number
+abbrev pub number_after : ℕ → List Entry → Option ℕ
+number_after key [] = None
+number_after key (e ∷ more) = if e.number == key then first_number more else number_after key more
+
 -- how many codes the records of attributes have
 abbrev pub attr_total : List AttrRecord → ℕ
 attr_total [] = 0

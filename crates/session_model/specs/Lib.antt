@@ -1,8 +1,8 @@
-pub mod Assessor
 pub mod State
 pub mod StateCode
 pub mod Asking
 pub mod Reports
 pub mod Applying
-pub mod Counting
+pub mod Spending
 pub mod Few
+pub mod inside

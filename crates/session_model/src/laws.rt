@@ -16,7 +16,7 @@ ghost use Rattle.session_model.specs.Few.{most_codes};
 /// The names and types of the records of a document's elements and attributes are those of the set that it is assessed by,
 /// where the set has the document's names.
 pub fn entries_are_named()
-    ensures named { (c : CompiledData) (b : Beside) (f : Forest) (found : Assessed) → IsUsable c → HasNames c.names f → IsAssessment (set_of c) b f found → All (IsEntryNamed c) (entries found) }
+    ensures named { (c : CompiledData) (b : Beside) (f : Forest) (found : Assessed) → IsUsable c → HasNames c.names f → IsAssessment (set_of c) b f found → All (IsEntryNamed (set_of c)) (entries found) }
 {}
 
 /// The records of a document have few codes.

@@ -1,6 +1,5 @@
 pub mod Readers
-pub mod Leading
 pub mod Moved
 pub mod Compiling
-pub mod Standing
+pub mod Opening
 pub mod Sectioned

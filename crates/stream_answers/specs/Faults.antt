@@ -5,8 +5,8 @@ use Rattle.std.specs.List.{starts_with}
 use Rattle.xs_codes.specs.Codes.{text_of}
 use Rattle.xs_codes.specs.declared.code.Code.{Code}
 use Rattle.xs_codes.specs.declared.fault.Fault.{Fault}
-use Rattle.stream_answers.specs.declared.ending.Ending.{Ending}
-use Rattle.stream_answers.specs.declared.ending.Ending.TheVariants.{SchemaRefused, Limit, Unsupported}
+use Rattle.told.specs.declared.ending.Ending.{Ending}
+use Rattle.told.specs.declared.ending.Ending.TheVariants.{SchemaRefused, Limit, Unsupported}
 
 -- the code says that a limit is passed
 abbrev pub is_limit_code : Code → Bool

@@ -9,8 +9,8 @@ use Rattle.tree_building.specs.declared.fault.TreeReason.{TreeReason}
 use Rattle.tree_building.specs.declared.fault.TreeReason.TheVariants as trees
 use Rattle.stream_sections.specs.declared.refusal.Refusal.{Refusal}
 use Rattle.stream_sections.specs.declared.refusal.Refusal.TheVariants as refusals
-use Rattle.stream_answers.specs.declared.ending.Ending.{Ending}
-use Rattle.stream_answers.specs.declared.ending.Ending.TheVariants.{ListingRefused, Limit}
+use Rattle.told.specs.declared.ending.Ending.{Ending}
+use Rattle.told.specs.declared.ending.Ending.TheVariants.{ListingRefused, Limit}
 
 abbrev pub line_name : Reason → List ℕ
 line_name lines.NotUtf8 = codes "NotUtf8"

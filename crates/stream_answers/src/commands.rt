@@ -1,21 +1,22 @@
-ghost use Rattle.std.specs.Prelude.{◌≡◌, ◌≤◌, ℕ, List, [], Option, Some, IfOk};
+ghost use Rattle.std.specs.Prelude.{◌≡◌, ◌≤◌, ℕ, List, Option, IfOk};
 ghost use Rattle.xsv_io.specs.Causes.{KeepsCount};
-ghost use Rattle.session_model.specs.Assessor.{RightAssessor};
-ghost use Rattle.open_document.specs.Answers.{reply_of, next_of, cost_of, verdict};
+ghost use Rattle.told.specs.Told.{Told};
+ghost use Rattle.told.specs.Going.{Answers, trace};
+ghost use Rattle.told.specs.Tells.{IsWriteFault};
+ghost use Rattle.open_document.specs.Answers.{command_told};
 ghost use Rattle.open_document.specs.State.{OpenState, IsOpen, working};
-ghost use Rattle.open_document.specs.Tells.{Wrote, IsWriteFault};
-ghost use Rattle.session_model.specs.Counting.{Counts};
-ghost use Rattle.stream_sections.specs.declared.asked.Asked.{Asked};
-ghost use Rattle.stream_answers.specs.inside.Turns.{turned};
-ghost use Rattle.stream_answers.specs.inside.Turning.{spot_of, Takes, MovesTo, MovesOpen, GoesTo};
+ghost use Rattle.stream_sections.specs.inside.CommandTurns as command_turns;
+ghost use Rattle.stream_answers.specs.inside.Turns.{Spot, commands, commands_turned, document_ended, no_block};
+ghost use Rattle.stream_answers.specs.inside.Turning.{MovesOpen, moved};
 ghost use Rattle.stream_answers.specs.declared.place.Place.TheVariants as places;
 
 use crate::Place;
 use crate::turn::{Turn, refuse};
-use item_listing::{Item, Items};
-use open_document::{BreakOff, Workspace, boxed};
+use item_listing::Items;
+use open_document::{Workspace, boxed};
 use std::alloc::Global;
 use stream_sections::{CommandReader, CommandTurn};
+use told::BreakOff;
 use xs_names::Text;
 use xsv_io::Sink;
 use xsv_steps::{Ledger, Steps};
@@ -30,12 +31,11 @@ fn answer_command<W: Sink, L: Ledger>(
     steps: &mut Steps<L>,
 ) -> Result<Turn, BreakOff>
     requires { IsOpen work.old }
-    ensures wrote { (p : RightAssessor) (s : OpenState) → work.old ≡ working s → Wrote result (W.taken sink.old) (W.taken sink.new) (reply_of p s command.now block) }
-    ensures stands { (s : OpenState) → work.old ≡ working s → IfOk result (λ turn. (turn ≡ Turn.Stays) × (work.new ≡ working (next_of s command.now block))) }
+    ensures takes { (s : OpenState) (next : Spot → Told) → work.old ≡ working s → Answers (command_told s command.now block (λ q. next (commands q no_block)))
+        result (trace (W.taken sink.old) steps.old) (trace (W.taken sink.new) steps.new) (moved next (places.Commands no_block) work.new) }
     ensures open { (reader : CommandReader) → IfOk result (MovesOpen (places.Commands reader) work.new) }
     ensures writes { KeepsCount W.faults W.fault_bound sink.old sink.new (IsWriteFault result) }
-    ensures counts { (s : OpenState) → work.old ≡ working s → Counts steps.old steps.new (cost_of s command.now block) }
-    ensures steps { steps.old ≤ steps.new }
+    ensures later { steps.old ≤ steps.new }
 {
     match work.answer(alloc, command, block, sink, steps) {
         Ok(()) => Ok(Turn::Stays),
@@ -46,9 +46,9 @@ fn answer_command<W: Sink, L: Ledger>(
 /// The stream has ended with this document.
 fn end_commands(alloc: Global, work: &Workspace) -> Result<Turn, BreakOff>
     requires { IsOpen work.now }
-    ensures goes { (p : RightAssessor) (s : OpenState) → work.now ≡ working s → IfOk result (GoesTo (places.Ended (Some (verdict p s)))) }
+    ensures takes { (s : OpenState) (next : Spot → Told) (stood : Place) (taken : Option (List ℕ)) (n : ℕ) → work.now ≡ working s
+        → Answers (next (document_ended s)) result (trace taken n) (trace taken n) (moved next stood work.now) }
     ensures open { (stood : Place) → IfOk result (MovesOpen stood work.now) }
-    ensures silent { (taken : Option (List ℕ)) → Wrote result taken taken [] }
     ensures no_fault { IsWriteFault result → ⊥ }
 {
     match boxed(alloc, Place::Ended(Some(work.verdict()))) {
@@ -57,23 +57,22 @@ fn end_commands(alloc: Global, work: &Workspace) -> Result<Turn, BreakOff>
     }
 }
 
-/// Answers an item among the commands.
+/// Answers what an item has done among the commands.
 pub fn answer_commands<W: Sink, L: Ledger>(
     alloc: Global,
-    line: u32,
-    reader: &mut CommandReader,
+    turn: CommandTurn,
     work: &mut Workspace,
-    item: Item,
     sink: &mut W,
     steps: &mut Steps<L>,
 ) -> Result<Turn, BreakOff>
     requires { IsOpen work.old }
-    ensures takes { (p : RightAssessor) (a : Asked) → Takes (turned p a line (spot_of (Place.Commands reader.old) work.old) item) (W.taken sink.old) (W.taken sink.new) steps.old steps.new result (MovesTo (Place.Commands reader.new) work.new) }
-    ensures open { IfOk result (MovesOpen (Place.Commands reader.new) work.new) }
+    ensures takes { (s : OpenState) (t : command_turns.Turned) (r : CommandReader) (next : Spot → Told) → work.old ≡ working s → command_turns.Turns t turn r
+        → Answers (commands_turned s t next) result (trace (W.taken sink.old) steps.old) (trace (W.taken sink.new) steps.new) (moved next (Place.Commands r) work.new) }
+    ensures open { (r : CommandReader) → IfOk result (MovesOpen (Place.Commands r) work.new) }
     ensures writes { KeepsCount W.faults W.fault_bound sink.old sink.new (IsWriteFault result) }
-    ensures steps { steps.old ≤ steps.new }
+    ensures later { steps.old ≤ steps.new }
 {
-    match reader.take(alloc, line, item)? {
+    match turn {
         CommandTurn::Goes => Ok(Turn::Stays),
         CommandTurn::Gives(command, block) => {
             answer_command(alloc, work, &command, block, sink, steps)

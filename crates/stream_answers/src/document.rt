@@ -1,33 +1,36 @@
-ghost use Rattle.std.specs.Prelude.{◌≡◌, ℕ, Some, IfOk};
+ghost use Rattle.std.specs.Prelude.{◌≡◌, ◌≤◌, Some, IfOk};
 ghost use Rattle.xsv_io.specs.Causes.{KeepsCount};
+ghost use Rattle.assessment.specs.Attribution.{SchemaSet};
+ghost use Rattle.told.specs.Told.{Told};
+ghost use Rattle.told.specs.Going.{Answers, trace};
+ghost use Rattle.told.specs.Tells.{Wrote, IsWriteFault};
 ghost use Rattle.open_document.specs.Answers.{verdict};
-ghost use Rattle.session_model.specs.Assessor.{RightAssessor};
-ghost use Rattle.compiled_schema.specs.declared.compiled.Compiled.{Compiled};
 ghost use Rattle.open_document.specs.State.{OpenState, IsReady, IsOpen, ready, working};
-ghost use Rattle.open_document.specs.Tells.{Wrote, IsWriteFault};
+ghost use Rattle.stream_sections.specs.inside.DocumentTurns as document_turns;
 ghost use Rattle.stream_answers.specs.Output as output;
-ghost use Rattle.stream_answers.specs.inside.Turns.{turned, edits_begun, document_over, no_block};
-ghost use Rattle.stream_answers.specs.inside.Turning.{spot_of, said_of, Takes, MovesTo, MovesOpen, GoesTo};
+ghost use Rattle.stream_answers.specs.inside.Turns.{Spot, commands, document_turned, document_ended, no_block};
+ghost use Rattle.stream_answers.specs.inside.Turning.{MovesOpen, GoesTo, moved};
 ghost use Rattle.stream_answers.specs.declared.place.Place.TheVariants as places;
 
 use crate::Place;
 use crate::turn::{Turn, refuse};
-use item_listing::Item;
-use open_document::{BreakOff, Workspace, boxed};
+use open_document::{Workspace, boxed};
 use plain_tree::Tree;
 use std::alloc::Global;
 use stream_sections::{Asked, CommandReader, DocumentReader, DocumentTurn};
+use told::BreakOff;
 use xsv_io::Sink;
+use xsv_steps::{Ledger, Steps};
 
 /// Writes the report on a document that was opened, or the first line of a session.
 fn write_opening<W: Sink>(asked: Asked, work: &Workspace, sink: &mut W) -> Result<(), BreakOff>
     requires { IsOpen work.now }
-    ensures wrote { (p : RightAssessor) (s : OpenState) → work.now ≡ working s → Wrote result (W.taken sink.old) (W.taken sink.new) (output.opening p asked s) }
+    ensures wrote { (s : OpenState) → work.now ≡ working s → Wrote result (W.taken sink.old) (W.taken sink.new) (output.opening asked s) }
     ensures writes { KeepsCount W.faults W.fault_bound sink.old sink.new (IsWriteFault result) }
 {
     match asked {
         Asked::Check => Ok(()),
-        Asked::Assess => work.write_report(sink),
+        Asked::Assess => work.write_report(None, sink),
         Asked::Session => work.write_first(sink),
     }
 }
@@ -40,7 +43,7 @@ fn begin_edits<W: Sink>(
     sink: &mut W,
 ) -> Result<Turn, BreakOff>
     requires { IsOpen work.now }
-    ensures wrote { (p : RightAssessor) (s : OpenState) → work.now ≡ working s → Wrote result (W.taken sink.old) (W.taken sink.new) (output.opening p asked s) }
+    ensures wrote { (s : OpenState) → work.now ≡ working s → Wrote result (W.taken sink.old) (W.taken sink.new) (output.opening asked s) }
     ensures goes { IfOk result (GoesTo (places.Commands no_block)) }
     ensures writes { KeepsCount W.faults W.fault_bound sink.old sink.new (IsWriteFault result) }
 {
@@ -58,8 +61,8 @@ fn end_document<W: Sink>(
     sink: &mut W,
 ) -> Result<Turn, BreakOff>
     requires { IsOpen work.now }
-    ensures wrote { (p : RightAssessor) (s : OpenState) → work.now ≡ working s → Wrote result (W.taken sink.old) (W.taken sink.new) (output.opening p asked s) }
-    ensures goes { (p : RightAssessor) (s : OpenState) → work.now ≡ working s → IfOk result (GoesTo (places.Ended (Some (verdict p s)))) }
+    ensures wrote { (s : OpenState) → work.now ≡ working s → Wrote result (W.taken sink.old) (W.taken sink.new) (output.opening asked s) }
+    ensures goes { (s : OpenState) → work.now ≡ working s → IfOk result (GoesTo (places.Ended (Some (verdict s)))) }
     ensures open { (stood : Place) → IfOk result (MovesOpen stood work.now) }
     ensures writes { KeepsCount W.faults W.fault_bound sink.old sink.new (IsWriteFault result) }
 {
@@ -69,62 +72,69 @@ fn end_document<W: Sink>(
 }
 
 /// Opens the document, and takes commands from here on.
-fn take_edits<W: Sink>(
+fn take_edits<W: Sink, L: Ledger>(
     alloc: Global,
     asked: Asked,
     work: &mut Workspace,
     tree: Tree,
     sink: &mut W,
+    steps: &mut Steps<L>,
 ) -> Result<Turn, BreakOff>
     requires { IsReady work.old }
-    ensures wrote { (p : RightAssessor) (set : Compiled) → work.old ≡ ready set
-        → Wrote result (W.taken sink.old) (W.taken sink.new) (said_of (edits_begun p asked set tree)).text }
-    ensures moves { (p : RightAssessor) (set : Compiled) (stood : Place) → work.old ≡ ready set → IfOk result (MovesTo stood work.new (edits_begun p asked set tree)) }
+    ensures takes { (set : SchemaSet) (next : Spot → Told) (stood : Place) → work.old ≡ ready set → Answers (output.opening_told asked set tree (λ s. next (commands s no_block)))
+        result (trace (W.taken sink.old) steps.old) (trace (W.taken sink.new) steps.new) (moved next stood work.new) }
     ensures open { (stood : Place) → IfOk result (MovesOpen stood work.new) }
     ensures writes { KeepsCount W.faults W.fault_bound sink.old sink.new (IsWriteFault result) }
+    ensures later { steps.old ≤ steps.new }
 {
-    work.open(alloc, tree)?;
-    begin_edits(alloc, asked, work, sink)
+    match work.open(alloc, tree, steps) {
+        Ok(()) => begin_edits(alloc, asked, work, sink),
+        Err(_) => Err(BreakOff::Memory),
+    }
 }
 
 /// Opens the document, and ends the stream.
-fn take_end<W: Sink>(
+fn take_end<W: Sink, L: Ledger>(
     alloc: Global,
     asked: Asked,
     work: &mut Workspace,
     tree: Tree,
     sink: &mut W,
+    steps: &mut Steps<L>,
 ) -> Result<Turn, BreakOff>
     requires { IsReady work.old }
-    ensures wrote { (p : RightAssessor) (set : Compiled) → work.old ≡ ready set
-        → Wrote result (W.taken sink.old) (W.taken sink.new) (said_of (document_over p asked set tree)).text }
-    ensures moves { (p : RightAssessor) (set : Compiled) (stood : Place) → work.old ≡ ready set → IfOk result (MovesTo stood work.new (document_over p asked set tree)) }
+    ensures takes { (set : SchemaSet) (next : Spot → Told) (stood : Place) → work.old ≡ ready set → Answers (output.opening_told asked set tree (λ s. next (document_ended s)))
+        result (trace (W.taken sink.old) steps.old) (trace (W.taken sink.new) steps.new) (moved next stood work.new) }
     ensures open { (stood : Place) → IfOk result (MovesOpen stood work.new) }
     ensures writes { KeepsCount W.faults W.fault_bound sink.old sink.new (IsWriteFault result) }
+    ensures later { steps.old ≤ steps.new }
 {
-    work.open(alloc, tree)?;
-    end_document(alloc, asked, work, sink)
+    match work.open(alloc, tree, steps) {
+        Ok(()) => end_document(alloc, asked, work, sink),
+        Err(_) => Err(BreakOff::Memory),
+    }
 }
 
-/// Answers an item in the document section.
-pub fn answer_document<W: Sink>(
+/// Answers what an item has done in the document section.
+pub fn answer_document<W: Sink, L: Ledger>(
     alloc: Global,
     asked: Asked,
-    line: u32,
-    reader: &mut DocumentReader,
+    turn: DocumentTurn,
     work: &mut Workspace,
-    item: Item,
     sink: &mut W,
+    steps: &mut Steps<L>,
 ) -> Result<Turn, BreakOff>
     requires { IsReady work.old }
-    ensures takes { (p : RightAssessor) (n : ℕ) → Takes (turned p asked line (spot_of (Place.Document reader.old) work.old) item) (W.taken sink.old) (W.taken sink.new) n n result (MovesTo (Place.Document reader.new) work.new) }
-    ensures open { IfOk result (MovesOpen (Place.Document reader.new) work.new) }
+    ensures takes { (set : SchemaSet) (t : document_turns.Turned) (r : DocumentReader) (next : Spot → Told) → work.old ≡ ready set → document_turns.Turns t turn r
+        → Answers (document_turned asked set t next) result (trace (W.taken sink.old) steps.old) (trace (W.taken sink.new) steps.new) (moved next (Place.Document r) work.new) }
+    ensures open { (r : DocumentReader) → IfOk result (MovesOpen (Place.Document r) work.new) }
     ensures writes { KeepsCount W.faults W.fault_bound sink.old sink.new (IsWriteFault result) }
+    ensures later { steps.old ≤ steps.new }
 {
-    match reader.take(alloc, asked, line, item)? {
+    match turn {
         DocumentTurn::Goes => Ok(Turn::Stays),
-        DocumentTurn::Edits(tree) => take_edits(alloc, asked, work, tree, sink),
-        DocumentTurn::Ends(tree) => take_end(alloc, asked, work, tree, sink),
+        DocumentTurn::Edits(tree) => take_edits(alloc, asked, work, tree, sink, steps),
+        DocumentTurn::Ends(tree) => take_end(alloc, asked, work, tree, sink, steps),
         DocumentTurn::Refused(spot) => refuse(sink, spot),
     }
 }

@@ -1,11 +1,11 @@
 ghost use Rattle.std.specs.Prelude.{◌≡◌, nat_eq, codes, IfOk};
 ghost use Rattle.std.specs.List.{starts_with};
 ghost use Rattle.xs_codes.specs.Codes.{text_of};
-ghost use Rattle.open_document.specs.Tells.{Tells};
+ghost use Rattle.told.specs.Tells.{Tells};
 ghost use Rattle.stream_answers.specs.Faults as faults;
 
-use crate::Ending;
-use open_document::{BreakOff, write_answer};
+use open_document::write_answer;
+use told::{BreakOff, Ending};
 use xs_codes::{Code, Fault, code_text};
 use xsv_io::{Part, Sink};
 

@@ -10,10 +10,10 @@ mod laws;
 mod place;
 mod refusal;
 mod schemas;
+mod stream;
 mod turn;
 
-pub use ending::Ending;
 pub use laws::places_answer_sections;
 pub use place::Place;
 pub use refusal::write_refusal;
-pub use turn::{answer_item, write_end};
+pub use stream::Stream;

@@ -1,12 +1,12 @@
 ghost use Rattle.std.specs.Prelude.{◌≡◌, IfOk};
 ghost use Rattle.stream_answers.specs.Refusals as refusals;
-ghost use Rattle.open_document.specs.Tells.{Tells};
+ghost use Rattle.told.specs.Tells.{Tells};
 
-use crate::Ending;
 use item_listing::Reason;
-use open_document::{BreakOff, write_answer};
+use open_document::write_answer;
 use stream_sections::{Refusal, RefusedLine};
 use tag_names::NameReason;
+use told::{BreakOff, Ending};
 use tree_building::TreeReason;
 use xsv_io::{Part, Sink};
 

@@ -1,24 +1,27 @@
 ghost use Rattle.std.specs.Prelude.{◌≡◌, ◌<◌, ℕ, length, IfOk};
 ghost use Rattle.xsv_io.specs.Causes.{KeepsCount};
-ghost use Rattle.session_model.specs.Assessor.{RightAssessor};
+ghost use Rattle.told.specs.Told.{Told, asks};
+ghost use Rattle.told.specs.Going.{Answers, trace};
+ghost use Rattle.told.specs.Tells.{Tells, IsWriteFault};
+ghost use Rattle.open_document.specs.Answers.{question};
 ghost use Rattle.open_document.specs.State.{WorkState};
-ghost use Rattle.open_document.specs.Tells.{Tells, IsWriteFault};
+ghost use Rattle.stream_sections.specs.inside.SchemaTurns as schema_turns;
 ghost use Rattle.stream_answers.specs.Faults as faults;
 ghost use Rattle.stream_answers.specs.Output as output;
-ghost use Rattle.stream_answers.specs.inside.Turns.{compiles, compiled, spot_behind, stops, turned};
+ghost use Rattle.stream_answers.specs.inside.Turns.{Spot, spot_behind, schemas_turned};
 ghost use Rattle.stream_answers.specs.inside.Turning as turning;
-ghost use Rattle.stream_answers.specs.inside.Turning.{spot_of, Takes, MovesTo, MovesOpen, GoesTo};
+ghost use Rattle.stream_answers.specs.inside.Turning.{MovesOpen, EndsSo, GoesTo, AreSome, moved};
 
 use crate::Place;
 use crate::fault::write_fault;
 use crate::turn::{Turn, not_yet, refuse};
-use item_listing::Item;
-use open_document::{BreakOff, SetVerdict, Workspace, boxed, write_answer};
+use open_document::{SetVerdict, Workspace, boxed, write_answer};
 use schema_set::SchemaInput;
 use std::alloc::{AllocError, Global};
 use stream_sections::{
     Asked, DocumentReader, SchemaReader, SchemaSection, SchemaSections, SchemaTurn,
 };
+use told::BreakOff;
 use xs_codes::Fault;
 use xsv_io::{Part, Sink};
 
@@ -58,7 +61,7 @@ fn accept<W: Sink>(alloc: Global, asked: Asked, line: u32, sink: &mut W) -> Resu
 /// The schema set has a fault.
 fn refuse_set<W: Sink>(sink: &mut W, fault: Fault) -> Result<Turn, BreakOff>
     ensures tells { Tells W.taken W.faults W.fault_bound sink.old sink.new result (faults.fault_line fault) }
-    ensures moves { (stood : Place) (work : WorkState) → IfOk result (MovesTo stood work (stops (output.ends (faults.fault_line fault) (faults.fault_ending fault)))) }
+    ensures ends { IfOk result (EndsSo (faults.fault_ending fault)) }
     ensures open { (stood : Place) (work : WorkState) → IfOk result (MovesOpen stood work) }
 {
     Ok(Turn::Ends(write_fault(sink, fault)?))
@@ -74,14 +77,16 @@ fn compile<W: Sink>(
     sink: &mut W,
 ) -> Result<Turn, BreakOff>
     requires some { 0 < length documents.now }
-    ensures takes { (n : ℕ) (stood : Place) → Takes (compiles documents.now (compiled (spot_behind asked line))) (W.taken sink.old) (W.taken sink.new) n n result (MovesTo stood work.new) }
+    ensures takes { (n : ℕ) (next : Spot → Told) (stood : Place) → Answers (asks (question documents.now) (output.compiled_told (λ set. next (spot_behind asked line set))))
+        result (trace (W.taken sink.old) n) (trace (W.taken sink.new) n) (moved next stood work.new) }
     ensures open { (stood : Place) → IfOk result (MovesOpen stood work.new) }
     ensures writes { KeepsCount W.faults W.fault_bound sink.old sink.new (IsWriteFault result) }
 {
-    match work.compile(alloc, documents)? {
-        SetVerdict::Accepted => accept(alloc, asked, line, sink),
-        SetVerdict::Broken(fault) => refuse_set(sink, fault),
-        SetVerdict::NotYet => not_yet(sink),
+    match work.compile(alloc, documents) {
+        Ok(SetVerdict::Accepted) => accept(alloc, asked, line, sink),
+        Ok(SetVerdict::Broken(fault)) => refuse_set(sink, fault),
+        Ok(SetVerdict::NotYet) => not_yet(sink),
+        Err(_) => Err(BreakOff::Memory),
     }
 }
 
@@ -95,7 +100,8 @@ fn end_schemas<W: Sink>(
     sink: &mut W,
 ) -> Result<Turn, BreakOff>
     requires some { 0 < length sections }
-    ensures takes { (n : ℕ) (stood : Place) → Takes (compiles (output.inputs sections) (compiled (spot_behind asked line))) (W.taken sink.old) (W.taken sink.new) n n result (MovesTo stood work.new) }
+    ensures takes { (n : ℕ) (next : Spot → Told) (stood : Place) → Answers (asks (output.question_of sections) (output.compiled_told (λ set. next (spot_behind asked line set))))
+        result (trace (W.taken sink.old) n) (trace (W.taken sink.new) n) (moved next stood work.new) }
     ensures open { (stood : Place) → IfOk result (MovesOpen stood work.new) }
     ensures writes { KeepsCount W.faults W.fault_bound sink.old sink.new (IsWriteFault result) }
 {
@@ -105,21 +111,22 @@ fn end_schemas<W: Sink>(
     }
 }
 
-/// Answers an item among the schema sections.
+/// Answers what an item has done among the schema sections, at the line of this number.
 pub fn answer_schemas<W: Sink>(
     alloc: Global,
     asked: Asked,
     line: u32,
-    reader: &mut SchemaReader,
+    turn: SchemaTurn,
     work: &mut Workspace,
-    item: Item,
     sink: &mut W,
 ) -> Result<Turn, BreakOff>
-    ensures takes { (p : RightAssessor) (n : ℕ) → Takes (turned p asked line (spot_of (Place.Schemas reader.old) work.old) item) (W.taken sink.old) (W.taken sink.new) n n result (MovesTo (Place.Schemas reader.new) work.new) }
-    ensures open { IfOk result (MovesOpen (Place.Schemas reader.new) work.new) }
+    requires some { AreSome turn }
+    ensures takes { (t : schema_turns.Turned) (r : SchemaReader) (n : ℕ) (next : Spot → Told) → schema_turns.Turns t turn r
+        → Answers (schemas_turned asked line t next) result (trace (W.taken sink.old) n) (trace (W.taken sink.new) n) (moved next (Place.Schemas r) work.new) }
+    ensures open { (r : SchemaReader) → IfOk result (MovesOpen (Place.Schemas r) work.new) }
     ensures writes { KeepsCount W.faults W.fault_bound sink.old sink.new (IsWriteFault result) }
 {
-    match reader.take(alloc, asked, line, item)? {
+    match turn {
         SchemaTurn::Goes => Ok(Turn::Stays),
         SchemaTurn::Ends(sections) => end_schemas(alloc, asked, line, sections, work, sink),
         SchemaTurn::Refused(spot) => refuse(sink, spot),

@@ -1,172 +1,210 @@
--- Streams of which no line is refused.
-use Rattle.std.proofs.Common.{◌≡◌, ◌⊎◌, inl, inr, ℕ, List, [], ◌∷◌, ◌++◌, true, Option, Some, refl, sym, ap, ◌∙◌, subst, append_assoc, append-nil, ◌+◌, arith}
+-- Streams of which no line is refused, and that there is one output.
+use Rattle.std.proofs.Common.{◌≡◌, ◌⊎◌, inl, inr, ℕ, ◌+◌, List, ◌++◌, Bool, true, Option, Some, None, refl, sym, ap, ◌∙◌, subst, arith}
+use Rattle.std.specs.Option.{option_map}
 use Rattle.item_listing.specs.Listed.{listed}
 use Rattle.item_listing.specs.State.{unread}
 use Rattle.item_listing.specs.declared.item.Item.{Item}
 use Rattle.tree_rows.specs.Forest.{Document}
+use Rattle.assessment.specs.Attribution.{SchemaSet}
+use Rattle.assessment.specs.Assessment.{Entry}
+use Rattle.what_is_found.specs.IsFound.{IsFound}
+use Rattle.session_model.specs.State.{with_names}
+use Rattle.schema_set.specs.declared.inputs.SchemaInput.{SchemaInput}
+use Rattle.schema_compile.specs.Outcomes.{IsOutcome}
+use Rattle.schema_compile.specs.declared.outcome.Outcome.{Outcome}
+use Rattle.schema_compile.specs.declared.outcome.Outcome.TheVariants as outcomes
+use Rattle.outcome_laws.specs.Same.{IsSameOutcome}
+use Rattle.told.specs.Outcomes.{told_of as outcome_told, Question, SetOutcome, accepted, broken, not_yet, IsOutcomeOf}
+use Rattle.told.specs.Told.{Said, free, silent, joined, Told, over, says, asks, Leads}
+use Rattle.told.specs.declared.ending.Ending.{Ending}
+use Rattle.told.specs.declared.ending.Ending.TheVariants as endings
+use Rattle.told.proofs.Leading.{IsOver, leads_says, leads_to_one}
+use Rattle.open_document.specs.Answers.{opened, opening_cost}
+use Rattle.open_document.specs.State.{OpenState}
 use Rattle.stream_sections.specs.Sections as sections
-use Rattle.stream_sections.specs.Spelled.{whole, given, Order, SpellsCheck, SpellsStream}
+use Rattle.stream_sections.specs.Spelled.{whole, given, has_document, Order, SpellsCheck, SpellsStream}
 use Rattle.stream_sections.specs.declared.asked.Asked.{Asked}
 use Rattle.stream_sections.specs.declared.asked.Asked.TheVariants.{Check, Assess, Session}
 use Rattle.stream_sections.specs.declared.schemas.SchemaSection.{SchemaSection}
-use Rattle.session_model.specs.Assessor.{RightAssessor}
-use Rattle.open_document.specs.Answers.{next_of, verdict}
-use Rattle.compiled_schema.specs.declared.compiled.Compiled.{Compiled}
-use Rattle.schema_compile.specs.declared.outcome.Outcome.{Outcome}
-use Rattle.schema_compile.specs.declared.outcome.Outcome.TheVariants.{Accepted, Broken, NotYet}
-use Rattle.open_document.specs.State.{OpenState}
-use Rattle.stream_answers.specs.Output.{Last, Told, over, asks, Leads, free, before, answered, schema_ok, ending_of, not_yet, inputs, sections_told, stream_told, compiled_told, check_told, opened_told, opening, commands_told}
-use Rattle.xsv_run.specs.Output.{Output, asked, refused_words, output_of, ComesTo, IsOutput, IsOutputBy, told_of}
-use Rattle.xsv_run.specs.declared.status.Status.TheVariants.{Valid}
-use Rattle.xsv_run.specs.Complete.{IsByOutcome, replies, state_after, first_state, costs, last_line, answer, check_output, stream_output}
+use Rattle.stream_answers.specs.Faults.{fault_line, fault_ending}
+use Rattle.stream_answers.specs.Output.{ends, schema_ok, not_yet_line, question_of, compiled_told, check_told, opening, opened_told, commands_told, stream_told, sections_told}
+use Rattle.xsv_run.specs.Statuses.{status_of}
+use Rattle.xsv_run.specs.Output.{Output, ComesTo, IsOutput, output_of, told_of}
+use Rattle.xsv_run.specs.Complete.{IsByOutcome, IsCheckOutput, IsStreamOutput, answer, answered_output}
+use Rattle.xsv_run.proofs.Replies.{says_back, says_on, last_back, last_said, last_ending, commands_back, commands_on}
 
--- the output of what is told, where nothing is asked
-abbrev output_told : Told → Output
-output_told (over last) = output_of last
-output_told (asks documents next) = refused_words
+-- ---- one output
 
--- nothing is asked
-abbrev IsLast : Told → Type 0
-IsLast (over last) = Unit {0}
-IsLast (asks documents next) = ⊥
+same_told : (a b : Outcome) → IsSameOutcome a b → outcome_told a ≡ outcome_told b
+same_told (outcomes.Accepted a) (outcomes.Accepted b) h = ap accepted h
+same_told (outcomes.Accepted a) (outcomes.Broken g) h = absurd h
+same_told (outcomes.Accepted a) outcomes.NotYet h = absurd h
+same_told (outcomes.Broken f) (outcomes.Accepted b) h = absurd h
+same_told (outcomes.Broken f) (outcomes.Broken g) h = ap broken h
+same_told (outcomes.Broken f) outcomes.NotYet h = absurd h
+same_told outcomes.NotYet (outcomes.Accepted b) h = absurd h
+same_told outcomes.NotYet (outcomes.Broken g) h = absurd h
+same_told outcomes.NotYet outcomes.NotYet h = refl
 
--- all that is told goes by what the documents come to
-module _ (all : List SchemaSection) (next : Outcome → Told) (written : Outcome → Output) (ended : Outcome → Last)
-    (tells : (o : Outcome) → next o ≡ over (ended o)) (writes : (o : Outcome) → output_of (ended o) ≡ written o) where
-  told_last : (o : Outcome) (last : Last) → Leads (next o) (over last) → output_of last ≡ written o
-  told_last o last h =
-      let same : over last ≡ over (ended o) = subst (λ t. Leads t (over last)) (tells o) h in
-      ap output_told same ∙ writes o
+pub one_outcome : ((documents : List SchemaInput) (a b : Outcome) → IsOutcome documents a → IsOutcome documents b → IsSameOutcome a b)
+    → (question : Question) (x y : SetOutcome) → IsOutcomeOf question x → IsOutcomeOf question y → x ≡ y
+one_outcome law question x y h l =
+    h.told_is ∙ (same_told h.outcome l.outcome (law question.documents h.outcome l.outcome h.is_outcome l.is_outcome) ∙ sym l.told_is)
 
-  by_leads : (out : Output) (last : Last) → Leads (asks (inputs all) next) (over last) → out ≡ output_of last → IsByOutcome all written out
-  by_leads out last (inl e) is = absurd (subst IsLast e tt)
-  by_leads out last (inr h) is = (h.0, h.1, is ∙ told_last h.0 last h.2)
+module _ (found_is : (s : SchemaSet) (d : Document) (x y : List Entry) → IsFound s d x → IsFound s d y → x ≡ y)
+    (outcome_is : (question : Question) (x y : SetOutcome) → IsOutcomeOf question x → IsOutcomeOf question y → x ≡ y) where
+  comes_to_one : (t : Told) (x y : Output) → ComesTo t x → ComesTo t y → x ≡ y
+  comes_to_one t x y h l =
+      let one = leads_to_one found_is outcome_is t h.said l.said h.ending l.ending h.leads l.leads in
+      h.output_is ∙ (ap (λ (s : Said). output_of s h.ending) one.0 ∙ (ap (output_of l.said) one.1 ∙ sym l.output_is))
 
-  by_outcome : (out : Output) → ComesTo (asks (inputs all) next) out → IsByOutcome all written out
-  by_outcome out h = by_leads out h.0 h.1 h.2
+  pub one_output : (what : Option Asked) (bytes : List ℕ) (closed : Bool) (x y : Output) → IsOutput what bytes closed x → IsOutput what bytes closed y → x ≡ y
+  one_output None bytes closed x y h l = h ∙ sym l
+  one_output (Some what) bytes closed x y h l = comes_to_one (told_of what bytes closed) x y h l
 
-  of_outcome : (out : Output) → IsByOutcome all written out → ComesTo (asks (inputs all) next) out
-  of_outcome out h = (ended h.0, inr (h.0, h.1, subst (λ t. Leads t (over (ended h.0))) (sym (tells h.0)) refl), h.2 ∙ sym (writes h.0))
+-- ---- what is asked is answered
 
--- what is asked for is told of the items of the bytes
-told_is : (p : RightAssessor) (a : Asked) (bytes : List ℕ) (its : List Item) (t : Told) → listed unread bytes true ≡ whole its → sections_told p a (whole its) ≡ t
-    → told_of p a bytes true ≡ t
-told_is p a bytes its t reads tells = ap (sections_told p a) reads ∙ tells
+module _ (question : Question) (next : SetOutcome → Told) (out : Output) where
+  known_by : (said : Said) (ending : Option Ending) → Leads (asks question next) said (over ending) → out ≡ output_of said ending
+      → (o : SetOutcome) × IsOutcomeOf question o × ComesTo (next o) out
+  known_by said ending (inl h) is = absurd (subst IsOver h.1 tt)
+  known_by said ending (inr h) is = (h.0, h.1, record { said = said; ending = ending; leads = h.2; output_is = is })
 
-module _ (p : RightAssessor) (a : Asked) (words : List (List ℕ)) (bytes : List ℕ) (t : Told) (out : Output) (asks_for : asked words ≡ Some a) (is : told_of p a bytes true ≡ t) where
-  comes_from : IsOutput p words bytes out → ComesTo t out
-  comes_from h = subst (λ u. ComesTo u out) is (subst (λ (q : Option Asked). IsOutputBy p q bytes true out) asks_for h)
+  known : ComesTo (asks question next) out → (o : SetOutcome) × IsOutcomeOf question o × ComesTo (next o) out
+  known h = known_by h.said h.ending h.leads h.output_is
 
-  comes_to : ComesTo t out → IsOutput p words bytes out
-  comes_to h = subst (λ (q : Option Asked). IsOutputBy p q bytes true out) (sym asks_for) (subst (λ u. ComesTo u out) (sym is) h)
+  asked : (o : SetOutcome) → IsOutcomeOf question o → ComesTo (next o) out → ComesTo (asks question next) out
+  asked o is h = record { said = h.said; ending = h.ending; leads = inr (o, is, h.leads); output_is = h.output_is }
 
--- a stream for `check`
-abbrev check_next : Outcome → Told
+-- ---- one text
+
+module _ (text : List ℕ) (ending : Ending) where
+  last_is : (out : Output) → ComesTo (ends text ending) out → out ≡ answer text 0 (status_of ending)
+  last_is out h =
+      let one = last_back text ending h.said h.ending h.leads in
+      h.output_is ∙ (ap (λ (x : Said). output_of x h.ending) one.0 ∙ ap (output_of (free text)) one.1)
+
+  last_comes : (out : Output) → out ≡ answer text 0 (status_of ending) → ComesTo (ends text ending) out
+  last_comes out is = record { said = free text; ending = Some ending; leads = leads_says (free text) (over (Some ending)); output_is = is }
+
+-- ---- a stream for `check`
+
+abbrev check_next : SetOutcome → Told
 check_next = compiled_told (λ set. check_told set sections.ended)
 
-abbrev last_of : Told → Last
-last_of (over last) = last
-last_of (asks documents next) = not_yet
+check_is : (o : SetOutcome) (out : Output) → ComesTo (check_next o) out → IsCheckOutput o out
+check_is (accepted set) out h = last_is schema_ok endings.Valid out h
+check_is (broken fault) out h = last_is (fault_line fault) (fault_ending fault) out h
+check_is not_yet out h = last_is not_yet_line endings.Unsupported out h
 
-check_tells : (o : Outcome) → check_next o ≡ over (last_of (check_next o))
-check_tells (Accepted set) = refl
-check_tells (Broken fault) = refl
-check_tells NotYet = refl
+check_comes_by : (o : SetOutcome) (out : Output) → IsCheckOutput o out → ComesTo (check_next o) out
+check_comes_by (accepted set) out h = last_comes schema_ok endings.Valid out h
+check_comes_by (broken fault) out h = last_comes (fault_line fault) (fault_ending fault) out h
+check_comes_by not_yet out h = last_comes not_yet_line endings.Unsupported out h
 
-check_writes : (o : Outcome) → output_of (last_of (check_next o)) ≡ check_output o
-check_writes (Accepted set) = ap (λ text. answer text 0 Valid) (append-nil schema_ok)
-check_writes (Broken fault) = refl
-check_writes NotYet = refl
+-- what is asked for is told of the items of the bytes
+told_is : (a : Asked) (bytes : List ℕ) (its : List Item) (t : Told) → listed unread bytes true ≡ whole its → sections_told a (whole its) ≡ t
+    → told_of a bytes true ≡ t
+told_is a bytes its t reads tells = ap (sections_told a) reads ∙ tells
 
 module _ (law : (all : List SchemaSection) (its : List Item) → SpellsCheck all its → sections.schemas_alone Check (whole its) ≡ sections.schemas all sections.ended)
-    (p : RightAssessor) (words : List (List ℕ)) (bytes : List ℕ) (its : List Item) (all : List SchemaSection) (out : Output)
-    (asks_for : asked words ≡ Some Check) (reads : listed unread bytes true ≡ whole its) (spells : SpellsCheck all its) where
-  check_told_is : told_of p Check bytes true ≡ asks (inputs all) check_next
-  check_told_is = told_is p Check bytes its (asks (inputs all) check_next) reads (ap (stream_told check_told) (law all its spells))
+    (bytes : List ℕ) (its : List Item) (all : List SchemaSection) (out : Output) (reads : listed unread bytes true ≡ whole its) (spells : SpellsCheck all its) where
+  check_told_is : told_of Check bytes true ≡ asks (question_of all) check_next
+  check_told_is = told_is Check bytes its (asks (question_of all) check_next) reads (ap (stream_told check_told) (law all its spells))
 
-  pub check_answered : IsOutput p words bytes out → IsByOutcome all check_output out
+  pub check_answered : IsOutput (Some Check) bytes true out → IsByOutcome all IsCheckOutput out
   check_answered h =
-      by_outcome all check_next check_output (λ o. last_of (check_next o)) check_tells check_writes out (comes_from p Check words bytes (asks (inputs all) check_next) out asks_for check_told_is h)
+      let o = known (question_of all) check_next out (subst (λ (t : Told). ComesTo t out) check_told_is h) in
+      (o.0, o.1, check_is o.0 out o.2)
 
-  pub check_comes : IsByOutcome all check_output out → IsOutput p words bytes out
-  check_comes h =
-      comes_to p Check words bytes (asks (inputs all) check_next) out asks_for check_told_is
-      (of_outcome all check_next check_output (λ o. last_of (check_next o)) check_tells check_writes out h)
+  pub check_comes : IsByOutcome all IsCheckOutput out → IsOutput (Some Check) bytes true out
+  check_comes h = subst (λ (t : Told). ComesTo t out) (sym check_told_is) (asked (question_of all) check_next out h.0 h.1 (check_comes_by h.0 out h.2))
 
--- a stream with a document
-module _ (p : RightAssessor) where
-  -- the stream has ended, with what its commands cost
-  abbrev ended_at : List ℕ → ℕ → OpenState → Last
-  ended_at text cost s = record { said = record { text = text; cost = cost }; ending = Some (ending_of (verdict p s).validity) }
+-- ---- a stream with a document
 
-  -- a text before that costs no step
-  free_first : (text more : List ℕ) (cost : ℕ) (s : OpenState) → before (free text) (over (ended_at more cost s)) ≡ over (ended_at (text ++ more) cost s)
-  free_first text more cost s =
-      let same : 0 + cost ≡ cost = omega arith in
-      ap (λ k. over (ended_at (text ++ more) k s)) same
+abbrev stream_next : Asked → Document → List Order → SetOutcome → Told
+stream_next a d orders = compiled_told (λ set. opened_told a set (sections.document d (given orders)))
 
-  orders_told : (s : OpenState) (orders : List Order) → commands_told p s (given orders)
-      ≡ over (ended_at (replies p s orders ++ last_line p (state_after s orders)) (costs s orders) (state_after s orders))
-  orders_told s [] = refl
-  orders_told s (o ∷ more) =
-      let next = next_of s o.line o.block in
-      ap (before (answered p s o.line o.block)) (orders_told next more)
-      ∙ ap (λ text. over (ended_at text (costs s (o ∷ more)) (state_after s (o ∷ more))))
-      (sym (append_assoc (answered p s o.line o.block).text (replies p next more) (last_line p (state_after s (o ∷ more)))))
+module _ (a : Asked) (set : SchemaSet) (d : Document) (orders : List Order) where
+  abbrev said_of : OpenState → Said
+  said_of s = record { text = opening a s; cost = opening_cost d }
 
-  module _ (a : Asked) (d : Document) (orders : List Order) where
-    abbrev stream_next : Outcome → Told
-    stream_next = compiled_told (λ set. opened_told p a set (sections.document d (given orders)))
+  -- all that is said of a document that was opened
+  abbrev whole_said : OpenState → Said → OpenState → Said
+  whole_said s replies last = joined (free schema_ok) (joined (said_of s) (joined replies (last_said last)))
 
-    -- what is written last of a document that was opened in this state
-    abbrev ended_in : OpenState → Last
-    ended_in s = ended_at (schema_ok ++ (opening p a s ++ (replies p s orders ++ last_line p (state_after s orders)))) (costs s orders) (state_after s orders)
+  cost_is : (x y : ℕ) → 0 + (x + (y + 0)) ≡ x + y
+  cost_is x y = omega arith
 
-    abbrev stream_last : Outcome → Last
-    stream_last (Accepted set) = ended_in (first_state set d)
-    stream_last (Broken fault) = last_of (stream_next (Broken fault))
-    stream_last NotYet = not_yet
+  output_is : (s : OpenState) (replies : Said) (last : OpenState) → output_of (whole_said s replies last) (Some (last_ending last)) ≡ answered_output a d s replies last
+  output_is s replies last = ap (λ (n : ℕ). answer (whole_said s replies last).text n (status_of (last_ending last))) (cost_is (opening_cost d) replies.cost)
 
-    opened_is : (set : Compiled) → opened_told p a set (sections.document d (given orders))
-        ≡ over (ended_at (opening p a (first_state set d) ++ (replies p (first_state set d) orders ++ last_line p (state_after (first_state set d) orders)))
-        (costs (first_state set d) orders) (state_after (first_state set d) orders))
-    opened_is set =
-        ap (before (free (opening p a (first_state set d)))) (orders_told (first_state set d) orders)
-        ∙ free_first (opening p a (first_state set d)) (replies p (first_state set d) orders ++ last_line p (state_after (first_state set d) orders))
-        (costs (first_state set d) orders) (state_after (first_state set d) orders)
+  looked_back : (said : Said) (e : Option Ending) → Leads (opened_told a set (sections.document d (given orders))) said (over e)
+      → (found : List Entry) × IsFound (with_names set d.forest) d found × (rest : Said) × Leads (commands_told (opened set d found) (given orders)) rest (over e)
+      × (said ≡ joined (said_of (opened set d found)) rest)
+  looked_back said e (inl h) = absurd (subst IsOver h.1 tt)
+  looked_back said e (inr h) =
+      let one = says_back (said_of (opened set d h.0)) (commands_told (opened set d h.0) (given orders)) said e h.2 in
+      (h.0, h.1, one.0, one.1, one.2)
 
-    stream_tells : (o : Outcome) → stream_next o ≡ over (stream_last o)
-    stream_tells (Accepted set) =
-        ap (before (free schema_ok)) (opened_is set)
-        ∙ free_first schema_ok (opening p a (first_state set d) ++ (replies p (first_state set d) orders ++ last_line p (state_after (first_state set d) orders)))
-        (costs (first_state set d) orders) (state_after (first_state set d) orders)
-    stream_tells (Broken fault) = refl
-    stream_tells NotYet = refl
+  opened_answered : (out : Output) → ComesTo (stream_next a d orders (accepted set)) out → IsStreamOutput a d orders (accepted set) out
+  opened_answered out h =
+      let one = says_back (free schema_ok) (opened_told a set (sections.document d (given orders))) h.said h.ending h.leads in
+      let two = looked_back one.0 h.ending one.1 in
+      let all = commands_back (opened set d two.0) orders two.2 h.ending two.3 in
+      let s = opened set d two.0 in
+      let said_is : h.said ≡ whole_said s all.0 all.1 = one.2 ∙ ap (joined (free schema_ok)) (two.4 ∙ ap (joined (said_of s)) all.3) in (
+        two.0,
+        two.1,
+        all.0,
+        all.1,
+        all.2,
+        h.output_is ∙ (ap (λ (x : Said). output_of x h.ending) said_is ∙ (ap (output_of (whole_said s all.0 all.1)) all.4 ∙ output_is s all.0 all.1)),
+      )
 
-    stream_writes : (o : Outcome) → output_of (stream_last o) ≡ stream_output p a d orders o
-    stream_writes (Accepted set) = refl
-    stream_writes (Broken fault) = refl
-    stream_writes NotYet = refl
+  opened_comes : (out : Output) → IsStreamOutput a d orders (accepted set) out → ComesTo (stream_next a d orders (accepted set)) out
+  opened_comes out h =
+      let s = opened set d h.0 in
+      let behind = commands_on s orders h.2 h.3 h.4 in
+      let to : Told = over (Some (last_ending h.3)) in
+      let looked : Leads (opened_told a set (sections.document d (given orders))) (joined (said_of s) (joined h.2 (last_said h.3))) to =
+      inr (h.0, h.1, says_on (said_of s) (commands_told s (given orders)) (joined h.2 (last_said h.3)) to behind) in
+      record {
+        said = whole_said s h.2 h.3;
+        ending = Some (last_ending h.3);
+        leads = says_on (free schema_ok) (opened_told a set (sections.document d (given orders))) (joined (said_of s) (joined h.2 (last_said h.3))) to looked;
+        output_is = h.5 ∙ sym (output_is s h.2 h.3);
+      }
 
--- `check` has no document
+stream_is : (a : Asked) (d : Document) (orders : List Order) (o : SetOutcome) (out : Output) → ComesTo (stream_next a d orders o) out → IsStreamOutput a d orders o out
+stream_is a d orders (accepted set) out h = opened_answered a set d orders out h
+stream_is a d orders (broken fault) out h = last_is (fault_line fault) (fault_ending fault) out h
+stream_is a d orders not_yet out h = last_is not_yet_line endings.Unsupported out h
+
+stream_comes_by : (a : Asked) (d : Document) (orders : List Order) (o : SetOutcome) (out : Output) → IsStreamOutput a d orders o out → ComesTo (stream_next a d orders o) out
+stream_comes_by a d orders (accepted set) out h = opened_comes a set d orders out h
+stream_comes_by a d orders (broken fault) out h = last_comes (fault_line fault) (fault_ending fault) out h
+stream_comes_by a d orders not_yet out h = last_comes not_yet_line endings.Unsupported out h
+
 module _ (law : (a : Asked) (all : List SchemaSection) (d : Document) (orders : List Order) (its : List Item) → SpellsStream a all d orders its
-    → sections.with_document a (whole its) ≡ sections.schemas all (sections.document d (given orders))) (p : RightAssessor) where
-  stream_told_is : (a : Asked) (bytes : List ℕ) (its : List Item) (all : List SchemaSection) (d : Document) (orders : List Order)
-      → listed unread bytes true ≡ whole its → SpellsStream a all d orders its → told_of p a bytes true ≡ asks (inputs all) (stream_next p a d orders)
-  stream_told_is Check bytes its all d orders reads spells = cc
-  stream_told_is Assess bytes its all d orders reads spells =
-      told_is p Assess bytes its (asks (inputs all) (stream_next p Assess d orders)) reads (ap (stream_told (opened_told p Assess)) (law Assess all d orders its spells))
-  stream_told_is Session bytes its all d orders reads spells =
-      told_is p Session bytes its (asks (inputs all) (stream_next p Session d orders)) reads (ap (stream_told (opened_told p Session)) (law Session all d orders its spells))
+    → sections.with_document a (whole its) ≡ sections.schemas all (sections.document d (given orders))) where
+  -- `check` has no document
+  sections_are : (a : Asked) (all : List SchemaSection) (d : Document) (orders : List Order) (its : List Item) → has_document a ≡ true → SpellsStream a all d orders its
+      → sections_told a (whole its) ≡ asks (question_of all) (stream_next a d orders)
+  sections_are Check all d orders its asks_for spells = cc
+  sections_are Assess all d orders its asks_for spells = ap (stream_told (opened_told Assess)) (law Assess all d orders its spells)
+  sections_are Session all d orders its asks_for spells = ap (stream_told (opened_told Session)) (law Session all d orders its spells)
 
-  module _ (a : Asked) (words : List (List ℕ)) (bytes : List ℕ) (its : List Item) (all : List SchemaSection) (d : Document) (orders : List Order) (out : Output)
-      (asks_for : asked words ≡ Some a) (reads : listed unread bytes true ≡ whole its) (spells : SpellsStream a all d orders its) where
-    pub stream_answered : IsOutput p words bytes out → IsByOutcome all (stream_output p a d orders) out
+  module _ (a : Asked) (bytes : List ℕ) (its : List Item) (all : List SchemaSection) (d : Document) (orders : List Order) (out : Output)
+      (reads : listed unread bytes true ≡ whole its) (spells : SpellsStream a all d orders its) where
+    stream_told_is : told_of a bytes true ≡ asks (question_of all) (stream_next a d orders)
+    stream_told_is = told_is a bytes its (asks (question_of all) (stream_next a d orders)) reads (sections_are a all d orders its spells.asks spells)
+
+    pub stream_answered : IsOutput (Some a) bytes true out → IsByOutcome all (IsStreamOutput a d orders) out
     stream_answered h =
-        by_outcome all (stream_next p a d orders) (stream_output p a d orders) (stream_last p a d orders) (stream_tells p a d orders) (stream_writes p a d orders) out
-        (comes_from p a words bytes (asks (inputs all) (stream_next p a d orders)) out asks_for (stream_told_is a bytes its all d orders reads spells) h)
+        let o = known (question_of all) (stream_next a d orders) out (subst (λ (t : Told). ComesTo t out) stream_told_is h) in
+        (o.0, o.1, stream_is a d orders o.0 out o.2)
 
-    pub stream_comes : IsByOutcome all (stream_output p a d orders) out → IsOutput p words bytes out
+    pub stream_comes : IsByOutcome all (IsStreamOutput a d orders) out → IsOutput (Some a) bytes true out
     stream_comes h =
-        comes_to p a words bytes (asks (inputs all) (stream_next p a d orders)) out asks_for (stream_told_is a bytes its all d orders reads spells)
-        (of_outcome all (stream_next p a d orders) (stream_output p a d orders) (stream_last p a d orders) (stream_tells p a d orders) (stream_writes p a d orders) out h)
+        subst (λ (t : Told). ComesTo t out) (sym stream_told_is) (asked (question_of all) (stream_next a d orders) out h.0 h.1 (stream_comes_by a d orders h.0 out h.2))

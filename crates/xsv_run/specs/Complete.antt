@@ -1,75 +1,83 @@
 -- What is written for a whole stream of which no line is refused.
-use Rattle.std.specs.Prelude.{◌≡◌, ℕ, ◌+◌, List, [], ◌∷◌, ◌++◌, Some}
+use Rattle.std.specs.Prelude.{◌≡◌, ℕ, ◌+◌, List, [], ◌∷◌, ◌++◌, Option, Some, Result, Ok, Err}
 use Rattle.tree_rows.specs.Forest.{Document}
+use Rattle.tree_edits.specs.Refusals as refusals
+use Rattle.tree_edits.specs.Tests.{edited}
+use Rattle.tree_edits.specs.declared.edit.Edit.{Edit}
+use Rattle.tree_edits.specs.declared.edit.EditError.{EditError}
+use Rattle.edit_script.specs.Commands.{command}
+use Rattle.edit_script.specs.Faults as faults
+use Rattle.edit_script.specs.declared.command.Command.{Command}
+use Rattle.edit_script.specs.declared.command.Command.TheVariants as commands
+use Rattle.edit_script.specs.declared.command.ScriptFault.{ScriptFault}
+use Rattle.assessment.specs.Assessment.{Entry}
+use Rattle.assessment.specs.Attribution.{SchemaSet}
+use Rattle.what_is_found.specs.IsFound.{IsFound}
+use Rattle.session_model.specs.State.{with_names, after_edit}
+use Rattle.plain_session.specs.Costs.{edit_cost}
+use Rattle.told.specs.Outcomes.{SetOutcome, accepted, broken, not_yet, IsOutcomeOf}
+use Rattle.told.specs.Told.{Said, free, silent, joined}
+use Rattle.open_document.specs.Answers.{opened, opening_cost, verdict}
+use Rattle.open_document.specs.Replies.{refusal, assess_reply, total_reply, made_said}
+use Rattle.open_document.specs.State.{OpenState, with_session}
 use Rattle.stream_sections.specs.Spelled.{Order}
 use Rattle.stream_sections.specs.declared.asked.Asked.{Asked}
 use Rattle.stream_sections.specs.declared.schemas.SchemaSection.{SchemaSection}
-use Rattle.session_model.specs.Assessor.{RightAssessor}
-use Rattle.open_document.specs.Answers.{next_of, cost_of, reply_of, opened, verdict}
-use Rattle.compiled_schema.specs.declared.compiled.Compiled.{Compiled}
 use Rattle.stream_answers.specs.Faults.{fault_line, fault_ending}
-use Rattle.schema_compile.specs.declared.outcome.Outcome.{Outcome}
-use Rattle.schema_compile.specs.declared.outcome.Outcome.TheVariants.{Accepted, Broken, NotYet}
-use Rattle.schema_compile.specs.Outcomes.{IsOutcome}
-use Rattle.open_document.specs.State.{OpenState}
+use Rattle.stream_answers.specs.Output.{schema_ok, not_yet_line, question_of, opening, end_line, ending_of}
+use Rattle.xsv_run.specs.Output.{Output}
 use Rattle.xsv_run.specs.Statuses.{status_of}
-use Rattle.xsv_run.specs.Output.{Output, output_of}
-use Rattle.stream_answers.specs.Output.{schema_ok, opening, end_line, ending_of, inputs, not_yet}
 use Rattle.xsv_run.specs.declared.status.Status.{Status}
-use Rattle.xsv_run.specs.declared.status.Status.TheVariants.{Valid}
-
--- a document that was just opened by a schema set
-abbrev pub first_state : Compiled → Document → OpenState
-first_state set d = opened set d
-
--- the document behind commands
-abbrev pub state_after : OpenState → List Order → OpenState
-state_after s [] = s
-state_after s (o ∷ more) = state_after (next_of s o.line o.block) more
-
--- what the edits among the commands cost
-abbrev pub costs : OpenState → List Order → ℕ
-costs s [] = 0
-costs s (o ∷ more) = cost_of s o.line o.block + costs (next_of s o.line o.block) more
+use Rattle.xsv_run.specs.declared.status.Status.TheVariants.{Valid, Unsupported}
 
 -- a text, the steps that it costs at most, and the status of a run that has ended
 abbrev pub answer : List ℕ → ℕ → Status → Output
 answer text cost status = record { text = text; cost = cost; status = Some status }
 
--- by what assesses documents
-module _ (p : RightAssessor) where
-  -- the replies to commands
-  abbrev pub replies : OpenState → List Order → List ℕ
-  replies s [] = []
-  replies s (o ∷ more) = reply_of p s o.line o.block ++ replies (next_of s o.line o.block) more
+-- ---- the replies to commands
 
-  abbrev pub last_line : OpenState → List ℕ
-  last_line s = end_line (verdict p s)
+-- The reply to an edit that gives this document, and the document behind it with what is found of it; or to one that is refused.
+abbrev pub IsEditReply : OpenState → Edit → Result Document EditError → Said → OpenState → Type 0
+IsEditReply s edit (Ok d) own next =
+    (found : List Entry) × IsFound (with_names s.session.set d.forest) d found
+    × (own ≡ made_said edit_cost s.session edit (after_edit s.session d found)) × (next ≡ with_session s (after_edit s.session d found))
+IsEditReply s edit (Err e) own next = (own ≡ free (refusal (refusals.number_of e) (refusals.name_of e))) × (next ≡ s)
 
-  -- valid or not, by the root's record
-  abbrev pub last_status : OpenState → Status
-  last_status s = status_of (ending_of (verdict p s).validity)
+-- the reply to a line, and the document behind it
+abbrev pub IsReply : OpenState → Result Command ScriptFault → Said → OpenState → Type 0
+IsReply s (Ok (commands.Change edit)) own next = IsEditReply s edit (edited s.session.document edit) own next
+IsReply s (Ok (commands.Assess node)) own next = (own ≡ free (assess_reply s.session node)) × (next ≡ s)
+IsReply s (Ok commands.Total) own next = (own ≡ free (total_reply s.session)) × (next ≡ s)
+IsReply s (Err fault) own next = (own ≡ free (refusal (faults.number_of fault) (faults.name_of fault))) × (next ≡ s)
 
-  -- all that is written for a stream with a document
-  abbrev pub stream_text : Asked → OpenState → List Order → List ℕ
-  stream_text a s orders = schema_ok ++ (opening p a s ++ (replies s orders ++ last_line (state_after s orders)))
+-- the replies to commands, one behind another, and the document behind them
+abbrev pub AreReplies : OpenState → List Order → Said → OpenState → Type 0
+AreReplies s [] all last = (all ≡ silent) × (last ≡ s)
+AreReplies s (o ∷ more) all last =
+    (own : Said) × (next : OpenState) × (later : Said) × IsReply s (command o.line o.block) own next × AreReplies next more later last × (all ≡ joined own later)
 
-  -- the document was assessed, and its commands answered
-  abbrev pub answered_output : Asked → OpenState → List Order → Output
-  answered_output a s orders = answer (stream_text a s orders) (costs s orders) (last_status (state_after s orders))
+-- ---- the whole output
 
-  -- what is written for such a stream where its schema documents come to this
-  abbrev pub stream_output : Asked → Document → List Order → Outcome → Output
-  stream_output a d orders (Accepted set) = answered_output a (first_state set d) orders
-  stream_output a d orders (Broken fault) = answer (fault_line fault) 0 (status_of (fault_ending fault))
-  stream_output a d orders NotYet = output_of not_yet
+-- all that is written of a document that was opened, where these are the replies and this is the document behind them
+abbrev pub answered_output : Asked → Document → OpenState → Said → OpenState → Output
+answered_output a d first replies last =
+    answer (schema_ok ++ (opening a first ++ (replies.text ++ end_line (verdict last)))) (opening_cost d + replies.cost) (status_of (ending_of (verdict last).validity))
+
+-- What is written for a stream with a document where the schema documents come to this: the acceptance, the report or the first line of the document as it
+-- is found by the set, the reply to each command and the last line; or the first broken constraint.
+abbrev pub IsStreamOutput : Asked → Document → List Order → SetOutcome → Output → Type 0
+IsStreamOutput a d orders (accepted set) out =
+    (found : List Entry) × IsFound (with_names set d.forest) d found
+    × (replies : Said) × (last : OpenState) × AreReplies (opened set d found) orders replies last × (out ≡ answered_output a d (opened set d found) replies last)
+IsStreamOutput a d orders (broken fault) out = out ≡ answer (fault_line fault) 0 (status_of (fault_ending fault))
+IsStreamOutput a d orders not_yet out = out ≡ answer not_yet_line 0 Unsupported
 
 -- what is written for `check` where the schema documents come to this
-abbrev pub check_output : Outcome → Output
-check_output (Accepted set) = answer schema_ok 0 Valid
-check_output (Broken fault) = answer (fault_line fault) 0 (status_of (fault_ending fault))
-check_output NotYet = output_of not_yet
+abbrev pub IsCheckOutput : SetOutcome → Output → Type 0
+IsCheckOutput (accepted set) out = out ≡ answer schema_ok 0 Valid
+IsCheckOutput (broken fault) out = out ≡ answer (fault_line fault) 0 (status_of (fault_ending fault))
+IsCheckOutput not_yet out = out ≡ answer not_yet_line 0 Unsupported
 
 -- this is written where the schema documents of these sections come to one of their outcomes
-abbrev pub IsByOutcome : List SchemaSection → (Outcome → Output) → Output → Type 0
-IsByOutcome all written out = (o : Outcome) × IsOutcome (inputs all) o × (out ≡ written o)
+abbrev pub IsByOutcome : List SchemaSection → (SetOutcome → Output → Type 0) → Output → Type 0
+IsByOutcome all IsWritten out = (o : SetOutcome) × IsOutcomeOf (question_of all) o × IsWritten o out

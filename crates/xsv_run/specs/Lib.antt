@@ -2,7 +2,7 @@ pub mod Numbers
 pub mod Requests
 pub mod Taking
 pub mod Statuses
-pub mod Traces
+pub mod Sides
 pub mod Output
 pub mod Complete
 pub mod inside

@@ -1,22 +1,27 @@
--- What the program writes, and its status. What schema documents come to is a relation, and so is the output of a stream that has them.
-use Rattle.std.specs.Prelude.{◌≡◌, ℕ, List, [], ◌∷◌, ◌++◌, Bool, true, false, Option, Some, None, codes}
+-- What the program writes, and its status. What schema documents come to and what is found of a document are relations, and so is the output of a
+-- stream.
+use Rattle.std.specs.Prelude.{◌≡◌, ◌≤◌, ◌+◌, ℕ, List, [], ◌∷◌, ◌++◌, Bool, true, false, Option, Some, None, Result, Ok, Err, codes}
 use Rattle.std.specs.Option.{option_map}
 use Rattle.std.specs.Io.KnownBytes.{Appends, Consumes}
 use Rattle.xsv_io.specs.Writing.{AppendsFront}
 use Rattle.item_listing.specs.State.{unread}
 use Rattle.item_listing.specs.Listed.{listed}
+use Rattle.told.specs.Told.{Said, Told, over, Leads}
+use Rattle.told.specs.Going.{Trace, Goes, Breaks}
+use Rattle.told.specs.declared.break_off.BreakOff.TheVariants as breaks
+use Rattle.told.specs.declared.ending.Ending.{Ending}
+use Rattle.stream_answers.specs.Output.{sections_told}
+use Rattle.stream_sections.specs.declared.asked.Asked.{Asked}
+use Rattle.stream_sections.specs.declared.asked.Asked.TheVariants.{Check, Assess, Session}
 use Rattle.xsv_run.specs.Requests.{request}
+use Rattle.xsv_run.specs.Statuses.{status_of}
 use Rattle.xsv_run.specs.declared.request.Request.{Request}
 use Rattle.xsv_run.specs.declared.request.Request.TheVariants.{Read, Generate, Trial}
 use Rattle.xsv_run.specs.declared.request.Task.TheVariants as tasks
-use Rattle.session_model.specs.Assessor.{RightAssessor}
-use Rattle.stream_answers.specs.Output.{Said, free, Last, Told, over, before, Leads, sections_told}
-use Rattle.stream_sections.specs.declared.asked.Asked.{Asked}
-use Rattle.stream_sections.specs.declared.asked.Asked.TheVariants.{Check, Assess, Session}
-use Rattle.xsv_run.specs.Statuses.{status_of}
-use Rattle.xsv_run.specs.Traces.{Trace, Writes, WritesFront}
 use Rattle.xsv_run.specs.declared.status.Status.{Status}
 use Rattle.xsv_run.specs.declared.status.Status.TheVariants.{Words, ReadFault, WriteFault, Memory}
+use Rattle.xsv_run.specs.declared.words.WordsFault.{WordsFault}
+use Rattle.xsv_run.specs.declared.words.WordsFault.TheVariants as faults
 
 -- a text, how many steps it costs at most, and a status where the run has ended
 pub record Output : Type 0 where
@@ -40,67 +45,70 @@ abbrev pub asked : List (List ℕ) → Option Asked
 asked words = asked_by (request words)
 
 -- what is told of a stream by these bytes, with none after them if closed
-abbrev pub told_of : RightAssessor → Asked → List ℕ → Bool → Told
-told_of p what bytes closed = sections_told p what (listed unread bytes closed)
+abbrev pub told_of : Asked → List ℕ → Bool → Told
+told_of what bytes closed = sections_told what (listed unread bytes closed)
 
-abbrev pub output_of : Last → Output
-output_of last = record { text = last.said.text; cost = last.said.cost; status = option_map status_of last.ending }
+abbrev pub output_of : Said → Option Ending → Output
+output_of said ending = record { text = said.text; cost = said.cost; status = option_map status_of ending }
+
+-- some way through what is told ends in this output
+pub record ComesTo (t : Told) (out : Output) : Type 0 where
+  pub said : Said
+  pub ending : Option Ending
+  pub leads : Leads t said (over ending)
+  pub output_is : out ≡ output_of said ending
 
 -- words that ask for nothing
 abbrev pub refused_words : Output
 refused_words = record { text = usage; cost = 0; status = Some Words }
 
--- some way through what is told ends in this output
-abbrev pub ComesTo : Told → Output → Type 0
-ComesTo t out = (last : Last) × Leads t (over last) × (out ≡ output_of last)
+-- what is written for what is asked and these bytes, with none after them if closed, the steps that it costs at most, and the status
+abbrev pub IsOutput : Option Asked → List ℕ → Bool → Output → Type 0
+IsOutput None bytes closed out = out ≡ refused_words
+IsOutput (Some what) bytes closed out = ComesTo (told_of what bytes closed) out
 
-abbrev pub IsOutputBy : RightAssessor → Option Asked → List ℕ → Bool → Output → Type 0
-IsOutputBy p None bytes closed out = out ≡ refused_words
-IsOutputBy p (Some what) bytes closed out = ComesTo (told_of p what bytes closed) out
+-- the status is the output's, its text was written, and no more steps were counted than it costs
+pub record EndsAs (what : Option Asked) (bytes : List ℕ) (status : Status) (old new : Trace) : Type 0 where
+  pub output : Output
+  pub is_output : IsOutput what bytes true output
+  pub status_is : output.status ≡ Some status
+  pub wrote : Appends old.taken new.taken output.text
+  pub later : old.steps ≤ new.steps
+  pub few : new.steps ≤ old.steps + output.cost
 
--- what is written for these words and the bytes of a source to its end, the steps that it costs at most, and the status
-abbrev pub IsOutput : RightAssessor → List (List ℕ) → List ℕ → Output → Type 0
-IsOutput p words bytes out = IsOutputBy p (asked words) bytes true out
-
-abbrev pub IsFirstBy : RightAssessor → Option Asked → List ℕ → Said → Type 0
-IsFirstBy p None bytes said = said ≡ free usage
-IsFirstBy p (Some what) bytes said = (rest : Told) × Leads (told_of p what bytes true) (before said rest)
-
--- the output for these words and the bytes of a source to its end begins with this text, whatever is still to come
-abbrev pub IsFirst : RightAssessor → List (List ℕ) → List ℕ → Said → Type 0
-IsFirst p words bytes said = IsFirstBy p (asked words) bytes said
-
--- the status is the output's, and its text was written
-abbrev pub EndsBy : RightAssessor → Option Asked → List ℕ → Status → Trace → Trace → Type 0
-EndsBy p what bytes status old new =
-    (out : Output) × IsOutputBy p what bytes true out × Writes old new (record { text = out.text; cost = out.cost }) × (out.status ≡ Some status)
-
--- a front of a text was written with which the output begins
-abbrev pub BreaksBy : RightAssessor → Option Asked → List ℕ → Trace → Trace → Type 0
-BreaksBy p what bytes old new = (said : Said) × IsFirstBy p what bytes said × WritesFront old new said
-
-abbrev pub AnswersBy : RightAssessor → Option Asked → List ℕ → Status → Trace → Trace → Type 0
-AnswersBy p what bytes ReadFault old new = BreaksBy p what bytes old new
-AnswersBy p what bytes WriteFault old new = BreaksBy p what bytes old new
-AnswersBy p what bytes Memory old new = BreaksBy p what bytes old new
-AnswersBy p what bytes status old new = EndsBy p what bytes status old new
-
--- the status is that of the output for these words and the bytes of a source to its end, and its text was written; or the run broke
--- off, and a front of it was written. No more steps were counted than it costs.
-abbrev pub Answers : RightAssessor → List (List ℕ) → List ℕ → Status → Trace → Trace → Type 0
-Answers p words bytes status old new = AnswersBy p (asked words) bytes status old new
-
--- the usage line was written, or a front of it where a write failed
-abbrev pub RefusesWords : Status → Option (List ℕ) → Option (List ℕ) → Type 0
-RefusesWords Words old new = Appends old new usage
-RefusesWords WriteFault old new = AppendsFront old new usage
+-- the usage line was written, or a front of it where a write failed, and no step was counted
+abbrev pub RefusesWords : Status → Trace → Trace → Type 0
+RefusesWords Words old new = Appends old.taken new.taken usage × (new.steps ≡ old.steps)
+RefusesWords WriteFault old new = AppendsFront old.taken new.taken usage × (new.steps ≡ old.steps)
 RefusesWords status old new = ⊥
 
-abbrev pub BreaksOffBy : RightAssessor → Option Asked → Option (List ℕ) → Option (List ℕ) → Option (List ℕ) → Option (List ℕ) → Type 0
-BreaksOffBy p what rest_old rest_new old new =
-    (bytes : List ℕ) × Consumes rest_old rest_new bytes × (out : Output) × IsOutputBy p what bytes false out × Appends old new out.text × (out.status ≡ None)
+-- What was asked is answered for the bytes of a source to its end. The status is the output's, and its text was written; or a read failed, and what was
+-- written is what is told so far; or memory was wanting or a write failed, and a front was written. No more steps were counted than is told.
+abbrev pub Answers : Option Asked → List ℕ → Status → Trace → Trace → Type 0
+Answers None bytes status old new = RefusesWords status old new
+Answers (Some what) bytes Words old new = ⊥
+Answers (Some what) bytes ReadFault old new = (rest : Told) × Goes (told_of what bytes true) old new rest
+Answers (Some what) bytes WriteFault old new = Breaks (told_of what bytes true) breaks.WriteFault old new
+Answers (Some what) bytes Memory old new = Breaks (told_of what bytes true) breaks.Memory old new
+Answers (Some what) bytes status old new = EndsAs (Some what) bytes status old new
+
+-- Words that ask for nothing are answered by the usage line, and nothing is read, whatever the source and the sink tell. Only they are.
+abbrev pub AnswersWords : Option Asked → Status → Trace → Trace → Option (List ℕ) → Option (List ℕ) → Type 0
+AnswersWords None status old new rest_old rest_new = RefusesWords status old new × (rest_new ≡ rest_old)
+AnswersWords (Some what) status old new rest_old rest_new = status ≡ Words → ⊥
 
 -- A read failed behind some bytes: what they tell was written, by the lines that end in them, and where they tell already that the begun
 -- line is refused; and it does not end the run.
-abbrev pub BreaksOff : RightAssessor → List (List ℕ) → Option (List ℕ) → Option (List ℕ) → Option (List ℕ) → Option (List ℕ) → Type 0
-BreaksOff p words rest_old rest_new old new = BreaksOffBy p (asked words) rest_old rest_new old new
+pub record BreaksOff (what : Option Asked) (rest_old rest_new taken_old taken_new : Option (List ℕ)) : Type 0 where
+  pub bytes : List ℕ
+  pub consumed : Consumes rest_old rest_new bytes
+  pub output : Output
+  pub is_output : IsOutput what bytes false output
+  pub goes_on : output.status ≡ None
+  pub wrote : Appends taken_old taken_new output.text
+
+-- words that were not read: without memory for them the run ends at once, and a word that is not UTF-8 is none of the program's
+abbrev pub AnswersUnread : {T : Type 0} → Result T WordsFault → Status → Trace → Trace → Option (List ℕ) → Option (List ℕ) → Type 0
+AnswersUnread (Ok read) status old new rest_old rest_new = Unit {0}
+AnswersUnread (Err faults.Memory) status old new rest_old rest_new = (status ≡ Memory) × (new ≡ old) × (rest_new ≡ rest_old)
+AnswersUnread (Err faults.NotText) status old new rest_old rest_new = AnswersWords None status old new rest_old rest_new

@@ -1,9 +1,9 @@
 -- How a run ends, by how its stream does, and the numbers that the program ends with.
 use Rattle.std.specs.Prelude.{ℕ, Result, Ok, Err}
-use Rattle.open_document.specs.declared.break_off.BreakOff.{BreakOff}
-use Rattle.open_document.specs.declared.break_off.BreakOff.TheVariants as breaks
-use Rattle.stream_answers.specs.declared.ending.Ending.{Ending}
-use Rattle.stream_answers.specs.declared.ending.Ending.TheVariants as endings
+use Rattle.told.specs.declared.break_off.BreakOff.{BreakOff}
+use Rattle.told.specs.declared.break_off.BreakOff.TheVariants as breaks
+use Rattle.told.specs.declared.ending.Ending.{Ending}
+use Rattle.told.specs.declared.ending.Ending.TheVariants as endings
 use Rattle.xsv_run.specs.declared.status.Status.{Status}
 use Rattle.xsv_run.specs.declared.status.Status.TheVariants.{Valid, NotValid, SchemaRefused, ListingRefused, Limit, Unsupported, Words, ReadFault, WriteFault, Memory}
 

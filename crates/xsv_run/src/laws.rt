@@ -1,4 +1,4 @@
-ghost use Rattle.std.specs.Prelude.{◌≡◌, List, ℕ, true, Some};
+ghost use Rattle.std.specs.Prelude.{◌≡◌, List, ℕ, Bool, true, Option, Some};
 ghost use Rattle.item_listing.specs.Listed.{listed};
 ghost use Rattle.item_listing.specs.State.{unread};
 ghost use Rattle.item_listing.specs.declared.item.Item.{Item};
@@ -7,27 +7,34 @@ ghost use Rattle.stream_sections.specs.Spelled.{whole, Order, SpellsCheck, Spell
 ghost use Rattle.stream_sections.specs.declared.asked.Asked.{Asked};
 ghost use Rattle.stream_sections.specs.declared.asked.Asked.TheVariants.{Check};
 ghost use Rattle.stream_sections.specs.declared.schemas.SchemaSection.{SchemaSection};
-ghost use Rattle.session_model.specs.Assessor.{RightAssessor};
-ghost use Rattle.xsv_run.specs.Output.{Output, asked, IsOutput};
-ghost use Rattle.xsv_run.specs.Complete.{IsByOutcome, check_output, stream_output};
+ghost use Rattle.xsv_run.specs.Output.{Output, IsOutput};
+ghost use Rattle.xsv_run.specs.Complete.{IsByOutcome, IsCheckOutput, IsStreamOutput};
 
+use outcome_laws::outcomes_are_one;
 use stream_sections::streams_are_read;
+use what_is_found::what_is_found_is_the_only_one;
+
+/// For what is asked and the bytes of a source there is one output.
+pub fn outputs_are_one()
+    ensures only { (what : Option Asked) (bytes : List ℕ) (closed : Bool) (x y : Output) → IsOutput what bytes closed x → IsOutput what bytes closed y → x ≡ y }
+{
+    what_is_found_is_the_only_one();
+    outcomes_are_one();
+}
 
 /// Where no line of a stream is refused, its output goes by what its schema documents come to: a broken constraint is named; else `check` is answered Valid, and `assess` and
 /// `session` by the report or the replies and the record of the root of the last tree.
 pub fn streams_are_answered()
-    ensures check { (p : RightAssessor) (words : List (List ℕ)) (bytes : List ℕ) (its : List Item) (all : List SchemaSection) (out : Output)
-        → asked words ≡ Some Check → listed unread bytes true ≡ whole its → SpellsCheck all its
-        → IsOutput p words bytes out → IsByOutcome all check_output out }
-    ensures checked { (p : RightAssessor) (words : List (List ℕ)) (bytes : List ℕ) (its : List Item) (all : List SchemaSection) (out : Output)
-        → asked words ≡ Some Check → listed unread bytes true ≡ whole its → SpellsCheck all its
-        → IsByOutcome all check_output out → IsOutput p words bytes out }
-    ensures stream { (p : RightAssessor) (a : Asked) (words : List (List ℕ)) (bytes : List ℕ) (its : List Item) (all : List SchemaSection) (d : Document) (orders : List Order) (out : Output)
-        → asked words ≡ Some a → listed unread bytes true ≡ whole its → SpellsStream a all d orders its
-        → IsOutput p words bytes out → IsByOutcome all (stream_output p a d orders) out }
-    ensures streamed { (p : RightAssessor) (a : Asked) (words : List (List ℕ)) (bytes : List ℕ) (its : List Item) (all : List SchemaSection) (d : Document) (orders : List Order) (out : Output)
-        → asked words ≡ Some a → listed unread bytes true ≡ whole its → SpellsStream a all d orders its
-        → IsByOutcome all (stream_output p a d orders) out → IsOutput p words bytes out }
+    ensures check { (bytes : List ℕ) (its : List Item) (all : List SchemaSection) (out : Output) → listed unread bytes true ≡ whole its → SpellsCheck all its
+        → IsOutput (Some Check) bytes true out → IsByOutcome all IsCheckOutput out }
+    ensures checked { (bytes : List ℕ) (its : List Item) (all : List SchemaSection) (out : Output) → listed unread bytes true ≡ whole its → SpellsCheck all its
+        → IsByOutcome all IsCheckOutput out → IsOutput (Some Check) bytes true out }
+    ensures stream { (a : Asked) (bytes : List ℕ) (its : List Item) (all : List SchemaSection) (d : Document) (orders : List Order) (out : Output)
+        → listed unread bytes true ≡ whole its → SpellsStream a all d orders its
+        → IsOutput (Some a) bytes true out → IsByOutcome all (IsStreamOutput a d orders) out }
+    ensures streamed { (a : Asked) (bytes : List ℕ) (its : List Item) (all : List SchemaSection) (d : Document) (orders : List Order) (out : Output)
+        → listed unread bytes true ≡ whole its → SpellsStream a all d orders its
+        → IsByOutcome all (IsStreamOutput a d orders) out → IsOutput (Some a) bytes true out }
 {
     streams_are_read();
 }

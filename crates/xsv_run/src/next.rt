@@ -1,22 +1,14 @@
-ghost use Rattle.std.specs.Prelude.{◌≡◌, ◌≤◌, IfOk};
-ghost use Rattle.xsv_io.specs.Causes.{KeepsCount};
-ghost use Rattle.item_listing.specs.Listing.{bytes_taken};
-ghost use Rattle.open_document.specs.Tells.{Tells, IsWriteFault};
-ghost use Rattle.session_model.specs.Assessor.{RightAssessor};
+ghost use Rattle.std.specs.Prelude.{◌≡◌, IfOk};
+ghost use Rattle.told.specs.Tells.{Tells};
 ghost use Rattle.stream_answers.specs.Refusals.{refusal_line, refusal_ending};
-ghost use Rattle.stream_answers.specs.inside.Turns.{turned};
-ghost use Rattle.stream_answers.specs.inside.Turning.{IsOpen, spot_of};
-ghost use Rattle.xsv_run.specs.Traces.{trace};
-ghost use Rattle.xsv_run.specs.inside.Progress.{TakesItem, IsTaken, TakesNext, Holds};
+ghost use Rattle.xsv_run.specs.inside.Progress.{next_by};
 ghost use Rattle.xsv_run.specs.declared.next.Next.TheVariants as nexts;
 
-use item_listing::{Item, Listing, ListingFault};
-use open_document::{BreakOff, Workspace};
-use std::alloc::Global;
-use stream_answers::{Ending, Place, answer_item, write_refusal};
-use stream_sections::{Asked, Refusal, RefusedLine};
+use item_listing::ListingFault;
+use stream_answers::write_refusal;
+use stream_sections::{Refusal, RefusedLine};
+use told::{BreakOff, Ending};
 use xsv_io::Sink;
-use xsv_steps::{Ledger, Steps};
 
 /// What the next item has done.
 #[derive(Clone, Copy, Debug, PartialEq, Eq)]
@@ -29,24 +21,11 @@ pub enum Next {
     Ends(Ending),
 }
 
-/// Answers an item.
-fn take_item<W: Sink, L: Ledger>(
-    alloc: Global,
-    asked: Asked,
-    line: u32,
-    place: &mut Place,
-    work: &mut Workspace,
-    item: Item,
-    sink: &mut W,
-    steps: &mut Steps<L>,
-) -> Result<Next, BreakOff>
-    requires { IsOpen place.old work.old }
-    ensures takes { (p : RightAssessor) → TakesItem (turned p asked line (spot_of place.old work.old) item) (spot_of place.new work.new) (trace (W.taken sink.old) steps.old) (trace (W.taken sink.new) steps.new) result }
-    ensures goes { IfOk result (IsTaken place.new work.new) }
-    ensures writes { KeepsCount W.faults W.fault_bound sink.old sink.new (IsWriteFault result) }
-    ensures steps { steps.old ≤ steps.new }
+/// What an item has done, by what it was answered.
+pub fn next_of(answered: Result<Option<Ending>, BreakOff>) -> Result<Next, BreakOff>
+    ensures { result ≡ next_by answered }
 {
-    match answer_item(alloc, asked, line, place, work, item, sink, steps) {
+    match answered {
         Ok(None) => Ok(Next::Goes),
         Ok(Some(ending)) => Ok(Next::Ends(ending)),
         Err(why) => Err(why),
@@ -54,7 +33,7 @@ fn take_item<W: Sink, L: Ledger>(
 }
 
 /// Writes that a line is refused.
-fn refuse_line<W: Sink>(fault: ListingFault, sink: &mut W) -> Result<Next, BreakOff>
+pub fn refuse_line<W: Sink>(fault: ListingFault, sink: &mut W) -> Result<Next, BreakOff>
     ensures tells { Tells W.taken W.faults W.fault_bound sink.old sink.new result (refusal_line fault.line (Refusal.Line fault.reason)) }
     ensures ends { IfOk result (λ next. next ≡ nexts.Ends (refusal_ending (Refusal.Line fault.reason))) }
 {
@@ -65,34 +44,5 @@ fn refuse_line<W: Sink>(fault: ListingFault, sink: &mut W) -> Result<Next, Break
     match write_refusal(sink, spot) {
         Ok(ending) => Ok(Next::Ends(ending)),
         Err(why) => Err(why),
-    }
-}
-
-/// Answers the next item that the listing gives, where the stream stands at `place`.
-pub fn take_next<W: Sink, L: Ledger>(
-    alloc: Global,
-    asked: Asked,
-    listing: &mut Listing,
-    place: &mut Place,
-    work: &mut Workspace,
-    sink: &mut W,
-    steps: &mut Steps<L>,
-) -> Result<Next, BreakOff>
-    requires { IsOpen place.old work.old }
-    ensures takes { (p : RightAssessor) → TakesNext p asked (spot_of place.old work.old) listing.old (trace (W.taken sink.old) steps.old) (spot_of place.new work.new) listing.new (trace (W.taken sink.new) steps.new) result }
-    ensures holds { IfOk result (Holds place.new work.new listing.old listing.new) }
-    ensures counted { bytes_taken listing.new ≡ bytes_taken listing.old }
-    ensures finished { listing.new.finished ≡ listing.old.finished }
-    ensures writes { KeepsCount W.faults W.fault_bound sink.old sink.new (IsWriteFault result) }
-    ensures steps { steps.old ≤ steps.new }
-{
-    match listing.next_item() {
-        Err(_) => Err(BreakOff::Memory),
-        Ok(Err(fault)) => refuse_line(fault, sink),
-        Ok(Ok(None)) => Ok(Next::Waits),
-        Ok(Ok(Some(item))) => {
-            let line = listing.line_count();
-            take_item(alloc, asked, line, place, work, item, sink, steps)
-        }
     }
 }

@@ -1,10 +1,10 @@
-ghost use Rattle.std.specs.Prelude.{◌≡◌, ◌+◌, ◌≤◌, None, Err, IfOk, IfSome};
+ghost use Rattle.std.specs.Prelude.{◌≡◌, ℕ, ◌+◌, IfOk, IfSome};
 ghost use Rattle.item_listing.specs.declared.limits.TheConstants.{MOST_BYTES};
 ghost use Rattle.xsv_io.specs.Causes.{KeepsCount};
-ghost use Rattle.session_model.specs.Assessor.{RightAssessor};
+ghost use Rattle.told.specs.Going.{trace};
+ghost use Rattle.xsv_run.specs.Output.{Answers, AnswersWords, AnswersUnread, BreaksOff, RefusesWords, asked};
+ghost use Rattle.xsv_run.specs.Sides.{HasCauses};
 ghost use Rattle.xsv_run.specs.Taking.{TakesAtMost};
-ghost use Rattle.xsv_run.specs.Traces.{trace};
-ghost use Rattle.xsv_run.specs.Output.{Answers, BreaksOff, RefusesWords, asked};
 
 use crate::stream::answer_stream;
 use crate::words::read_words;
@@ -19,7 +19,7 @@ const USAGE: &str =
 
 /// Writes the usage line.
 fn refuse_words<W: Sink>(sink: &mut W) -> Status
-    ensures output { RefusesWords result (W.taken sink.old) (W.taken sink.new) }
+    ensures refuses { (n : ℕ) → RefusesWords result (trace (W.taken sink.old) n) (trace (W.taken sink.new) n) }
     ensures not_read { result ≡ Status.ReadFault → ⊥ }
     ensures writes { KeepsCount W.faults W.fault_bound sink.old sink.new (result ≡ Status.WriteFault) }
 {
@@ -40,28 +40,24 @@ pub fn run<S: Source, W: Sink, L: Ledger>(
     sink: &mut W,
     steps: &mut Steps<L>,
 ) -> Status
-    // What is written and the status are an output of the definitions, by whatever assesses documents rightly, and no more steps
-    // are counted than it costs. Where a read, a write or memory failed, a front was written of a text with which such an output begins.
-    ensures output { (p : RightAssessor) → IfSome (S.rest source.old) (λ bytes.
-        Answers p words.now bytes result (trace (W.taken sink.old) steps.old) (trace (W.taken sink.new) steps.new)) }
+    // What is written and the status are the output of the definitions, and no more steps are counted than it costs. Where a read, a write
+    // or memory failed, a front of it was written, and no more steps are counted than that front costs, and what would have been said next.
+    ensures output { IfSome (S.rest source.old) (λ bytes.
+        Answers (asked words.now) bytes result (trace (W.taken sink.old) steps.old) (trace (W.taken sink.new) steps.new)) }
 
     // Where a read failed, what was written is what the bytes that were taken tell, and they do not end the run.
-    ensures broken { (p : RightAssessor) → result ≡ Status.ReadFault
-        → BreaksOff p words.now (S.rest source.old) (S.rest source.new) (W.taken sink.old) (W.taken sink.new) }
+    ensures broken { result ≡ Status.ReadFault
+        → BreaksOff (asked words.now) (S.rest source.old) (S.rest source.new) (W.taken sink.old) (W.taken sink.new) }
 
-    // Words are refused only where they ask for nothing. For them nothing is read. Else at most one byte more than the longest
-    // stream is taken.
-    ensures words { result ≡ Status.Words → asked words.now ≡ None }
-    ensures unread { asked words.now ≡ None → S.rest source.new ≡ S.rest source.old }
+    // Words that ask for nothing are answered by the usage line, and nothing is read. Only they are.
+    ensures words { AnswersWords (asked words.now) result (trace (W.taken sink.old) steps.old) (trace (W.taken sink.new) steps.new)
+        (S.rest source.old) (S.rest source.new) }
+
+    // At most one byte more than the longest stream is taken.
     ensures few { TakesAtMost (MOST_BYTES + 1) (S.rest source.old) (S.rest source.new) }
 
-    // A side's count never falls and keeps its bound. A fault is answered only where that side's count rose, or stands at its
-    // last value.
-    ensures reads { KeepsCount S.faults S.fault_bound source.old source.new (result ≡ Status.ReadFault) }
-    ensures writes { KeepsCount W.faults W.fault_bound sink.old sink.new (result ≡ Status.WriteFault) }
-
-    // Steps never fall.
-    ensures steps { steps.old ≤ steps.new }
+    // A fault is answered only where that side's count rose, or stands at its last value. Counts and steps never fall.
+    ensures causes { HasCauses S.faults S.fault_bound W.faults W.fault_bound source.old source.new sink.old sink.new steps.old steps.new result }
 {
     match read_words(words) {
         Some(asked) => answer_stream(alloc, asked, source, sink, steps),
@@ -78,20 +74,15 @@ pub fn run_by<S: Source, W: Sink, L: Ledger>(
     sink: &mut W,
     steps: &mut Steps<L>,
 ) -> Status
-    ensures read { IfOk words.entry (λ read. (p : RightAssessor) → IfSome (S.rest source.old) (λ bytes.
-        Answers p read.now bytes result (trace (W.taken sink.old) steps.old) (trace (W.taken sink.new) steps.new))) }
-    ensures broken { IfOk words.entry (λ read. (p : RightAssessor) → result ≡ Status.ReadFault
-        → BreaksOff p read.now (S.rest source.old) (S.rest source.new) (W.taken sink.old) (W.taken sink.new)) }
-    ensures refused { IfOk words.entry (λ read. result ≡ Status.Words → asked read.now ≡ None) }
-    ensures unread { IfOk words.entry (λ read. asked read.now ≡ None → S.rest source.new ≡ S.rest source.old) }
+    ensures output { IfOk words.entry (λ read. IfSome (S.rest source.old) (λ bytes.
+        Answers (asked read.now) bytes result (trace (W.taken sink.old) steps.old) (trace (W.taken sink.new) steps.new))) }
+    ensures broken { IfOk words.entry (λ read. result ≡ Status.ReadFault
+        → BreaksOff (asked read.now) (S.rest source.old) (S.rest source.new) (W.taken sink.old) (W.taken sink.new)) }
+    ensures words { IfOk words.entry (λ read. AnswersWords (asked read.now) result (trace (W.taken sink.old) steps.old) (trace (W.taken sink.new) steps.new)
+        (S.rest source.old) (S.rest source.new)) }
+    ensures unread { AnswersUnread words.entry result (trace (W.taken sink.old) steps.old) (trace (W.taken sink.new) steps.new) (S.rest source.old) (S.rest source.new) }
     ensures few { TakesAtMost (MOST_BYTES + 1) (S.rest source.old) (S.rest source.new) }
-    ensures memory { words.entry ≡ Err WordsFault.Memory
-        → (result ≡ Status.Memory) × (W.taken sink.new ≡ W.taken sink.old) × (S.rest source.new ≡ S.rest source.old) }
-    ensures not_text { words.entry ≡ Err WordsFault.NotText
-        → RefusesWords result (W.taken sink.old) (W.taken sink.new) × (S.rest source.new ≡ S.rest source.old) }
-    ensures reads { KeepsCount S.faults S.fault_bound source.old source.new (result ≡ Status.ReadFault) }
-    ensures writes { KeepsCount W.faults W.fault_bound sink.old sink.new (result ≡ Status.WriteFault) }
-    ensures steps { steps.old ≤ steps.new }
+    ensures causes { HasCauses S.faults S.fault_bound W.faults W.fault_bound source.old source.new sink.old sink.new steps.old steps.new result }
 {
     match words {
         Ok(words) => run(alloc, words, source, sink, steps),

@@ -1,7 +1,6 @@
 ghost use Rattle.std.specs.Prelude.{◌≡◌};
 
-use open_document::BreakOff;
-use stream_answers::Ending;
+use told::{BreakOff, Ending};
 
 /// How a run ended. The last three of its kinds are no answer to the stream.
 #[derive(Clone, Copy, Debug, PartialEq, Eq)]

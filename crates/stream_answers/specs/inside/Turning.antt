@@ -1,18 +1,17 @@
 -- What a turn of the code has done.
-use Rattle.std.specs.Prelude.{◌≡◌, ℕ, List, Option, Some, None, Result, IfOk}
-use Rattle.session_model.specs.Assessor.{RightAssessor}
-use Rattle.session_model.specs.Counting.{Counts}
-use Rattle.open_document.specs.Tells.{Wrote}
-use Rattle.open_document.specs.declared.break_off.BreakOff.{BreakOff}
+use Rattle.std.specs.Prelude.{◌≡◌, ◌<◌, ℕ, List, Option, Some, None, length}
+use Rattle.told.specs.Told.{Told, over}
+use Rattle.told.specs.declared.ending.Ending.{Ending}
 use Rattle.open_document.specs.State.{WorkState, empty, ready, working, IsReady, IsOpen as IsDocumentOpen}
 use Rattle.stream_sections.specs.inside.DocumentTurns as document_turns
 use Rattle.stream_sections.specs.declared.asked.Asked.{Asked}
 use Rattle.stream_sections.specs.declared.asked.Asked.TheVariants.{Check, Assess, Session}
-use Rattle.stream_answers.specs.Output.{Said}
-use Rattle.stream_answers.specs.inside.Turns.{Spot, schemas, document, commands, ended, Turned, goes, stops, compiles, LeadsTo, silent}
-use Rattle.stream_answers.specs.declared.ending.Ending.{Ending}
+use Rattle.stream_sections.specs.declared.schemas.SchemaTurn.{SchemaTurn}
+use Rattle.stream_sections.specs.declared.schemas.SchemaTurn.TheVariants as schema_turns
+use Rattle.stream_answers.specs.inside.Turns.{Spot, schemas, document, commands, ended}
 use Rattle.stream_answers.specs.declared.place.Place.{Place}
 use Rattle.stream_answers.specs.declared.place.Place.TheVariants as places
+use Rattle.stream_answers.specs.declared.stream.Stream.{Stream}
 use Rattle.stream_answers.specs.declared.turn.Turn.{Turn}
 use Rattle.stream_answers.specs.declared.turn.Turn.TheVariants as turns
 
@@ -34,19 +33,16 @@ spot_of (places.Commands r) (ready set) = ended None
 spot_of (places.Commands r) (working s) = commands s r
 spot_of (places.Ended verdict) work = ended verdict
 
--- the text that is to be written, and how many steps it costs at most; nothing before the outcome is known
-abbrev pub said_of : Turned → Said
-said_of (goes said next) = said
-said_of (stops last) = last.said
-said_of (compiles documents next) = silent
+abbrev pub stands : Stream → Spot
+stands s = spot_of s.place s.work
 
--- the stream stands where it is to, or has ended so
-abbrev pub TurnsTo : Spot → Turned → Option Ending → Type 0
-TurnsTo spot (goes said next) None = spot ≡ next
-TurnsTo spot (goes said next) (Some given) = ⊥
-TurnsTo spot (stops last) None = ⊥
-TurnsTo spot (stops last) (Some given) = last.ending ≡ Some given
-TurnsTo spot (compiles documents next) given = ⊥
+abbrev pub IsStanding : Stream → Type 0
+IsStanding s = IsOpen s.place s.work
+
+-- what is told behind an item: what is told where the stream stands next, or that it has ended
+abbrev pub behind : (Spot → Told) → Spot → Option Ending → Told
+behind next spot None = next spot
+behind next spot (Some given) = over (Some given)
 
 -- how the stream ended by a turn of the code, where it has
 abbrev pub ending_by : Turn → Option Ending
@@ -60,11 +56,13 @@ place_by place turns.Stays = place
 place_by place (turns.Goes other) = other.value
 place_by place (turns.Ends given) = place
 
--- where a stream stands whose schema set was accepted at the line of this number
-abbrev pub place_behind : Asked → ℕ → Place
-place_behind Check line = places.Ended None
-place_behind Assess line = places.Document (document_turns.unbegun line)
-place_behind Session line = places.Document (document_turns.unbegun line)
+-- what is told behind a turn of the code
+abbrev pub moved : (Spot → Told) → Place → WorkState → Turn → Told
+moved next place work turn = behind next (spot_of (place_by place turn) work) (ending_by turn)
+
+-- where the stream has not ended, its place is open
+abbrev pub MovesOpen : Place → WorkState → Turn → Type 0
+MovesOpen place work turn = ending_by turn ≡ None → IsOpen (place_by place turn) work
 
 -- the stream goes to this place
 abbrev pub GoesTo : Place → Turn → Type 0
@@ -72,18 +70,18 @@ GoesTo next turns.Stays = ⊥
 GoesTo next (turns.Goes other) = other.value ≡ next
 GoesTo next (turns.Ends given) = ⊥
 
--- a turn of the code does this
-abbrev pub MovesTo : Place → WorkState → Turned → Turn → Type 0
-MovesTo place work t turn = TurnsTo (spot_of (place_by place turn) work) t (ending_by turn)
+-- where a stream stands whose schema set was accepted at the line of this number
+abbrev pub place_behind : Asked → ℕ → Place
+place_behind Check line = places.Ended None
+place_behind Assess line = places.Document (document_turns.unbegun line)
+place_behind Session line = places.Document (document_turns.unbegun line)
 
--- where the stream has not ended, its place is open
-abbrev pub MovesOpen : Place → WorkState → Turn → Type 0
-MovesOpen place work turn = ending_by turn ≡ None → IsOpen (place_by place turn) work
+-- the stream has ended so
+abbrev pub EndsSo : Ending → Turn → Type 0
+EndsSo given turn = ending_by turn ≡ Some given
 
--- What is to be done comes to a turn by which the text was written, the stream moved, and no more steps were counted.
-pub record Takes (t : Turned) (old new : Option (List ℕ)) (steps_old steps_new : ℕ) {T : Type 0} (result : Result T BreakOff) (moved : Turned → T → Type 0) : Type 0 where
-  pub done : Turned
-  pub leads : LeadsTo t done
-  pub wrote : Wrote result old new (said_of done).text
-  pub moves : IfOk result (moved done)
-  pub counts : Counts steps_old steps_new (said_of done).cost
+-- schema sections that end are some
+abbrev pub AreSome : SchemaTurn → Type 0
+AreSome schema_turns.Goes = Unit {0}
+AreSome (schema_turns.Ends sections) = 0 < length sections
+AreSome (schema_turns.Refused spot) = Unit {0}

@@ -1,6 +1,6 @@
 use Rattle.std.proofs.Common.{sym, ap, subst}
 use Rattle.open_document.specs.Replies.{no_element}
-use Rattle.open_document.specs.Tells.{Tells}
+use Rattle.told.specs.Tells.{Tells}
 use Rattle.open_document.proofs.reply.refuse_element.Goals as goal
 
 pub returns-in-None : goal.returns-in-None

@@ -1,7 +1,7 @@
 use Rattle.std.proofs.Common.{Some, sym, ap, subst}
 use Rattle.tree_rows.specs.declared.row.NodeKind.{NodeKind}
 use Rattle.open_document.specs.Replies.{no_element}
-use Rattle.open_document.specs.Tells.{Tells}
+use Rattle.told.specs.Tells.{Tells}
 use Rattle.open_document.proofs.reply.refuse_kind.Goals as goal
 
 pub returns-in-Chars : goal.returns-in-Chars

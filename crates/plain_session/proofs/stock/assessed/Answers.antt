@@ -2,7 +2,7 @@ use Rattle.std.proofs.Common.{sym, subst, ap, ◌∙◌, ◌<◌, ◌^◌, map}
 use Rattle.session_model.specs.Asking.{code_total}
 use Rattle.tree_assess.specs.Entries.{entry_of}
 use Rattle.assessment.specs.Joined.{beside_of}
-use Rattle.plain_session.proofs.Known.{are_named, can_count}
+use Rattle.plain_session.proofs.Known.{found_by, are_named, can_count}
 use Rattle.plain_session.proofs.stock.assessed.Goals as goal
 
 pub count_codes-total-requires : goal.count_codes-total-requires
@@ -22,8 +22,7 @@ returns-clause-stock c =
     let es = c.in_ok-entries.entries.items in
     let are = c.in_ok-entries.ensures.assessed in
     record {
-      tree = c.next_free-whole.ensures.tree;
-      entries_are = are;
+      found_is = found_by set d es are c.requires.ready c.next_free-whole.ensures.tree;
       named = are_named set d es are (c.entries_are_named.ensures.named set (beside_of d.forest are.found) d.forest are.found c.requires.ready.usable c.requires.names are.assessed);
       total_is = c.count_codes-total.ensures ∙ ap (λ xs. code_total (map entry_of xs)) c.deref.ensures.value;
     }

@@ -1,17 +1,13 @@
-use Rattle.std.proofs.Common.{◌≡◌, ◌≤◌, length, map}
-use Rattle.std.specs.Prelude.{All}
-use Rattle.session_model.specs.Reports.{IsEntryNamed, record_lines}
-use Rattle.xsv_io.proofs.Sequence.{IsBegun}
-use Rattle.tree_assess.specs.Entries.{entry_of}
+use Rattle.std.proofs.Common.{◌≡◌, ◌≤◌}
+use Rattle.session_model.proofs.Walking.{Walks, count_from}
 use Rattle.session_model.proofs.report.write_report.Given as goal
 
-abbrev pub invariant-entries : goal.invariant-entries
-invariant-entries g l = record {
-  named : All (IsEntryNamed l.set) (map entry_of l.left);
-  begun : IsBegun (g.W.Sink.taken l.fn.sink) (g.W.Sink.taken l.sink) (record_lines l.set (map entry_of l.left)) (record_lines l.set (map entry_of l.entries));
+abbrev pub invariant-elements : goal.invariant-elements
+invariant-elements g l = record {
+  walks : Walks (g.S.Session.state l.session) l.fn.most (g.W.Sink.taken l.fn.sink) (g.W.Sink.taken l.sink) l.left l.next;
   later : g.W.Sink.faults l.fn.sink ≤ g.W.Sink.faults l.sink;
   kept : g.W.Sink.fault_bound l.sink ≡ g.W.Sink.fault_bound l.fn.sink;
 }
 
-abbrev pub decreases-entries : goal.decreases-entries
-decreases-entries g l = length l.left
+abbrev pub decreases-elements : goal.decreases-elements
+decreases-elements g l = count_from l.next (g.S.Session.state l.session).found

@@ -4,4 +4,4 @@ use Rattle.stream_answers.proofs.laws.places_answer_sections.Goals as goal
 pub returns : goal.returns
 returns c =
     let e = c.readers_give_sections.ensures in
-    record { sectioned = λ p. sectioned p e.schemas_alone e.with_document e.document e.commands }
+    record { sectioned = sectioned e.schemas_alone e.with_document e.document e.commands }

@@ -1,0 +1,4 @@
+pub mod Outcomes
+pub mod Told
+pub mod Going
+pub mod Tells
