@@ -5,6 +5,8 @@ use Rattle.xs_names.specs.Names.{NameTable}
 use Rattle.tree_rows.specs.Forest.{Forest, Document, count}
 use Rattle.tree_rows.specs.Whole.{IsTree}
 use Rattle.tree_rows.specs.declared.limits.TheConstants.{MAX_NODES}
+use Rattle.tree_edits.specs.Tests.{edited}
+use Rattle.tree_edits.specs.declared.edit.Edit.{Edit}
 use Rattle.tree_names.specs.Table.{document_table}
 use Rattle.assessment.specs.Assessment.{Entry, entries}
 use Rattle.assessment.specs.Attribution.{SchemaSet}
@@ -16,7 +18,8 @@ use Rattle.what_is_found.specs.IsFound.{IsFound, times_found}
 use Rattle.session_model.specs.Asking.{code_total}
 use Rattle.session_model.specs.Few.{most_codes}
 use Rattle.session_model.specs.Reports.{IsEntryNamed}
-use Rattle.session_model.specs.State.{State, with_names, IsOpened}
+use Rattle.session_model.specs.Applying.{IsEdited}
+use Rattle.session_model.specs.State.{State, with_names, next_revision, IsOpened}
 use Rattle.plain_session.specs.Held.{state_of, IsPresent, IsUpToDate}
 use Rattle.plain_session.specs.Stocks.{IsReady, IsStock}
 use Rattle.plain_session.specs.declared.session.PlainSession.TheInside.{Inside}
@@ -50,6 +53,20 @@ module _ (set : SchemaSet) (new : Compiled) (d : Document) (stock : Stock) (name
 
   pub opened_so : IsOpened set d (stands 0 false)
   opened_so = record { found_is = found_so; new_is = λ i. record { set = named i; document = d; found = map entry_of stock.entries.items; revision = 0; closed = false } }
+
+-- a session that has made an edit
+module _ (s : Inside) (old : State) (is : state_of s ≡ old) (edit : Edit) (new : Compiled) (d : Document) (stock : Stock) where
+  pub edited_so : (revision : ℕ) (closed : Bool) → s.closed ≡ false → closed ≡ false → edited s.tree edit ≡ Ok d → set_of new ≡ with_names (set_of s.set.value) d.forest
+      → IsStock new d stock → revision ≡ next_revision s.revision
+      → IsEdited old edit (record { set = set_of new; document = d; found = map entry_of stock.entries.items; revision = revision; closed = closed })
+  edited_so revision closed before open_now made named known next =
+      subst (λ (x : State). IsEdited x edit (record { set = set_of new; document = d; found = map entry_of stock.entries.items; revision = revision; closed = closed })) is
+      (record {
+        open_before = before;
+        document_is = made;
+        found_is = found_so (set_of s.set.value) new d stock named known;
+        new_is = λ i. record { set = named i; document = d; found = map entry_of stock.entries.items; revision = next i; closed = open_now i };
+      })
 
 -- what a session holds is what contracts see
 module _ (s : Inside) (v : State) (is : state_of s ≡ v) where

@@ -22,28 +22,30 @@ pub(crate) struct Stock {
     /// How many codes their records have.
     pub total: u64,
     /// At each number the place of its element among the entries. It is but where to look first.
-    places: Vec<u32>,
+    places: Vec<usize>,
 }
 
 impl Stock {
     /// Where to look for the entry of a number.
     pub fn place_of(&self, node: u32) -> usize {
         match self.places.get(node as usize) {
-            Some(place) => *place as usize,
+            Some(place) => *place,
             None => 0,
         }
     }
 }
 
-/// At each number below `free` the place of its element among the entries.
-fn places_in(alloc: Global, entries: &[ElementEntry], free: u32) -> Result<Vec<u32>, AllocError> {
-    let mut places = vec![in alloc; 0; free as usize]?;
+/// At each number below `free` the place of its element among the entries; nothing where there is no memory for it.
+fn places_in(alloc: Global, entries: &[ElementEntry], free: u32) -> Vec<usize> {
+    let Ok(mut places) = vec![in alloc; 0; free as usize] else {
+        return Vec::new(alloc);
+    };
     for (place, entry) in entries.iter().enumerate() {
         if let Some(slot) = places.get_mut(entry.number as usize) {
-            *slot = place as u32;
+            *slot = place;
         }
     }
-    Ok(places)
+    places
 }
 
 // The entries of a tree whose names are in the table of the set.
@@ -59,17 +61,12 @@ fn assessed(alloc: Global, set: &mut Compiled, tree: &Tree) -> Result<Stock, All
     entries_have_few_codes();
     let entries = assess(alloc, set, tree)?;
     let total = count_codes(&entries);
-    match places_in(alloc, &entries, free) {
-        Ok(places) => Ok(Stock {
-            entries,
-            total,
-            places,
-        }),
-        Err(error) => {
-            drop(entries);
-            Err(error)
-        }
-    }
+    let places = places_in(alloc, &entries, free);
+    Ok(Stock {
+        entries,
+        total,
+        places,
+    })
 }
 
 /// Puts the names of a tree into the table of a set, and assesses it.

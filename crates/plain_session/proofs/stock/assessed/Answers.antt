@@ -9,7 +9,7 @@ pub count_codes-total-requires : goal.count_codes-total-requires
 count_codes-total-requires c =
     let are = c.in_ok-entries.ensures.assessed in
     let d = c.args.tree.now in
-    let tree = c.next_free-whole.ensures.tree in
+    let tree = c.next_free-free.ensures.tree in
     record {
       few = subst (λ es. code_total (map entry_of es) < 2 ^ 64) (sym c.deref.ensures.value)
           (can_count c.args.set.now d c.in_ok-entries.entries.items are (c.entries_have_few_codes.ensures.few _ d.next_free d.forest are.found tree.nodes are.assessed) tree.few);
@@ -22,7 +22,7 @@ returns-clause-stock c =
     let es = c.in_ok-entries.entries.items in
     let are = c.in_ok-entries.ensures.assessed in
     record {
-      found_is = found_by set d es are c.requires.ready c.next_free-whole.ensures.tree;
+      found_is = found_by set d es are c.requires.ready c.next_free-free.ensures.tree;
       named = are_named set d es are (c.entries_are_named.ensures.named set (beside_of d.forest are.found) d.forest are.found c.requires.ready.usable c.requires.names are.assessed);
       total_is = c.count_codes-total.ensures ∙ ap (λ xs. code_total (map entry_of xs)) c.deref.ensures.value;
     }
