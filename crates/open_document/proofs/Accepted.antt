@@ -1,5 +1,5 @@
 -- What schema documents come to.
-use Rattle.std.specs.Prelude.{◌≡◌, ◌⊎◌, List, Result, Ok, Err, IfOk, OnOk}
+use Rattle.std.specs.Prelude.{◌≡◌, List, Result, Ok, Err, IfOk, OnOk}
 use Rattle.std.proofs.Common.{arith, inl, inr, refl, sym, ap, ◌∙◌, subst}
 use Rattle.tree_rows.specs.Forest.{Document}
 use Rattle.assessment.specs.Attribution.{SchemaSet}
@@ -13,7 +13,7 @@ use Rattle.schema_compile.specs.declared.outcome.Outcome.{Outcome}
 use Rattle.schema_compile.specs.declared.outcome.Outcome.TheVariants.{Accepted}
 use Rattle.told.specs.Outcomes.{told_of}
 use Rattle.open_document.specs.Answers.{IsCompiled, IsOpenedBy, verdict_of, work_after}
-use Rattle.open_document.specs.State.{WorkState, ready, working, IsOpen}
+use Rattle.open_document.specs.State.{WorkState, working, IsOpen}
 use Rattle.open_document.specs.declared.verdict.SetVerdict.{SetVerdict}
 
 module _ (documents : List SchemaInput) where
@@ -50,9 +50,3 @@ opened_by (Ok x) set d w session is h = record {
   document_is = ap (λ (s : State). record { session = s }) is.new_is;
 }
 opened_by (Err e) set d w session is h = tt
-
--- the set that was ready is the one that is spoken of
-pub opened_for : {T E : Type 0} (r : Result T E) (a b : SchemaSet) (d : Document) (w : WorkState) → ready a ≡ ready b → OnOk r (IsOpenedBy a d w) → OnOk r (IsOpenedBy b d w)
-opened_for r a b d w is h =
-    let same : a ≡ b = cc in
-    subst (λ (s : SchemaSet). OnOk r (IsOpenedBy s d w)) same h

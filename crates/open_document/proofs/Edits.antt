@@ -1,5 +1,5 @@
 -- What is told of an edit, and what was written.
-use Rattle.std.proofs.Common.{◌≡◌, ◌≤◌, ◌+◌, ℕ, List, Option, Result, Ok, Err, refl, sym, ap, ◌∙◌, subst, arith}
+use Rattle.std.proofs.Common.{◌≡◌, ◌≤◌, ℕ, List, Option, Result, Ok, Err, refl, sym, subst}
 use Rattle.tree_rows.specs.Forest.{Document}
 use Rattle.tree_edits.specs.Refusals as refusals
 use Rattle.tree_edits.specs.Tests.{edited}
@@ -8,14 +8,13 @@ use Rattle.tree_edits.specs.declared.edit.EditError.{EditError}
 use Rattle.assessment.specs.Assessment.{Entry}
 use Rattle.what_is_found.specs.IsFound.{IsFound}
 use Rattle.session_model.specs.Applying.{IsEdited, Applies}
-use Rattle.session_model.specs.Asking.{code_total}
 use Rattle.session_model.specs.Spending.{Counts, BreaksWithin, Spends}
 use Rattle.session_model.specs.State.{State, with_names, after_edit}
 use Rattle.session_model.specs.declared.session.SessionError.{SessionError}
 use Rattle.session_model.specs.declared.session.SessionError.TheVariants as errors
-use Rattle.told.specs.Going.{Trace, trace, Breaks, Answers}
+use Rattle.told.specs.Going.{trace, Breaks, Answers}
 use Rattle.told.specs.Tells.{Wrote}
-use Rattle.told.specs.Told.{Said, Told, says, free}
+use Rattle.told.specs.Told.{Told, says}
 use Rattle.told.specs.declared.break_off.BreakOff.{BreakOff}
 use Rattle.told.specs.declared.break_off.BreakOff.TheVariants.{Memory}
 use Rattle.told.proofs.Saying.{said_answers, free_answers, looked_answers, looks_breaks, memory_breaks}

@@ -13,9 +13,11 @@ use Rattle.open_document.specs.State.{OpenState, WorkState, working, with_sessio
 
 module _ (line : List ℕ) (block : Option (List Item)) (next : WorkState → Told) (r : Result (Unit {0}) BreakOff) (a b : Trace) where
   -- what is told of a command by the session is told by the open document
-  pub answered_by : (s : OpenState) (x y : State) → working (record { session = x }) ≡ working s
+  pub answered_by : (s : OpenState) (x y : State) (w v : WorkState) → working (record { session = x }) ≡ w → w ≡ working s → v ≡ working (record { session = y })
       → Answers (line_told edit_cost (with_session s x) (command line block) (λ q. next (working q))) r a b (λ done. next (working (with_session s y)))
-      → Answers (command_told s line block (λ q. next (working q))) r a b (λ done. next (working (record { session = y })))
-  answered_by s x y is h =
+      → Answers (command_told s line block (λ q. next (working q))) r a b (λ done. next v)
+  answered_by s x y w v own at new h =
+      let both : working (record { session = x }) ≡ working s = own ∙ at in
       let same : record { session = x } ≡ s = cc in
-      subst (λ (q : OpenState). Answers (line_told edit_cost q (command line block) (λ p. next (working p))) r a b (λ done. next (working (record { session = y })))) same h
+      subst (λ (u : WorkState). Answers (command_told s line block (λ q. next (working q))) r a b (λ done. next u)) (sym new)
+      (subst (λ (q : OpenState). Answers (line_told edit_cost q (command line block) (λ p. next (working p))) r a b (λ done. next (working (record { session = y })))) same h)

@@ -4,14 +4,18 @@ use Rattle.session_model.specs.Reports.{report}
 use Rattle.open_document.specs.Replies.{total_line, total_reply}
 use Rattle.open_document.proofs.working.write_lines.Goals as goal
 
-pub returns-in_err-write_report-clause-written : goal.returns-in_err-write_report-clause-written
-returns-in_err-write_report-clause-written g c =
-    written_short g.W.Sink.taken g.W.Sink.faults g.W.Sink.fault_bound c.args.sink.now c.write_report.new.sink _ c.from_residual.result
-    (report c.args.most c.args.session.now) (total_reply c.args.session.now) _ refl c.from_residual.ensures.0
-    c.in_err-write_report.ensures.written
+pub returns-in_err-write_report : goal.returns-in_err-write_report
+returns-in_err-write_report g c = record {
+  written = written_short g.W.Sink.taken g.W.Sink.faults g.W.Sink.fault_bound c.args.sink.now c.write_report.new.sink _ c.from_residual.result
+      (report c.args.most c.args.session.now) (total_reply c.args.session.now) _ refl c.from_residual.ensures.0
+      c.in_err-write_report.ensures.written;
+}
 
-pub returns-clause-written : goal.returns-clause-written
-returns-clause-written g c =
-    written_then g.W.Sink.taken g.W.Sink.faults g.W.Sink.fault_bound c.args.sink.now c.write_report.new.sink c.write_total.new.sink c.write_total.result
-    (report c.args.most c.args.session.now) _ _ (ap (λ total. report c.args.most c.args.session.now ++ total_line total) (c.code_total.ensures c.requires))
-    c.in_ok-write_report.ensures.written.all c.in_ok-write_report.ensures.written.cause.later c.in_ok-write_report.ensures.written.kept c.write_total.ensures.written
+pub returns : goal.returns
+returns g c =
+    let w = c.in_ok-write_report.ensures.written in
+    record {
+      written = written_then g.W.Sink.taken g.W.Sink.faults g.W.Sink.fault_bound c.args.sink.now c.write_report.new.sink c.write_total.new.sink c.write_total.result
+          (report c.args.most c.args.session.now) _ _ (ap (λ total. report c.args.most c.args.session.now ++ total_line total) (c.code_total.ensures c.requires))
+          w.all w.cause.later w.kept c.write_total.ensures.written;
+    }
