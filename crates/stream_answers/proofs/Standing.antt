@@ -1,5 +1,5 @@
 -- Where a stream stands at a place, an item turns what the place's reader turns.
-use Rattle.std.proofs.Common.{◌≡◌, ℕ, ◌+◌, Option, Some, None, refl, sym, ap, ◌∙◌, subst}
+use Rattle.std.proofs.Common.{◌≡◌, ℕ, Option, None, refl, sym, ap, ◌∙◌, subst}
 use Rattle.item_listing.specs.declared.item.Item.{Item}
 use Rattle.assessment.specs.Attribution.{SchemaSet}
 use Rattle.told.specs.Told.{Told}
@@ -14,12 +14,15 @@ use Rattle.stream_sections.specs.declared.asked.Asked.{Asked}
 use Rattle.stream_sections.specs.declared.commands.CommandReader.{CommandReader}
 use Rattle.stream_sections.specs.declared.document.DocumentReader.{DocumentReader}
 use Rattle.stream_sections.specs.declared.schemas.SchemaReader.{SchemaReader}
+use Rattle.stream_sections.specs.declared.schemas.SchemaTurn.{SchemaTurn}
+use Rattle.stream_sections.specs.declared.schemas.SchemaTurn.TheVariants as schemas
 use Rattle.stream_answers.specs.Output.{stop_told}
 use Rattle.stream_answers.specs.inside.Turns.{Spot, turned, schemas_turned, document_turned, commands_turned, end_told, finished}
-use Rattle.stream_answers.specs.inside.Turning.{IsOpen, spot_of, behind, ending_by, place_by, moved, MovesOpen}
+use Rattle.stream_answers.specs.inside.Turning.{IsOpen, spot_of, behind, ending_by, place_by, moved, MovesOpen, AreSome}
 use Rattle.stream_answers.specs.declared.place.Place.{Place}
 use Rattle.stream_answers.specs.declared.place.Place.TheVariants as places
 use Rattle.stream_answers.specs.declared.turn.Turn.{Turn}
+use Rattle.stream_answers.proofs.Readers.{some_sections}
 
 -- ---- by the place
 
@@ -47,6 +50,13 @@ module _ (place : Place) (work : WorkState) (h : IsOpen place work) where
 
   pub is_open : (r : CommandReader) → place ≡ places.Commands r → IsDocumentOpen work
   is_open r is = subst (λ (p : Place). IsOpen p work) is h
+
+-- sections that have ended are some
+pub are_some : (a : Asked) (line : ℕ) (r : SchemaReader) (it : Item) (turn : SchemaTurn) (new : SchemaReader)
+    → schema_turns.Turns (schema_turns.turned a line r it) turn new → AreSome turn
+are_some a line r it schemas.Goes new h = tt
+are_some a line r it (schemas.Ends given) new h = some_sections a line r it given new h
+are_some a line r it (schemas.Refused spot) new h = tt
 
 -- ---- behind a turn
 
