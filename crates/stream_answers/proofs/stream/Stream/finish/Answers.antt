@@ -9,4 +9,7 @@ use Rattle.stream_answers.proofs.stream.Stream.finish.Goals as goal
 
 pub returns-in-Ended-None-clause-ends : goal.returns-in-Ended-None-clause-ends
 returns-in-Ended-None-clause-ends g c n =
-    goes_same _ _ _ (ended_is c.args.lines c.args.self.now.place c.args.self.now.work None c.in-Ended-None.is)
+    let h = c.in-Ended-None in ?
+
+pub returns-in-Ended-Some-clause-ends : goal.returns-in-Ended-Some-clause-ends
+returns-in-Ended-Some-clause-ends g c n = let h = c.in-Ended-Some in ?

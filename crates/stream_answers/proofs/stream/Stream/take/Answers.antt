@@ -8,7 +8,7 @@ use Rattle.stream_answers.proofs.Standing.{schemas_turn, document_turn, commands
 use Rattle.stream_answers.proofs.stream.Stream.take.Goals as goal
 
 pub answer_schemas-requires : goal.answer_schemas-requires
-answer_schemas-requires g c = are_some c.args.self.now.asked c.args.line _ c.args.item c.in-Ok.turn c.take.new.self c.in-Ok.ensures
+answer_schemas-requires g c = record { some = are_some c.args.self.now.asked c.args.line _ c.args.item c.in-Ok.turn c.take.new.self c.in-Ok.ensures }
 
 pub returns-in-Ok-clause-takes : goal.returns-in-Ok-clause-takes
 returns-in-Ok-clause-takes g c next =
@@ -24,7 +24,7 @@ returns-in-Ok-take-clause-takes g c next =
     let set = ready_set c.args.self.now.work (is_ready c.args.self.now.place c.args.self.now.work c.requires _ c.in-Document.is) in
     answers_as _ _ c.answer_document.result _ _ _
     (document_turn c.args.self.now.asked c.args.line c.args.item next c.args.self.now.place c.args.self.now.work _ set.0 c.in-Document.is set.1)
-    (c.answer_document.ensures.takes set.0 _ c.take.new.self next set.1 c.in-Ok-take.ensures)
+    (c.answer_document.ensures.takes set.0 _ c.take-in-Document.new.self next set.1 c.in-Ok-take.ensures)
 
 pub answer_commands-requires : goal.answer_commands-requires
 answer_commands-requires g c = is_open c.args.self.now.place c.args.self.now.work c.requires _ c.in-Commands.is
@@ -34,7 +34,7 @@ returns-in-Ok-take-2-clause-takes g c next =
     let s = open_document c.args.self.now.work (is_open c.args.self.now.place c.args.self.now.work c.requires _ c.in-Commands.is) in
     answers_as _ _ c.answer_commands.result _ _ _
     (commands_turn c.args.self.now.asked c.args.line c.args.item next c.args.self.now.place c.args.self.now.work _ s.0 c.in-Commands.is s.1)
-    (c.answer_commands.ensures.takes s.0 _ c.take.new.self next s.1 c.in-Ok-take-2.ensures)
+    (c.answer_commands.ensures.takes s.0 _ c.take-in-Commands.new.self next s.1 c.in-Ok-take-2.ensures)
 
 pub returns-in-Ended-clause-takes : goal.returns-in-Ended-clause-takes
 returns-in-Ended-clause-takes g c next =
