@@ -1,9 +1,10 @@
 use Rattle.std.proofs.Common.{refl, ap, sym, subst, ◌∙◌, le_refl}
 use Rattle.told.specs.Going.{trace, Answers}
 use Rattle.told.proofs.Going.{answers_as, goes_same}
+use Rattle.open_document.specs.Answers.{command_told}
 use Rattle.stream_sections.specs.declared.commands.CommandReader.{CommandReader}
 use Rattle.stream_answers.specs.Refusals.{refusal_line, refusal_ending}
-use Rattle.stream_answers.specs.inside.Turns.{commands_turned}
+use Rattle.stream_answers.specs.inside.Turns.{commands, commands_turned, no_block}
 use Rattle.stream_answers.specs.inside.Turning.{spot_of, moved}
 use Rattle.stream_answers.specs.declared.place.Place.TheVariants as places
 use Rattle.stream_answers.proofs.Moved.{turn_ends}
@@ -18,9 +19,12 @@ returns-in-Goes-clause-takes g c s t r next e h =
 pub returns-in-Gives-clause-takes : goal.returns-in-Gives-clause-takes
 returns-in-Gives-clause-takes g c s t r next e h =
     let given = commands_give t c.in-Gives.command c.in-Gives.block r (rw c.in-Gives.is at h) in
+    let a = trace (g.W.Sink.taken c.args.sink.now) c.args.steps.now in
+    let b = trace (g.W.Sink.taken c.answer_command.new.sink) c.answer_command.new.steps in
+    let t = command_told s c.in-Gives.command c.in-Gives.block (λ q. next (commands q no_block)) in
     answers_as _ _ c.answer_command.result _ _ _
     (ap (λ u. commands_turned s u next) given.0)
-    (subst (λ (q : CommandReader). Answers _ c.answer_command.result _ _ (moved next (places.Commands q) c.answer_command.new.work)) (sym given.1)
+    (subst (λ (q : CommandReader). Answers t c.answer_command.result a b (moved next (places.Commands q) c.answer_command.new.work)) (sym given.1)
     (c.answer_command.ensures.takes s next e))
 
 pub returns-in-Ends-clause-takes : goal.returns-in-Ends-clause-takes

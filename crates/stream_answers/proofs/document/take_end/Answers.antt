@@ -3,7 +3,7 @@ use Rattle.told.specs.Told.{Told}
 use Rattle.open_document.specs.Answers.{verdict}
 use Rattle.open_document.specs.State.{OpenState, working}
 use Rattle.stream_answers.specs.inside.Turns.{document_ended}
-use Rattle.stream_answers.specs.inside.Turning.{spot_of}
+use Rattle.stream_answers.specs.inside.Turning.{spot_of, moved}
 use Rattle.stream_answers.specs.declared.place.Place.TheVariants as places
 use Rattle.stream_answers.proofs.Moved.{if_goes}
 use Rattle.stream_answers.proofs.Opening.{opening_answers, opening_breaks}
@@ -19,4 +19,4 @@ returns-in-Ok-clause-takes g c set next stood e =
 
 pub returns-in-Err-clause-takes : goal.returns-in-Err-clause-takes
 returns-in-Err-clause-takes g c set next stood e =
-    opening_breaks c.args.asked set c.args.tree (λ s. next (document_ended s)) _ _ _ _ c.in-Err.ensures.steps.later c.in-Err.ensures.steps.few
+    opening_breaks c.args.asked set c.args.tree (λ s. next (document_ended s)) _ _ _ (moved next stood c.open.new.self) c.in-Err.ensures.steps.later c.in-Err.ensures.steps.few
