@@ -1,0 +1,2 @@
+pub mod Identity
+pub use Rattle.identity_constraints.specs.Satisfied

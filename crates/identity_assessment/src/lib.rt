@@ -1,0 +1,7 @@
+//! The assessment of a document with the codes of its identity constraints and of its IDs (Structures 3.3.4, 3.11.4, 5.2).
+#![tactic(auto)]
+
+mod laws;
+
+pub use identity_constraints::IdentityPaths;
+pub use laws::identity_codes_join_the_assessment;

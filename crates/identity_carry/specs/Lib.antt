@@ -1,0 +1,2 @@
+pub mod Tables
+pub use Rattle.identity_counts.specs.Counting
