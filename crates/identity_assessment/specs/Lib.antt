@@ -1,2 +1,1 @@
 pub mod Identity
-pub use Rattle.identity_constraints.specs.Satisfied

@@ -3,5 +3,4 @@
 
 mod laws;
 
-pub use identity_constraints::IdentityPaths;
 pub use laws::identity_codes_join_the_assessment;

@@ -1,2 +1,1 @@
 pub mod Tables
-pub use Rattle.identity_counts.specs.Counting

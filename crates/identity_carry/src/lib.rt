@@ -4,4 +4,3 @@
 mod carrying;
 
 pub use carrying::{add_tuple, drop_tuple, is_visible};
-pub use identity_tables::{KeyTables, Tuple};

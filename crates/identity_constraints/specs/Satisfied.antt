@@ -32,6 +32,26 @@ has_repeated (tuple ∷ tuples) = has_tuple tuple tuples || has_repeated tuples
 abbrev pub is_held : List (List Key) → List Key → ℕ → Bool
 is_held own tuple bearing = has_tuple tuple own || (bearing == 1)
 
+-- cvc-identity-constraint.3 (Structures 3.11.4): a field has several nodes, or one of a complex type without simple content
+abbrev pub has_misused : List Outcome → Bool
+has_misused found = list_any (λ (o : Outcome). o.misused) found
+
+-- cvc-identity-constraint.4.1 (Structures 3.11.4): two key-sequences of a unique are equal
+abbrev pub is_not_unique : List Outcome → Bool
+is_not_unique found = has_repeated (tuples_in found)
+
+-- cvc-identity-constraint.4.2.1 (Structures 3.11.4): a target of a key is not in the qualified node set, since it lacks a field
+abbrev pub has_lacking : List Outcome → Bool
+has_lacking found = list_any (λ (o : Outcome). is_none o.tuple) found
+
+-- cvc-identity-constraint.4.2.2 (Structures 3.11.4): two key-sequences of a key are equal
+abbrev pub is_no_key : List Outcome → Bool
+is_no_key found = has_repeated (tuples_in found)
+
+-- cvc-identity-constraint.4.2.3 (Structures 3.11.4): a field of a key has an element whose declaration is nillable
+abbrev pub has_nillable : List Outcome → Bool
+has_nillable found = list_any (λ (o : Outcome). o.nillable) found
+
 -- the first that is broken
 abbrev pub first_broken : List (Bool × Code) → List Found
 first_broken [] = []
@@ -50,22 +70,20 @@ module _ (names : NameTable) (t : Tables) (identities : List IdentityPaths) wher
   abbrev pub is_visible : ℕ → List Key → KeyElement → KeyForest → Bool
   is_visible k tuple own below = is_held (own_tuples k own below) tuple (bearing k tuple below)
 
-  -- 4: what each kind of constraint asks for, in order
-  abbrev pub checks_by : ConstraintKind → List Outcome → KeyElement → KeyForest → List (Bool × Code)
-  -- 4.1: no two key-sequences are equal
-  checks_by Unique found own below = (has_repeated (tuples_in found), CvcIdentityConstraint4_1) ∷ []
-  -- 4.2.1: each target is in the qualified node set; 4.2.2: no two key-sequences are equal; 4.2.3: no field has an element whose
-  -- declaration is nillable
-  checks_by KeyKind found own below =
-      (list_any (λ (o : Outcome). is_none o.tuple) found, CvcIdentityConstraint4_2_1) ∷
-      (has_repeated (tuples_in found), CvcIdentityConstraint4_2_2) ∷
-      (list_any (λ (o : Outcome). o.nillable) found, CvcIdentityConstraint4_2_3) ∷ []
-  -- 4.3: each key-sequence is in the table of this element for the key that is referred to
-  checks_by (Keyref key) found own below = (list_any (λ tuple. not (is_visible key tuple own below)) (tuples_in found), CvcIdentityConstraint4_3) ∷ []
+  -- cvc-identity-constraint.4.3 (Structures 3.11.4): a key-sequence of a keyref is not in the table of this element for the key or
+  -- unique that is referred to
+  abbrev pub has_unmatched : ℕ → List Outcome → KeyElement → KeyForest → Bool
+  has_unmatched key found own below = list_any (λ tuple. not (is_visible key tuple own below)) (tuples_in found)
 
-  -- 3: each field has at most one node, which has a simple type or simple content; and then 4
+  -- what each kind of constraint asks for, in order
+  abbrev pub checks_by : ConstraintKind → List Outcome → KeyElement → KeyForest → List (Bool × Code)
+  checks_by Unique found own below = (is_not_unique found, CvcIdentityConstraint4_1) ∷ []
+  checks_by KeyKind found own below =
+      (has_lacking found, CvcIdentityConstraint4_2_1) ∷ (is_no_key found, CvcIdentityConstraint4_2_2) ∷ (has_nillable found, CvcIdentityConstraint4_2_3) ∷ []
+  checks_by (Keyref key) found own below = (has_unmatched key found own below, CvcIdentityConstraint4_3) ∷ []
+
   abbrev pub checks : ConstraintKind → List Outcome → KeyElement → KeyForest → List (Bool × Code)
-  checks kind found own below = (list_any (λ (o : Outcome). o.misused) found, CvcIdentityConstraint3) ∷ checks_by kind found own below
+  checks kind found own below = (has_misused found, CvcIdentityConstraint3) ∷ checks_by kind found own below
 
   abbrev pub codes_by : ℕ → Option Constraint → KeyElement → KeyForest → List Found
   codes_by k None own below = []
