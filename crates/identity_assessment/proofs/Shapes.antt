@@ -145,7 +145,7 @@ module _ (shape : ElementShape) (counts : ChildCounts) (identity ids : List Foun
     abbrev pub record_of_other : (judged : Judged) → IsLocal names t g shape judged → ElementRecord
     record_of_other judged k = element_record names t g other (said_on names t g shape) k.attributes.missing k.known.outcome k.attributes.records
 
-    pub local-again : (judged : Judged) (k : IsLocal names t g shape judged) → IsLocal names t g other (record judged { element = record_of_other judged k })
+    abbrev pub local-again : (judged : Judged) (k : IsLocal names t g shape judged) → IsLocal names t g other (record judged { element = record_of_other judged k })
     local-again judged k =
         let w = k.known in record {
           attributes = k.attributes;

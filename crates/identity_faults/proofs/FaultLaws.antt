@@ -1,6 +1,6 @@
 -- The least fault of paths and constraints, one after another.
 use Rattle.std.proofs.Common.{◌≡◌, ◌≢◌, ◌⊎◌, inl, inr, ℕ, ◌+◌, ◌<◌, ◌≤◌, Bool, true, false, if◌then◌else◌, List, [], ◌∷◌, ◌++◌, Option, None, Some, length, get_or, take, slice_get, refl, sym, ap, ◌∙◌, subst, arith}
-use Rattle.std.specs.Prelude.{Any, Result, Ok, Err}
+use Rattle.std.specs.Prelude.{Any, Err}
 use Rattle.std.specs.List.{AllZip}
 use Rattle.std.proofs.lemmas.Bool.{cases_lt}
 use Rattle.std.proofs.lemmas.Grind.{common_steps}
@@ -14,7 +14,6 @@ use Rattle.xs_codes.specs.declared.code.Code.TheVariants.{CPropsCorrect2}
 use Rattle.xs_codes.specs.declared.fault.Fault.{Fault}
 use Rattle.xs_components.specs.Tables.{Tables}
 use Rattle.xs_components.specs.declared.constraint.Constraint.{Constraint}
-use Rattle.xs_components.specs.declared.constraint.ConstraintKind.{ConstraintKind}
 use Rattle.xs_components.specs.declared.constraint.ConstraintKind.TheVariants.{Keyref}
 use Rattle.xs_components.specs.declared.constraint.PathText.{PathText}
 use Rattle.xpath_subset.specs.Grammar.{WrittenPaths, IsReading, paths_meaning}

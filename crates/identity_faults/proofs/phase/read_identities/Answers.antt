@@ -1,4 +1,4 @@
-use Rattle.std.proofs.Common.{◌≡◌, ◌<◌, ◌≤◌, ◌++◌, List, [], ◌∷◌, length, get_or, ap, sym, subst, arith}
+use Rattle.std.proofs.Common.{◌≡◌, ◌<◌, ◌≤◌, ◌++◌, List, [], ◌∷◌, length, get_or, subst, arith}
 use Rattle.xs_codes.specs.Least.{IsLeast, sooner}
 use Rattle.xs_components.specs.declared.constraint.Constraint.{Constraint}
 use Rattle.identity_paths.specs.Reads.{ArePathsOf}

@@ -1,7 +1,6 @@
-use Rattle.std.proofs.Common.{◌≡◌, ℕ, List, None, sym, subst}
+use Rattle.std.proofs.Common.{List, subst}
 use Rattle.std.specs.Prelude.{Result}
-use Rattle.std.proofs.lemmas.Option.{none-some}
-use Rattle.xpath_subset.specs.Grammar.{WrittenPaths, IsSelector, IsField, IsReading, paths_meaning}
+use Rattle.xpath_subset.specs.Grammar.{IsSelector, IsField, IsReading, paths_meaning}
 use Rattle.xpath_subset.specs.declared.path.Path.{Path}
 use Rattle.xpath_subset.specs.declared.reading.XPathFault.{XPathFault}
 use Rattle.identity_faults.proofs.ReadingLaws.{path-read, path-unread}
