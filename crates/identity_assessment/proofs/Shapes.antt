@@ -69,21 +69,21 @@ module _ (shape : ElementShape) (counts : ChildCounts) (identity ids : List Foun
   nil-same : (d : Option ElementDecl) (c : Option ValueConstraint) (xsi : Option (List ℕ)) (nil : Bool) → nil_codes d c xsi nil other ≡ nil_codes d c xsi nil shape
   nil-same d c xsi nil = ap (λ (b : Bool). code_if (is_nil_refused d xsi) CvcElt3_1 ++ (code_if (nil && not (not b && (length shape.text == 0))) CvcElt3_2_1 ++ code_if (is_fixed_nil nil c) CvcElt3_2_2)) same
 
-  content-same : (names : NameTable) (nil : Bool) (content : ContentType) (text : List ℕ) (outcome : TextOutcome) (missing : List ℕ) →
-      by_content names nil content other text outcome missing ≡ by_content names nil content shape text outcome missing
-  content-same names nil SimpleType text outcome missing =
-      ap (λ (b : Bool). code_if (has_other_attributes names shape.attrs) CvcType3_1_1 ++ (code_if (not nil && b) CvcType3_1_2 ++ simple_text_codes outcome)) same
-  content-same names nil Empty text outcome missing =
-      ap (λ (b : Bool). (if nil then [] else code_if (b || not (length text == 0)) CvcComplexType2_1 ++ stuck_codes shape.stuck) ++ missing_codes missing) same
-  content-same names nil SimpleContent text outcome missing =
-      ap (λ (b : Bool). (if nil then [] else (code_if b CvcComplexType2_2 ++ text_codes CvcComplexType2_2 outcome) ++ stuck_codes shape.stuck) ++ missing_codes missing) same
-  content-same names nil ElementOnly text outcome missing = refl
-  content-same names nil Mixed text outcome missing = refl
+  content-same : (names : NameTable) (is_nil : Bool) (content : ContentType) (text : List ℕ) (outcome : TextOutcome) (missing : List ℕ) →
+      by_content names is_nil content other text outcome missing ≡ by_content names is_nil content shape text outcome missing
+  content-same names is_nil SimpleType text outcome missing =
+      ap (λ (b : Bool). code_if (has_other_attributes names shape.attrs) CvcType3_1_1 ++ (code_if (not is_nil && b) CvcType3_1_2 ++ simple_text_codes outcome)) same
+  content-same names is_nil Empty text outcome missing =
+      ap (λ (b : Bool). (if is_nil then [] else code_if (b || not (length text == 0)) CvcComplexType2_1 ++ stuck_codes shape.stuck) ++ missing_codes missing) same
+  content-same names is_nil SimpleContent text outcome missing =
+      ap (λ (b : Bool). (if is_nil then [] else (code_if b CvcComplexType2_2 ++ text_codes CvcComplexType2_2 outcome) ++ stuck_codes shape.stuck) ++ missing_codes missing) same
+  content-same names is_nil ElementOnly text outcome missing = refl
+  content-same names is_nil Mixed text outcome missing = refl
 
-  governed-same : (names : NameTable) (nil : Bool) (content : Option ContentType) (text : List ℕ) (outcome : TextOutcome) (missing : List ℕ) →
-      governed_codes names nil content other text outcome missing ≡ governed_codes names nil content shape text outcome missing
-  governed-same names nil None text outcome missing = refl
-  governed-same names nil (Some content) text outcome missing = content-same names nil content text outcome missing
+  governed-same : (names : NameTable) (is_nil : Bool) (content : Option ContentType) (text : List ℕ) (outcome : TextOutcome) (missing : List ℕ) →
+      governed_codes names is_nil content other text outcome missing ≡ governed_codes names is_nil content shape text outcome missing
+  governed-same names is_nil None text outcome missing = refl
+  governed-same names is_nil (Some content) text outcome missing = content-same names is_nil content text outcome missing
 
   fixed-same : (nil : Bool) (content : Option ContentType) (fixed : Option ValueConstraint) (outcome : TextOutcome) → fixed_codes nil content fixed other outcome ≡ fixed_codes nil content fixed shape outcome
   fixed-same nil content fixed outcome =
@@ -96,7 +96,7 @@ module _ (shape : ElementShape) (counts : ChildCounts) (identity ids : List Foun
         subst (λ scope. IsRead t of (fixed_value is c) scope (text_used is c other) outcome) (sym (scope-same is c))
         (subst (λ text. IsRead t of (fixed_value is c) (scope_used is c shape) text outcome) (sym (text-same is c)) r)
 
-    outcome-same : (of : Option TypeId) (is : Bool) (c : Option ValueConstraint) (outcome : TextOutcome) → IsTextOutcome t of is c shape outcome → IsTextOutcome t of is c other outcome
+    pub outcome-same : (of : Option TypeId) (is : Bool) (c : Option ValueConstraint) (outcome : TextOutcome) → IsTextOutcome t of is c shape outcome → IsTextOutcome t of is c other outcome
     outcome-same None is c outcome r = r
     outcome-same (Some of) is c outcome r =
         let read : is_read (content_of t of) is other ≡ is_read (content_of t of) is shape = ap (λ (b : Bool). is_simple_content (content_of t of) && (not is && not b)) same in
