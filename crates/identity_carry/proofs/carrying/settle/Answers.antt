@@ -1,0 +1,19 @@
+use Rattle.std.proofs.Common.{◌≡◌, ◌≤◌, ◌+◌, ◌∙◌, Option, ap, subst, arith}
+use Rattle.identity_carry.specs.Tables.{ArePending, level}
+use Rattle.identity_carry.specs.declared.carrying.Waiting.{Waiting}
+use Rattle.identity_carry.proofs.carrying.settle.Goals as goal
+
+pub loop-waits-preserved : goal.loop-waits-preserved
+loop-waits-preserved c =
+    let inv = c.loop-waits.invariant in
+    record {
+      pending = λ t linked parents p. c.in_ok-waits.ensures.pending t linked parents
+          (subst (λ (o : Option Waiting). ArePending t c.args.key c.args.tuple.now c.loop-waits.tables o) c.in-Some.is (inv.pending t linked parents p));
+      own = λ n y. c.in_ok-waits.ensures.own n y ∙ inv.own n y;
+    }
+
+pub loop-waits-smaller : goal.loop-waits-smaller
+loop-waits-smaller c =
+    let e : level c.loop-waits.waits ≡ c.in-Some.next.at + 1 = ap level c.in-Some.is in
+    let next : level c.in_ok-waits.waits ≤ c.in-Some.next.at = c.in_ok-waits.ensures.upward in
+    omega (arith, e, next)
