@@ -1,5 +1,5 @@
 -- Where a stream stands at a place, an item turns what the place's reader turns.
-use Rattle.std.proofs.Common.{◌≡◌, ℕ, Option, None, refl, sym, ap, ◌∙◌, subst}
+use Rattle.std.proofs.Common.{◌≡◌, ◌⊎◌, inl, inr, ℕ, Option, None, refl, sym, ap, ◌∙◌, subst}
 use Rattle.item_listing.specs.declared.item.Item.{Item}
 use Rattle.assessment.specs.Attribution.{SchemaSet}
 use Rattle.told.specs.Told.{Told}
@@ -74,6 +74,12 @@ IsUnended (places.Schemas r) = Unit {0}
 IsUnended (places.Document r) = Unit {0}
 IsUnended (places.Commands r) = Unit {0}
 IsUnended (places.Ended v) = ⊥
+
+pub unended_by : (place : Place) → ((r : SchemaReader) × (place ≡ places.Schemas r)) ⊎ (((r : DocumentReader) × (place ≡ places.Document r)) ⊎ ((r : CommandReader) × (place ≡ places.Commands r)))
+    → IsUnended place
+unended_by place (inl h) = subst IsUnended (sym h.1) tt
+unended_by place (inr (inl h)) = subst IsUnended (sym h.1) tt
+unended_by place (inr (inr h)) = subst IsUnended (sym h.1) tt
 
 module _ (lines : ℕ) where
   document_unended : (r : DocumentReader) (work : WorkState) → IsReady work → finished lines (spot_of (places.Document r) work) ≡ stop_told (no_end lines)

@@ -8,7 +8,7 @@ use Rattle.stream_answers.proofs.Standing.{schemas_turn, document_turn, commands
 use Rattle.stream_answers.proofs.stream.Stream.take.Goals as goal
 
 pub answer_schemas-requires : goal.answer_schemas-requires
-answer_schemas-requires g c = record { some = are_some c.args.self.now.asked c.args.line _ c.args.item c.in-Ok.turn c.take.new.self c.in-Ok.ensures }
+answer_schemas-requires g c = record { some = are_some c.args.self.now.asked c.args.line c.in-Schemas.reader c.args.item c.in-Ok.turn c.take.new.self c.in-Ok.ensures }
 
 pub returns-in-Ok-clause-takes : goal.returns-in-Ok-clause-takes
 returns-in-Ok-clause-takes g c next =
