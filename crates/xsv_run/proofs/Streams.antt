@@ -6,7 +6,7 @@ use Rattle.item_listing.specs.State.{Reading, unread}
 use Rattle.item_listing.specs.declared.limits.TheConstants.{MOST_BYTES}
 use Rattle.item_listing.specs.Listing.{bytes_taken}
 use Rattle.item_listing.specs.Listed.{Listed, listed, Waits}
-use Rattle.told.specs.Told.{Told, over}
+use Rattle.told.specs.Told.{Told, over, Leads}
 use Rattle.told.specs.Going.{Trace, Goes, Ends}
 use Rattle.told.specs.declared.break_off.BreakOff.{BreakOff}
 use Rattle.told.specs.declared.ending.Ending.{Ending}
@@ -120,13 +120,13 @@ module _ (a : Asked) (rest_old rest_mid rest_new : Option (List ℕ)) (o m n : T
   stops_failed : StandsAt a rest_old rest_mid o m r → Waits r.listing → r.listing.finished ≡ false → Keeps rest_mid rest_new
       → BreaksOff (Some a) rest_old rest_new o.taken m.taken
   stops_failed one waits going kept =
-      let now : to_tell r [] false ≡ over None = ap (told a r.listing.past.lines (stands r.stream)) (waits.0 going) in
+      let now : to_tell r [] false ≡ over None = ap (told r.stream.asked r.listing.past.lines (stands r.stream)) (waits.0 going) in
       let so = one.goes [] false in record {
         bytes = one.bytes;
         consumed = Consumes-kept rest_old rest_mid rest_new one.bytes one.consumed kept;
         output = output_of so.said None;
         is_output = subst (λ (l : List ℕ). IsOutput (Some a) l false (output_of so.said None)) (append-nil one.bytes)
-            (record { said = so.said; ending = None; leads = so.leads; output_is = refl });
+            (record { said = so.said; ending = None; leads = subst (Leads (told_of a (one.bytes ++ []) false) so.said) now so.leads; output_is = refl });
         goes_on = refl;
         wrote = so.wrote;
       }
