@@ -9,10 +9,10 @@ use Rattle.tree_rows.specs.Forest.{Forest, none, text, element, Document}
 use Rattle.tree_rows.specs.declared.name.Expanded.{Expanded}
 use Rattle.tree_rows.specs.declared.row.Attribute.{Attribute}
 use Rattle.tree_rows.specs.declared.row.Binding.{Binding}
-use Rattle.doc_nodes.specs.Nodes.{Node, Nodes, node, IsNode, Has, is_element, is_element_by, is_element_at, children_by, depth_by, IsSound}
+use Rattle.doc_nodes.specs.Nodes.{Node, Nodes, node, IsNode, Has, is_element, is_element_by, is_element_at, children_by, element_children, depth_by, IsSound}
 use Rattle.doc_changes.specs.Held.{name_in, chars_in, attributes_by, attributes_in, bindings_by, bindings_in, parent_at}
 use Rattle.doc_changes.specs.Stands.{firsts, IsText, IsElement, StandFor, StandsFor, expanded_of, attribute_of, binding_of}
-use Rattle.doc_documents.specs.Readers.{name_by, name_at, chars_by, chars_at, own_chars, element_children, characters, element_numbers, IsRead, AreRead, own_scope, outer_scope, scope_upto, scope_at}
+use Rattle.doc_documents.specs.Readers.{name_by, name_at, chars_by, chars_at, own_chars, characters, element_numbers, IsRead, AreRead, own_scope, outer_scope, scope_upto, scope_at}
 
 module _ (t : NameTable) (ns : Nodes) where
   element_is : (n : ℕ) (name : Expanded) (bindings : List Binding) (attributes : List Attribute) (children : Forest) → IsElement t ns n name bindings attributes children
@@ -65,9 +65,14 @@ scope_below ns p c up deep =
     let more : depth_by (node ns c) ≡ suc (depth_by (node ns p)) = omega (arith, deep) in
     ap (λ k. scope_upto ns k c) more ∙ ap (λ o. own_scope ns c ++ outer_scope (scope_upto ns (depth_by (node ns p))) o) up
 
-pub scope_root : (ns : Nodes) (n : ℕ) → parent_at ns n ≡ None → depth_by (node ns n) ≡ 1 → scope_at ns n ≡ own_scope ns n ++ first_scope
+root_upto : (ns : Nodes) (n levels : ℕ) → parent_at ns n ≡ None → scope_upto ns levels n ≡ own_scope ns n ++ first_scope
 unfolding scope_upto
-scope_root ns n up deep = ap (λ k. scope_upto ns k n) deep ∙ ap (λ o. own_scope ns n ++ outer_scope (scope_upto ns zero) o) up
+root_upto ns n zero up = refl
+root_upto ns n (suc levels) up = ap (λ o. own_scope ns n ++ outer_scope (scope_upto ns levels) o) up
+
+-- the scope of a node that has no parent
+pub scope_root : (ns : Nodes) (n : ℕ) → parent_at ns n ≡ None → scope_at ns n ≡ own_scope ns n ++ first_scope
+scope_root ns n up = root_upto ns n (depth_by (node ns n)) up
 
 parent_node : (o : Option Node) (p : ℕ) → option_and_then (λ (it : Node). it.parent) o ≡ Some p → (it : Node) × (o ≡ Some it) × (it.parent ≡ Some p)
 parent_node None p e = absurd (none-some p e)

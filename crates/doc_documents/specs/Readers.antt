@@ -1,12 +1,12 @@
 -- What nodes by number say of an element, as it is said of the tree that they stand for.
-use Rattle.std.specs.Prelude.{◌≡◌, ℕ, zero, suc, List, [], ◌∷◌, ◌++◌, map, filter, flat_map, reverse, Option, Some, None, unwrap_or}
+use Rattle.std.specs.Prelude.{◌≡◌, ℕ, zero, suc, List, [], ◌∷◌, ◌++◌, map, flat_map, reverse, Option, Some, None, unwrap_or}
 use Rattle.xs_names.specs.Names.{NameTable}
 use Rattle.xs_names.specs.Scope.{first_scope}
 use Rattle.tree_rows.specs.Forest.{Forest, none, text, element}
 use Rattle.tree_rows.specs.declared.name.Expanded.{Expanded}
 use Rattle.tree_rows.specs.declared.row.Attribute.{Attribute}
 use Rattle.tree_rows.specs.declared.row.Binding.{Binding}
-use Rattle.doc_nodes.specs.Nodes.{Node, Nodes, node, is_element_at, children_by, depth_by}
+use Rattle.doc_nodes.specs.Nodes.{Node, Nodes, node, children_by, element_children, depth_by}
 use Rattle.doc_nodes.specs.declared.content.NameBinding.{NameBinding}
 use Rattle.doc_changes.specs.Stands.{expanded_of, attribute_of, binding_of}
 use Rattle.doc_changes.specs.Held.{name_in, chars_in, parent_at, attributes_at, bindings_at}
@@ -30,10 +30,6 @@ chars_at ns n = chars_by (node ns n)
 -- the characters of its texts, one after another
 abbrev pub own_chars : Nodes → ℕ → List ℕ
 own_chars ns n = flat_map (chars_at ns) (children_by (node ns n))
-
--- its child elements, in order
-abbrev pub element_children : Nodes → ℕ → List ℕ
-element_children ns n = filter (is_element_at ns) (children_by (node ns n))
 
 -- the characters of the texts and the numbers of the elements among siblings
 abbrev pub characters : Forest → List ℕ
@@ -70,7 +66,7 @@ outer_scope scope (Some p) = scope p
 
 -- with what the elements around it bind, so many levels upwards
 unfoldable pub scope_upto : Nodes → ℕ → ℕ → List (List ℕ × ℕ)
-scope_upto ns zero n = first_scope
+scope_upto ns zero n = own_scope ns n ++ first_scope
 scope_upto ns (suc levels) n = own_scope ns n ++ outer_scope (scope_upto ns levels) (parent_at ns n)
 
 -- the scope in the element of a number (Namespaces in XML 1.0, 6.1)

@@ -15,3 +15,4 @@ pub mod Ordered
 pub mod Hanging
 pub mod Unrolling
 pub mod Settling
+pub mod Elements

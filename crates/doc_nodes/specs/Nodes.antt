@@ -1,5 +1,5 @@
 -- Nodes by their numbers: what each holds, its parent and its children.
-use Rattle.std.specs.Prelude.{◌≡◌, ◌≢◌, ℕ, ◌+◌, ◌^◌, ◌<◌, List, [], ◌∷◌, ◌⊎◌, length, map, insert, remove, slice_get, Option, Some, None, Bool, true, false, slice_index_or}
+use Rattle.std.specs.Prelude.{◌≡◌, ◌≢◌, ℕ, ◌+◌, ◌^◌, ◌<◌, List, [], ◌∷◌, ◌⊎◌, length, map, filter, insert, remove, slice_get, Option, Some, None, Bool, true, false, slice_index_or}
 use Rattle.doc_nodes.specs.declared.content.Content.{Content}
 use Rattle.doc_nodes.specs.declared.content.Content.TheVariants.{Element, Chars}
 use Rattle.doc_nodes.specs.declared.content.NewNode.{NewNode}
@@ -45,6 +45,10 @@ is_element_by (Some it) = is_element it.content
 -- the number is that of an element
 abbrev pub is_element_at : Nodes → ℕ → Bool
 is_element_at ns n = is_element_by (node ns n)
+
+-- the child elements of a node, in order
+abbrev pub element_children : Nodes → ℕ → List ℕ
+element_children ns n = filter (is_element_at ns) (children_by (node ns n))
 
 -- a root alone
 abbrev pub alone : Content → Nodes

@@ -1,6 +1,6 @@
 //! Nodes by number, linked.
 
-ghost use Rattle.std.specs.Prelude.{◌≡◌, ◌≢◌, ℕ, ◌+◌, ◌^◌, ◌<◌, ◌≤◌, ◌++◌, [], ◌∷◌, length, map, drop, take, find, slice_get, None, Some, OnOk, OnErr, IfOk};
+ghost use Rattle.std.specs.Prelude.{◌≡◌, ◌≢◌, ℕ, ◌+◌, ◌^◌, ◌<◌, ◌≤◌, ◌++◌, [], ◌∷◌, length, map, drop, take, filter, find, slice_get, None, Some, OnOk, OnErr, IfOk};
 ghost use Rattle.std.specs.Option.{option_map, option_and_then, option_copied};
 ghost use Rattle.child_trees.specs.Lists.{Entry, IsLive, IsUpTo, IsEntryOf, acts_along};
 ghost use Rattle.doc_nodes.specs.Firsts.{no_child, first_found};
@@ -92,6 +92,18 @@ fn child_of(lists: &Seqs<Firsts>, item: ItemId) -> u32
     }
 }
 
+/// The element that has this place among the elements of a list, counted from 0.
+fn nth_element(lists: &Seqs<Firsts>, list: SeqId, place: u32) -> Option<u32>
+    requires live { IsLive lists.now list }
+    requires full { (e : Entry First) → Has e (entries lists.now list) → e.act.child ≡ Some (number_of e) }
+    ensures { result ≡ slice_get (numbers (filter (λ e. e.marked) (entries lists.now list))) place }
+{
+    match lists.nth_marked(list, place) {
+        None => None,
+        Some(item) => Some(child_of(lists, item)),
+    }
+}
+
 /// The children of a list, in order.
 fn children_in(alloc: Global, lists: &Seqs<Firsts>, list: SeqId) -> Result<Vec<u32>, AllocError>
     requires live { IsLive lists.now list }
@@ -107,7 +119,7 @@ fn children_in(alloc: Global, lists: &Seqs<Firsts>, list: SeqId) -> Result<Vec<u
 }
 
 impl NodeLinks {
-    ghost use Rattle.doc_nodes.specs.Nodes.{Node, node, IsNode, IsChildAt, IsSound, Inserts, InsertsAll, AreFree, Distinct, Removes, Holds, is_element, is_element_at, depth_by, children_by, alone};
+    ghost use Rattle.doc_nodes.specs.Nodes.{Node, node, IsNode, IsChildAt, IsSound, Inserts, InsertsAll, AreFree, Distinct, Removes, Holds, is_element, is_element_at, depth_by, children_by, element_children, alone};
 
     /// A root alone, which has the number 1 and depth 1.
     ///
@@ -266,6 +278,29 @@ impl NodeLinks {
                     None
                 }
             }
+        }
+    }
+
+    /// The child element that has this place among the child elements of a node, counted from 0; `None` where there is none.
+    /// It takes steps logarithmic in the number of children.
+    pub fn element_at(&self, number: u32, place: u32) -> Option<u32>
+        ensures element { result ≡ slice_get (element_children self.now number) place }
+        ensures sound { IsSound self.now }
+    {
+        match self.slots.get(number) {
+            None => None,
+            Some(slot) => nth_element(&self.lists, slot.list, place),
+        }
+    }
+
+    /// How many of the children of a node before a place are elements. It takes steps logarithmic in the number of children.
+    pub fn elements_upto(&self, number: u32, place: u32) -> u32
+        ensures count { result ≡ length (filter (is_element_at self.now) (take place (children_by (node self.now number)))) }
+        ensures sound { IsSound self.now }
+    {
+        match self.slots.get(number) {
+            None => 0,
+            Some(slot) => self.lists.elements_upto(slot.list, place.min(slot.count)),
         }
     }
 

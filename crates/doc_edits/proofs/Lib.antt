@@ -1,0 +1,5 @@
+pub mod Places
+pub mod Outcomes
+pub mod Naming
+pub mod Blocks
+pub mod Preparing
