@@ -10,7 +10,7 @@ ghost use Rattle.doc_nodes.specs.Nodes.{Node, IsSound, IsNode, IsChildAt, is_ele
 ghost use Rattle.doc_nodes.specs.Nodes as nodes;
 ghost use Rattle.doc_changes.specs.Held.{parent_at, bindings_at};
 ghost use Rattle.doc_changes.specs.Stands.{StandsFor, binding_of};
-ghost use Rattle.doc_documents.specs.Readers.{scope_at};
+ghost use Rattle.doc_documents.specs.Readers.{own_scope, scope_at};
 ghost use Rattle.doc_tree.specs.Following.{past_of};
 
 use crate::contents::bindings_of;
@@ -104,6 +104,20 @@ fn bind_own(scope: &mut Scope, bindings: &[NameBinding]) -> Result<(), AllocErro
     Ok(())
 }
 
+/// Binds what a node binds, in the scope around it.
+fn bind_node(links: &NodeLinks, node: u32, around: Scope) -> Result<Scope, AllocError>
+    ensures { IfOk result (λ scope. scope ≡ own_scope links.now node ++ around) }
+{
+    let mut scope = around;
+    match links.content(node) {
+        None => Ok(scope),
+        Some(content) => {
+            bind_own(&mut scope, bindings_of(content))?;
+            Ok(scope)
+        }
+    }
+}
+
 /// What is bound in a node: outside of all elements, then by the elements around it, the outermost first, and then by itself.
 pub(crate) fn scope_upwards(
     alloc: Global,
@@ -112,15 +126,14 @@ pub(crate) fn scope_upwards(
 ) -> Result<Scope, AllocError>
     ensures { IfOk result (λ scope. scope ≡ scope_at links.now node) }
 {
-    let mut scope = match links.parent(node) {
-        None => Scope::new(alloc)?,
-        Some(parent) => scope_upwards(alloc, links, parent)?,
-    };
-    match links.content(node) {
-        None => Ok(scope),
-        Some(content) => {
-            bind_own(&mut scope, bindings_of(content))?;
-            Ok(scope)
+    match links.parent(node) {
+        None => {
+            let outside = Scope::new(alloc)?;
+            bind_node(links, node, outside)
+        }
+        Some(parent) => {
+            let around = scope_upwards(alloc, links, parent)?;
+            bind_node(links, node, around)
         }
     }
 }
