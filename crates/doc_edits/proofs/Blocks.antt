@@ -1,5 +1,5 @@
 -- The insertion of a block, step by step.
-use Rattle.std.proofs.Common.{◌≡◌, ℕ, ◌+◌, ◌≤◌, List, [], Bool, true, false, ◌||◌, if◌then◌else◌, nat_lt, Option, Some, None, Result, Ok, Err, sym, ap, ◌∙◌, refl, arith}
+use Rattle.std.proofs.Common.{◌≡◌, ℕ, ◌+◌, ◌≤◌, List, [], length, Bool, true, false, ◌||◌, if◌then◌else◌, nat_lt, Option, Some, None, Result, Ok, Err, sym, ap, ◌∙◌, refl, arith}
 use Rattle.std.specs.List.{list_any}
 use Rattle.std.proofs.lemmas.Bool.{or_parts}
 use Rattle.std.proofs.lemmas.Bool.Decides.{nat_tests}
@@ -9,6 +9,11 @@ use Rattle.tree_rows.specs.Whole.{IsTree}
 use Rattle.tree_rows.specs.declared.row.Binding.{Binding}
 use Rattle.tree_building.specs.Blocks.{one_element}
 use Rattle.tree_building.specs.Building.{block}
+use Rattle.tree_building.specs.Shape.{AreWhole, AreSound}
+use Rattle.tree_building.proofs.RowCounts.{count-rows}
+use Rattle.tree_rows.specs.Rows.{siblings}
+use Rattle.tree_rows.specs.declared.row.Row.{Row}
+use Rattle.tree_edits.proofs.Putting.{deep-whole}
 use Rattle.tree_edits.specs.Blocks.{tags_in, judged, early, late, has_too_many, has_double}
 use Rattle.tree_edits.specs.Edits.{found, put_within, insert_within, unless, then_unless, too_many_more}
 use Rattle.tree_edits.specs.Tests.{depth_of}
@@ -65,3 +70,9 @@ part_tree d parent scope its names more deepest one is last room size reach =
     let fine = late_none (list_any has_too_many (tags_in scope [] its)) (list_any has_double (tags_in scope [] its)) two in
     let few = few_nodes d more room.few in let low = room.shallow in
     block_tree scope its one fine.0 fine.1 (omega (arith, few, size)) (omega (arith, low, reach))
+
+-- rows of a tree, which are as many as its nodes
+pub rows_sound : (rows : List Row) (free : ℕ) → AreWhole rows → IsTree (record { forest = siblings rows 1; next_free = free }) → AreSound rows × (length rows ≡ count (siblings rows 1))
+rows_sound rows free whole tree =
+    let deep = deep-whole 0 rows whole in let low = tree.shallow in
+    (record { whole = whole; shallow = omega (arith, deep, low) }, ap length whole ∙ count-rows 1 (siblings rows 1))

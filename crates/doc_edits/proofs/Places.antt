@@ -236,3 +236,27 @@ module _ (d : Document) (parent : ℕ) where
 
   pub put_room : (place : ℕ) (new : Forest) → HasRoomFor d parent new → put_within d parent place new (depth_of (found parent 1 d.forest)) ≡ Ok (with_nodes d parent place new)
   put_room place new r = room_at d parent place new (depth_of (found parent 1 d.forest)) r.few r.shallow
+
+-- whether new nodes are too many, step by step
+pub many_alone : (d : Document) (more : ℕ) → 131072 < more → true ≡ too_many_more d more
+many_alone d more h =
+    let far : nat_lt 131072 (count d.forest + more) ≡ true = grind (arith, nat_tests, h) in
+    sym (ap (λ b. b || nat_lt 4294967295 (d.next_free + more)) far)
+
+pub many_beside : (d : Document) (more live : ℕ) → live ≡ count d.forest → 131072 < live + more → true ≡ too_many_more d more
+many_beside d more live e h =
+    let far : nat_lt 131072 (count d.forest + more) ≡ true = grind (arith, nat_tests, e, h) in
+    sym (ap (λ b. b || nat_lt 4294967295 (d.next_free + more)) far)
+
+pub many_numbers : (d : Document) (more live next : ℕ) → live ≡ count d.forest → next ≡ d.next_free → live + more ≤ 131072 → nat_lt 4294967295 (next + more) ≡ too_many_more d more
+many_numbers d more live next e n h =
+    let near : nat_lt 131072 (count d.forest + more) ≡ false = grind (arith, nat_tests, e, h) in
+    ap (λ m. nat_lt 4294967295 (m + more)) n ∙ sym (ap (λ b. b || nat_lt 4294967295 (d.next_free + more)) near)
+
+-- a node, where the number is of one
+pub node_there : (ns : Nodes) (n : ℕ) → kind_at ns n ≢ None → (it : Node) × IsNode ns n it
+node_there ns n h = by (node ns n) refl
+  where
+    by : (o : Option Node) → node ns n ≡ o → (it : Node) × IsNode ns n it
+    by None e = absurd (h (ap (option_map (λ (it : Node). kind_in it.content)) e))
+    by (Some it) e = (it, e)
