@@ -1,5 +1,5 @@
-pub mod Places
+pub mod Placing
 pub mod Outcomes
 pub mod Naming
-pub mod Blocks
+pub mod Inserting
 pub mod Preparing

@@ -32,7 +32,7 @@ use Rattle.doc_changes.specs.Held.{kind_at, attributes_at, attributes_by, attrib
 use Rattle.doc_changes.specs.Held as held
 use Rattle.doc_documents.proofs.Named.{has_number as number_has_name}
 use Rattle.doc_edits.specs.Tested.{IsThere, IsSettable}
-use Rattle.doc_edits.proofs.Places.{own}
+use Rattle.doc_edits.proofs.Placing.{own}
 
 -- a name that was put into a table is the name of its number
 namespace_back : (u : NameTable) → IsSound u → (space : Option (List ℕ)) → IsNamespace space → HasSpace u space → namespace_of u (space_in u space) ≡ space

@@ -39,7 +39,7 @@ use Rattle.edit_names.specs.Names.{table_with}
 use Rattle.doc_edits.specs.Changes.{changed, IsPrepared, IsRefused}
 use Rattle.doc_edits.specs.Tested.{IsNoElement, HasPlace, HasRoomFor, IsReason, IsPart, IsThere, IsSettable}
 use Rattle.doc_edits.specs.declared.change.Change.TheVariants as changes
-use Rattle.doc_edits.proofs.Places.{own, changed_here, put_room, text_made}
+use Rattle.doc_edits.proofs.Placing.{own, changed_here, put_room, text_made}
 use Rattle.doc_edits.proofs.Naming.{name_called}
 
 -- a QName that is resolved is the name

@@ -5,7 +5,7 @@ mod blocks;
 mod change;
 mod names;
 mod places;
-mod prepare;
+mod preparation;
 
 pub use change::{Change, make_change};
-pub use prepare::prepare;
+pub use preparation::prepare;

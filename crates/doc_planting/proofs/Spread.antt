@@ -423,7 +423,7 @@ module _ (s t : NameTable) (old now : Nodes) (p : ℕ) (whole left : Forest) (ca
       known h = known_next s t u row children next left taken k (so.known h)
 
       by : (c : Content) → left ≡ node_of row.number c row.bindings row.attributes children next → Filled u now new row.number c children → FilledSoFar s u old new p whole next
-      by (rows.Element name) e f = element_next s t old now p whole left can so row.number name row.bindings row.attributes children next e u new g sound known f
+      by (rows.Element name) e f = element_next s t old now p whole left can so row.number name row.bindings row.attributes children next e u new g sound f known
       by (rows.Chars chars) e f = text_next s t u old now new p whole left so row.number chars next e g sound known f
 
   -- they are no more than all

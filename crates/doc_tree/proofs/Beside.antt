@@ -23,7 +23,7 @@ module _ (ns : Nodes) (n : ℕ) (sound : IsSound ns) (r : Option ℕ)
   pub found_there : (p : ℕ) → parent_at ns n ≡ Some p → is_element_at ns n ≡ true → option_and_then (slice_get (element_children ns p)) r ≡ Some n
   found_there p up is =
       let k = child_place ns n p sound up in
-      ap (option_and_then (slice_get (element_children ns p))) (before k.0 k.1)
+      ap (option_and_then (slice_get (element_children ns p))) (before p k.0 k.1)
       ∙ filtered_at (is_element_at ns) (children_by (node ns p)) k.0 n (ap (λ o. slice_get (children_by o) k.0) k.1.1 ∙ k.1.2) is
 
 -- a node without a parent has no place

@@ -2,7 +2,7 @@ use Rattle.std.proofs.Common.{◌≡◌, ap, ◌∙◌, subst, sym, arith}
 use Rattle.tree_rows.specs.Forest.{count}
 use Rattle.tree_rows.specs.Rows.{siblings}
 use Rattle.tree_rows.specs.Whole.{IsTree}
-use Rattle.doc_edits.proofs.Blocks.{rows_sound}
+use Rattle.doc_edits.proofs.Inserting.{rows_sound}
 use Rattle.doc_edits.proofs.blocks.tree_of.Goals as goal
 
 pub overflow_cast-next_free : goal.overflow_cast-next_free

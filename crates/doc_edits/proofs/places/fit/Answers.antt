@@ -1,5 +1,5 @@
 use Rattle.std.proofs.Common.{◌≡◌, ◌≤◌, ◌<◌, ◌+◌, sym, ◌∙◌, arith}
-use Rattle.doc_edits.proofs.Places.{many, deep, depth_here, shallow_here}
+use Rattle.doc_edits.proofs.Placing.{many, deep, depth_here, shallow_here}
 use Rattle.doc_edits.proofs.places.fit.Goals as goal
 
 pub returns-then-are_too_many-clause-err : goal.returns-then-are_too_many-clause-err

@@ -1,5 +1,5 @@
 use Rattle.std.proofs.Common.{sym}
-use Rattle.doc_edits.proofs.Places.{unknown_text, no_text}
+use Rattle.doc_edits.proofs.Placing.{unknown_text, no_text}
 use Rattle.doc_edits.proofs.places.text_here.Goals as goal
 
 pub returns-in-None-clause-err : goal.returns-in-None-clause-err

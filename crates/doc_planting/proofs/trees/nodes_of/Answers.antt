@@ -11,8 +11,8 @@ plant_root-requires c =
     let same = same_tree c.args.tree.now tree s.row.now s.children s.next (sym (c.top.ensures ∙ c.in_ok-index.ensures.index) ∙ c.in-Some.ensures) in
     subst (λ n. IsTree (record { forest = one_of s.row.now s.children; next_free = n })) (sym c.next_free.ensures.next) (subst IsTree same tree)
 
-pub returns-in-Some-clause-known : goal.returns-in-Some-clause-known
-returns-in-Some-clause-known c = λ sound h.
+pub returns-clause-known : goal.returns-clause-known
+returns-clause-known c = λ sound h.
     let s = c.in-Some.field-0 in
     let one = one_root c.args.tree.now c.in_ok-index.ensures.tree s.row.now s.children s.next (sym (c.top.ensures ∙ c.in_ok-index.ensures.index) ∙ c.in-Some.ensures) in
     c.plant_root.ensures.known sound (subst (HasNames c.args.names.now) one h)

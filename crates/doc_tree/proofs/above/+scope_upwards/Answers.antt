@@ -10,8 +10,8 @@ scope_upwards-requires t c =
 
 pub returns-in_ok-outside-in-None : goal.returns-in_ok-outside-in-None
 returns-in_ok-outside-in-None t c =
-    subst (λ l. IfOk c.bind_node-in-None.result (λ scope. scope ≡ l))
-    (scope_outside c.args.links.now c.args.node c.in_ok-outside-in-None.outside (sym c.in-None.is ∙ c.parent.ensures.parent) c.in_ok-outside-in-None.ensures) c.bind_node-in-None.ensures
+    subst (λ l. IfOk c.bind_node.result (λ scope. scope ≡ l))
+    (scope_outside c.args.links.now c.args.node c.in_ok-outside-in-None.outside (sym c.in-None.is ∙ c.parent.ensures.parent) c.in_ok-outside-in-None.ensures) c.bind_node.ensures
 
 pub returns-in_ok-around-in-Some : goal.returns-in_ok-around-in-Some
 returns-in_ok-around-in-Some t c =

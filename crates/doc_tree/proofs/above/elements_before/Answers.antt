@@ -7,7 +7,7 @@ use Rattle.doc_tree.proofs.Beside.{no_place}
 use Rattle.doc_tree.proofs.above.elements_before.Goals as goal
 
 pub returns-in-None-clause-before : goal.returns-in-None-clause-before
-returns-in-None-clause-before c = λ p place k. no_place c.args.links.now p place c.args.node c.parent.ensures.sound k (sym c.in_default.is ∙ c.parent.ensures.parent)
+returns-in-None-clause-before c = λ p place k. no_place c.args.links.now p place c.args.node c.parent.ensures.sound k (sym c.in-None.is ∙ c.parent.ensures.parent)
 
 pub returns-in-None-place-clause-before : goal.returns-in-None-place-clause-before
 returns-in-None-place-clause-before c = λ p place k. absurd (none-some place (c.in-None-place.ensures.place p place k))

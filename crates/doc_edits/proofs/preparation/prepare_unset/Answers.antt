@@ -2,7 +2,7 @@ use Rattle.std.proofs.Common.{refl}
 use Rattle.tree_edits.proofs.Inserting.{why_is}
 use Rattle.tree_edits.proofs.Outcomes.{err_same}
 use Rattle.doc_edits.proofs.Preparing.{none_changed, unset_refused, unset_missing, unset_prepared}
-use Rattle.doc_edits.proofs.prepare.prepare_unset.Goals as goal
+use Rattle.doc_edits.proofs.preparation.prepare_unset.Goals as goal
 
 pub returns-in_err-element_here-clause-err : goal.returns-in_err-element_here-clause-err
 returns-in_err-element_here-clause-err c =

@@ -1,7 +1,7 @@
 use Rattle.std.proofs.Common.{refl}
 use Rattle.tree_edits.proofs.Outcomes.{err_same}
-use Rattle.doc_edits.proofs.Places.{child_there}
-use Rattle.doc_edits.proofs.prepare.prepare_removal.Goals as goal
+use Rattle.doc_edits.proofs.Placing.{child_there}
+use Rattle.doc_edits.proofs.preparation.prepare_removal.Goals as goal
 
 pub returns-in_err-child_here-clause-err : goal.returns-in_err-child_here-clause-err
 returns-in_err-child_here-clause-err c =

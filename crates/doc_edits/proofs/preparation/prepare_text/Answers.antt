@@ -2,9 +2,9 @@ use Rattle.std.proofs.Common.{refl}
 use Rattle.tree_rows.specs.Forest.{none, text}
 use Rattle.tree_edits.specs.declared.edit.EditError.TheVariants.{Memory}
 use Rattle.tree_edits.proofs.Outcomes.{err_same}
-use Rattle.doc_edits.proofs.Places.{room_for}
+use Rattle.doc_edits.proofs.Placing.{room_for}
 use Rattle.doc_edits.proofs.Preparing.{text_misplaced, text_refused, text_copied}
-use Rattle.doc_edits.proofs.prepare.prepare_text.Goals as goal
+use Rattle.doc_edits.proofs.preparation.prepare_text.Goals as goal
 
 pub returns-in_err-place_here-clause-err : goal.returns-in_err-place_here-clause-err
 returns-in_err-place_here-clause-err c =

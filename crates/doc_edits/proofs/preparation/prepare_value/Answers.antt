@@ -4,7 +4,7 @@ use Rattle.tree_edits.specs.declared.edit.EditError.TheVariants.{Memory}
 use Rattle.tree_edits.proofs.Inserting.{why_is, why_but_memory}
 use Rattle.tree_edits.proofs.Outcomes.{err_same}
 use Rattle.doc_edits.proofs.Preparing.{none_changed, set_refused, set_full, set_copied, attribute_own}
-use Rattle.doc_edits.proofs.prepare.prepare_value.Goals as goal
+use Rattle.doc_edits.proofs.preparation.prepare_value.Goals as goal
 
 pub returns-in_err-element_here-clause-err : goal.returns-in_err-element_here-clause-err
 returns-in_err-element_here-clause-err c =

@@ -3,7 +3,7 @@ use Rattle.xs_names.proofs.GrownLaws.{Grown-refl}
 use Rattle.tree_edits.specs.declared.edit.EditError.TheVariants.{Memory}
 use Rattle.tree_edits.proofs.Outcomes.{err_same}
 use Rattle.doc_edits.proofs.Preparing.{insert_prepared}
-use Rattle.doc_edits.proofs.prepare.prepare_insert.Goals as goal
+use Rattle.doc_edits.proofs.preparation.prepare_insert.Goals as goal
 
 pub returns-in_err-part-clause-err : goal.returns-in_err-part-clause-err
 returns-in_err-part-clause-err c =

@@ -4,7 +4,7 @@ use Rattle.tree_edits.specs.declared.edit.EditError.TheVariants.{Memory}
 use Rattle.tree_edits.proofs.Inserting.{why_is}
 use Rattle.tree_edits.proofs.Outcomes.{err_same}
 use Rattle.doc_edits.proofs.Preparing.{none_changed, rename_refused, rename_named}
-use Rattle.doc_edits.proofs.prepare.prepare_name.Goals as goal
+use Rattle.doc_edits.proofs.preparation.prepare_name.Goals as goal
 
 pub returns-in_err-element_here-clause-err : goal.returns-in_err-element_here-clause-err
 returns-in_err-element_here-clause-err c =

@@ -3,7 +3,7 @@ use Rattle.tree_edits.specs.declared.edit.EditError.TheVariants.{Memory}
 use Rattle.tree_edits.proofs.Inserting.{why_is}
 use Rattle.tree_edits.proofs.Outcomes.{err_same}
 use Rattle.doc_edits.proofs.Preparing.{chars_prepared}
-use Rattle.doc_edits.proofs.prepare.prepare_chars.Goals as goal
+use Rattle.doc_edits.proofs.preparation.prepare_chars.Goals as goal
 
 pub returns-in_err-text_here-clause-err : goal.returns-in_err-text_here-clause-err
 returns-in_err-text_here-clause-err c =

@@ -1,6 +1,6 @@
 use Rattle.std.proofs.Common.{arith}
 use Rattle.doc_edits.proofs.Naming.{known_here, few_here, there_is}
-use Rattle.doc_edits.proofs.prepare.name_there.Goals as goal
+use Rattle.doc_edits.proofs.preparation.name_there.Goals as goal
 
 pub find_name-requires-clause-within : goal.find_name-requires-clause-within
 find_name-requires-clause-within c = let s = c.requires.stands in known_here c.args.names.now c.args.doc.now s.0 s.1 c.args.node c.requires.element
