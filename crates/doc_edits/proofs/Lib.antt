@@ -1,5 +1,0 @@
-pub mod Placing
-pub mod Outcomes
-pub mod Naming
-pub mod Inserting
-pub mod Preparing
