@@ -28,6 +28,8 @@ use Rattle.doc_planting.specs.Named.{IsCalled}
 use Rattle.doc_planting.proofs.Named.{called_grown}
 use Rattle.doc_planting.specs.inside.Growing.{PutsElement, numbered_by, behind, at_end, before, one_of, AreFree, CanPlant, Planted, PlantedFirst}
 use Rattle.doc_planting.proofs.Numbering.{behind_none, behind_more, numbered_none, numbered_text, numbered_element, numbered_node}
+use Rattle.tree_names.specs.Found.{HasNames}
+use Rattle.doc_planting.proofs.Known.{known_next}
 
 -- lists with new items
 pub slice_at_end : (xs ys : List ℕ) → insert_slice xs (length xs) ys ≡ xs ++ ys
@@ -155,6 +157,7 @@ pub record PlantedSoFar (t u : NameTable) (old now : Nodes) (p : ℕ) (numbers :
   pub planted : Planted u old now p at_end done
   pub grown : Grown t u
   pub sound : IsSound u
+  pub known : HasNames t whole → (u ≡ t) × HasNames t left
 
 pub begun : (t : NameTable) (ns : Nodes) (p : ℕ) (numbers : ℕ) (whole : Forest) → IsSound t → AreSound ns → PlantedSoFar t t ns ns p numbers whole numbers whole
 begun t ns p numbers whole table sound = record {
@@ -166,6 +169,7 @@ begun t ns p numbers whole table sound = record {
   planted = planted_none t ns p sound;
   grown = Grown-refl t;
   sound = table;
+  known = λ h. (refl, h);
 }
 
 pub ended : (s u : NameTable) (old now : Nodes) (p : ℕ) (numbers : ℕ) (whole : Forest) (numbers_left : ℕ) (left : Forest)
@@ -240,9 +244,9 @@ module _ (s t : NameTable) (old now : Nodes) (p : ℕ) (numbers : ℕ) (whole : 
   done_or_parent m h = (done_apart m h, not_parent old p (numbered_by numbers whole) can m (ap (has m) parted ∙ has_left m so.done (append one rest) h))
 
   module _ (u : NameTable) (new : Nodes) (place : ℕ) (g : Grown t u) (sound : IsSound u) where
-    pub next_so : ((it : Node) → IsNode now p it → place ≡ length it.children) → Planted u now new p (before place) one → (after : ℕ) → after ≡ more
+    pub next_so : (HasNames t (one_of row children) → u ≡ t) → ((it : Node) → IsNode now p it → place ≡ length it.children) → Planted u now new p (before place) one → (after : ℕ) → after ≡ more
         → PlantedSoFar s u old new p numbers whole after next
-    next_so last put after is = record {
+    next_so k last put after is = record {
       done = append so.done one;
       split = parted ∙ sym (append_assoc_forest so.done one rest) ∙ ap (λ k. append (append so.done one) (numbered_by k next)) (sym is);
       gone = so.gone + count (one_of row children);
@@ -251,6 +255,7 @@ module _ (s t : NameTable) (old now : Nodes) (p : ℕ) (numbers : ℕ) (whole : 
       planted = planted_append u old now new p so.done one (planted_grown t u g so.sound old now p so.done so.planted) (planted_last u now new p place one last put) done_or_parent;
       grown = Grown-trans s t u so.grown g;
       sound = sound;
+      known = λ h. known_next s t u row children next left taken k (so.known h);
     }
 
     -- what was put before memory was wanting

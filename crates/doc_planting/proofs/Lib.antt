@@ -7,3 +7,4 @@ pub mod Placing
 pub mod Inserting
 pub mod Alike
 pub mod Spread
+pub mod Known

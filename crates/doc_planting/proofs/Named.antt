@@ -1,6 +1,6 @@
 -- Names and namespaces that a table has under their numbers.
 use Rattle.std.proofs.Common.{◌≡◌, ℕ, zero, suc, ◌+◌, ◌<◌, List, [], ◌∷◌, ◌++◌, length, map, take, get_or, add-one, sym, ap, ◌∙◌, subst, if◌then◌else◌, Option, Some, None, refl, arith}
-use Rattle.std.specs.Prelude.{slice_index_or, bytes_eq, ◌↔◌}
+use Rattle.std.specs.Prelude.{slice_index_or, bytes_eq, ◌↔◌, IsSome}
 use Rattle.std.proofs.lemmas.Bool.{eq-eqb, ne_eqb}
 use Rattle.std.proofs.lemmas.List.Elements.{All-push}
 use Rattle.std.proofs.lemmas.Option.{get_or_from_slice_get}
@@ -15,6 +15,7 @@ use Rattle.doc_nodes.specs.declared.content.NameAttribute.{NameAttribute}
 use Rattle.doc_nodes.specs.declared.content.NameBinding.{NameBinding}
 use Rattle.xs_names.proofs.GrownLaws.{Grown-trans}
 use Rattle.doc_planting.specs.Named.{IsCalled}
+use Rattle.tree_names.specs.Found as found
 use Rattle.doc_changes.proofs.Standing.{expanded_grown, attributes_grown, bindings_grown, more_attributes, more_bindings, known_grown}
 use Rattle.tree_rows.specs.declared.name.Expanded.{Expanded}
 use Rattle.doc_changes.specs.Stands.{namespace_of, expanded_of, attribute_of, binding_of}
@@ -46,11 +47,13 @@ pub record AttributesSoFar (t u : NameTable) (made : List NameAttribute) (attrib
   pub has : HasAttributes u made attributes
   pub grown : Grown t u
   pub sound : IsSound u
+  pub known : found.HasAttributes t attributes → u ≡ t
 
 pub record BindingsSoFar (t u : NameTable) (made : List NameBinding) (bindings : List Binding) : Type 0 where
   pub has : HasBindings u made bindings
   pub grown : Grown t u
   pub sound : IsSound u
+  pub known : found.HasBindings t bindings → u ≡ t
 
 take_suc : {A : Type 0} (xs : List A) (i : ℕ) (x : A) → i < length xs → x ≡ get_or xs i x → take (suc i) xs ≡ take i xs ++ x ∷ []
 take_suc [] i x lt is = absurd (omega (arith, lt))
@@ -64,26 +67,36 @@ map_push : {A B : Type 0} (f : A → B) (xs : List A) (x : A) → map f (xs ++ x
 map_push f [] x = refl
 map_push f (y ∷ ys) x = ap (λ l. f y ∷ l) (map_push f ys x)
 
+attributes_parted : (t : NameTable) (xs : List Attribute) (x : Attribute) → found.HasAttributes t (xs ++ x ∷ []) → found.HasAttributes t xs × found.HasName t x.name
+attributes_parted t [] x h = (tt, h.0)
+attributes_parted t (y ∷ ys) x h = let p = attributes_parted t ys x h.1 in ((h.0, p.0), p.1)
+
+bindings_parted : (t : NameTable) (xs : List Binding) (x : Binding) → found.HasBindings t (xs ++ x ∷ []) → found.HasBindings t xs × IsSome (space_number t x.namespace)
+bindings_parted t [] x h = (tt, h.0)
+bindings_parted t (y ∷ ys) x h = let p = bindings_parted t ys x h.1 in ((h.0, p.0), p.1)
+
 pub attributes_next : (t u w : NameTable) (made : List NameAttribute) (xs : List Attribute) (i : ℕ) (a : NameAttribute) (x : Attribute) → AttributesSoFar t u made (take i xs) → Grown u w → IsSound w
-    → attribute_of w a ≡ x → a.name < length w.names → i < length xs → x ≡ get_or xs i x → AttributesSoFar t w (made ++ a ∷ []) (take (i + 1) xs)
-attributes_next t u w made xs i a x so g sound is within lt at = record {
+    → (IsSound u → found.HasName u x.name → w ≡ u) → attribute_of w a ≡ x → a.name < length w.names → i < length xs → x ≡ get_or xs i x → AttributesSoFar t w (made ++ a ∷ []) (take (i + 1) xs)
+attributes_next t u w made xs i a x so g sound known is within lt at = record {
   has = record {
     known = All-push (λ a. a.name < length w.names) made a (more_attributes u w g so.sound made so.has.known) within;
     are = map_push (attribute_of w) made a ∙ (λ k. (attributes_grown u w g so.sound made so.has.known ∙ so.has.are) k ++ is k ∷ []) ∙ sym (take_next xs i x lt at);
   };
   grown = Grown-trans t u w so.grown g;
   sound = sound;
+  known = λ h. let p = attributes_parted t (take i xs) x (subst (found.HasAttributes t) (take_next xs i x lt at) h) in let e = so.known p.0 in known so.sound (subst (λ y. found.HasName y x.name) (sym e) p.1) ∙ e;
 }
 
 pub bindings_next : (t u w : NameTable) (made : List NameBinding) (xs : List Binding) (i : ℕ) (a : NameBinding) (x : Binding) → BindingsSoFar t u made (take i xs) → Grown u w → IsSound w
-    → binding_of w a ≡ x → a.namespace < length w.spaces → i < length xs → x ≡ get_or xs i x → BindingsSoFar t w (made ++ a ∷ []) (take (i + 1) xs)
-bindings_next t u w made xs i a x so g sound is within lt at = record {
+    → (IsSome (space_number u x.namespace) → w ≡ u) → binding_of w a ≡ x → a.namespace < length w.spaces → i < length xs → x ≡ get_or xs i x → BindingsSoFar t w (made ++ a ∷ []) (take (i + 1) xs)
+bindings_next t u w made xs i a x so g sound known is within lt at = record {
   has = record {
     known = All-push (λ b. b.namespace < length w.spaces) made a (more_bindings u w g so.sound made so.has.known) within;
     are = map_push (binding_of w) made a ∙ (λ k. (bindings_grown u w g so.sound made so.has.known ∙ so.has.are) k ++ is k ∷ []) ∙ sym (take_next xs i x lt at);
   };
   grown = Grown-trans t u w so.grown g;
   sound = sound;
+  known = λ h. let p = bindings_parted t (take i xs) x (subst (found.HasBindings t) (take_next xs i x lt at) h) in let e = so.known p.0 in known (subst (λ y. IsSome (space_number y x.namespace)) (sym e) p.1) ∙ e;
 }
 
 -- a namespace of an attribute of a place

@@ -29,6 +29,8 @@ use Rattle.doc_planting.proofs.Named.{called_grown}
 use Rattle.doc_planting.proofs.Growth.{planted_grown, names_left, names_right, not_parent, count_taken}
 use Rattle.doc_planting.specs.inside.Growing.{at_end, one_of, CanPlant, Planted}
 use Rattle.doc_planting.specs.inside.Spreading.{AreNodesOf, IsBare, CanFill, Filled}
+use Rattle.tree_names.specs.Found.{HasNames}
+use Rattle.doc_planting.proofs.Known.{names_alone, known_next}
 
 -- the siblings without what is below them
 abbrev pub bare : Forest → Forest
@@ -99,9 +101,10 @@ pub record MadeSoFar (s t : NameTable) (made : List NewNode) (whole left : Fores
   pub nodes : AreNodesOf t made done
   pub grown : Grown s t
   pub sound : IsSound t
+  pub known : HasNames s whole → (t ≡ s) × HasNames s left
 
 pub made_begun : (t : NameTable) (made : List NewNode) (whole : Forest) → made ≡ [] → IsSound t → MadeSoFar t t made whole whole
-made_begun t made whole e sound = subst (λ l. MadeSoFar t t l whole whole) (sym e) (record { done = none; split = refl; nodes = tt; grown = Grown-refl t; sound = sound })
+made_begun t made whole e sound = subst (λ l. MadeSoFar t t l whole whole) (sym e) (record { done = none; split = refl; nodes = tt; grown = Grown-refl t; sound = sound; known = λ h. (refl, h) })
 
 pub made_ended : (s t : NameTable) (made : List NewNode) (whole left : Forest) → MadeSoFar s t made whole left → left ≡ none → AreNodesOf t made whole
 made_ended s t made whole left so e = subst (AreNodesOf t made) (sym (so.split ∙ ap (append so.done) e ∙ append_none so.done)) so.nodes
@@ -118,13 +121,14 @@ module _ (s t : NameTable) (made : List NewNode) (whole left : Forest) (so : Mad
       by (rows.Element name) z = (z.0, tt, tt)
       by (rows.Chars chars) z = tt
 
-  pub made_next : (u : NameTable) (it : NewNode) (more : List NewNode) → Grown t u → IsSound u → AreNodesOf u (it ∷ []) (one_of row none) → more ≡ made ++ it ∷ [] → MadeSoFar s u more whole next
-  made_next u it more g sound is e = subst (λ l. MadeSoFar s u l whole next) (sym e) (record {
+  pub made_next : (u : NameTable) (it : NewNode) (more : List NewNode) → Grown t u → IsSound u → (HasNames t (one_of row none) → u ≡ t) → AreNodesOf u (it ∷ []) (one_of row none) → more ≡ made ++ it ∷ [] → MadeSoFar s u more whole next
+  made_next u it more g sound k is e = subst (λ l. MadeSoFar s u l whole next) (sym e) (record {
     done = append so.done (one_of row children);
     split = made_split ∙ sym (append_assoc_forest so.done (one_of row children) next);
     nodes = nodes_append u made (it ∷ []) so.done (one_of row children) (nodes_grown t u g so.sound made so.done so.nodes) (nodes_of_row u it row children is);
     grown = Grown-trans s t u so.grown g;
     sound = sound;
+    known = λ h. known_next s t u row children next left taken (λ o. k (names_alone t row children o)) (so.known h);
   })
 
 -- the numbers of the nodes are those of the siblings
@@ -232,11 +236,12 @@ pub record FilledSoFar (s t : NameTable) (old now : Nodes) (p : ℕ) (whole left
   pub planted : Planted t old now p at_end (append done (bare left))
   pub grown : Grown s t
   pub sound : IsSound t
+  pub known : HasNames s whole → (t ≡ s) × HasNames s left
 
 pub fill_begun : (t : NameTable) (old mid : Nodes) (p : ℕ) (f : Forest) (xs : List NewNode) → CanPlant old p f → IsBare old p → AreNodesOf t xs f → InsertsAll old mid p xs → AreSound mid → IsSound t
     → FilledSoFar t t old mid p f f
 fill_begun t old mid p f xs can none_there are i sound table =
-    record { done = none; split = refl; planted = planted_bare t old mid p f xs can none_there are i sound; grown = Grown-refl t; sound = table }
+    record { done = none; split = refl; planted = planted_bare t old mid p f xs can none_there are i sound; grown = Grown-refl t; sound = table; known = λ h. (refl, h) }
 
 pub fill_ended : (s t : NameTable) (old now : Nodes) (p : ℕ) (whole left : Forest) → FilledSoFar s t old now p whole left → left ≡ none → Planted t old now p at_end whole
 fill_ended s t old now p whole left so e =
@@ -374,19 +379,20 @@ module _ (s t : NameTable) (old now : Nodes) (p : ℕ) (whole left : Forest) (ca
       sound = below.sound;
     }
 
-    pub element_next : FilledSoFar s u old new p whole next
-    element_next = record {
+    pub element_next : (HasNames s whole → (u ≡ s) × HasNames s next) → FilledSoFar s u old new p whole next
+    element_next known = record {
       done = append so.done full;
       split = whole_is ∙ sym (append_assoc_forest so.done full next);
       planted = subst (Planted u old new p at_end) (sym (append_assoc_forest so.done full (bare next))) full_planted;
       grown = Grown-trans s t u so.grown g;
       sound = sound;
+      known = known;
     }
 
 -- a text has nothing below it
 text_next : (s t u : NameTable) (old now new : Nodes) (p : ℕ) (whole left : Forest) → FilledSoFar s t old now p whole left → (n : ℕ) (chars : List ℕ) (next : Forest) → left ≡ text n chars next
-    → Grown t u → IsSound u → new ≡ now → FilledSoFar s u old new p whole next
-text_next s t u old now new p whole left so n chars next taken g sound same = record {
+    → Grown t u → IsSound u → (HasNames s whole → (u ≡ s) × HasNames s next) → new ≡ now → FilledSoFar s u old new p whole next
+text_next s t u old now new p whole left so n chars next taken g sound known same = record {
   done = append so.done (text n chars none);
   split = so.split ∙ ap (append so.done) taken ∙ sym (append_assoc_forest so.done (text n chars none) next);
   planted = subst (λ ns. Planted u old ns p at_end (append (append so.done (text n chars none)) (bare next))) (sym same)
@@ -394,6 +400,7 @@ text_next s t u old now new p whole left so n chars next taken g sound same = re
       (planted_grown t u g so.sound old now p (append so.done (bare left)) so.planted));
   grown = Grown-trans s t u so.grown g;
   sound = sound;
+  known = known;
 }
 
 -- the next of the siblings
@@ -409,12 +416,15 @@ module _ (s t : NameTable) (old now : Nodes) (p : ℕ) (whole left : Forest) (ca
       )
       by (rows.Chars chars) e = tt
 
-  pub fill_next : (u : NameTable) (new : Nodes) → Grown t u → IsSound u → Filled u now new row.number row.content children → FilledSoFar s u old new p whole next
-  fill_next u new g sound filled = by row.content taken filled
+  pub fill_next : (u : NameTable) (new : Nodes) → Grown t u → IsSound u → (HasNames t (one_of row children) → u ≡ t) → Filled u now new row.number row.content children → FilledSoFar s u old new p whole next
+  fill_next u new g sound k filled = by row.content taken filled
     where
+      known : HasNames s whole → (u ≡ s) × HasNames s next
+      known h = known_next s t u row children next left taken k (so.known h)
+
       by : (c : Content) → left ≡ node_of row.number c row.bindings row.attributes children next → Filled u now new row.number c children → FilledSoFar s u old new p whole next
-      by (rows.Element name) e f = element_next s t old now p whole left can so row.number name row.bindings row.attributes children next e u new g sound f
-      by (rows.Chars chars) e f = text_next s t u old now new p whole left so row.number chars next e g sound f
+      by (rows.Element name) e f = element_next s t old now p whole left can so row.number name row.bindings row.attributes children next e u new g sound f known
+      by (rows.Chars chars) e f = text_next s t u old now new p whole left so row.number chars next e g sound known f
 
   -- they are no more than all
   pub fewer_left : count (one_of row children) ≤ count whole

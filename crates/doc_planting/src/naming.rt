@@ -1,11 +1,12 @@
 //! Names and namespaces between texts and the numbers of a table.
 
-ghost use Rattle.std.specs.Prelude.{◌≡◌, ◌<◌, length, map, slice_index_or, All, IfOk};
-ghost use Rattle.xs_names.specs.Names.{Grown, IsSound};
+ghost use Rattle.std.specs.Prelude.{◌≡◌, ◌<◌, length, map, slice_index_or, All, IfOk, IsSome};
+ghost use Rattle.xs_names.specs.Names.{Grown, IsSound, space_number};
 ghost use Rattle.tree_rows.specs.Whole.{IsNamespace, AreNamespaces, IsNamed};
 ghost use Rattle.doc_planting.specs.Named.{IsCalled, HasAttributes, HasBindings};
 ghost use Rattle.doc_changes.specs.Stands.{expanded_of, attribute_of, binding_of};
 ghost use Rattle.doc_planting.specs.Named as texts;
+ghost use Rattle.tree_names.specs.Found as found;
 
 use doc_nodes::{Element, NameAttribute, NameBinding};
 use std::alloc::{AllocError, Global};
@@ -29,6 +30,7 @@ pub(crate) fn name_id(names: &mut Names, name: &Expanded) -> Result<NameId, Allo
     ensures name { IfOk result (λ n. expanded_of names.new n ≡ name.now) }
     ensures within { IfOk result (λ n. n < length names.new.names) }
     ensures grown { Grown names.old names.new }
+    ensures known { IsSound names.old → found.HasName names.old name.now → names.new ≡ names.old }
     ensures sound { IsSound names.new }
 {
     let space = names.namespace_id(space_text(&name.namespace))?;
@@ -42,6 +44,7 @@ fn name_attribute(names: &mut Names, attribute: &Attribute) -> Result<NameAttrib
     ensures attribute { IfOk result (λ a. attribute_of names.new a ≡ attribute.now) }
     ensures within { IfOk result (λ a. a.name < length names.new.names) }
     ensures grown { Grown names.old names.new }
+    ensures known { IsSound names.old → found.HasName names.old attribute.now.name → names.new ≡ names.old }
     ensures sound { IsSound names.new }
 {
     let name = name_id(names, &attribute.name)?;
@@ -54,6 +57,7 @@ fn name_binding(names: &mut Names, binding: &Binding) -> Result<NameBinding, All
     ensures binding { IfOk result (λ b. binding_of names.new b ≡ binding.now) }
     ensures within { IfOk result (λ b. b.namespace < length names.new.spaces) }
     ensures grown { Grown names.old names.new }
+    ensures known { IsSome (space_number names.old binding.now.namespace) → names.new ≡ names.old }
     ensures sound { IsSound names.new }
 {
     let namespace = names.namespace_id(binding.namespace.as_str())?;
@@ -71,6 +75,7 @@ fn name_attributes(
     requires sound { IsSound names.old }
     ensures named { IfOk result (λ made. HasAttributes names.new made attributes.now) }
     ensures grown { Grown names.old names.new }
+    ensures known { found.HasAttributes names.old attributes.now → names.new ≡ names.old }
     ensures sound { IsSound names.new }
 {
     let mut made = Listed::new(alloc);
@@ -90,6 +95,7 @@ fn name_bindings(
     requires sound { IsSound names.old }
     ensures named { IfOk result (λ made. HasBindings names.new made bindings.now) }
     ensures grown { Grown names.old names.new }
+    ensures known { found.HasBindings names.old bindings.now → names.new ≡ names.old }
     ensures sound { IsSound names.new }
 {
     let mut made = Listed::new(alloc);
@@ -110,6 +116,7 @@ pub(crate) fn name_element(
     requires { IsNamed name.now row.now.bindings row.now.attributes }
     ensures called { IfOk result (λ e. IsCalled names.new e name.now row.now.bindings row.now.attributes) }
     ensures grown { Grown names.old names.new }
+    ensures known { IsSound names.old → found.HasTag names.old name.now row.now.bindings row.now.attributes → names.new ≡ names.old }
     ensures sound { IsSound names.new }
 {
     let number = name_id(names, name)?;

@@ -4,6 +4,7 @@ ghost use Rattle.std.specs.Prelude.{◌≡◌, ◌≤◌, ℕ, length, IfOk, OnO
 ghost use Rattle.xs_names.specs.Names.{Grown, IsSound};
 ghost use Rattle.tree_rows.specs.Forest.{Document};
 ghost use Rattle.tree_edits.specs.Tests.{with_nodes};
+ghost use Rattle.tree_names.specs.Found.{HasNames};
 ghost use Rattle.doc_nodes.specs.Nodes.{node, IsSound as AreSound};
 ghost use Rattle.doc_changes.specs.Stands.{StandsFor};
 ghost use Rattle.doc_planting.specs.Fits.{Fits};
@@ -35,6 +36,7 @@ fn grow(
     ensures more { length links.old ≤ length links.new }
     ensures same { OnErr result ((m : ℕ) → node links.new m ≡ node links.old m) }
     ensures grown { Grown names.old names.new }
+    ensures known { HasNames names.old (one_of row.now children.entry) → names.new ≡ names.old }
     ensures names { IsSound names.new }
     ensures sound { AreSound links.new }
 {
@@ -64,6 +66,7 @@ pub fn insert_part(
     ensures change { OnOk result (Plants names.new links.old links.new parent place part.now.forest) }
     ensures err { OnErr result (links.new ≡ links.old) }
     ensures grown { Grown names.old names.new }
+    ensures known { HasNames names.old part.now.forest → names.new ≡ names.old }
     ensures names { IsSound names.new }
     ensures sound { AreSound links.new }
 {

@@ -4,6 +4,7 @@ ghost use Rattle.std.specs.Prelude.{◌≡◌, ◌≤◌, ◌<◌, ◌+◌, ◌^
 ghost use Rattle.xs_names.specs.Names.{Grown, IsSound};
 ghost use Rattle.tree_rows.specs.Forest.{count};
 ghost use Rattle.tree_rows.specs.Whole.{IsNamed};
+ghost use Rattle.tree_names.specs.Found.{HasTag, HasNames};
 ghost use Rattle.doc_nodes.specs.Nodes.{Node, node, IsNode, IsSound as AreSound};
 ghost use Rattle.doc_planting.specs.inside.Growing.{CanPlant, Planted, PlantedFirst, PutsElement, numbered_by, behind, one_of, at_end, before};
 
@@ -38,6 +39,7 @@ fn put_tag(
     ensures ok { OnOk result (PutsElement names.new links.old links.new spot.parent spot.place number name.now row.now.bindings row.now.attributes) }
     ensures err { OnErr result (links.new ≡ links.old) }
     ensures grown { Grown names.old names.new }
+    ensures known { IsSound names.old → HasTag names.old name.now row.now.bindings row.now.attributes → names.new ≡ names.old }
     ensures names { IsSound names.new }
     ensures sound { OnOk result (AreSound links.new) }
 {
@@ -63,6 +65,7 @@ pub(crate) fn put_all(
     ensures behind { IfOk result (λ left. left ≡ behind number (count siblings.entry)) }
     ensures first { OnErr result (PlantedFirst names.new links.old links.new parent at_end (numbered_by number siblings.entry)) }
     ensures grown { Grown names.old names.new }
+    ensures known { HasNames names.old siblings.entry → names.new ≡ names.old }
     ensures names { IsSound names.new }
 {
     let mut left = siblings;
@@ -102,6 +105,7 @@ pub(crate) fn put_one(
     ensures behind { IfOk result (λ left. left ≡ behind number (count (one_of row.now children.entry))) }
     ensures err { OnErr result (links.new ≡ links.old) }
     ensures grown { Grown names.old names.new }
+    ensures known { HasNames names.old (one_of row.now children.entry) → names.new ≡ names.old }
     ensures names { IsSound names.new }
 {
     let behind = number + 1;

@@ -4,6 +4,7 @@ ghost use Rattle.std.specs.Prelude.{◌≡◌, [], ◌∷◌, IfOk, OnOk};
 ghost use Rattle.xs_names.specs.Names.{Grown, IsSound};
 ghost use Rattle.tree_rows.specs.Forest.{none};
 ghost use Rattle.tree_edits.proofs.BlockNaming.{HaveNames};
+ghost use Rattle.tree_names.specs.Found.{HasNames};
 ghost use Rattle.doc_nodes.specs.Nodes.{Node, IsNode, IsSound as AreSound};
 ghost use Rattle.doc_planting.specs.inside.Growing.{CanPlant, Planted, one_of, at_end};
 ghost use Rattle.doc_planting.specs.inside.Spreading.{AreNodesOf, IsBare, CanFill, Filled};
@@ -20,6 +21,7 @@ fn new_node(alloc: Global, names: &mut Names, row: &Row) -> Result<NewNode, Allo
     requires names { IsSound names.old }
     ensures node { IfOk result (λ made. AreNodesOf names.new (made ∷ []) (one_of row.now none)) }
     ensures grown { Grown names.old names.new }
+    ensures known { HasNames names.old (one_of row.now none) → names.new ≡ names.old }
     ensures names { IsSound names.new }
 {
     let number = row.number;
@@ -47,6 +49,7 @@ fn new_nodes(
     requires names { IsSound names.old }
     ensures nodes { IfOk result (λ made. AreNodesOf names.new made.items siblings.entry) }
     ensures grown { Grown names.old names.new }
+    ensures known { HasNames names.old siblings.entry → names.new ≡ names.old }
     ensures names { IsSound names.new }
 {
     let mut made = Vec::new(alloc);
@@ -74,6 +77,7 @@ pub(crate) fn put_below(
     requires names { IsSound names.old }
     ensures planted { OnOk result (Planted names.new links.old links.new parent at_end siblings.entry) }
     ensures grown { Grown names.old names.new }
+    ensures known { HasNames names.old siblings.entry → names.new ≡ names.old }
     ensures names { IsSound names.new }
 {
     let nodes = new_nodes(alloc, names, siblings.again())?;
@@ -106,6 +110,7 @@ fn fill(
     requires names { IsSound names.old }
     ensures filled { OnOk result (Filled names.new links.old links.new row.now.number row.now.content children.entry) }
     ensures grown { Grown names.old names.new }
+    ensures known { HasNames names.old (one_of row.now children.entry) → names.new ≡ names.old }
     ensures names { IsSound names.new }
 {
     match &row.content {

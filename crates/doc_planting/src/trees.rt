@@ -1,8 +1,9 @@
 //! The nodes of a whole tree.
 
 ghost use Rattle.std.specs.Prelude.{◌≡◌, IfOk};
-ghost use Rattle.xs_names.specs.Names.{Grown};
+ghost use Rattle.xs_names.specs.Names.{Grown, IsSound};
 ghost use Rattle.tree_rows.specs.Whole.{IsTree};
+ghost use Rattle.tree_names.specs.Found.{HasNames};
 ghost use Rattle.doc_changes.specs.Stands.{StandsFor};
 ghost use Rattle.doc_planting.specs.inside.Growing.{one_of};
 
@@ -26,6 +27,7 @@ fn plant_root(
     requires { IsTree (record { forest = one_of row.now children; next_free = next_free }) }
     ensures stands { IfOk result (λ links. StandsFor names.new links (record { forest = one_of row.now children.entry; next_free = next_free })) }
     ensures grown { Grown names.old names.new }
+    ensures known { IsSound names.old → HasNames names.old (one_of row.now children.entry) → names.new ≡ names.old }
 {
     match &row.content {
         tree_rows::Content::Element(name) => {
@@ -47,6 +49,7 @@ fn plant_root(
 pub fn nodes_of(alloc: Global, names: &mut Names, tree: &Tree) -> Result<NodeLinks, AllocError>
     ensures stands { IfOk result (λ links. StandsFor names.new links tree.now) }
     ensures grown { Grown names.old names.new }
+    ensures known { IsSound names.old → HasNames names.old tree.now.forest → names.new ≡ names.old }
 {
     let index = tree.index(alloc)?;
     match index.top().first() {

@@ -12,15 +12,18 @@ use Rattle.tree_rows.specs.declared.row.Attribute.{Attribute}
 use Rattle.tree_rows.specs.declared.row.Binding.{Binding}
 use Rattle.tree_rows.specs.declared.row.Content.{Content}
 use Rattle.tree_rows.specs.declared.row.Content.TheVariants as rows
-use Rattle.tree_edits.specs.Edits.{has}
+use Rattle.tree_edits.specs.Edits.{has, found}
+use Rattle.tree_edits.specs.Tests.{depth_of}
+use Rattle.tree_edits.proofs.Standing.{missing}
 use Rattle.plain_tree.specs.Nodes as plain
 use Rattle.plain_tree.specs.Nodes.{first_of, node_at, name_by, name_at, chars_by, chars_at, attribute_at, child_at}
 use Rattle.plain_tree.specs.Putting.{bindings_by, bindings_of}
 use Rattle.doc_nodes.specs.declared.content.NameBinding.{NameBinding}
-use Rattle.doc_nodes.specs.Nodes.{Node, Nodes, node, IsNode, Has, IsSound}
+use Rattle.doc_nodes.specs.Nodes.{Node, Nodes, node, IsNode, Has, IsSound, depth_by}
 use Rattle.doc_nodes.specs.Nodes as links
 use Rattle.doc_nodes.specs.declared.content.Content as links_content
 use Rattle.doc_changes.specs.Stands.{firsts, StandsFor, expanded_of, attribute_of, binding_of}
+use Rattle.doc_changes.proofs.Lain.{at, depth_at}
 use Rattle.doc_changes.specs.Held.{bindings_by as held_bindings}
 use Rattle.doc_changes.specs.Held.{kind_in, name_in, chars_in, attributes_in, bindings_in}
 use Rattle.doc_tree.specs.Readers.{parent_of, children_by, children_of}
@@ -111,6 +114,10 @@ module _ (t : NameTable) (ns : Nodes) (d : Document) (z : StandsFor t ns d) (n :
   bindings_are (Some it) h =
       let r = is_at it h in
       same_bindings t ns n it h r.at.content r.at.bindings r.at.attributes r.at.children r.shows ∙ sym (ap bindings_by r.is)
+
+  pub depth_is : (o : Option Node) → node ns n ≡ o → depth_by o ≡ depth_of (found n 1 d.forest)
+  depth_is None h = sym (ap depth_of (missing n 1 d.forest (no_such h)))
+  depth_is (Some it) h = depth_at t ns d z n it h ∙ sym (ap depth_of (at t ns d z n it h).1)
 
   pub children_are : (o : Option Node) → node ns n ≡ o → links.children_by o ≡ children_of n d.forest
   children_are None h = sym (ap children_by (not_at h))

@@ -4,3 +4,5 @@ pub mod Answering
 pub mod Counting
 pub mod Upwards
 pub mod Walking
+pub mod Beside
+pub mod Bound

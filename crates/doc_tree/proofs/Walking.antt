@@ -261,6 +261,10 @@ child_parent : (ns : Nodes) (n place c : ℕ) → IsSound ns → (o : Option Nod
 child_parent ns n place c sound None e q = absurd (none-some c (sym (slice_get_past [] place (omega arith)) ∙ q))
 child_parent ns n place c sound (Some it) e q = let k = sound.down n c it e (has_at it.children place c q) in ap (option_and_then (λ (y : Node). y.parent)) k.is ∙ k.parent
 
+-- a child has its parent
+pub placed_parent : (ns : Nodes) (p place c : ℕ) → IsSound ns → IsChildAt ns p place c → parent_at ns c ≡ Some p
+placed_parent ns p place c sound k = child_parent ns p place c sound (Some k.0) k.1 k.2
+
 pub if_child : (ns : Nodes) (n place : ℕ) → IsSound ns → (r : Option ℕ) → r ≡ slice_get (children_by (node ns n)) place → IfSome r (λ c. parent_at ns c ≡ Some n)
 if_child ns n place sound None e = tt
 if_child ns n place sound (Some c) e = child_parent ns n place c sound (node ns n) refl (sym e)

@@ -3,6 +3,7 @@
 
 mod above;
 mod contents;
+mod joining;
 mod names;
 mod rows;
 mod tree;

@@ -1,13 +1,14 @@
 //! The document, and what is read of it.
 
-ghost use Rattle.std.specs.Prelude.{◌≡◌, ◌≢◌, ◌<◌, ◌^◌, ℕ, All, length, map, slice_get, true, Some, None, IfSome, IfOk, OnOk, OnErr};
+ghost use Rattle.std.specs.Prelude.{◌≡◌, ◌≢◌, ◌<◌, ◌^◌, ℕ, All, length, map, filter, take, slice_get, true, Some, None, IfSome, IfOk, OnOk, OnErr};
 ghost use Rattle.std.specs.Option.{option_map, option_and_then, option_copied};
 
-use crate::above::{bind_above, element_past};
+use crate::above::{bind_above, element_past, elements_before, scope_upwards};
 use crate::contents::{attribute_in, count_bindings, kind_in, name_in, text_in};
+use crate::joining::texts_of;
 use crate::read_tree;
 use doc_changes::{remove_node, rename_node, set_attribute, set_text, unset_attribute};
-use doc_nodes::NodeLinks;
+use doc_nodes::{Content, NodeLinks};
 use doc_planting::{add_text, insert_part, nodes_of};
 use plain_tree::Tree;
 use std::alloc::{AllocError, Global};
@@ -38,25 +39,26 @@ impl Model for DocTree {
 }
 
 impl DocTree {
-    ghost use Rattle.doc_nodes.specs.Nodes.{Node, IsSound};
+    ghost use Rattle.doc_nodes.specs.Nodes.{Node, IsSound, depth_by, is_element_at, element_children};
     ghost use Rattle.doc_nodes.specs.Nodes as nodes;
     ghost use Rattle.plain_tree.specs.Nodes.{name_at, chars_at};
     ghost use Rattle.plain_tree.specs.Nodes as plain;
     ghost use Rattle.plain_tree.specs.Putting.{bindings_of as plain_bindings};
     ghost use Rattle.tag_names.specs.Scopes.{binding_in, first_scope};
-    ghost use Rattle.tree_edits.specs.Edits.{scope_in};
+    ghost use Rattle.tree_edits.specs.Edits.{scope_in, found};
     ghost use Rattle.tree_rows.specs.Forest.{Forest, none, text as text_node, Document, count};
     ghost use Rattle.doc_planting.specs.Fits.{Fits};
     ghost use Rattle.doc_planting.specs.Planted.{Plants};
     ghost use Rattle.xs_names.specs.Names.{Grown};
     ghost use Rattle.xs_names.specs.Names.{IsSound as AreNames};
+    ghost use Rattle.tree_names.specs.Found.{HasNames};
     ghost use Rattle.tree_rows.specs.Kinds.{kind_of};
     ghost use Rattle.xs_names.specs.Names.{NameTable};
     ghost use Rattle.doc_changes.specs.Held as held;
     ghost use Rattle.doc_changes.specs.Held.{parent_at, kind_at, attributes_at, bindings_at, has_number, set_number, unset_number, HasRoom};
     ghost use Rattle.tree_edits.specs.Edits.{renamed, attribute_set, attribute_unset};
     ghost use Rattle.doc_changes.specs.Parts.{IsOver, Prunes};
-    ghost use Rattle.tree_edits.specs.Tests.{made, with_nodes};
+    ghost use Rattle.tree_edits.specs.Tests.{made, with_nodes, depth_of};
     ghost use Rattle.tree_edits.specs.declared.edit.Edit.TheVariants as edits;
     ghost use Rattle.tree_rows.specs.declared.row.NodeKind.TheVariants as kinds;
     ghost use Rattle.doc_nodes.specs.declared.content.Content.TheVariants as contents;
@@ -64,10 +66,12 @@ impl DocTree {
     ghost use Rattle.doc_nodes.specs.Nodes.{IsNode, IsChildAt, Holds};
     ghost use Rattle.doc_tree.specs.Readers.{parent_of, children_of};
     ghost use Rattle.doc_changes.specs.Stands.{StandsFor, expanded_of};
+    ghost use Rattle.doc_documents.specs.Readers.{own_chars, scope_at as bound_at};
     ghost use Rattle.doc_tree.specs.Counted.{live_count};
     ghost use Rattle.doc_tree.specs.Following.{next_of};
 
-    /// A document of the nodes of a plain tree, which keep their numbers. Names that `names` lacks are added to it.
+    /// A document of the nodes of a plain tree, which keep their numbers. Names that `names` lacks are added to it;
+    /// where it has them all, it stays as it is.
     ///
     /// # Errors
     ///
@@ -75,6 +79,7 @@ impl DocTree {
     pub fn from_plain(alloc: Global, names: &mut Names, tree: &Tree) -> Result<DocTree, AllocError>
         ensures stands { IfOk result (λ doc. StandsFor names.new doc tree.now) }
         ensures grown { Grown names.old names.new }
+        ensures known { AreNames names.old → HasNames names.old tree.now.forest → names.new ≡ names.old }
     {
         let links = nodes_of(alloc, names, tree)?;
         let count = tree.rows().len() as u32;
@@ -124,6 +129,65 @@ impl DocTree {
         ensures sound { IsSound self.now }
     {
         self.links.child_at(node, place)
+    }
+
+    /// What a node holds beside its children; `None` exactly where the number is of no node.
+    pub fn content(&self, node: u32) -> Option<&Content>
+        ensures content { option_copied result ≡ option_map (λ (it : Node). it.content) (nodes.node self.now node) }
+        ensures sound { IsSound self.now }
+    {
+        self.links.content(node)
+    }
+
+    /// How deep a node stands, the root having depth 1; 0 where the number is of no node.
+    pub fn depth(&self, node: u32) -> u32
+        ensures depth { result ≡ depth_by (nodes.node self.now node) }
+        ensures tree { (t : NameTable) (d : Document) → StandsFor t self.now d → result ≡ depth_of (found node 1 d.forest) }
+        ensures sound { IsSound self.now }
+    {
+        self.links.depth(node)
+    }
+
+    /// The children of a node, elements and texts, in order; none where the number is of no node. It takes work in proportion to
+    /// their number.
+    ///
+    /// # Errors
+    ///
+    /// `AllocError` is want of memory.
+    pub fn children(&self, node: u32) -> Result<Vec<u32>, AllocError>
+        ensures children { IfOk result (λ children. children.items ≡ nodes.children_by (nodes.node self.now node)) }
+        ensures sound { IsSound self.now }
+    {
+        self.links.children(self.alloc, node)
+    }
+
+    /// The child element that has this place among the child elements of a node, counted from 0; `None` exactly where the number
+    /// is of no node, or the node has no such place. It takes steps logarithmic in the number of children.
+    pub fn element_at(&self, node: u32, place: u32) -> Option<u32>
+        ensures element { result ≡ slice_get (element_children self.now node) place }
+        ensures sound { IsSound self.now }
+    {
+        self.links.element_at(node, place)
+    }
+
+    /// How many of the children of a node before a place are elements. It takes steps logarithmic in the number of children.
+    pub fn elements_upto(&self, node: u32, place: u32) -> u32
+        ensures count { result ≡ length (filter (is_element_at self.now) (take place (nodes.children_by (nodes.node self.now node)))) }
+        ensures sound { IsSound self.now }
+    {
+        self.links.elements_upto(node, place)
+    }
+
+    /// How many elements come before a node among the children of its parent: of an element, its place among the child elements,
+    /// counted from 0. `None` exactly for the root, and where the number is of no node. It takes steps logarithmic in the number
+    /// of children.
+    pub fn element_place(&self, node: u32) -> Option<u32>
+        ensures before { (p place : ℕ) → IsChildAt self.now p place node → result ≡ Some (length (filter (is_element_at self.now) (take place (nodes.children_by (nodes.node self.now p))))) }
+        ensures element { (p : ℕ) → parent_at self.now node ≡ Some p → is_element_at self.now node ≡ true → option_and_then (slice_get (element_children self.now p)) result ≡ Some node }
+        ensures none { parent_at self.now node ≡ None → result ≡ None }
+        ensures sound { IsSound self.now }
+    {
+        elements_before(&self.links, node)
     }
 
     /// The element that comes next in document order, the node being an element or a text; `None` exactly where no element
@@ -208,7 +272,8 @@ impl DocTree {
         }
     }
 
-    /// The prefixes in scope inside an element (Namespaces in XML 1.0, 6.1), the innermost the latest.
+    /// The prefixes in scope inside an element (Namespaces in XML 1.0, 6.1), the innermost the latest, and of those that it binds
+    /// itself the first.
     ///
     /// # Errors
     ///
@@ -221,6 +286,31 @@ impl DocTree {
         let mut scope = Scope::new(self.alloc)?;
         bind_above(&self.links, node, &mut scope)?;
         Ok(scope)
+    }
+
+    /// The characters of the texts among the children of a node, one after another; none where the number is of no element. Those of
+    /// a text that is the only child are shared. It takes work in proportion to the children.
+    ///
+    /// # Errors
+    ///
+    /// `AllocError` is want of memory.
+    pub fn text_of(&self, node: u32) -> Result<Text, AllocError>
+        ensures chars { IfOk result (λ text. text ≡ own_chars self.now node) }
+    {
+        let children = self.links.children(self.alloc, node)?;
+        texts_of(self.alloc, &self.links, children.as_slice())
+    }
+
+    /// The prefixes in scope inside an element (Namespaces in XML 1.0, 6.1), the innermost the latest, and of those that it binds
+    /// itself the last.
+    ///
+    /// # Errors
+    ///
+    /// `AllocError` is want of memory.
+    pub fn scope_at(&self, node: u32) -> Result<Scope, AllocError>
+        ensures number { IfOk result (λ scope. scope ≡ bound_at self.now node) }
+    {
+        scope_upwards(self.alloc, &self.links, node)
     }
 
     /// The plain tree of the document. Each node keeps its number.
@@ -236,7 +326,8 @@ impl DocTree {
     }
 
     /// Puts the nodes of a plain tree below an element, before the child of this place, and answers the number of its root.
-    /// They get the numbers from the next free one on, in document order. Names that `names` lacks are added to it.
+    /// They get the numbers from the next free one on, in document order. Names that `names` lacks are added to it;
+    /// where it has them all, it stays as it is.
     ///
     /// # Errors
     ///
@@ -254,6 +345,7 @@ impl DocTree {
         ensures change { OnOk result (Plants names.new self.old self.new parent index part.now.forest) }
         ensures err { OnErr result (self.new ≡ self.old) }
         ensures grown { Grown names.old names.new }
+        ensures known { HasNames names.old part.now.forest → names.new ≡ names.old }
         ensures names { AreNames names.new }
         ensures sound { IsSound self.new }
     {

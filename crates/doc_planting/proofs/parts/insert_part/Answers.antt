@@ -6,6 +6,7 @@ use Rattle.doc_planting.specs.inside.Growing.{CanGrow}
 use Rattle.doc_planting.proofs.Inserting.{inserted, stands_grown, stands_once, cut_same}
 use Rattle.doc_planting.proofs.Placing.{can_grow, few_more, no_node_past}
 use Rattle.doc_planting.proofs.Rooting.{one_root, alone_root, names_in}
+use Rattle.tree_names.specs.Found.{HasNames}
 use Rattle.doc_planting.proofs.parts.insert_part.Goals as goal
 
 pub overflow_cast-until : goal.overflow_cast-until
@@ -59,3 +60,13 @@ cut_numbers-requires c = λ m low.
 pub returns-in-Some-clause-err : goal.returns-in-Some-clause-err
 returns-in-Some-clause-err c =
     c.cut_numbers.ensures.change ∙ ap (λ k. take k c.grow.new.links) c.next_free-first.ensures.next ∙ cut_same c.args.links.now c.grow.new.links c.in-Err.ensures.more c.in-Err.ensures.same
+
+pub returns-in-Ok-clause-known : goal.returns-in-Ok-clause-known
+returns-in-Ok-clause-known c = λ h.
+    let s = c.in-Some.field-0 in
+    c.in-Ok.ensures.known (subst (HasNames c.args.names.now) (one_root c.args.part.now c.in_ok-index.ensures.tree s.row.now s.children s.next (sym (c.top.ensures ∙ c.in_ok-index.ensures.index) ∙ c.in-Some.ensures)) h)
+
+pub returns-in-Some-clause-known : goal.returns-in-Some-clause-known
+returns-in-Some-clause-known c = λ h.
+    let s = c.in-Some.field-0 in
+    c.in-Err.ensures.known (subst (HasNames c.args.names.now) (one_root c.args.part.now c.in_ok-index.ensures.tree s.row.now s.children s.next (sym (c.top.ensures ∙ c.in_ok-index.ensures.index) ∙ c.in-Some.ensures)) h)

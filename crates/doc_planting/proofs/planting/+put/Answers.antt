@@ -1,9 +1,11 @@
-use Rattle.std.proofs.Common.{◌+◌, length, sym, ap, ◌∙◌, refl, arith}
+use Rattle.std.proofs.Common.{◌+◌, length, sym, ap, ◌∙◌, subst, refl, arith}
 use Rattle.xs_names.proofs.GrownLaws.{Grown-trans}
 use Rattle.tree_rows.specs.declared.row.Content.TheVariants as rows
 use Rattle.doc_nodes.specs.declared.content.Content.TheVariants as contents
 use Rattle.doc_nodes.specs.Nodes.{children_by}
 use Rattle.doc_planting.proofs.Growth.{begun, ended, can_next, next_so, first_of, count_taken, number_free, text_planted, text_counted, can_whole, can_below, planted_whole, element_size, element_counted, named_one}
+use Rattle.tree_names.specs.Found.{HasNames}
+use Rattle.doc_planting.proofs.Known.{known_next, names_of_tag}
 use Rattle.doc_planting.proofs.Placing.{on_err}
 use Rattle.doc_planting.proofs.Pruning.{over, below_parent, pruned}
 use Rattle.doc_planting.proofs.planting.+put.Goals as goal
@@ -31,7 +33,7 @@ pub put_all-left-preserved : goal.put_all-left-preserved
 put_all-left-preserved t c =
     let s = c.in-Some.field-0 in
     next_so c.args.names.now c.left.names c.args.links.now c.left.links c.args.parent c.args.number c.args.siblings c.left.numbers_left c.left.left c.requires.can c.left.invariant s.row.now s.children s.next c.in-Some.ensures
-    c.put_one.new.names c.put_one.new.links c.child_count-place.result c.in_ok-numbers_left.ensures.grown c.in_ok-numbers_left.ensures.names
+    c.put_one.new.names c.put_one.new.links c.child_count-place.result c.in_ok-numbers_left.ensures.grown c.in_ok-numbers_left.ensures.names c.in_ok-numbers_left.ensures.known
     (λ it there. c.child_count-place.ensures.count ∙ ap (λ o. length (children_by o)) there) c.in_ok-numbers_left.ensures.planted _ c.in_ok-numbers_left.ensures.behind
 
 pub put_all-returns-in_err-numbers_left-clause-first : goal.put_all-returns-in_err-numbers_left-clause-first
@@ -152,3 +154,28 @@ put_one-returns-in-Err-clause-err t c =
     let own = over c.put_all.new.names c.args.links.now c.put_tag.new.links c.put_all.new.links c.args.spot.parent c.args.spot.place c.args.number (contents.Element puts.parts) c.in-Element.name row.bindings row.attributes _ whole c.requires.within puts.inserts c.in_ok-put_tag-in-Element.ensures.sound first in
     pruned c.put_all.new.names c.args.links.now c.put_tag.new.links c.put_all.new.links c.args.spot.parent c.args.spot.place c.args.number (contents.Element puts.parts) c.in-Element.name row.bindings row.attributes _ whole c.requires.within puts.inserts c.in_ok-put_tag-in-Element.ensures.sound first
     c.prune.new.links (λ q k at. c.prune.ensures.prunes c.put_all.new.names first.part own q k at)
+
+pub put_all-returns-in_err-numbers_left-clause-known : goal.put_all-returns-in_err-numbers_left-clause-known
+put_all-returns-in_err-numbers_left-clause-known t c = λ h.
+    let s = c.in-Some.field-0 in
+    (known_next c.args.names.now c.left.names c.put_one.new.names s.row.now s.children s.next c.left.left c.in-Some.ensures c.in_err-numbers_left.ensures.known (c.left.invariant.known h)).0
+
+pub put_all-returns-clause-known : goal.put_all-returns-clause-known
+put_all-returns-clause-known t c = λ h. (c.left.invariant.known h).0
+
+pub put_one-returns-in_err-put_tag-in-Element-clause-known : goal.put_one-returns-in_err-put_tag-in-Element-clause-known
+put_one-returns-in_err-put_tag-in-Element-clause-known t c = λ h.
+    let p = names_of_tag c.args.names.now c.args.row.now c.args.children c.in-Element.name c.in-Element.is h in
+    c.in_err-put_tag-in-Element.ensures.known c.requires.names p.0
+
+pub put_one-returns-in-Ok-clause-known : goal.put_one-returns-in-Ok-clause-known
+put_one-returns-in-Ok-clause-known t c = λ h.
+    let p = names_of_tag c.args.names.now c.args.row.now c.args.children c.in-Element.name c.in-Element.is h in
+    let e = c.in_ok-put_tag-in-Element.ensures.known c.requires.names p.0 in
+    c.in-Ok.ensures.known (subst (λ u. HasNames u c.args.children) (sym e) p.1) ∙ e
+
+pub put_one-returns-in-Err-clause-known : goal.put_one-returns-in-Err-clause-known
+put_one-returns-in-Err-clause-known t c = λ h.
+    let p = names_of_tag c.args.names.now c.args.row.now c.args.children c.in-Element.name c.in-Element.is h in
+    let e = c.in_ok-put_tag-in-Element.ensures.known c.requires.names p.0 in
+    c.in-Err.ensures.known (subst (λ u. HasNames u c.args.children) (sym e) p.1) ∙ e

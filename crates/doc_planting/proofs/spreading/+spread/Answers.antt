@@ -1,7 +1,9 @@
-use Rattle.std.proofs.Common.{OnOk, sym, subst, refl, arith}
+use Rattle.std.proofs.Common.{OnOk, sym, ◌∙◌, subst, refl, arith}
 use Rattle.xs_names.proofs.GrownLaws.{Grown-trans}
 use Rattle.tree_edits.proofs.BlockNaming.{HaveNames}
 use Rattle.doc_planting.specs.inside.Spreading.{AreNodesOf, CanFill, Filled}
+use Rattle.tree_names.specs.Found.{HasNames}
+use Rattle.doc_planting.proofs.Known.{known_next, names_of_tag}
 use Rattle.doc_planting.proofs.Growth.{count_taken}
 use Rattle.doc_planting.proofs.Spread.{nodes_free, nodes_apart, nodes_parent, fill_begun, fill_ended, can_fill, fill_next, fewer_left, below_less}
 use Rattle.doc_planting.proofs.spreading.+spread.Goals as goal
@@ -43,7 +45,7 @@ pub put_below-left-preserved : goal.put_below-left-preserved
 put_below-left-preserved t c =
     let s = c.in-Some.field-0 in
     fill_next c.new_nodes.new.names c.left.names c.args.links.now c.left.links c.args.parent c.args.siblings c.left.left c.requires.can c.left.invariant s.row.now s.children s.next c.in-Some.ensures
-    c.fill.new.names c.fill.new.links c.in_ok-fill.ensures.grown c.in_ok-fill.ensures.names c.in_ok-fill.ensures.filled
+    c.fill.new.names c.fill.new.links c.in_ok-fill.ensures.grown c.in_ok-fill.ensures.names c.in_ok-fill.ensures.known c.in_ok-fill.ensures.filled
 
 pub put_below-returns-in_err-fill-clause-grown : goal.put_below-returns-in_err-fill-clause-grown
 put_below-returns-in_err-fill-clause-grown t c =
@@ -71,3 +73,23 @@ fill-put_below-requires t c =
 pub fill-returns-in-Element-clause-filled : goal.fill-returns-in-Element-clause-filled
 fill-returns-in-Element-clause-filled t c =
     subst (λ k. OnOk c.put_below.result (Filled c.put_below.new.names c.args.links.now c.put_below.new.links c.args.row.now.number k c.args.children)) (sym c.in-Element.is) c.put_below.ensures.planted
+
+pub put_below-returns-in_err-nodes-clause-known : goal.put_below-returns-in_err-nodes-clause-known
+put_below-returns-in_err-nodes-clause-known t c = λ h. c.new_nodes.ensures.known (subst (HasNames c.args.names.now) (sym c.again.ensures) h)
+
+pub put_below-returns-in_err-put_children-clause-known : goal.put_below-returns-in_err-put_children-clause-known
+put_below-returns-in_err-put_children-clause-known t c = λ h. c.new_nodes.ensures.known (subst (HasNames c.args.names.now) (sym c.again.ensures) h)
+
+pub put_below-returns-in_err-fill-clause-known : goal.put_below-returns-in_err-fill-clause-known
+put_below-returns-in_err-fill-clause-known t c = λ h.
+    let a = c.new_nodes.ensures.known (subst (HasNames c.args.names.now) (sym c.again.ensures) h) in let k = subst (λ u. HasNames u c.args.siblings) (sym a) h in
+    let s = c.in-Some.field-0 in
+    (known_next c.new_nodes.new.names c.left.names c.fill.new.names s.row.now s.children s.next c.left.left c.in-Some.ensures c.in_err-fill.ensures.known (c.left.invariant.known k)).0 ∙ a
+
+pub put_below-returns-clause-known : goal.put_below-returns-clause-known
+put_below-returns-clause-known t c = λ h.
+    let a = c.new_nodes.ensures.known (subst (HasNames c.args.names.now) (sym c.again.ensures) h) in let k = subst (λ u. HasNames u c.args.siblings) (sym a) h in
+    (c.left.invariant.known k).0 ∙ a
+
+pub fill-returns-in-Element-clause-known : goal.fill-returns-in-Element-clause-known
+fill-returns-in-Element-clause-known t c = λ h. c.put_below.ensures.known (names_of_tag c.args.names.now c.args.row.now c.args.children _ c.in-Element.is h).1

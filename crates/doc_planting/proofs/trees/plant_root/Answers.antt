@@ -3,6 +3,8 @@ use Rattle.doc_nodes.specs.declared.content.Content.TheVariants as contents
 use Rattle.doc_nodes.specs.Nodes.{node}
 use Rattle.xs_names.proofs.GrownLaws.{Grown-trans}
 use Rattle.doc_changes.specs.Stands.{StandsFor}
+use Rattle.tree_names.specs.Found.{HasNames}
+use Rattle.doc_planting.proofs.Known.{names_of_tag}
 use Rattle.doc_planting.proofs.Named.{called_grown}
 use Rattle.doc_planting.proofs.Rooting.{as_root, root_tree, root_named, root_below, can_root, bare_root, root_stands}
 use Rattle.doc_planting.proofs.trees.plant_root.Goals as goal
@@ -35,3 +37,33 @@ returns-clause-stands c =
 
 pub returns-clause-grown : goal.returns-clause-grown
 returns-clause-grown c = Grown-trans c.args.names.now c.name_element.new.names c.put_below.new.names c.in_ok-element-in-Element.ensures.grown c.in_ok-put_below-in-Element.ensures.grown
+
+pub returns-in_err-element-in-Element-clause-known : goal.returns-in_err-element-in-Element-clause-known
+returns-in_err-element-in-Element-clause-known c = λ sound h.
+    let p = names_of_tag c.args.names.now c.args.row.now c.args.children c.in-Element.name c.in-Element.is h in
+    let e = c.name_element.ensures.known sound p.0 in
+    e
+
+pub returns-in_err-links-in-Element-clause-known : goal.returns-in_err-links-in-Element-clause-known
+returns-in_err-links-in-Element-clause-known c = λ sound h.
+    let p = names_of_tag c.args.names.now c.args.row.now c.args.children c.in-Element.name c.in-Element.is h in
+    let e = c.name_element.ensures.known sound p.0 in
+    e
+
+pub returns-in_err-give_numbers-in-Element-clause-known : goal.returns-in_err-give_numbers-in-Element-clause-known
+returns-in_err-give_numbers-in-Element-clause-known c = λ sound h.
+    let p = names_of_tag c.args.names.now c.args.row.now c.args.children c.in-Element.name c.in-Element.is h in
+    let e = c.name_element.ensures.known sound p.0 in
+    e
+
+pub returns-in_err-put_below-in-Element-clause-known : goal.returns-in_err-put_below-in-Element-clause-known
+returns-in_err-put_below-in-Element-clause-known c = λ sound h.
+    let p = names_of_tag c.args.names.now c.args.row.now c.args.children c.in-Element.name c.in-Element.is h in
+    let e = c.name_element.ensures.known sound p.0 in
+    c.put_below.ensures.known (subst (λ u. HasNames u c.args.children) (sym e) p.1) ∙ e
+
+pub returns-clause-known : goal.returns-clause-known
+returns-clause-known c = λ sound h.
+    let p = names_of_tag c.args.names.now c.args.row.now c.args.children c.in-Element.name c.in-Element.is h in
+    let e = c.name_element.ensures.known sound p.0 in
+    c.put_below.ensures.known (subst (λ u. HasNames u c.args.children) (sym e) p.1) ∙ e
