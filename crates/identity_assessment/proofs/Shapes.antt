@@ -12,10 +12,7 @@ use Rattle.xs_components.specs.declared.element.ElementDecl.{ElementDecl}
 use Rattle.component_tables.specs.ContentTypes.{content_of}
 use Rattle.component_tables.specs.declared.content_types.ContentType.{ContentType}
 use Rattle.component_tables.specs.declared.content_types.ContentType.TheVariants.{SimpleType, Empty, SimpleContent, ElementOnly, Mixed}
-use Rattle.assess_records.specs.declared.outcome.Validity.{Validity}
-use Rattle.assess_records.specs.declared.outcome.Attempted.{Attempted}
 use Rattle.assess_records.specs.declared.outcome.Attempted.TheVariants.{Full, Partial, Untried}
-use Rattle.assess_records.specs.declared.outcome.Validity.TheVariants.{Valid, Invalid, NotKnown}
 use Rattle.assess_records.specs.declared.counts.ChildCounts.{ChildCounts}
 use Rattle.assess_records.specs.declared.record.AttrRecord.{AttrRecord}
 use Rattle.assess_records.specs.declared.record.ElementRecord.{ElementRecord}
@@ -23,7 +20,7 @@ use Rattle.assess_records.specs.declared.shape.ElementShape.{ElementShape}
 use Rattle.elem_governing.specs.declared.pairs.Governing.{Governing}
 use Rattle.elem_governing.specs.declared.local_types.XsiType.{XsiType}
 use Rattle.elem_codes.specs.declared.outcome.TextOutcome.{TextOutcome}
-use Rattle.elem_codes.specs.Facts.{governing_content, is_strictly_assessed, is_taken, has_children, has_elements, is_bare}
+use Rattle.elem_codes.specs.Facts.{governing_content, is_strictly_assessed, is_taken, has_children}
 use Rattle.elem_codes.specs.Used.{text_used, scope_used, fixed_value, source_of}
 use Rattle.elem_codes.specs.Codes.{governed_codes, by_content, local_codes, declaration_codes, type_codes, nil_codes, fixed_codes, code_if, is_nil_refused, is_fixed_nil, has_other_attributes, simple_text_codes, text_codes, stuck_codes, missing_codes, is_mixed, differs, is_unmet}
 use Rattle.elem_codes.specs.Records.{validity_of, attempted_of, is_invalid, is_full, is_untried, nil_text, decl, constraint, nil, taken, all_codes, element_record}
