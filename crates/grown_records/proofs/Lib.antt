@@ -1,0 +1,5 @@
+pub mod Spaces
+pub mod Heads
+pub mod Types
+pub mod Attrs
+pub mod Elements
