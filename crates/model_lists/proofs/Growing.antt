@@ -1,0 +1,48 @@
+-- More lists of rows.
+use Rattle.std.proofs.Common.{◌≡◌, ℕ, zero, suc, ◌+◌, ◌<◌, ◌≤◌, List, [], ◌∷◌, ◌++◌, None, Some, length, slice_get, refl, sym, ap, ◌∙◌, inl, inr, arith}
+use Rattle.std.proofs.lemmas.Bool.{cases_lt}
+use Rattle.std.proofs.lemmas.Option.{slice_get_within, same_Some}
+use Rattle.child_trees.specs.Lists.{Lists, get}
+use Rattle.model_lists.specs.Lists.{AreShaped, GrowTo}
+
+abbrev RowLists : Type 0
+RowLists = Lists ℕ (List ℕ)
+
+get-first : (xs : List RowLists) (x : RowLists) (i : ℕ) → i < length xs → slice_get (xs ++ x ∷ []) i ≡ slice_get xs i
+get-first [] x i l = absurd (omega arith)
+get-first (y ∷ xs) x zero l = refl
+get-first (y ∷ xs) x (suc i) l = get-first xs x i (omega arith)
+
+get-last : (xs : List RowLists) (x y : RowLists) (i : ℕ) → length xs ≤ i → slice_get (xs ++ x ∷ []) i ≡ Some y → (i ≡ length xs) × (y ≡ x)
+get-last [] x y zero l e = (refl, same_Some y x (sym e))
+get-last [] x y (suc i) l e = absurd (cc)
+get-last (z ∷ xs) x y zero l e = absurd (omega arith)
+get-last (z ∷ xs) x y (suc i) l e = let h = get-last xs x y i (omega arith) e in (ap suc h.0, h.1)
+
+pub shaped-more : (xs : List RowLists) (x : RowLists) → AreShaped xs → x.shape ≡ suc (length xs) → AreShaped (xs ++ x ∷ [])
+shaped-more xs x h e dead lists there = elim (cases_lt dead (length xs)) [
+  | inl less ↦ h dead lists (sym (get-first xs x dead less) ∙ there)
+  | inr more ↦ (
+      let last = get-last xs x lists dead (omega arith) there in
+      let same : lists ≡ x = last.1 in
+      let at : dead ≡ length xs = last.0 in
+      ap (λ (l : RowLists). l.shape) same ∙ (e ∙ ap suc (sym at)))
+]
+
+pub grown-none : (xs : List RowLists) → GrowTo xs xs
+grown-none xs = record {
+  same = λ dead l. refl;
+  empty = λ dead lists list l e. absurd (let w = slice_get_within xs dead lists e in omega arith);
+}
+
+pub grown-more : (old xs : List RowLists) (x : RowLists) → GrowTo old xs → length old ≤ length xs → ((list : ℕ) → get x list ≡ None) → GrowTo old (xs ++ x ∷ [])
+grown-more old xs x h few none = record {
+  same = λ dead l. get-first xs x dead (omega arith) ∙ h.same dead l;
+  empty = λ dead lists list l e. elim (cases_lt dead (length xs)) [
+    | inl less ↦ h.empty dead lists list l (sym (get-first xs x dead less) ∙ e)
+    | inr more ↦ (
+        let last = get-last xs x lists dead (omega arith) e in
+        let same : lists ≡ x = last.1 in
+        ap (λ (v : RowLists). get v list) same ∙ none list)
+  ];
+}

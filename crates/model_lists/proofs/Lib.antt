@@ -1,0 +1,10 @@
+pub mod Changing
+pub mod Entries
+pub mod Filling
+pub mod Frames
+pub mod Growing
+pub mod Handling
+pub mod Leading
+pub mod Running
+pub mod Digits
+pub mod Marking
