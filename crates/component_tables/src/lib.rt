@@ -8,7 +8,7 @@ mod named;
 mod own;
 mod symbols;
 
-pub use content_types::{ContentType, ContentTypes};
+pub use content_types::{ContentType, ContentTypes, form_content};
 pub use declarations::Declarations;
 pub use named::ComponentNames;
 pub use symbols::Symbols;
