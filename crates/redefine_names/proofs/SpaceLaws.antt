@@ -1,0 +1,31 @@
+-- No NCName has a space.
+use Rattle.std.proofs.Common.{◌≡◌, ℕ, Bool, true, false, ◌&&◌, not, List, [], ◌∷◌, ◌++◌, refl, sym, ap, ◌∙◌}
+use Rattle.std.specs.Prelude.{codes, decimal}
+use Rattle.std.specs.List.{list_all, list_any}
+use Rattle.std.specs.Str.{IsUtf8, chars}
+use Rattle.std.proofs.lemmas.Str.{chars-append}
+use Rattle.xs_names.specs.Characters.{is_colon, is_name_start, is_name_char, is_name, is_ncname}
+use Rattle.redefine_names.specs.VersionNames.{version_local}
+
+and-false : (a b : Bool) → b ≡ false → (a && b) ≡ false
+and-false true b e = e
+and-false false b e = refl
+
+spaced-chars : (front back : List ℕ) → list_all is_name_char (front ++ 32 ∷ back) ≡ false
+spaced-chars [] back = refl
+spaced-chars (c ∷ front) back = and-false (is_name_char c) (list_all is_name_char (front ++ 32 ∷ back)) (spaced-chars front back)
+
+spaced-name : (front back : List ℕ) → is_name (front ++ 32 ∷ back) ≡ false
+spaced-name [] back = refl
+spaced-name (c ∷ front) back = and-false (is_name_start c) (list_all is_name_char (front ++ 32 ∷ back)) (spaced-chars front back)
+
+pub spaced : (front back : List ℕ) → is_ncname (front ++ 32 ∷ back) ≡ false
+spaced front back = ap (λ b. b && not (list_any is_colon (front ++ 32 ∷ back))) (spaced-name front back)
+
+space-first : (back : List ℕ) → chars (codes " " ++ back) ≡ 32 ∷ chars back
+space-first back = chars-append (codes " ") back (lit< tt)
+
+pub original-spaced : (local : List ℕ) (place : ℕ) → IsUtf8 local → is_ncname (chars (version_local local place)) ≡ false
+original-spaced local place text =
+    ap is_ncname (chars-append local (codes " " ++ decimal place) text ∙ ap (λ (back : List ℕ). chars local ++ back) (space-first (decimal place)))
+    ∙ spaced (chars local) (chars (decimal place))
