@@ -1,9 +1,9 @@
 -- No NCName has a space.
-use Rattle.std.proofs.Common.{◌≡◌, ℕ, Bool, true, false, ◌&&◌, not, List, [], ◌∷◌, ◌++◌, refl, sym, ap, ◌∙◌}
+use Rattle.std.proofs.Common.{◌≡◌, ℕ, zero, suc, Bool, true, false, ◌&&◌, not, List, [], ◌∷◌, ◌++◌, refl, ap, ◌∙◌, lit<}
 use Rattle.std.specs.Prelude.{codes, decimal}
 use Rattle.std.specs.List.{list_all, list_any}
-use Rattle.std.specs.Str.{IsUtf8, chars}
-use Rattle.std.proofs.lemmas.Str.{chars-append}
+use Rattle.std.specs.Str.{IsUtf8, IsAscii, chars}
+use Rattle.std.proofs.lemmas.Str.{chars-append, chars-IsAscii, IsUtf8-from_ascii}
 use Rattle.xs_names.specs.Characters.{is_colon, is_name_start, is_name_char, is_name, is_ncname}
 use Rattle.redefine_names.specs.VersionNames.{version_local}
 
@@ -22,8 +22,12 @@ spaced-name (c ∷ front) back = and-false (is_name_start c) (list_all is_name_c
 pub spaced : (front back : List ℕ) → is_ncname (front ++ 32 ∷ back) ≡ false
 spaced front back = ap (λ b. b && not (list_any is_colon (front ++ 32 ∷ back))) (spaced-name front back)
 
+space-ascii : IsAscii (codes " ")
+space-ascii zero = lit< tt
+space-ascii (suc i) = lit< tt
+
 space-first : (back : List ℕ) → chars (codes " " ++ back) ≡ 32 ∷ chars back
-space-first back = chars-append (codes " ") back (lit< tt)
+space-first back = chars-append (codes " ") back (IsUtf8-from_ascii (codes " ") space-ascii) ∙ ap (λ (front : List ℕ). front ++ chars back) (chars-IsAscii (codes " ") space-ascii)
 
 pub original-spaced : (local : List ℕ) (place : ℕ) → IsUtf8 local → is_ncname (chars (version_local local place)) ≡ false
 original-spaced local place text =
