@@ -57,7 +57,7 @@ pub fn assess_attrs(
     ensures assessed { IfOk result (AreAttrsAssessed schema.now.names.now schema.now.parts.now of scope.now attrs.now) }
     ensures same { types.new ≡ types.old }
 {
-    let mut assessed = AssessedAttrs::new(alloc);
+    let mut assessed = AssessedAttrs::with_room(alloc, attrs.len())?;
     match assessed.add_all(alloc, schema, types, &of, attrs, scope) {
         Ok(()) => Ok(assessed),
         Err(error) => Err(error),
@@ -65,16 +65,17 @@ pub fn assess_attrs(
 }
 
 impl AssessedAttrs {
-    fn new(alloc: Global) -> AssessedAttrs
+    // Of no attributes yet, with room for so many.
+    fn with_room(alloc: Global, count: usize) -> Result<AssessedAttrs, AllocError>
         ensures records { result.records ≡ [] }
         ensures values { result.values ≡ [] }
         ensures missing { result.missing ≡ [] }
     {
-        AssessedAttrs {
-            records: AttrRecords::new(alloc),
-            values: AttrValues::new(alloc),
+        Ok(AssessedAttrs {
+            records: AttrRecords::with_capacity(alloc, count)?,
+            values: AttrValues::with_capacity(alloc, count)?,
             missing: NameIdList::new(alloc),
-        }
+        })
     }
 
     // Adds the attributes that the element has, and what it lacks.

@@ -110,7 +110,7 @@ impl JudgedLines {
                 Ok(())
             }
             None => {
-                let judged = judged_attribute(own, scope, pool, name)?;
+                let judged = judged_attribute(own, scope, pool, &line.name)?;
                 self.put_attribute(judged, line)?;
                 Ok(())
             }
@@ -129,7 +129,7 @@ pub(crate) fn judged_lines(
     ensures { IfOk result (λ judged. judged ≡ resolving.judged_lines (scopes.own_of (option_copied own.entry) ++ scope.now) lines.now) }
 {
     let mut judged = JudgedLines {
-        attributes: Attributes::new(alloc),
+        attributes: Attributes::with_capacity(alloc, lines.len())?,
         bad: false,
         unbound: false,
     };

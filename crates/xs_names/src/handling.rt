@@ -40,11 +40,19 @@ pub fn normalized(alloc: Global, handling: WhiteSpace, text: &str) -> Result<Tex
     ensures again { IfOk result (λ t. (other : WhiteSpace) → spec.normalized other t ≡ spec.normalized (spec.stronger other handling) text.now) }
     ensures items { IfOk result (λ t. spec.items t ≡ spec.items text.now) }
 {
+    if is_bare(text) {
+        return Text::new(alloc, text);
+    }
     match handling {
         WhiteSpace::Preserve => Text::new(alloc, text),
         WhiteSpace::Replace => Ok(Text::from_string(replaced(alloc, text)?)?),
         WhiteSpace::Collapse => Ok(Text::from_string(collapsed(alloc, text)?)?),
     }
+}
+
+/// Whether the text has no white space: then every way of treating it leaves it as it is.
+pub fn is_bare(text: &str) -> bool {
+    !text.as_bytes().iter().any(|b| is_white(*b))
 }
 
 /// The items of a list: what stands between the white space of the text, in order (Datatypes 4.2.1.2).
