@@ -3,10 +3,14 @@ use Rattle.std.specs.Prelude.{List, [], ◌∷◌, map}
 use Rattle.std.specs.List.{flat_map}
 use Rattle.xs_codes.specs.declared.fault.Found.{Found}
 use Rattle.identity_tables.specs.Ids.{id_codes}
-use Rattle.assessment.specs.Bearings.{borne_of}
+use Rattle.assessment.specs.Bearings.{Bearing, borne_of}
 use Rattle.assessment.specs.Joined.{marked_record}
+use Rattle.tree_assess.specs.Entries.{entry_of}
 use Rattle.tree_assess.specs.declared.entry.ElementEntry.{ElementEntry}
-use Rattle.tree_assess.specs.inside.Steps.{bearing_of}
+
+-- the entry that is kept of an element, with the element that bears the IDs of its text
+abbrev pub bearing_of : ElementEntry → Bearing
+bearing_of e = record { bearer = e.bearer; own = entry_of e }
 
 -- the codes of the IDs in the texts of elements
 abbrev pub codes_in : List ElementEntry → List Found

@@ -1,0 +1,5 @@
+mod Parsing
+mod Coding
+mod Agreeing
+mod Naming
+mod Joining
