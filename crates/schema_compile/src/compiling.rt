@@ -12,7 +12,7 @@ use crate::judging::judge;
 use crate::laws::compiled_parts_are_fit;
 use compiled_schema::Compiled;
 use derive_faults::faultless_types_have_uses;
-use schema_check::{CompiledSet, Refusal};
+use schema_check::CompiledSet;
 use schema_models::Models;
 use schema_set::SchemaInput;
 use std::alloc::{AllocError, Global};
@@ -60,20 +60,9 @@ fn complete(alloc: Global, mut set: CompiledSet) -> Result<Outcome, AllocError>
     }
 }
 
-// The outcome of documents that are not compiled.
-fn outcome_of_refusal(refusal: Refusal) -> Outcome
-    ensures { result ≡ spec.of_refusal refusal }
-{
-    match refusal {
-        Refusal::Broken(fault) => Outcome::Broken(fault),
-        Refusal::NotYet => Outcome::NotYet,
-    }
-}
-
 /// Schema documents compiled, as far as documents are assessed by them: phase by phase, shapes, composition, names, bases, simple
 /// types, attributes, derivation, content models, their restriction. The set is what the first document leads to. The first fault of
-/// the first phase that has one is answered, by document, element and the order of codes. What is not assessed yet is not compiled
-/// behind its shape.
+/// the first phase that has one is answered, by document, element and the order of codes.
 ///
 /// # Errors
 ///
@@ -88,6 +77,6 @@ pub fn compile(alloc: Global, documents: &[SchemaInput]) -> Result<Outcome, Allo
     let compiled = schema_check::compile(alloc, documents)?;
     match compiled {
         Ok(set) => complete(alloc, set),
-        Err(refusal) => Ok(outcome_of_refusal(refusal)),
+        Err(fault) => Ok(Outcome::Broken(fault)),
     }
 }
