@@ -1,0 +1,86 @@
+-- Counts of tuples under the numbers of elements.
+use Rattle.std.proofs.Common.{◌≡◌, ℕ, ◌+◌, ◌<◌, ◌≤◌, ◌==◌, ◌||◌, ◌⊎◌, inl, inr, Bool, true, false, if◌then◌else◌, List, [], ◌∷◌, refl, sym, ap, ◌∙◌, subst, arith, true≢false}
+use Rattle.std.specs.Prelude.{nat_lt}
+use Rattle.std.specs.List.{list_any, count_by}
+use Rattle.std.proofs.lemmas.Bool.Decides.{nat_tests}
+use Rattle.std.proofs.lemmas.Bool.{or_left, or_right}
+use Rattle.xs_names.specs.Names.{NameTable}
+use Rattle.simple_values.specs.declared.key.Key.{Key}
+use Rattle.xs_components.specs.Tables.{Tables}
+use Rattle.identity_paths.specs.declared.paths.IdentityPaths.{IdentityPaths}
+use Rattle.identity_tables.specs.Tuple.{same_tuple}
+use Rattle.identity_counts.specs.Counting.{bearing as bearing_at, is_visible as is_seen_at}
+use Rattle.identity_carry.specs.Tables.{KeyTuple, for_key}
+use Rattle.identity_carry.proofs.EntryLaws.{tuple_decides}
+use Rattle.identity_constraints.specs.Seen.{KeyElement, KeyForest, none, element}
+use Rattle.identity_constraints.specs.Satisfied.{own_tuples, has_tuple, has_repeated, bearing, is_visible}
+use Rattle.identity_views.specs.Views.{numbers, times, IsCounted, AreCounted}
+
+one-more : (b : Bool) (n : ℕ) (rest : Bool) → nat_lt 0 n ≡ rest → nat_lt 0 ((if b then 1 else 0) + n) ≡ (b || rest)
+one-more true n rest e = grind (arith, nat_tests)
+one-more false n rest e = e
+
+-- one is there where some are counted
+counted : (tuple : List Key) (tuples : List (List Key)) → nat_lt 0 (times tuple tuples) ≡ has_tuple tuple tuples
+counted tuple [] = refl
+counted tuple (other ∷ tuples) = one-more (same_tuple tuple other) (times tuple tuples) (has_tuple tuple tuples) (counted tuple tuples)
+
+module _ (names : NameTable) (t : Tables) (identities : List IdentityPaths) (own : ℕ → KeyTuple → ℕ) (k : ℕ) (tuple : List Key) where
+  seen-at : (e : KeyElement) (below : KeyForest) → IsCounted names t identities own e below → bearing_at own (for_key k tuple) (numbers below) ≡ bearing names t identities k tuple below →
+      is_seen_at own (for_key k tuple) e.number (numbers below) ≡ is_visible names t identities k tuple e below
+  seen-at e below here under =
+      let owns = ap (nat_lt 0) (here k tuple) ∙ counted tuple (own_tuples names t identities k e below) in
+      λ i. owns i || (under i == 1)
+
+  pub bearing-is : (f : KeyForest) → AreCounted names t identities own f → bearing_at own (for_key k tuple) (numbers f) ≡ bearing names t identities k tuple f
+  bearing-is none all = refl
+  bearing-is (element e below next) all =
+      let here = seen-at e below all.0 (bearing-is below all.1) in
+      let rest = bearing-is next all.2 in
+      λ i. (if here i then 1 else 0) + rest i
+
+  pub visible-is : (e : KeyElement) (below : KeyForest) → IsCounted names t identities own e below → AreCounted names t identities own below →
+      is_seen_at own (for_key k tuple) e.number (numbers below) ≡ is_visible names t identities k tuple e below
+  visible-is e below here all = seen-at e below here (bearing-is below all)
+
+-- ---- two equal ones
+
+or-cases : (a b : Bool) → (a || b) ≡ true → (a ≡ true) ⊎ (b ≡ true)
+or-cases true b e = inl refl
+or-cases false b e = inr e
+
+same-itself : (tuple : List Key) → same_tuple tuple tuple ≡ true
+same-itself tuple = (tuple_decides tuple tuple).1 refl
+
+with-one : (b : Bool) (n m : ℕ) → b ≡ true → m ≤ n → m + 1 ≤ (if b then 1 else 0) + n
+with-one true n m e h = omega arith
+with-one false n m e h = absurd (true≢false (sym e))
+
+with-more : (b : Bool) (n m : ℕ) → m ≤ n → m ≤ (if b then 1 else 0) + n
+with-more true n m h = omega arith
+with-more false n m h = h
+
+some-there : (tuple : List Key) (tuples : List (List Key)) → has_tuple tuple tuples ≡ true → 1 ≤ times tuple tuples
+some-there tuple tuples e = let there : nat_lt 0 (times tuple tuples) ≡ true = counted tuple tuples ∙ e in grind (arith, nat_tests)
+
+pub counted-twice : (tuples : List (List Key)) → has_repeated tuples ≡ true → (tuple : List Key) × (2 ≤ times tuple tuples)
+counted-twice [] e = absurd (true≢false (sym e))
+counted-twice (tuple ∷ tuples) e =
+    elim (or-cases (has_tuple tuple tuples) (has_repeated tuples) e) [
+      | inl here ↦ (tuple, with-one (same_tuple tuple tuple) (times tuple tuples) 1 (same-itself tuple) (some-there tuple tuples here))
+      | inr later ↦ let found = counted-twice tuples later in (found.0, with-more (same_tuple found.0 tuple) (times found.0 tuples) 2 found.1)
+    ]
+
+there-some : (tuple : List Key) (tuples : List (List Key)) → 1 ≤ times tuple tuples → has_tuple tuple tuples ≡ true
+there-some tuple tuples h = sym (counted tuple tuples) ∙ grind (arith, nat_tests)
+
+repeated-by : (tuple other : List Key) (tuples : List (List Key)) (b : Bool) → same_tuple tuple other ≡ b → 2 ≤ (if b then 1 else 0) + times tuple tuples →
+    (2 ≤ times tuple tuples → has_repeated tuples ≡ true) → has_repeated (other ∷ tuples) ≡ true
+repeated-by tuple other tuples true e h later =
+    let same : tuple ≡ other = (tuple_decides tuple other).0 e in
+    or_left (has_tuple other tuples) (has_repeated tuples) (subst (λ x. has_tuple x tuples ≡ true) same (there-some tuple tuples (omega arith)))
+repeated-by tuple other tuples false e h later = or_right (has_tuple other tuples) (has_repeated tuples) (later h)
+
+pub twice-there : (tuple : List Key) (tuples : List (List Key)) → 2 ≤ times tuple tuples → has_repeated tuples ≡ true
+twice-there tuple [] h = absurd (omega (arith, h))
+twice-there tuple (other ∷ tuples) h = repeated-by tuple other tuples (same_tuple tuple other) refl h (twice-there tuple tuples)
