@@ -8,6 +8,7 @@ use Rattle.derive_faults.specs.AttrFaults.{AreIdMarks, IsAttrFault, HasUses}
 use Rattle.derive_restriction.specs.DerivationFaults.{IsDerivationFault}
 use Rattle.derive_models.specs.ModelFaults.{IsFirstModelFault}
 use Rattle.derive_values.specs.ValueFaults.{IsValueFault}
+use Rattle.identity_faults.specs.Faults.{IsIdentityFault}
 use Rattle.component_tables.specs.Classes.{AreClassesOf}
 use Rattle.schema_models.specs.SetModels.{IsBroken}
 use Rattle.schema_check.specs.Compilation.{IsCompilation}
@@ -46,9 +47,13 @@ module _ (made : CompiledSet) where
   abbrev pub restriction_phase : Option Fault → Type 0
   restriction_phase found = (members : List (List ℕ)) × AreGroups made.parts members × IsFirstModelFault made.parts made.names members made.redefined.groups.items found
 
+  -- phase 10, of the paths and fields of identity constraints: c-selector-xpath, c-fields-xpaths and c-props-correct.2 (Structures 3.11.6)
+  abbrev pub identity_phase : Option Fault → Type 0
+  identity_phase found = IsLeast (IsIdentityFault made.parts) found
+
   -- the phases behind simple types
   abbrev pub late_phases : List (Option Fault → Type 0)
-  late_phases = attr_phase ∷ derivation_phase ∷ model_phase ∷ restriction_phase ∷ []
+  late_phases = attr_phase ∷ derivation_phase ∷ model_phase ∷ restriction_phase ∷ identity_phase ∷ []
 
 -- each complex type has attribute uses, no two of which have one name
 abbrev pub HaveUses : Tables → Type 0

@@ -1,5 +1,5 @@
 -- What documents are compiled to is determined.
-use Rattle.std.proofs.Common.{◌≡◌, ◌↔◌, inl, inr, ℕ, Bool, true, false, List, [], ◌∷◌, Option, None, Some, Result, Ok, Err, map, refl, sym, ap, ◌∙◌, subst, true≢false}
+use Rattle.std.proofs.Common.{◌≡◌, ◌↔◌, ℕ, List, [], ◌∷◌, Option, None, Some, Result, Ok, Err, map, refl, sym, ap, ◌∙◌, subst}
 use Rattle.std.proofs.lemmas.Option.{none-some, same_Some}
 use Rattle.std.proofs.Math.Path.{transport}
 use Rattle.std.specs.Prelude.{Contains}
@@ -17,13 +17,11 @@ use Rattle.schema_set.specs.Documents.{available, IsSet}
 use Rattle.schema_check.specs.Components.{versions, AreRedefining}
 use Rattle.schema_check.specs.Phases.{IsFirstOfPhases}
 use Rattle.schema_check.specs.SetPhases.{AreRanked, AreRedefiningGroups, IsSetCompiled}
-use Rattle.schema_check.specs.Compilation.{are_unassessed, shape_phase, later_phases, phases, IsAssessed, IsCompilation}
+use Rattle.schema_check.specs.Compilation.{phases, IsCompilation}
 use Rattle.schema_check.specs.declared.documents.CompiledSet.{CompiledSet}
-use Rattle.schema_check.specs.declared.documents.Refusal.{Refusal}
-use Rattle.schema_check.specs.declared.documents.Refusal.TheVariants.{Broken, NotYet}
 use Rattle.set_laws.specs.Same.{AreSamePairs, IsSameMade, IsSameCompilation}
-use Rattle.set_laws.proofs.BareLaws.{bare, unassessed-bare, set-originals-same}
-use Rattle.set_laws.proofs.PhaseLaws.{HasOne, first-one, sets-bare, names-same, own-bare, versions-bare, set-parts-same, shapes-one, later-one, each-one}
+use Rattle.set_laws.proofs.BareLaws.{bare, set-originals-same}
+use Rattle.set_laws.proofs.PhaseLaws.{HasOne, first-one, sets-bare, names-same, own-bare, versions-bare, set-parts-same, each-one}
 use Rattle.type_laws.proofs.RankedLaws.{ranked-same}
 
 -- ---- the components that redefine others
