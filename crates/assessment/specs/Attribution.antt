@@ -14,17 +14,14 @@ use Rattle.content_automaton.specs.Attribution.{IsAmbivalent}
 use Rattle.content_automaton.specs.Modelled.{IsTermAt}
 use Rattle.content_models.specs.Terms.{model_terms}
 use Rattle.content_models.specs.Built.{IsFirstIn}
-use Rattle.identity_paths.specs.declared.paths.IdentityPaths.{IdentityPaths}
 
 -- What a schema set has for content models: its names and components, the names of the members of each substitution group by the
--- number of its head, and the classes of its element declarations: those with the same properties have one. And the paths of its identity
--- constraints, by their numbers (Structures 3.11.1).
+-- number of its head, and the classes of its element declarations: those with the same properties have one.
 pub record SchemaSet : Type 0 where
   pub names : NameTable
   pub parts : Tables
   pub members : List (List ℕ)
   pub classes : List ℕ
-  pub identities : List IdentityPaths
 
 -- the particle of the content model of a type, if it has one; the content of anyType admits all elements laxly (Structures 3.4.7)
 abbrev pub content_particle : Tables → Option TypeId → Option ℕ

@@ -24,7 +24,7 @@ use Rattle.compiled_schema.specs.declared.compiled.Compiled.{Compiled}
 
 -- the schema set that is compiled
 abbrev pub set_of : Compiled → SchemaSet
-set_of c = record { names = c.names; parts = c.parts; members = c.members; classes = c.classes.items; identities = c.identities.items }
+set_of c = record { names = c.names; parts = c.parts; members = c.members; classes = c.classes.items }
 
 -- elements, types and attributes have names of the table, where they have one
 pub record AreNamed (names : NameTable) (t : Tables) : Type 0 where

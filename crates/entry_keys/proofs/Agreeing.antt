@@ -52,10 +52,10 @@ module _ (s : SchemaSet) (b : Beside) where
 
 -- ---- by the number that an element has
 
-at-own : (n : ℕ) → (n == n) ≡ true
+pub at-own : (n : ℕ) → (n == n) ≡ true
 at-own n = grind arith
 
-none-of : {A : Type 0} (m n : ℕ) (x y : A) → ◌≡◌ {A = ℕ} (if m == n then 1 else 0) 0 → (if m == n then x else y) ≡ y
+pub none-of : {A : Type 0} (m n : ℕ) (x y : A) → ◌≡◌ {A = ℕ} (if m == n then 1 else 0) 0 → (if m == n then x else y) ≡ y
 none-of m n x y e = other (m == n) e
   where
     other : (b : Bool) → ◌≡◌ {A = ℕ} (if b then 1 else 0) 0 → (if b then x else y) ≡ y

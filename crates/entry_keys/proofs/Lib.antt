@@ -3,3 +3,4 @@ mod Coding
 mod Agreeing
 mod Naming
 mod Joining
+mod There

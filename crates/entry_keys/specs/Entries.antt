@@ -8,9 +8,10 @@ use Rattle.identity_assessment.specs.Identity.{beside_of}
 use Rattle.tree_assess.specs.Entries.{entry_of}
 use Rattle.tree_assess.specs.declared.entry.ElementEntry.{ElementEntry}
 
--- these are the entries of the assessment of a document by a schema set, in document order, with the codes of its identity constraints
+-- these are the entries of the assessment of a document by a schema set, in document order, with the codes of its identity constraints, whose paths
+-- are these,
 -- and of its IDs
-pub record AreEntries (s : SchemaSet) (f : Forest) (es : List ElementEntry) : Type 0 where
+pub record AreEntries (s : SchemaSet) (identities : List IdentityPaths) (f : Forest) (es : List ElementEntry) : Type 0 where
   pub found : Assessed
-  pub assessed : IsAssessment s (beside_of s s.identities f found) f found
+  pub assessed : IsAssessment s (beside_of s identities f found) f found
   pub entries_are : map entry_of es ≡ entries found

@@ -13,7 +13,6 @@ use compiled_schema::Compiled;
 use identity_assessment::identity_codes_join_the_assessment;
 use path_walk::KeySet;
 use plain_tree::Tree;
-use session_model::entries_are_named;
 use std::alloc::{AllocError, Global};
 use tree_assess::{ElementEntry, assess_plain};
 
@@ -51,10 +50,9 @@ pub fn assess(
     requires usable { IsUsable compiled.old }
     requires sound { IsSound compiled.old.names }
     requires names { HasNames compiled.old.names tree.now.forest }
-    ensures assessed { IfOk result (λ entries. AreEntries (set_of compiled.old) tree.now.forest entries.items) }
+    ensures assessed { IfOk result (λ entries. AreEntries (set_of compiled.old) compiled.old.identities.items tree.now.forest entries.items) }
     ensures same { compiled.new ≡ compiled.old }
 {
-    entries_are_named();
     identity_codes_join_the_assessment();
     let mut entries = assess_plain(alloc, compiled, tree)?;
     let ids = id_codes(alloc, entries.as_slice())?;

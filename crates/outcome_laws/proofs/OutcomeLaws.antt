@@ -141,7 +141,7 @@ module _ (a b : CompiledSet) (same : IsSameMade a b) where
       let members : c.members ≡ d.members = groups-same d.parts c.members d.members (subst (λ (t : Tables). AreGroups t c.members) parts p.2.groups) q.2.groups in
       let classes : c.classes.items ≡ d.classes.items = classes-same d.parts c.classes.items d.classes.items (subst (λ (t : Tables). AreClassesOf t c.classes.items) parts p.2.classes_are) q.2.classes_are in
       let paths = paths-same d.parts.constraints.parts c.identities.items d.identities.items (subst (λ (t : Tables). AreIdentities t c.identities.items) parts p.2.identities_are) q.2.identities_are in
-      λ i. record { names = names i; parts = parts i; members = members i; classes = classes i; identities = paths i }
+      ((λ i. record { names = names i; parts = parts i; members = members i; classes = classes i }), paths)
 
   set-outcomes-same : (x y : Outcome) → IsSetOutcome a x → IsSetOutcome b y → IsSameOutcome x y
   set-outcomes-same (Accepted c) (Accepted d) p q = accepted-same c d p q

@@ -3,6 +3,7 @@ use Rattle.std.proofs.Common.{◌≡◌, ℕ, ◌+◌, ◌<◌, ◌≤◌, List,
 use Rattle.std.specs.Prelude.{All}
 use Rattle.std.specs.List.{flat_map, filter}
 use Rattle.std.proofs.lemmas.List.{map-append}
+use Rattle.std.proofs.lemmas.List.Elements.{All-nil, All-cons, All-append}
 use Rattle.std.proofs.lemmas.Grind.{flat_map-append}
 use Rattle.xs_names.specs.Names.{NameTable}
 use Rattle.identity_constraints.specs.Seen.{KeyElement, KeyForest, none, element, Reached, from_above, reached_below}
@@ -66,5 +67,5 @@ named_behind names (element own below next) named = named.1.1
 
 -- the way to an element
 pub way_named : (names : NameTable) (way : List ℕ) (name : ℕ) → All (λ n. n < length names.names) way → name < length names.names → All (λ n. n < length names.names) (way ++ name ∷ [])
-way_named names [] name all is = (is, tt)
-way_named names (n ∷ way) name all is = (all.0, way_named names way name all.1 is)
+way_named names way name all is =
+    All-append (λ n. n < length names.names) way (name ∷ []) all (All-cons (λ n. n < length names.names) name [] is (All-nil (λ n. n < length names.names)))
