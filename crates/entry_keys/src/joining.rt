@@ -52,12 +52,12 @@ fn validity_again(codes: &[Found], below: bool, validity: Validity) -> Validity
 }
 
 // Puts codes behind those of a record.
-fn add_codes(record: &mut ElementRecord, codes: &[Found], below: bool) -> Result<(), AllocError>
-    ensures { OnOk result (record.new ≡ spec.with_more codes.now below record.old) }
+fn add_codes(own: &mut ElementRecord, codes: &[Found], below: bool) -> Result<(), AllocError>
+    ensures { OnOk result (own.new ≡ spec.with_more codes.now below own.old) }
 {
-    record.validity = validity_again(codes, below, record.validity);
+    own.validity = validity_again(codes, below, own.validity);
     for code in codes {
-        record.codes.push(*code)?;
+        own.codes.push(*code)?;
     }
     Ok(())
 }
