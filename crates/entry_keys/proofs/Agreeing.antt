@@ -52,6 +52,9 @@ module _ (s : SchemaSet) (b : Beside) where
 
 -- ---- by the number that an element has
 
+abbrev weight : Bool → ℕ
+weight b = if b then 1 else 0
+
 pub at-own : (n : ℕ) → (n == n) ≡ true
 at-own n = grind arith
 
@@ -77,7 +80,7 @@ module _ (names : NameTable) (t : Tables) (identities : List IdentityPaths) wher
   agrees-for : (k other : ℕ → List Found) (found : Assessed) → ((n : ℕ) → 1 ≤ found_times n found → k n ≡ other n) → Agrees names t identities other found → Agrees names t identities k found
   agrees-for k other nothing same agrees = tt
   agrees-for k other (entry own below next) same agrees =
-      let here = ap (λ (b : Bool). if b then (1 : ℕ) else 0) (at-own own.number) in (
+      let here = ap weight (at-own own.number) in (
         same own.number (omega (arith, here)) ∙ agrees.0,
         (agrees-for k other below (λ n h. same n (omega (arith, h))) agrees.1.0, agrees-for k other next (λ n h. same n (omega (arith, h))) agrees.1.1),
       )
@@ -85,19 +88,19 @@ module _ (names : NameTable) (t : Tables) (identities : List IdentityPaths) wher
   pub at_agrees : (found : Assessed) → ((n : ℕ) → found_times n found ≤ 1) → Agrees names t identities (λ n. at n found) found
   at_agrees nothing once = tt
   at_agrees (entry own below next) once =
-      let here = ap (λ (b : Bool). if b then (1 : ℕ) else 0) (at-own own.number) in
+      let here = ap weight (at-own own.number) in
       let codes = identity_codes names t identities (seen_element own) (seen below) in (
         (let first : (if own.number == own.number then codes else []) ≡ codes = ap (λ (b : Bool). if b then codes else []) (at-own own.number) in
-        let one = none-at own.number below (omega (arith, here, once own.number)) in
-        let two = none-at own.number next (omega (arith, here, once own.number)) in
-        (λ i. first i ++ (one i ++ two i)) ∙ append-nil codes),
+            let one = none-at own.number below (omega (arith, here, once own.number)) in
+            let two = none-at own.number next (omega (arith, here, once own.number)) in
+            (λ i. first i ++ (one i ++ two i)) ∙ append-nil codes),
         (
           agrees-for (λ n. at n (entry own below next)) (λ n. at n below) below
-          (λ n h. let first = none-of own.number n codes [] (omega (arith, h, once n)) in let two = none-at n next (omega (arith, h, once n)) in (λ i. first i ++ (at n below ++ two i)) ∙ append-nil (at n below))
-          (at_agrees below (λ n. omega (arith, once n))),
+              (λ n h. let first = none-of own.number n codes [] (omega (arith, h, once n)) in let two = none-at n next (omega (arith, h, once n)) in (λ i. first i ++ (at n below ++ two i)) ∙ append-nil (at n below))
+              (at_agrees below (λ n. omega (arith, once n))),
           agrees-for (λ n. at n (entry own below next)) (λ n. at n next) next
-          (λ n h. let first = none-of own.number n codes [] (omega (arith, h, once n)) in let one = none-at n below (omega (arith, h, once n)) in λ i. first i ++ (one i ++ at n next))
-          (at_agrees next (λ n. omega (arith, once n))),
+              (λ n h. let first = none-of own.number n codes [] (omega (arith, h, once n)) in let one = none-at n below (omega (arith, h, once n)) in λ i. first i ++ (one i ++ at n next))
+              (at_agrees next (λ n. omega (arith, once n))),
         ),
       )
 
@@ -105,7 +108,7 @@ module _ (names : NameTable) (t : Tables) (identities : List IdentityPaths) wher
 pub all_same : (k other : ℕ → List Found) (found : Assessed) → ((n : ℕ) → 1 ≤ found_times n found → k n ≡ other n) → with_all k found ≡ with_all other found
 all_same k other nothing same = refl
 all_same k other (entry own below next) same =
-    let here = ap (λ (b : Bool). if b then (1 : ℕ) else 0) (at-own own.number) in
+    let here = ap weight (at-own own.number) in
     let first = same own.number (omega (arith, here)) in
     let one = all_same k other below (λ n h. same n (omega (arith, h))) in
     let two = all_same k other next (λ n h. same n (omega (arith, h))) in

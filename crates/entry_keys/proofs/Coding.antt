@@ -61,10 +61,10 @@ module _ (names : NameTable) (t : Tables) (identities : List IdentityPaths) (k :
       ∙ ap (λ codes. with_codes_of own codes (with_all k below)) (sym agrees)
 
   no-cons : (x : Sized) (xs : List Sized) → [] ≡ x ∷ xs → ⊥
-  no-cons x xs ()
+  no-cons x xs e = cc
 
   no-nil : (x : Sized) (xs : List Sized) → x ∷ xs ≡ [] → ⊥
-  no-nil x xs ()
+  no-nil x xs e = cc
 
   pub coded_part : (found : Assessed) (part rest : List ElementEntry) → map sized_of part ≡ flat found → Agrees found → IsPart found part rest
   coded_part nothing [] rest h agrees = record { new = []; all = refl; flat_is = refl }

@@ -78,10 +78,10 @@ module _ (own : Entry) (below next : Assessed) (e : ElementEntry) (es : List Ele
   behind_flat = sym (drop-map sized_of e.below es) ∙ ap (drop e.below) rest-is ∙ ap (λ n. drop n (flat below ++ flat next)) count_is ∙ drop-append_seam (flat below) (flat next)
 
 no-cons : (x : Sized) (xs : List Sized) → [] ≡ x ∷ xs → ⊥
-no-cons x xs ()
+no-cons x xs e = cc
 
 no-nil : (x : Sized) (xs : List Sized) → x ∷ xs ≡ [] → ⊥
-no-nil x xs ()
+no-nil x xs e = cc
 
 -- a flat list is read as what it is of
 pub parse_flat : (found : Assessed) (es : List ElementEntry) → map sized_of es ≡ flat found → assessed_of es ≡ found

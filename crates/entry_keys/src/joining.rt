@@ -63,11 +63,7 @@ fn add_codes(own: &mut ElementRecord, codes: &[Found], below: bool) -> Result<()
 }
 
 // Puts the codes of the identity constraints of an element to its entry. Those behind it have theirs.
-fn join_at(
-    set: &KeySet<'_>,
-    entries: &mut [ElementEntry],
-    place: usize,
-) -> Result<(), AllocError>
+fn join_at(set: &KeySet<'_>, entries: &mut [ElementEntry], place: usize) -> Result<(), AllocError>
     requires contents { AreContentsOf set.now.parts.now set.now.contents.now }
     requires named { All (IsEntryNamed set.now.names.now) entries.old }
     requires place { place < length entries.old }

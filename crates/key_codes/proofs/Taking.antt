@@ -2,13 +2,12 @@
 use Rattle.std.proofs.Common.{◌≡◌, ℕ, ◌+◌, ◌||◌, ◌&&◌, ◌==◌, Bool, true, false, if◌then◌else◌, List, [], ◌∷◌, ◌++◌, refl, sym, ap, subst, ◌∙◌, arith, true≢false, append-nil}
 use Rattle.simple_values.specs.declared.key.Key.{Key}
 use Rattle.identity_tables.specs.Tuple.{same_tuple}
-use Rattle.identity_tables.specs.KeyTables.{own_count}
 use Rattle.identity_constraints.specs.Satisfied.{has_tuple, is_held}
 use Rattle.key_codes.specs.declared.repeated.Bag.{Bag}
 use Rattle.std.specs.Prelude.{not}
 use Rattle.std.proofs.lemmas.Bool.{eqb-true, eq-eqb}
 use Rattle.key_codes.specs.declared.holding.Sources.{Sources}
-use Rattle.key_codes.specs.inside.Times.{times, IsBag, AreSources, AreTaken, is_told}
+use Rattle.key_codes.specs.inside.Times.{times, count_in, IsBag, IsOneMore, AreSources, AreTaken, is_told}
 use Rattle.key_codes.proofs.Timing.{Same, same, other, same_or_other, tuple_self, times_append, times_none, times_some, has_append}
 
 abbrev weight : Bool → ℕ
@@ -40,24 +39,24 @@ module _ (own below before : List (List Key)) (base : List Key → ℕ) (t : Lis
   later x off = ap (λ b. (b || has_tuple x before) && is x) off
 
   -- one that is held and was not taken before
-  pub taken_now : (old new : Bag) (held more : List (List Key)) → AreTaken own below before base old held → own_count old.tables 0 0 t ≡ 0 → is t ≡ true
-      → ((tuple : List Key) → own_count new.tables 0 0 tuple ≡ own_count old.tables 0 0 tuple + weight (same_tuple t tuple)) → more ≡ held ++ t ∷ [] → AreTaken own below (t ∷ before) base new more
+  pub taken_now : (old new : Bag) (held more : List (List Key)) → AreTaken own below before base old held → count_in old t ≡ 0 → is t ≡ true
+      → ((tuple : List Key) → count_in new tuple ≡ count_in old tuple + weight (same_tuple t tuple)) → more ≡ held ++ t ∷ [] → AreTaken own below (t ∷ before) base new more
   taken_now old new held more h none holds puts is_more = record {
     taken_is = λ x. elim (same_or_other x t) [
-      | same s ↦ subst (λ z. own_count new.tables 0 0 z ≡ weight (has_tuple z (t ∷ before) && is z)) (sym s)
-        (let now = ap (λ b. weight (b && is t)) (here t before) ∙ ap (λ b. weight b) holds in
-        let one = ap weight (tuple_self t) in
-        omega (arith, puts t, none, now, one))
+      | same s ↦ subst (λ z. count_in new z ≡ weight (has_tuple z (t ∷ before) && is z)) (sym s)
+          (let now = ap (λ b. weight (b && is t)) (here t before) ∙ ap (λ b. weight b) holds in
+          let one = ap weight (tuple_self t) in
+          omega (arith, puts t, none, now, one))
       | other p q ↦ (let now = ap weight (later x p) in let off = ap weight q in omega (arith, puts x, h.taken_is x, now, off))
     ];
     held_is = λ x. let size = ap (times x) is_more ∙ times_append x held (t ∷ []) in omega (arith, size, h.held_is x, puts x);
   }
 
   -- one that is not held, or was taken before
-  pub not_taken : (old : Bag) (held : List (List Key)) → AreTaken own below before base old held → (own_count old.tables 0 0 t ≡ 0 → is t ≡ false) → AreTaken own below (t ∷ before) base old held
+  pub not_taken : (old : Bag) (held : List (List Key)) → AreTaken own below before base old held → (count_in old t ≡ 0 → is t ≡ false) → AreTaken own below (t ∷ before) base old held
   not_taken old held h out = record {
     taken_is = λ x. elim (same_or_other x t) [
-      | same s ↦ subst (λ z. own_count old.tables 0 0 z ≡ weight (has_tuple z (t ∷ before) && is z)) (sym s) (itself (has_tuple t before && is t) refl)
+      | same s ↦ subst (λ z. count_in old z ≡ weight (has_tuple z (t ∷ before) && is z)) (sym s) (itself (has_tuple t before && is t) refl)
       | other p q ↦ h.taken_is x ∙ ap weight (sym (later x p))
     ];
     held_is = h.held_is;
@@ -70,7 +69,7 @@ module _ (own below before : List (List Key)) (base : List Key → ℕ) (t : Lis
       and-right true b e = e
       and-right false b e = absurd (true≢false (sym e))
 
-      itself : (b : Bool) → (has_tuple t before && is t) ≡ b → own_count old.tables 0 0 t ≡ weight (has_tuple t (t ∷ before) && is t)
+      itself : (b : Bool) → (has_tuple t before && is t) ≡ b → count_in old t ≡ weight (has_tuple t (t ∷ before) && is t)
       itself true e = h.taken_is t ∙ ap weight (e ∙ sym (and-right (has_tuple t before) (is t) e)) ∙ sym now
       itself false e = let none = h.taken_is t ∙ ap weight e in none ∙ ap weight (sym (out none)) ∙ sym now
 
@@ -110,7 +109,7 @@ all_taken own below held more taken h tuple = h.held_is tuple ∙ ap (λ n. time
 -- what the sources tell
 pub told_held : (own below : List (List Key)) (s : Sources) → AreSources own below s → (tuple : List Key) → is_told s tuple ≡ is_held own tuple (times tuple below)
 told_held own below s are tuple =
-    ap (λ n. not (n == 0) || (own_count s.below.tables 0 0 tuple == 1)) (are.own_are tuple) ∙ ap (λ n. not (times tuple own == 0) || (n == 1)) (are.below_are tuple)
+    ap (λ n. not (n == 0) || (count_in s.below tuple == 1)) (are.own_are tuple) ∙ ap (λ n. not (times tuple own == 0) || (n == 1)) (are.below_are tuple)
     ∙ ap (λ b. b || (times tuple below == 1)) (counted (times tuple own == 0) refl)
   where
     counted : (b : Bool) → (times tuple own == 0) ≡ b → not b ≡ has_tuple tuple own

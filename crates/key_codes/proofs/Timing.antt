@@ -7,7 +7,7 @@ use Rattle.std.proofs.lemmas.List.Folds.{list_any-append}
 use Rattle.simple_values.specs.declared.key.Key.{Key}
 use Rattle.simple_values.proofs.Keys.{key_decides}
 use Rattle.identity_tables.specs.Tuple.{same_tuple}
-use Rattle.identity_tables.specs.KeyTables.{is_entry}
+use Rattle.identity_tables.specs.KeyTables.{Tables, own_count, IsOneMoreTuple}
 use Rattle.identity_constraints.specs.Satisfied.{has_tuple, has_repeated}
 use Rattle.key_codes.specs.inside.Times.{times}
 
@@ -30,26 +30,26 @@ same_or_other x y = by (same_tuple x y) (same_tuple y x) refl refl
 pub tuple_self : (x : List Key) → same_tuple x x ≡ true
 tuple_self x = (tuple_decides x x).1 refl
 
-pub entry_same : (x y : List Key) → is_entry 0 0 x 0 0 y ≡ same_tuple x y
-entry_same x y = refl
-
 pub times_append : (x : List Key) (xs ys : List (List Key)) → times x (xs ++ ys) ≡ times x xs + times x ys
 times_append x [] ys = omega arith
 times_append x (y ∷ xs) ys = omega (arith, times_append x xs ys)
+
+abbrev weight : Bool → ℕ
+weight b = if b then 1 else 0
 
 -- one that is not there, and one that is
 pub times_none : (x : List Key) (xs : List (List Key)) → times x xs ≡ 0 → has_tuple x xs ≡ false
 times_none x [] e = refl
 times_none x (y ∷ xs) e = elim (same_or_other x y) [
-  | same s ↦ absurd (let one = ap (λ (z : List Key). if same_tuple z x then (1 : ℕ) else 0) s in let own = ap (λ (b : Bool). if b then (1 : ℕ) else 0) (tuple_self x) in omega (arith, e, one, own))
-  | other p q ↦ (λ i. p i || times_none x xs (let none = ap (λ (b : Bool). if b then (1 : ℕ) else 0) q in omega (arith, e, none)) i)
+  | same s ↦ absurd (let one = ap (λ (z : List Key). weight (same_tuple z x)) s in let own = ap weight (tuple_self x) in omega (arith, e, one, own))
+  | other p q ↦ (λ i. p i || times_none x xs (let none = ap weight q in omega (arith, e, none)) i)
 ]
 
 pub times_some : (x : List Key) (xs : List (List Key)) → (times x xs ≡ 0 → ⊥) → has_tuple x xs ≡ true
 times_some x [] some = absurd (some refl)
 times_some x (y ∷ xs) some = elim (same_or_other x y) [
   | same s ↦ ap (λ b. b || has_tuple x xs) (subst (λ z. same_tuple x z ≡ true) s (tuple_self x))
-  | other p q ↦ (λ i. p i || times_some x xs (λ e. some (let none = ap (λ (b : Bool). if b then (1 : ℕ) else 0) q in omega (arith, e, none))) i)
+  | other p q ↦ (λ i. p i || times_some x xs (λ e. some (let none = ap weight q in omega (arith, e, none))) i)
 ]
 
 pub has_append : (x : List Key) (xs ys : List (List Key)) → has_tuple x (xs ++ ys) ≡ (has_tuple x xs || has_tuple x ys)
@@ -69,3 +69,10 @@ repeated_first x xs some = ap (λ b. b || has_repeated xs) (times_some x xs some
 
 pub not_repeated : (x : List Key) (xs : List (List Key)) → times x xs ≡ 0 → has_repeated xs ≡ false → has_repeated (x ∷ xs) ≡ false
 not_repeated x xs none e = λ i. times_none x xs none i || e i
+
+-- a bag without tuples, and with one more
+pub bag_none : (tables : Tables) → tables ≡ [] → (x : List Key) → own_count tables 0 0 x ≡ 0
+bag_none tables e x = ap (λ (ts : Tables). own_count ts 0 0 x) e
+
+pub bag_more : (old new : Tables) (made t : List Key) → made ≡ t → IsOneMoreTuple old new 0 0 made → (x : List Key) → own_count new 0 0 x ≡ own_count old 0 0 x + (if same_tuple t x then 1 else 0)
+bag_more old new made t e more x = more 0 0 x ∙ ap (λ (z : List Key). own_count old 0 0 x + (if same_tuple z x then 1 else 0)) e

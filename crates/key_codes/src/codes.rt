@@ -38,10 +38,7 @@ fn has_nillable(outcomes: &[TargetOutcome]) -> bool
 }
 
 // What a unique breaks by its targets.
-fn unique_code(
-    set: &KeySet<'_>,
-    outcomes: &[TargetOutcome],
-) -> Result<Option<Code>, AllocError>
+fn unique_code(set: &KeySet<'_>, outcomes: &[TargetOutcome]) -> Result<Option<Code>, AllocError>
     ensures { IfOk result (λ code. (own : KeyElement) (below : KeyForest) → found_of code ≡ spec.first_broken (spec.checks_by set.now.names.now set.now.parts.now set.now.identities.now Unique (map outcome_of outcomes.now) own below)) }
 {
     if has_repeated(set.alloc, outcomes)? {

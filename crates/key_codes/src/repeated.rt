@@ -1,10 +1,9 @@
 //! Sets of tuples.
 
-ghost use Rattle.std.specs.Prelude.{◌≡◌, ◌∷◌, ◌++◌, [], ℕ, List, IfOk, OnOk, map};
-ghost use Rattle.simple_values.specs.declared.key.Key.{Key};
+ghost use Rattle.std.specs.Prelude.{◌≡◌, [], IfOk, OnOk, map};
 ghost use Rattle.identity_constraints.specs.Satisfied as spec;
 ghost use Rattle.path_walk.specs.Outcomes.{outcome_of};
-ghost use Rattle.key_codes.specs.inside.Times.{IsBag, times};
+ghost use Rattle.key_codes.specs.inside.Times.{IsBag, IsOneMore, count_in};
 
 use identity_tables::{KeyTables, Tuple};
 use path_walk::TargetOutcome;
@@ -28,24 +27,21 @@ impl Bag {
 
     /// Puts a tuple in. There are 4,294,967,295 at most.
     pub(crate) fn put(&mut self, tuple: &Tuple) -> Result<(), AllocError>
-        ensures { OnOk result ((tuples : List (List Key)) → IsBag tuples self.old → IsBag (tuple.now ∷ tuples) self.new) }
+        ensures { OnOk result (IsOneMore tuple.now self.old self.new) }
     {
         self.tables.add(0, 0, tuple.clone()?)
     }
 
     /// How often a tuple was put in.
     pub(crate) fn count(&self, tuple: &Tuple) -> u32
-        ensures { (tuples : List (List Key)) → IsBag tuples self.now → result ≡ times tuple.now tuples }
+        ensures { result ≡ count_in self.now tuple.now }
     {
         self.tables.own_count(0, 0, tuple)
     }
 }
 
 /// Whether two of the tuples of targets are equal.
-pub(crate) fn has_repeated(
-    alloc: Global,
-    outcomes: &[TargetOutcome],
-) -> Result<bool, AllocError>
+pub(crate) fn has_repeated(alloc: Global, outcomes: &[TargetOutcome]) -> Result<bool, AllocError>
     ensures { IfOk result (λ repeated. repeated ≡ spec.has_repeated (spec.tuples_in (map outcome_of outcomes.now))) }
 {
     let mut bag = Bag::new(alloc)?;

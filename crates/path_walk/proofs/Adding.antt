@@ -29,11 +29,11 @@ first_added t is [] old sums none = ap (λ (n : FieldNodes). record { count = On
 first_added t is (x ∷ []) old sums none = absurd (no-one (sym (ap (λ (n : FieldNodes). n.count) sums) ∙ none))
   where
     no-one : OneNode ≡ NoNode → ⊥
-    no-one ()
+    no-one e = cc
 first_added t is (x ∷ y ∷ nodes) old sums none = absurd (no-more (sym (ap (λ (n : FieldNodes). n.count) sums) ∙ none))
   where
     no-more : Several ≡ NoNode → ⊥
-    no-more ()
+    no-more e = cc
 
 several : (x is : FieldNode) (nodes : List FieldNode) → count_of (x ∷ nodes ++ is ∷ []) ≡ Several
 several x is [] = refl

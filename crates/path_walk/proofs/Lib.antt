@@ -1,3 +1,4 @@
 mod Adding
+mod Attributing
 mod Walking
 mod Extending

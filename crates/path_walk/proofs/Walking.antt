@@ -1,10 +1,11 @@
 -- Elements with the ways to them.
-use Rattle.std.proofs.Common.{◌≡◌, ℕ, ◌+◌, ◌<◌, ◌≤◌, List, [], ◌∷◌, ◌++◌, map, length, refl, sym, ◌∙◌, ap, subst, append_assoc, append-nil, arith}
+use Rattle.std.proofs.Common.{◌≡◌, ℕ, ◌+◌, ◌<◌, ◌≤◌, List, [], ◌∷◌, ◌++◌, map, take, length, refl, sym, ◌∙◌, ap, subst, append_assoc, append-nil, arith}
 use Rattle.std.specs.Prelude.{All}
 use Rattle.std.specs.List.{flat_map, filter}
 use Rattle.std.proofs.lemmas.List.{map-append}
 use Rattle.std.proofs.lemmas.List.Elements.{All-nil, All-cons, All-append}
 use Rattle.std.proofs.lemmas.Grind.{flat_map-append}
+use Rattle.std.proofs.Math.Seq.{take-append_seam}
 use Rattle.xs_names.specs.Names.{NameTable}
 use Rattle.identity_constraints.specs.Seen.{KeyElement, KeyForest, none, element, Reached, from_above, reached_below}
 use Rattle.path_walk.specs.Sight.{IsFirst, IsNamed, AreNamed, below_first, behind_first}
@@ -36,12 +37,12 @@ walk_all f = walk-after [] f ∙ same-after (reached_below f)
 
 -- siblings by their first
 pub opened : (f : KeyForest) (first : KeyElement) → IsFirst f first → f ≡ element first (below_first f) (behind_first f)
-opened none first ()
+opened none first is = absurd is
 opened (element own below next) first is = ap (λ own. element own below next) is
 
 pub walk_first : {A : Type 0} (g : Reached → List A) (way : List ℕ) (f : KeyForest) (first : KeyElement) → IsFirst f first
     → flat_map g (walk way f) ≡ g (reached (way ++ first.name ∷ []) first (below_first f)) ++ (flat_map g (walk (way ++ first.name ∷ []) (below_first f)) ++ flat_map g (walk way (behind_first f)))
-walk_first g way none first ()
+walk_first g way none first is = absurd is
 walk_first g way (element own below next) first is =
     subst (λ (own : KeyElement). flat_map g (walk way (element own below next)) ≡ g (reached (way ++ own.name ∷ []) own below) ++ (flat_map g (walk (way ++ own.name ∷ []) below) ++ flat_map g (walk way next))) is
     (ap (λ xs. g (reached (way ++ own.name ∷ []) own below) ++ xs) (flat_map-append g (walk (way ++ own.name ∷ []) below) (walk way next)))
@@ -50,11 +51,11 @@ pub walk_none : {A : Type 0} (g : Reached → List A) (way : List ℕ) (f : KeyF
 walk_none g way f is = ap (λ f. flat_map g (walk way f)) is
 
 pub size_first : (f : KeyForest) (first : KeyElement) → IsFirst f first → size f ≡ 1 + size (below_first f) + size (behind_first f)
-size_first none first ()
+size_first none first is = absurd is
 size_first (element own below next) first is = refl
 
 pub named_first : (names : NameTable) (f : KeyForest) (first : KeyElement) → IsFirst f first → AreNamed names f → IsNamed names first
-named_first names none first () named
+named_first names none first is named = absurd is
 named_first names (element own below next) first is named = subst (IsNamed names) is named.0
 
 pub named_below : (names : NameTable) (f : KeyForest) → AreNamed names f → AreNamed names (below_first f)
@@ -69,3 +70,24 @@ named_behind names (element own below next) named = named.1.1
 pub way_named : (names : NameTable) (way : List ℕ) (name : ℕ) → All (λ n. n < length names.names) way → name < length names.names → All (λ n. n < length names.names) (way ++ name ∷ [])
 way_named names way name all is =
     All-append (λ n. n < length names.names) way (name ∷ []) all (All-cons (λ n. n < length names.names) name [] is (All-nil (λ n. n < length names.names)))
+
+-- ---- along siblings
+
+module _ {A : Type 0} (g : Reached → List A) (way : List ℕ) where
+  -- one sibling more
+  pub along_next : (all f : KeyForest) (first : KeyElement) (done : List A) → IsFirst f first → flat_map g (walk way all) ≡ done ++ flat_map g (walk way f)
+      → flat_map g (walk way all) ≡ (done ++ (g (reached (way ++ first.name ∷ []) first (below_first f)) ++ flat_map g (walk (way ++ first.name ∷ []) (below_first f)))) ++ flat_map g (walk way (behind_first f))
+  along_next all f first done is so =
+      let own = g (reached (way ++ first.name ∷ []) first (below_first f)) in
+      let under = flat_map g (walk (way ++ first.name ∷ []) (below_first f)) in
+      let behind = flat_map g (walk way (behind_first f)) in
+      so ∙ ap (λ xs. done ++ xs) (walk_first g way f first is ∙ sym (append_assoc own under behind)) ∙ sym (append_assoc done (own ++ under) behind)
+
+  -- no more
+  pub along_done : (all f : KeyForest) (done : List A) → f ≡ none → flat_map g (walk way all) ≡ done ++ flat_map g (walk way f) → flat_map g (walk way all) ≡ done
+  along_done all f done is so = so ∙ ap (λ xs. done ++ xs) (walk_none g way f is) ∙ append-nil done
+
+-- a way that went down to an element and back
+pub way_back : (first way down after back : List ℕ) (name depth : ℕ) → way ≡ first → down ≡ way ++ name ∷ [] → after ≡ down → depth ≡ length first → back ≡ take depth after → back ≡ first
+way_back first way down after back name depth is pushed kept size cut =
+    cut ∙ ap (λ n. take n after) size ∙ ap (take (length first)) (kept ∙ pushed ∙ ap (λ w. w ++ name ∷ []) is) ∙ take-append_seam first (name ∷ [])

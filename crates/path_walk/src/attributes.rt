@@ -69,7 +69,7 @@ fn add_attribute(
 ) -> Result<(), AllocError>
     requires way { All (λ name. name < length set.now.names.now.names) way.now }
     requires named { attribute.name < length set.now.names.now.names }
-    ensures { OnOk result (AreAdded set.now.parts.now (spec.attribute_at set.now.names.now field.now way.now (record { name = attribute.name; value = attribute.value.now })) nodes.old nodes.new) }
+    ensures { OnOk result (AreAdded set.now.parts.now (spec.attribute_at set.now.names.now field.now way.now (record { name = attribute.entry.name; value = attribute.entry.value.now })) nodes.old nodes.new) }
 {
     if !reaches(set.names, field, way, Some(attribute.name)) {
         return Ok(());

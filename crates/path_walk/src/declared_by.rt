@@ -33,7 +33,7 @@ pub fn constraints_of<'a>(parts: &'a Components, own: &KeySight<'_>) -> &'a [Con
 
 /// Whether the declaration of an element is nillable.
 pub(crate) fn is_nillable(parts: &Components, own: &KeySight<'_>) -> bool
-    ensures { result ≡ spec.declares_nillable (spec.declaration_of parts.now (seen own.now)) }
+    ensures { result ≡ spec.declares_nillable parts.now (spec.declaration_of parts.now (seen own.now)) }
 {
     match declaration_of(parts, own) {
         None => false,

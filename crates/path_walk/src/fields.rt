@@ -1,6 +1,6 @@
 //! The nodes of a field, from a target downwards.
 
-ghost use Rattle.std.specs.Prelude.{◌≡◌, ◌<◌, All, length, IfOk, OnOk};
+ghost use Rattle.std.specs.Prelude.{◌≡◌, ◌<◌, [], All, length, IfOk, OnOk};
 ghost use Rattle.component_tables.specs.ContentTypes.{AreContentsOf};
 ghost use Rattle.identity_constraints.specs.Seen.{KeyElement, KeyForest, element};
 ghost use Rattle.identity_constraints.specs.Targets as spec;
@@ -29,12 +29,13 @@ fn add_below<T: KeySiblings>(
     ensures way { OnOk result (way.new.items ≡ way.old.items) }
     ensures nodes { OnOk result (AreAdded set.now.parts.now (nodes_along set.now.names.now field.now way.old.items (T.forest siblings)) nodes.old nodes.new) }
 {
+    let depth = way.len();
     let mut left = siblings;
     'left: while let Some(own) = left.first() {
         way.push(own.name)?;
         add_nodes(set, field, way.as_slice(), &own, nodes)?;
         add_below(set, field, left.below(), way, nodes)?;
-        way.pop();
+        way.truncate(depth);
         left = left.next();
     }
     Ok(())

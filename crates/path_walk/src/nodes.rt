@@ -65,7 +65,7 @@ impl FieldNodes {
 
     /// Adds a node behind the others.
     pub(crate) fn add(&mut self, alloc: Global, node: NodeFacts<'_>) -> Result<(), AllocError>
-        ensures { OnOk result ((t : Tables) (is : FieldNode) → node_value is ≡ node.value.now → is_complex t is ≡ node.complex → is_nillable t is ≡ node.nillable → AreAdded t (is ∷ []) self.old self.new) }
+        ensures { OnOk result ((t : Tables) (is : FieldNode) → node_value is ≡ node.entry.value.now → is_complex t is ≡ node.entry.complex → is_nillable t is ≡ node.entry.nillable → AreAdded t (is ∷ []) self.old self.new) }
     {
         let nillable = self.nillable || node.nillable;
         match self.count {

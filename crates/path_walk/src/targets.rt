@@ -1,6 +1,6 @@
 //! The targets of an identity constraint.
 
-ghost use Rattle.std.specs.Prelude.{◌≡◌, ◌<◌, ◌++◌, [], true, All, length, map, MatchOption, IfOk, OnOk};
+ghost use Rattle.std.specs.Prelude.{◌≡◌, ◌⊎◌, ◌<◌, ◌++◌, true, false, All, length, map, MatchOption, IfOk, OnOk};
 ghost use Rattle.component_tables.specs.ContentTypes.{AreContentsOf};
 ghost use Rattle.identity_constraints.specs.Seen.{KeyElement, KeyForest, element};
 ghost use Rattle.identity_constraints.specs.Targets as spec;
@@ -51,12 +51,13 @@ fn add_targets<T: KeySiblings>(
     ensures way { OnOk result (way.new.items ≡ way.old.items) }
     ensures found { OnOk result (map outcome_of found.new.items ≡ map outcome_of found.old.items ++ outcomes_along set.now.names.now set.now.parts.now paths.now way.old.items (T.forest siblings)) }
 {
+    let depth = way.len();
     let mut left = siblings;
     'left: while let Some(own) = left.first() {
         way.push(own.name)?;
         add_target(set, paths, left, way.as_slice(), found)?;
         add_targets(set, paths, left.below(), way, found)?;
-        way.pop();
+        way.truncate(depth);
         left = left.next();
     }
     Ok(())
@@ -71,18 +72,17 @@ fn has_constraint(set: &KeySet<'_>, own: &KeySight<'_>, constraint: ConstraintId
         .any(|other| *other == constraint)
 }
 
-// The paths of a constraint that is one of the first of some siblings.
-fn paths_for<'a, T: KeySiblings>(
+// The paths of a constraint that is one of an element's.
+fn paths_for<'a>(
     set: &KeySet<'a>,
+    own: &KeySight<'_>,
     constraint: ConstraintId,
-    at: T,
 ) -> Option<&'a IdentityPaths>
-    ensures { (own : KeyElement) (below next : KeyForest) → T.forest at ≡ element own below next → MatchOption result
-        (spec.outcomes set.now.names.now set.now.parts.now set.now.identities.now constraint own below ≡ [])
-        (λ paths. (spec.has_constraint set.now.names.now set.now.parts.now set.now.identities.now constraint own ≡ true) × (spec.paths_of set.now.identities.now constraint ≡ paths.now)) }
+    ensures { MatchOption result
+        ((spec.has_constraint set.now.names.now set.now.parts.now set.now.identities.now constraint (seen own.now) ≡ false) ⊎ (spec.paths_of set.now.identities.now constraint ≡ spec.no_paths))
+        (λ paths. (spec.has_constraint set.now.names.now set.now.parts.now set.now.identities.now constraint (seen own.now) ≡ true) × (spec.paths_of set.now.identities.now constraint ≡ paths.now)) }
 {
-    let own = at.first()?;
-    if !has_constraint(set, &own, constraint) {
+    if !has_constraint(set, own, constraint) {
         return None;
     }
     set.identities.get(constraint.number() as usize)
@@ -104,10 +104,14 @@ pub fn outcomes<T: KeySiblings>(
     ensures { IfOk result (λ found. (own : KeyElement) (below next : KeyForest) → T.forest at ≡ element own below next → map outcome_of found.items ≡ spec.outcomes set.now.names.now set.now.parts.now set.now.identities.now constraint own below) }
 {
     let mut found = Vec::new(set.alloc);
-    if let Some(paths) = paths_for(set, constraint, at) {
-        let mut way = Vec::new(set.alloc);
-        add_target(set, paths, at, way.as_slice(), &mut found)?;
-        add_targets(set, paths, at.below(), &mut way, &mut found)?;
-    }
+    let Some(own) = at.first() else {
+        return Ok(found);
+    };
+    let Some(paths) = paths_for(set, &own, constraint) else {
+        return Ok(found);
+    };
+    let mut way = Vec::new(set.alloc);
+    add_target(set, paths, at, way.as_slice(), &mut found)?;
+    add_targets(set, paths, at.below(), &mut way, &mut found)?;
     Ok(found)
 }

@@ -11,9 +11,17 @@ abbrev pub times : List Key → List (List Key) → ℕ
 times tuple [] = 0
 times tuple (other ∷ tuples) = (if same_tuple other tuple then 1 else 0) + times tuple tuples
 
+-- how often a tuple is in a bag
+abbrev pub count_in : Bag → List Key → ℕ
+count_in bag tuple = own_count bag.tables 0 0 tuple
+
 -- the bag has these tuples
 abbrev pub IsBag : List (List Key) → Bag → Type 0
-IsBag tuples bag = (tuple : List Key) → own_count bag.tables 0 0 tuple ≡ times tuple tuples
+IsBag tuples bag = (tuple : List Key) → count_in bag tuple ≡ times tuple tuples
+
+-- the new one has a tuple once more
+abbrev pub IsOneMore : List Key → Bag → Bag → Type 0
+IsOneMore added old new = (tuple : List Key) → count_in new tuple ≡ count_in old tuple + (if same_tuple added tuple then 1 else 0)
 
 pub record AreSources (own below : List (List Key)) (s : Sources) : Type 0 where
   pub own_are : IsBag own s.own
@@ -21,9 +29,9 @@ pub record AreSources (own below : List (List Key)) (s : Sources) : Type 0 where
 
 -- Of some tuples those that are held are taken, each once, and stand behind others that are there so often.
 pub record AreTaken (own below before : List (List Key)) (base : List Key → ℕ) (taken : Bag) (held : List (List Key)) : Type 0 where
-  pub taken_is : (tuple : List Key) → own_count taken.tables 0 0 tuple ≡ (if has_tuple tuple before && is_held own tuple (times tuple below) then 1 else 0)
-  pub held_is : (tuple : List Key) → times tuple held ≡ base tuple + own_count taken.tables 0 0 tuple
+  pub taken_is : (tuple : List Key) → count_in taken tuple ≡ (if has_tuple tuple before && is_held own tuple (times tuple below) then 1 else 0)
+  pub held_is : (tuple : List Key) → times tuple held ≡ base tuple + count_in taken tuple
 
 -- the table has the tuple
 abbrev pub is_told : Sources → List Key → Bool
-is_told s tuple = not (own_count s.own.tables 0 0 tuple == 0) || (own_count s.below.tables 0 0 tuple == 1)
+is_told s tuple = not (count_in s.own tuple == 0) || (count_in s.below tuple == 1)

@@ -1,4 +1,4 @@
-use Rattle.std.proofs.Common.{◌≡◌, ◌≤◌, ◌++◌, List}
+use Rattle.std.proofs.Common.{◌≡◌, ◌≤◌, ◌++◌, List, length}
 use Rattle.identity_constraints.specs.Targets.{FieldNode}
 use Rattle.path_walk.specs.Sight.{AreNamed}
 use Rattle.path_walk.specs.inside.Nodes.{AreAdded}
@@ -12,6 +12,7 @@ abbrev pub invariant-left : goal.invariant-left
 invariant-left g l = record {
   named : AreNamed l.set.names.now (g.T.KeySiblings.forest l.left);
   way : l.way.items ≡ l.initial.way.items;
+  depth : l.depth ≡ length l.initial.way.items;
   fewer : size (g.T.KeySiblings.forest l.left) ≤ size (g.T.KeySiblings.forest l.siblings);
   done : List FieldNode;
   added : AreAdded l.set.parts.now done l.initial.nodes l.nodes;

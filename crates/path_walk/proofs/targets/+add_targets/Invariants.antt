@@ -1,4 +1,4 @@
-use Rattle.std.proofs.Common.{◌≡◌, ◌≤◌, ◌++◌, List, map}
+use Rattle.std.proofs.Common.{◌≡◌, ◌≤◌, ◌++◌, List, length, map}
 use Rattle.identity_constraints.specs.Targets.{Outcome}
 use Rattle.path_walk.specs.Outcomes.{outcome_of}
 use Rattle.path_walk.specs.Sight.{AreNamed}
@@ -13,6 +13,7 @@ abbrev pub invariant-left : goal.invariant-left
 invariant-left g l = record {
   named : AreNamed l.set.names.now (g.T.KeySiblings.forest l.left);
   way : l.way.items ≡ l.initial.way.items;
+  depth : l.depth ≡ length l.initial.way.items;
   fewer : size (g.T.KeySiblings.forest l.left) ≤ size (g.T.KeySiblings.forest l.siblings);
   found : map outcome_of l.initial.found.items ++ outcomes_along l.set.names.now l.set.parts.now l.paths l.initial.way.items (g.T.KeySiblings.forest l.siblings)
       ≡ map outcome_of l.found.items ++ outcomes_along l.set.names.now l.set.parts.now l.paths l.initial.way.items (g.T.KeySiblings.forest l.left);
