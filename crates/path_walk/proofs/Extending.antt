@@ -8,6 +8,7 @@ use Rattle.xs_components.specs.Tables.{Tables}
 use Rattle.identity_constraints.specs.Targets.{FieldNode, field_key, with_key, key_sequence, is_misused, is_nillable}
 use Rattle.path_walk.specs.declared.nodes.FieldNodes.{FieldNodes}
 use Rattle.path_walk.specs.declared.tuples.TargetOutcome.{TargetOutcome}
+use Rattle.path_walk.specs.Outcomes.{outcome_of}
 use Rattle.path_walk.specs.inside.Nodes.{summed}
 use Rattle.path_walk.specs.inside.Extended.{AreFieldsOf, extended}
 
@@ -28,3 +29,7 @@ sequence_more (first ∷ fields) nodes = ap (with_key (field_key first)) (sequen
 
 pub any_more : {A : Type 0} (p : A → Bool) (xs : List A) (x : A) → list_any p (xs ++ x ∷ []) ≡ (list_any p xs || p x)
 any_more p xs x = list_any-append p xs (x ∷ []) ∙ ap (λ b. list_any p xs || b) (or-false (p x))
+
+pub outcome_of_fields : (t : Tables) (fields : List (List FieldNode)) (o : TargetOutcome) → AreFieldsOf t fields o
+    → outcome_of o ≡ record { tuple = key_sequence fields; misused = list_any (is_misused t) fields; nillable = list_any (list_any (is_nillable t)) fields }
+outcome_of_fields t fields o are = λ i. record { tuple = are.tuple_is i; misused = are.misused_is i; nillable = are.nillable_is i }

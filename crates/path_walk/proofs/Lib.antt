@@ -2,3 +2,5 @@ mod Adding
 mod Attributing
 mod Walking
 mod Extending
+mod Selecting
+mod Looking

@@ -44,7 +44,7 @@ pub walk_first : {A : Type 0} (g : Reached → List A) (way : List ℕ) (f : Key
     → flat_map g (walk way f) ≡ g (reached (way ++ first.name ∷ []) first (below_first f)) ++ (flat_map g (walk (way ++ first.name ∷ []) (below_first f)) ++ flat_map g (walk way (behind_first f)))
 walk_first g way none first is = absurd is
 walk_first g way (element own below next) first is =
-    subst (λ (own : KeyElement). flat_map g (walk way (element own below next)) ≡ g (reached (way ++ own.name ∷ []) own below) ++ (flat_map g (walk (way ++ own.name ∷ []) below) ++ flat_map g (walk way next))) is
+    subst (λ (x : KeyElement). flat_map g (walk way (element own below next)) ≡ g (reached (way ++ x.name ∷ []) x below) ++ (flat_map g (walk (way ++ x.name ∷ []) below) ++ flat_map g (walk way next))) is
     (ap (λ xs. g (reached (way ++ own.name ∷ []) own below) ++ xs) (flat_map-append g (walk (way ++ own.name ∷ []) below) (walk way next)))
 
 pub walk_none : {A : Type 0} (g : Reached → List A) (way : List ℕ) (f : KeyForest) → f ≡ none → flat_map g (walk way f) ≡ []
@@ -91,3 +91,20 @@ module _ {A : Type 0} (g : Reached → List A) (way : List ℕ) where
 pub way_back : (first way down after back : List ℕ) (name depth : ℕ) → way ≡ first → down ≡ way ++ name ∷ [] → after ≡ down → depth ≡ length first → back ≡ take depth after → back ≡ first
 way_back first way down after back name depth is pushed kept size cut =
     cut ∙ ap (λ n. take n after) size ∙ ap (take (length first)) (kept ∙ pushed ∙ ap (λ w. w ++ name ∷ []) is) ∙ take-append_seam first (name ∷ [])
+
+-- ---- siblings that are known
+
+pub first_is : (f : KeyForest) (own first : KeyElement) (below next : KeyForest) → f ≡ element own below next → IsFirst f first → own ≡ first
+first_is f own first below next e is = subst (λ (x : KeyForest). IsFirst x first) e is
+
+pub not_none : (f : KeyForest) (own : KeyElement) (below next : KeyForest) → f ≡ element own below next → f ≡ none → ⊥
+not_none f own below next e none_is = apart (sym e ∙ none_is)
+  where
+    apart : element own below next ≡ none → ⊥
+    apart h = cc
+
+pub way_down : (first way down : List ℕ) (name : ℕ) → way ≡ first → down ≡ way ++ name ∷ [] → down ≡ first ++ name ∷ []
+way_down first way down name is pushed = pushed ∙ ap (λ w. w ++ name ∷ []) is
+
+pub way_all : (names : NameTable) (first way down : List ℕ) (name : ℕ) → way ≡ first → down ≡ way ++ name ∷ [] → All (λ n. n < length names.names) first → name < length names.names → All (λ n. n < length names.names) down
+way_all names first way down name is pushed all named = subst (All (λ n. n < length names.names)) (sym (way_down first way down name is pushed)) (way_named names first name all named)

@@ -1,6 +1,6 @@
 //! What a target comes to.
 
-ghost use Rattle.std.specs.Prelude.{◌≡◌, ◌∷◌, ◌++◌, [], List, IfOk, OnOk};
+ghost use Rattle.std.specs.Prelude.{◌≡◌, ◌||◌, ◌∷◌, ◌++◌, [], List, IfOk, OnOk};
 ghost use Rattle.xs_components.specs.Tables.{Tables};
 ghost use Rattle.component_tables.specs.ContentTypes.{AreContentsOf};
 ghost use Rattle.identity_constraints.specs.Seen.{KeyElement, KeyForest, element};
@@ -43,13 +43,22 @@ fn extend(tuple: &mut Option<Tuple>, key: Option<Key>) -> Result<(), AllocError>
     }
 }
 
+// Whether one of the two is so.
+fn either(one: bool, other: bool) -> bool
+    ensures { result ≡ (one || other) }
+{
+    one || other
+}
+
 impl TargetOutcome {
     // Adds a field behind the others.
     fn add(&mut self, field: FieldNodes) -> Result<(), AllocError>
         ensures { OnOk result ((t : Tables) (fields : List (List FieldNode)) (nodes : List FieldNode) → field ≡ summed t nodes → AreFieldsOf t fields self.old → AreFieldsOf t (fields ++ nodes ∷ []) self.new) }
     {
-        self.misused = self.misused || field.misused;
-        self.nillable = self.nillable || field.nillable;
+        let misused = either(self.misused, field.misused);
+        let nillable = either(self.nillable, field.nillable);
+        self.misused = misused;
+        self.nillable = nillable;
         extend(&mut self.tuple, field.key)
     }
 }

@@ -12,9 +12,9 @@ decreases-add_held g l = size (g.T.KeySiblings.forest l.siblings)
 abbrev pub invariant-left : goal.invariant-left
 invariant-left g l = record {
   named : AreNamed l.set.names.now (g.T.KeySiblings.forest l.left);
-  fewer : size (g.T.KeySiblings.forest l.left) ≤ size (g.T.KeySiblings.forest l.siblings);
+  fewer : size (g.T.KeySiblings.forest l.left) ≤ size (g.T.KeySiblings.forest l.fn.siblings);
   counted : (tuple : List Key) → times tuple l.held.items + bearing l.set.names.now l.set.parts.now l.set.identities.now l.key tuple (g.T.KeySiblings.forest l.left)
-      ≡ times tuple l.initial.held.items + bearing l.set.names.now l.set.parts.now l.set.identities.now l.key tuple (g.T.KeySiblings.forest l.siblings);
+      ≡ times tuple l.initial.held.items + bearing l.set.names.now l.set.parts.now l.set.identities.now l.key tuple (g.T.KeySiblings.forest l.fn.siblings);
 }
 
 abbrev pub decreases-left : goal.decreases-left

@@ -15,7 +15,7 @@ add_attribute-requires-clause-named c =
     let l = c.attrs in
     All-head (λ (a : KeyAttribute). a.name < length c.args.set.now.names.now.names) (record { name = first.attr.now.name; value = second.value.now }) (attributes_of first.more.now second.others.now)
     (subst (All (λ (a : KeyAttribute). a.name < length c.args.set.now.names.now.names))
-    (attributes_first l.attrs first.more.now l.values second.others.now first.attr.now second.value.now first.ensures.cases.0 second.ensures.cases.0) l.invariant.named)
+    (attributes_first l.attrs.now first.more.now l.values.now second.others.now first.attr.now second.value.now first.ensures.cases.0 second.ensures.cases.0) l.invariant.named)
 
 pub attrs-preserved : goal.attrs-preserved
 attrs-preserved c =
@@ -24,13 +24,13 @@ attrs-preserved c =
     let l = c.attrs in
     let names = c.args.set.now.names.now in
     let t = c.args.set.now.parts.now in
-    let e = attributes_first l.attrs first.more.now l.values second.others.now first.attr.now second.value.now first.ensures.cases.0 second.ensures.cases.0 in
+    let e = attributes_first l.attrs.now first.more.now l.values.now second.others.now first.attr.now second.value.now first.ensures.cases.0 second.ensures.cases.0 in
     record {
       named = All-tail (λ (a : KeyAttribute). a.name < length names.names) (record { name = first.attr.now.name; value = second.value.now }) (attributes_of first.more.now second.others.now)
           (subst (All (λ (a : KeyAttribute). a.name < length names.names)) e l.invariant.named);
       done = l.invariant.done ++ attribute_at names c.args.field.now c.args.way.now (record { name = first.attr.now.name; value = second.value.now });
       added = added_both t l.invariant.done (attribute_at names c.args.field.now c.args.way.now (record { name = first.attr.now.name; value = second.value.now })) c.args.nodes.now l.nodes c.add_attribute.new.nodes
           l.invariant.added c.in_ok-add_attribute.ensures;
-      all = all_next t (attribute_at names c.args.field.now c.args.way.now) (seen c.args.own.now).attributes (attributes_of l.attrs l.values) (attributes_of first.more.now second.others.now) l.invariant.done
+      all = all_next t (attribute_at names c.args.field.now c.args.way.now) (seen c.args.own.now).attributes (attributes_of l.attrs.now l.values.now) (attributes_of first.more.now second.others.now) l.invariant.done
           (record { name = first.attr.now.name; value = second.value.now }) l.invariant.all e;
     }

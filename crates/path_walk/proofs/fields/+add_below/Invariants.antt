@@ -13,10 +13,10 @@ invariant-left g l = record {
   named : AreNamed l.set.names.now (g.T.KeySiblings.forest l.left);
   way : l.way.items ≡ l.initial.way.items;
   depth : l.depth ≡ length l.initial.way.items;
-  fewer : size (g.T.KeySiblings.forest l.left) ≤ size (g.T.KeySiblings.forest l.siblings);
+  fewer : size (g.T.KeySiblings.forest l.left) ≤ size (g.T.KeySiblings.forest l.fn.siblings);
   done : List FieldNode;
   added : AreAdded l.set.parts.now done l.initial.nodes l.nodes;
-  all : nodes_along l.set.names.now l.field l.initial.way.items (g.T.KeySiblings.forest l.siblings) ≡ done ++ nodes_along l.set.names.now l.field l.initial.way.items (g.T.KeySiblings.forest l.left);
+  all : nodes_along l.set.names.now l.field l.initial.way.items (g.T.KeySiblings.forest l.fn.siblings) ≡ done ++ nodes_along l.set.names.now l.field l.initial.way.items (g.T.KeySiblings.forest l.left);
 }
 
 abbrev pub decreases-left : goal.decreases-left

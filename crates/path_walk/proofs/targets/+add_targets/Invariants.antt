@@ -14,8 +14,8 @@ invariant-left g l = record {
   named : AreNamed l.set.names.now (g.T.KeySiblings.forest l.left);
   way : l.way.items ≡ l.initial.way.items;
   depth : l.depth ≡ length l.initial.way.items;
-  fewer : size (g.T.KeySiblings.forest l.left) ≤ size (g.T.KeySiblings.forest l.siblings);
-  found : map outcome_of l.initial.found.items ++ outcomes_along l.set.names.now l.set.parts.now l.paths l.initial.way.items (g.T.KeySiblings.forest l.siblings)
+  fewer : size (g.T.KeySiblings.forest l.left) ≤ size (g.T.KeySiblings.forest l.fn.siblings);
+  found : map outcome_of l.initial.found.items ++ outcomes_along l.set.names.now l.set.parts.now l.paths l.initial.way.items (g.T.KeySiblings.forest l.fn.siblings)
       ≡ map outcome_of l.found.items ++ outcomes_along l.set.names.now l.set.parts.now l.paths l.initial.way.items (g.T.KeySiblings.forest l.left);
 }
 

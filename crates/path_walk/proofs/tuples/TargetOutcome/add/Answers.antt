@@ -16,7 +16,7 @@ returns c =
     let nillable = ap (λ (n : FieldNodes). n.nillable) sums in
     record {
       tuple_is = e ∙ (λ i. extended (is.tuple_is i) (key i)) ∙ sym (sequence_more fields nodes);
-      misused_is = (λ i. is.misused_is i || misused i) ∙ sym (any_more (is_misused t) fields nodes);
-      nillable_is = (λ i. is.nillable_is i || nillable i) ∙ sym (any_more (list_any (is_nillable t)) fields nodes);
+      misused_is = c.either-misused.ensures ∙ (λ i. is.misused_is i || misused i) ∙ sym (any_more (is_misused t) fields nodes);
+      nillable_is = c.either-nillable.ensures ∙ (λ i. is.nillable_is i || nillable i) ∙ sym (any_more (list_any (is_nillable t)) fields nodes);
     })
     c.extend.ensures
