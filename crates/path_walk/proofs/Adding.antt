@@ -1,5 +1,5 @@
 -- The nodes of a field, one and several more.
-use Rattle.std.proofs.Common.{◌≡◌, ◌||◌, Bool, true, false, List, [], ◌∷◌, ◌++◌, refl, sym, ◌∙◌, ap, subst, append_assoc, append-nil, Option, None}
+use Rattle.std.proofs.Common.{◌≡◌, ◌||◌, true, List, [], ◌∷◌, ◌++◌, refl, sym, ◌∙◌, ap, append_assoc, append-nil, None}
 use Rattle.std.proofs.lemmas.List.Folds.{list_any-append}
 use Rattle.std.proofs.Math.Bool.{or-false}
 use Rattle.std.specs.List.{list_any}
@@ -8,7 +8,6 @@ use Rattle.simple_values.specs.Same.{key_value}
 use Rattle.xs_components.specs.Tables.{Tables}
 use Rattle.identity_constraints.specs.Targets.{FieldNode, node_value, is_complex, is_nillable, field_key, is_misused}
 use Rattle.path_walk.specs.declared.nodes.FieldNodes.{FieldNodes}
-use Rattle.path_walk.specs.declared.nodes.NodeCount.{NodeCount}
 use Rattle.path_walk.specs.declared.nodes.NodeCount.TheVariants.{NoNode, OneNode, Several}
 use Rattle.path_walk.specs.inside.Nodes.{AreAdded, summed, count_of}
 

@@ -1,8 +1,7 @@
 -- Attributes with their values, one by one.
-use Rattle.std.proofs.Common.{◌≡◌, ◌++◌, List, [], ◌∷◌, Bool, true, false, refl, sym, ap, subst, ◌∙◌, append_assoc, append-nil, true≢false}
-use Rattle.std.specs.Prelude.{All, Option, IsTrue, ◌↔◌}
+use Rattle.std.proofs.Common.{◌≡◌, ◌++◌, List, [], ◌∷◌, Bool, true, false, refl, sym, ap, subst, ◌∙◌, append_assoc, append-nil}
+use Rattle.std.specs.Prelude.{Option, IsTrue, ◌↔◌}
 use Rattle.std.specs.List.{flat_map}
-use Rattle.std.proofs.lemmas.List.Elements.{All-head, All-tail}
 use Rattle.simple_values.specs.declared.value.Value.{Value}
 use Rattle.assess_records.specs.declared.record.AttrRecord.{AttrRecord}
 use Rattle.xs_components.specs.Tables.{Tables}
@@ -11,7 +10,6 @@ use Rattle.identity_constraints.specs.Targets.{FieldNode}
 use Rattle.path_walk.specs.Sight.{attributes_of}
 use Rattle.path_walk.specs.declared.nodes.FieldNodes.{FieldNodes}
 use Rattle.path_walk.specs.inside.Nodes.{AreAdded}
-use Rattle.path_walk.proofs.Adding.{added_both}
 
 -- two tests of one fact
 pub same_test : {P : Type 0} (a b : Bool) → IsTrue a ↔ P → IsTrue b ↔ P → a ≡ b

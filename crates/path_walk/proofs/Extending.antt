@@ -1,15 +1,13 @@
 -- What targets come to, field by field.
-use Rattle.std.proofs.Common.{◌≡◌, ◌||◌, Bool, List, [], ◌∷◌, ◌++◌, map, refl, sym, ◌∙◌, ap, Option, None, Some}
+use Rattle.std.proofs.Common.{◌≡◌, ◌||◌, Bool, List, [], ◌∷◌, ◌++◌, refl, ◌∙◌, ap, Option, None, Some}
 use Rattle.std.specs.List.{list_any}
 use Rattle.std.proofs.lemmas.List.Folds.{list_any-append}
 use Rattle.std.proofs.Math.Bool.{or-false}
 use Rattle.simple_values.specs.declared.key.Key.{Key}
 use Rattle.xs_components.specs.Tables.{Tables}
 use Rattle.identity_constraints.specs.Targets.{FieldNode, field_key, with_key, key_sequence, is_misused, is_nillable}
-use Rattle.path_walk.specs.declared.nodes.FieldNodes.{FieldNodes}
 use Rattle.path_walk.specs.declared.tuples.TargetOutcome.{TargetOutcome}
 use Rattle.path_walk.specs.Outcomes.{outcome_of}
-use Rattle.path_walk.specs.inside.Nodes.{summed}
 use Rattle.path_walk.specs.inside.Extended.{AreFieldsOf, extended}
 
 with-more : (first last : Option Key) (keys : Option (List Key)) → with_key first (extended keys last) ≡ extended (with_key first keys) last

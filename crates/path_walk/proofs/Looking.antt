@@ -1,16 +1,15 @@
 -- The nodes of a field, from a target downwards; and what targets come to.
-use Rattle.std.proofs.Common.{◌≡◌, ℕ, Bool, true, false, if◌then◌else◌, List, [], ◌∷◌, ◌++◌, length, map, refl, sym, ◌∙◌, ap, subst, append_assoc, append-nil}
+use Rattle.std.proofs.Common.{◌≡◌, ℕ, Bool, true, false, if◌then◌else◌, List, [], ◌∷◌, ◌++◌, length, map, refl, sym, ◌∙◌, ap, subst}
 use Rattle.std.specs.List.{flat_map, filter}
-use Rattle.std.proofs.lemmas.List.{map-append}
 use Rattle.xs_names.specs.Names.{NameTable}
 use Rattle.xs_components.specs.Tables.{Tables}
 use Rattle.xpath_subset.specs.declared.path.Path.{Path}
 use Rattle.identity_paths.specs.declared.paths.IdentityPaths.{IdentityPaths}
-use Rattle.identity_constraints.specs.Seen.{KeyElement, KeyForest, Reached, reached_below}
-use Rattle.identity_constraints.specs.Targets.{FieldNode, Outcome, nodes_at, field_nodes, is_target, outcomes, outcome_at, has_constraint, paths_of, no_paths}
+use Rattle.identity_constraints.specs.Seen.{KeyElement, KeyForest, reached_below}
+use Rattle.identity_constraints.specs.Targets.{nodes_at, field_nodes, is_target, outcomes, outcome_at, has_constraint, paths_of, no_paths}
 use Rattle.path_walk.specs.declared.nodes.FieldNodes.{FieldNodes}
 use Rattle.path_walk.specs.inside.Nodes.{AreAdded, summed}
-use Rattle.path_walk.specs.inside.Walk.{reached, walk, nodes_along}
+use Rattle.path_walk.specs.inside.Walk.{reached, nodes_along}
 use Rattle.path_walk.specs.inside.Extended.{outcome_here, outcome_if, outcome_to, outcomes_along}
 use Rattle.path_walk.proofs.Adding.{added_both}
 use Rattle.path_walk.proofs.Walking.{walk_all}
@@ -34,13 +33,14 @@ module _ (names : NameTable) (t : Tables) (field : List Path) (own sight : KeyEl
 
 -- ---- targets
 
+first-filtered : {A B : Type 0} (p : A → Bool) (h : A → B) (x : A) (xs : List A) (b : Bool) → p x ≡ b → flat_map (λ y. if p y then h y ∷ [] else []) xs ≡ map h (filter p xs)
+    → flat_map (λ y. if p y then h y ∷ [] else []) (x ∷ xs) ≡ map h (filter p (x ∷ xs))
+first-filtered p h x xs true e rest = rw e (ap (λ ys. h x ∷ ys) rest)
+first-filtered p h x xs false e rest = rw e rest
+
 filtered : {A B : Type 0} (p : A → Bool) (h : A → B) (xs : List A) → flat_map (λ x. if p x then h x ∷ [] else []) xs ≡ map h (filter p xs)
 filtered p h [] = refl
-filtered p h (x ∷ xs) = by (p x) refl
-  where
-    by : (b : Bool) → p x ≡ b → flat_map (λ y. if p y then h y ∷ [] else []) (x ∷ xs) ≡ map h (filter p (x ∷ xs))
-    by true e = rw e (ap (λ ys. h x ∷ ys) (filtered p h xs))
-    by false e = rw e (filtered p h xs)
+filtered p h (x ∷ xs) = first-filtered p h x xs (p x) refl (filtered p h xs)
 
 module _ (names : NameTable) (t : Tables) (identities : List IdentityPaths) (k : ℕ) (own : KeyElement) (below : KeyForest) where
   pub no_outcomes : has_constraint names t identities k own ≡ false → outcomes names t identities k own below ≡ []
@@ -49,7 +49,7 @@ module _ (names : NameTable) (t : Tables) (identities : List IdentityPaths) (k :
 
   pub all_outcomes : (paths : IdentityPaths) → has_constraint names t identities k own ≡ true → paths_of identities k ≡ paths
       → outcomes names t identities k own below ≡ outcome_here names t paths [] own below ++ outcomes_along names t paths [] below
-  unfolding outcomes
+  unfolding outcomes field_nodes
   all_outcomes paths e is =
       rw e (sym
       (ap (λ rs. outcome_here names t paths [] own below ++ flat_map (outcome_if names t paths) rs) (walk_all below)

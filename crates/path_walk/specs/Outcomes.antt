@@ -1,9 +1,9 @@
 -- What targets come to.
-use Rattle.std.specs.Prelude.{ℕ, List, [], map}
+use Rattle.std.specs.Prelude.{List, [], map}
 use Rattle.xs_names.specs.Names.{NameTable}
 use Rattle.xs_components.specs.Tables.{Tables}
 use Rattle.xpath_subset.specs.declared.path.Path.{Path}
-use Rattle.identity_constraints.specs.Seen.{KeyElement, KeyForest, Reached}
+use Rattle.identity_constraints.specs.Seen.{KeyElement, KeyForest}
 use Rattle.identity_constraints.specs.Targets.{Outcome, outcome_by, field_nodes}
 use Rattle.path_walk.specs.declared.tuples.TargetOutcome.{TargetOutcome}
 

@@ -1,5 +1,5 @@
 -- What identity constraints see of elements: Structures 3.11.4.
-use Rattle.std.specs.Prelude.{◌≡◌, ℕ, ◌<◌, List, [], ◌∷◌, Option, All, length}
+use Rattle.std.specs.Prelude.{◌≡◌, ◌<◌, List, [], ◌∷◌, Option, All, length}
 use Rattle.xs_names.specs.Names.{NameTable}
 use Rattle.simple_values.specs.declared.value.Value.{Value}
 use Rattle.assess_records.specs.declared.record.AttrRecord.{AttrRecord}

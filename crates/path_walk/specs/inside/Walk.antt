@@ -1,8 +1,7 @@
 -- All elements of a forest, in document order, with the ways from an element above.
-use Rattle.std.specs.Prelude.{ℕ, ◌+◌, List, [], ◌∷◌, ◌++◌, map}
+use Rattle.std.specs.Prelude.{ℕ, ◌+◌, List, [], ◌∷◌, ◌++◌}
 use Rattle.std.specs.List.{flat_map}
 use Rattle.xs_names.specs.Names.{NameTable}
-use Rattle.xs_components.specs.Tables.{Tables}
 use Rattle.xpath_subset.specs.declared.path.Path.{Path}
 use Rattle.identity_constraints.specs.Seen.{KeyElement, KeyForest, none, element, Reached}
 use Rattle.identity_constraints.specs.Targets.{FieldNode, nodes_at}

@@ -1,6 +1,6 @@
-use Rattle.std.proofs.Common.{◌≡◌, [], sym, ap, subst, ◌∙◌}
-use Rattle.identity_constraints.specs.Seen.{KeyElement, KeyForest, element}
-use Rattle.path_walk.specs.Sight.{IsFirst, below_first, seen}
+use Rattle.std.proofs.Common.{◌≡◌, ap, subst, ◌∙◌}
+use Rattle.identity_constraints.specs.Seen.{KeyForest}
+use Rattle.path_walk.specs.Sight.{below_first, seen}
 use Rattle.path_walk.specs.inside.Nodes.{AreAdded}
 use Rattle.path_walk.specs.inside.Walk.{nodes_along}
 use Rattle.path_walk.proofs.Looking.{looked}

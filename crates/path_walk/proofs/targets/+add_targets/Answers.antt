@@ -1,10 +1,8 @@
-use Rattle.std.proofs.Common.{◌≡◌, ◌≤◌, ◌<◌, ◌++◌, ◌∷◌, [], ℕ, List, length, map, refl, sym, ap, ◌∙◌, subst, arith, append_assoc, append-nil}
-use Rattle.std.specs.Prelude.{All}
-use Rattle.std.specs.List.{flat_map}
+use Rattle.std.proofs.Common.{◌≡◌, ◌++◌, ◌∷◌, [], ℕ, List, map, refl, sym, ap, ◌∙◌, subst, arith, rules, append_assoc, append-nil}
 use Rattle.identity_constraints.specs.Seen.{KeyForest}
 use Rattle.path_walk.specs.Outcomes.{outcome_of}
 use Rattle.path_walk.specs.Sight.{AreNamed, below_first, behind_first, seen}
-use Rattle.path_walk.specs.inside.Walk.{reached, size, walk}
+use Rattle.path_walk.specs.inside.Walk.{size}
 use Rattle.path_walk.specs.inside.Extended.{outcome_here, outcome_if, outcomes_along}
 use Rattle.path_walk.proofs.Walking.{opened, walk_first, walk_none, way_back, way_down, way_all, named_first, named_below, named_behind, size_first}
 use Rattle.path_walk.proofs.targets.+add_targets.Goals as goal
@@ -13,7 +11,7 @@ pub left-init : goal.left-init
 left-init g t c = record {
   named = c.requires.named;
   way = refl;
-  depth = c.len-depth.ensures;
+  depth = search rules;
   fewer = omega arith;
   found = refl;
 }
@@ -29,7 +27,7 @@ pub add_target-requires-clause-named : goal.add_target-requires-clause-named
 add_target-requires-clause-named g t c = c.left.invariant.named
 
 pub add_targets-requires : goal.add_targets-requires
-add_targets-requires g t c =
+add_targets-requires g t c κs within =
     let names = c.args.set.now.names.now in
     let l = c.left in
     let f = g.T.KeySiblings.forest l.left in
@@ -38,11 +36,7 @@ add_targets-requires g t c =
     let fewer = l.invariant.fewer in
     let under = ap size c.below.ensures in (
       omega (arith, c.decreases, sizes, fewer, under),
-      (
-        c.requires.contents,
-        way_all names c.args.way.now.items l.way.items c.push.new.self.items own.name l.invariant.way c.in_ok-push.ensures.items c.requires.way (named_first names f own c.in-Some.ensures l.invariant.named).name,
-        subst (AreNamed names) (sym c.below.ensures) (named_below names f l.invariant.named),
-      ),
+      (within, (c.requires.contents, (way_all names c.args.way.now.items l.way.items c.push.new.self.items own.name l.invariant.way c.in_ok-push.ensures.items c.requires.way (named_first names f own c.in-Some.ensures l.invariant.named).name, subst (AreNamed names) (sym c.below.ensures) (named_below names f l.invariant.named)))),
     )
 
 pub left-preserved : goal.left-preserved
@@ -62,7 +56,7 @@ left-preserved g t c =
     let under = outcomes_along names parts paths down (below_first f) in
     let sizes = size_first f own is in
     let fewer = l.invariant.fewer in
-    let next_size = ap size c.next.ensures in
+    let next_size = ap size c.next-left.ensures in
     let pushed = c.in_ok-push.ensures.items in
     let led : c.push.new.self.items ≡ down = way_down first l.way.items c.push.new.self.items own.name l.invariant.way pushed in
     let added : map outcome_of c.add_targets.new.found.items ≡ (old ++ here) ++ under =
@@ -73,14 +67,14 @@ left-preserved g t c =
     ∙ ap (λ (x : KeyForest). (old ++ here) ++ outcomes_along names parts paths down x) c.below.ensures in
     let rest = outcomes_along names parts paths first (behind_first f) in
     record {
-      named = subst (AreNamed names) (sym c.next.ensures) (named_behind names f l.invariant.named);
-      way = way_back first l.way.items c.push.new.self.items c.add_targets.new.way.items c.truncate.new.self.items own.name l.depth l.invariant.way pushed c.in_ok-add_targets.ensures.way l.invariant.depth c.truncate.ensures.items;
+      named = subst (AreNamed names) (sym c.next-left.ensures) (named_behind names f l.invariant.named);
+      way = way_back first l.way.items c.push.new.self.items c.add_targets.new.way.items c.truncate.new.self.items own.name c.len-depth.result l.invariant.way pushed c.in_ok-add_targets.ensures.way l.invariant.depth c.truncate.ensures.items;
       depth = l.invariant.depth;
       fewer = omega (arith, sizes, fewer, next_size);
       found =
           l.invariant.found ∙ ap (λ xs. old ++ xs) (walk_first (outcome_if names parts paths) first f own is ∙ sym (append_assoc here under rest))
           ∙ sym (append_assoc old (here ++ under) rest) ∙ ap (λ xs. xs ++ rest) (sym (append_assoc old here under) ∙ sym added)
-          ∙ ap (λ (x : KeyForest). map outcome_of c.add_targets.new.found.items ++ outcomes_along names parts paths first x) (sym c.next.ensures);
+          ∙ ap (λ (x : KeyForest). map outcome_of c.add_targets.new.found.items ++ outcomes_along names parts paths first x) (sym c.next-left.ensures);
     }
 
 pub returns-clause-way : goal.returns-clause-way

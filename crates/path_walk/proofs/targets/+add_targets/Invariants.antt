@@ -1,5 +1,4 @@
-use Rattle.std.proofs.Common.{◌≡◌, ◌≤◌, ◌++◌, List, length, map}
-use Rattle.identity_constraints.specs.Targets.{Outcome}
+use Rattle.std.proofs.Common.{◌≡◌, ◌≤◌, ◌++◌, length, map}
 use Rattle.path_walk.specs.Outcomes.{outcome_of}
 use Rattle.path_walk.specs.Sight.{AreNamed}
 use Rattle.path_walk.specs.inside.Walk.{size}

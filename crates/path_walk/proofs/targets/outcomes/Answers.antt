@@ -1,5 +1,5 @@
-use Rattle.std.proofs.Common.{◌≡◌, ◌⊎◌, inl, inr, ◌∷◌, ◌++◌, [], ℕ, List, map, sym, ap, subst, ◌∙◌}
-use Rattle.identity_constraints.specs.Seen.{KeyElement, KeyForest, element}
+use Rattle.std.proofs.Common.{inl, inr, ◌++◌, [], ℕ, List, map, sym, ap, ◌∙◌}
+use Rattle.identity_constraints.specs.Seen.{KeyForest}
 use Rattle.identity_constraints.specs.Targets.{has_constraint}
 use Rattle.path_walk.specs.Sight.{below_first, seen}
 use Rattle.path_walk.specs.Outcomes.{outcome_of}
