@@ -1,3 +1,4 @@
 pub mod Counts
 pub mod Shapes
 pub mod Joining
+pub mod OneReading

@@ -12,10 +12,7 @@ use Rattle.xs_components.specs.declared.element.ElementDecl.{ElementDecl}
 use Rattle.component_tables.specs.ContentTypes.{content_of}
 use Rattle.component_tables.specs.declared.content_types.ContentType.{ContentType}
 use Rattle.component_tables.specs.declared.content_types.ContentType.TheVariants.{SimpleType, Empty, SimpleContent, ElementOnly, Mixed}
-use Rattle.assess_records.specs.declared.outcome.Validity.{Validity}
-use Rattle.assess_records.specs.declared.outcome.Attempted.{Attempted}
 use Rattle.assess_records.specs.declared.outcome.Attempted.TheVariants.{Full, Partial, Untried}
-use Rattle.assess_records.specs.declared.outcome.Validity.TheVariants.{Valid, Invalid, NotKnown}
 use Rattle.assess_records.specs.declared.counts.ChildCounts.{ChildCounts}
 use Rattle.assess_records.specs.declared.record.AttrRecord.{AttrRecord}
 use Rattle.assess_records.specs.declared.record.ElementRecord.{ElementRecord}
@@ -23,7 +20,7 @@ use Rattle.assess_records.specs.declared.shape.ElementShape.{ElementShape}
 use Rattle.elem_governing.specs.declared.pairs.Governing.{Governing}
 use Rattle.elem_governing.specs.declared.local_types.XsiType.{XsiType}
 use Rattle.elem_codes.specs.declared.outcome.TextOutcome.{TextOutcome}
-use Rattle.elem_codes.specs.Facts.{governing_content, is_strictly_assessed, is_taken, has_children, has_elements, is_bare}
+use Rattle.elem_codes.specs.Facts.{governing_content, is_strictly_assessed, is_taken, has_children}
 use Rattle.elem_codes.specs.Used.{text_used, scope_used, fixed_value, source_of}
 use Rattle.elem_codes.specs.Codes.{governed_codes, by_content, local_codes, declaration_codes, type_codes, nil_codes, fixed_codes, code_if, is_nil_refused, is_fixed_nil, has_other_attributes, simple_text_codes, text_codes, stuck_codes, missing_codes, is_mixed, differs, is_unmet}
 use Rattle.elem_codes.specs.Records.{validity_of, attempted_of, is_invalid, is_full, is_untried, nil_text, decl, constraint, nil, taken, all_codes, element_record}
@@ -69,21 +66,21 @@ module _ (shape : ElementShape) (counts : ChildCounts) (identity ids : List Foun
   nil-same : (d : Option ElementDecl) (c : Option ValueConstraint) (xsi : Option (List ℕ)) (nil : Bool) → nil_codes d c xsi nil other ≡ nil_codes d c xsi nil shape
   nil-same d c xsi nil = ap (λ (b : Bool). code_if (is_nil_refused d xsi) CvcElt3_1 ++ (code_if (nil && not (not b && (length shape.text == 0))) CvcElt3_2_1 ++ code_if (is_fixed_nil nil c) CvcElt3_2_2)) same
 
-  content-same : (names : NameTable) (nil : Bool) (content : ContentType) (text : List ℕ) (outcome : TextOutcome) (missing : List ℕ) →
-      by_content names nil content other text outcome missing ≡ by_content names nil content shape text outcome missing
-  content-same names nil SimpleType text outcome missing =
-      ap (λ (b : Bool). code_if (has_other_attributes names shape.attrs) CvcType3_1_1 ++ (code_if (not nil && b) CvcType3_1_2 ++ simple_text_codes outcome)) same
-  content-same names nil Empty text outcome missing =
-      ap (λ (b : Bool). (if nil then [] else code_if (b || not (length text == 0)) CvcComplexType2_1 ++ stuck_codes shape.stuck) ++ missing_codes missing) same
-  content-same names nil SimpleContent text outcome missing =
-      ap (λ (b : Bool). (if nil then [] else (code_if b CvcComplexType2_2 ++ text_codes CvcComplexType2_2 outcome) ++ stuck_codes shape.stuck) ++ missing_codes missing) same
-  content-same names nil ElementOnly text outcome missing = refl
-  content-same names nil Mixed text outcome missing = refl
+  content-same : (names : NameTable) (is_nil : Bool) (content : ContentType) (text : List ℕ) (outcome : TextOutcome) (missing : List ℕ) →
+      by_content names is_nil content other text outcome missing ≡ by_content names is_nil content shape text outcome missing
+  content-same names is_nil SimpleType text outcome missing =
+      ap (λ (b : Bool). code_if (has_other_attributes names shape.attrs) CvcType3_1_1 ++ (code_if (not is_nil && b) CvcType3_1_2 ++ simple_text_codes outcome)) same
+  content-same names is_nil Empty text outcome missing =
+      ap (λ (b : Bool). (if is_nil then [] else code_if (b || not (length text == 0)) CvcComplexType2_1 ++ stuck_codes shape.stuck) ++ missing_codes missing) same
+  content-same names is_nil SimpleContent text outcome missing =
+      ap (λ (b : Bool). (if is_nil then [] else (code_if b CvcComplexType2_2 ++ text_codes CvcComplexType2_2 outcome) ++ stuck_codes shape.stuck) ++ missing_codes missing) same
+  content-same names is_nil ElementOnly text outcome missing = refl
+  content-same names is_nil Mixed text outcome missing = refl
 
-  governed-same : (names : NameTable) (nil : Bool) (content : Option ContentType) (text : List ℕ) (outcome : TextOutcome) (missing : List ℕ) →
-      governed_codes names nil content other text outcome missing ≡ governed_codes names nil content shape text outcome missing
-  governed-same names nil None text outcome missing = refl
-  governed-same names nil (Some content) text outcome missing = content-same names nil content text outcome missing
+  governed-same : (names : NameTable) (is_nil : Bool) (content : Option ContentType) (text : List ℕ) (outcome : TextOutcome) (missing : List ℕ) →
+      governed_codes names is_nil content other text outcome missing ≡ governed_codes names is_nil content shape text outcome missing
+  governed-same names is_nil None text outcome missing = refl
+  governed-same names is_nil (Some content) text outcome missing = content-same names is_nil content text outcome missing
 
   fixed-same : (nil : Bool) (content : Option ContentType) (fixed : Option ValueConstraint) (outcome : TextOutcome) → fixed_codes nil content fixed other outcome ≡ fixed_codes nil content fixed shape outcome
   fixed-same nil content fixed outcome =
@@ -96,7 +93,7 @@ module _ (shape : ElementShape) (counts : ChildCounts) (identity ids : List Foun
         subst (λ scope. IsRead t of (fixed_value is c) scope (text_used is c other) outcome) (sym (scope-same is c))
         (subst (λ text. IsRead t of (fixed_value is c) (scope_used is c shape) text outcome) (sym (text-same is c)) r)
 
-    outcome-same : (of : Option TypeId) (is : Bool) (c : Option ValueConstraint) (outcome : TextOutcome) → IsTextOutcome t of is c shape outcome → IsTextOutcome t of is c other outcome
+    pub outcome-same : (of : Option TypeId) (is : Bool) (c : Option ValueConstraint) (outcome : TextOutcome) → IsTextOutcome t of is c shape outcome → IsTextOutcome t of is c other outcome
     outcome-same None is c outcome r = r
     outcome-same (Some of) is c outcome r =
         let read : is_read (content_of t of) is other ≡ is_read (content_of t of) is shape = ap (λ (b : Bool). is_simple_content (content_of t of) && (not is && not b)) same in
@@ -145,7 +142,7 @@ module _ (shape : ElementShape) (counts : ChildCounts) (identity ids : List Foun
     abbrev pub record_of_other : (judged : Judged) → IsLocal names t g shape judged → ElementRecord
     record_of_other judged k = element_record names t g other (said_on names t g shape) k.attributes.missing k.known.outcome k.attributes.records
 
-    pub local-again : (judged : Judged) (k : IsLocal names t g shape judged) → IsLocal names t g other (record judged { element = record_of_other judged k })
+    abbrev pub local-again : (judged : Judged) (k : IsLocal names t g shape judged) → IsLocal names t g other (record judged { element = record_of_other judged k })
     local-again judged k =
         let w = k.known in record {
           attributes = k.attributes;

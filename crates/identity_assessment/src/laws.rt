@@ -2,6 +2,8 @@
 
 ghost use Rattle.std.specs.Prelude.{◌≡◌, List};
 ghost use Rattle.tree_rows.specs.Forest.{Forest};
+ghost use Rattle.xs_components.specs.Tables.{Tables};
+ghost use Rattle.identity_paths.specs.Reads.{AreIdentities};
 ghost use Rattle.identity_paths.specs.declared.paths.IdentityPaths.{IdentityPaths};
 ghost use Rattle.assessment.specs.Attribution.{SchemaSet};
 ghost use Rattle.assessment.specs.Assessment.{Assessed, IsAssessment};
@@ -16,4 +18,11 @@ pub fn identity_codes_join_the_assessment()
         IsAssessment s (beside_of s identities f (with_codes s identities f found)) f (with_codes s identities f found) }
     ensures parted { (s : SchemaSet) (identities : List IdentityPaths) (f : Forest) (found : Assessed) → IsAssessment s (beside_of s identities f found) f found →
         (plain : Assessed) × IsAssessment s plain_beside f plain × (found ≡ with_codes s identities f plain) }
+{}
+
+/// The paths of the identity constraints of a set are read in one way, so by each list of them the same is said beside of what was
+/// found.
+pub fn identities_go_by_the_set()
+    ensures one { (t : Tables) (xs ys : List IdentityPaths) → AreIdentities t xs → AreIdentities t ys → xs ≡ ys }
+    ensures beside { (s : SchemaSet) (xs ys : List IdentityPaths) → AreIdentities s.parts xs → AreIdentities s.parts ys → (f : Forest) (found : Assessed) → beside_of s xs f found ≡ beside_of s ys f found }
 {}

@@ -3,4 +3,4 @@
 
 mod laws;
 
-pub use laws::identity_codes_join_the_assessment;
+pub use laws::{identities_go_by_the_set, identity_codes_join_the_assessment};

@@ -6,7 +6,7 @@ use Rattle.std.proofs.lemmas.Slice.Eq.{slice_eq-Decides}
 use Rattle.simple_values.specs.declared.key.Key.{Key}
 use Rattle.simple_values.proofs.Keys.{key_decides}
 use Rattle.identity_tables.specs.Tuple.{same_tuple}
-use Rattle.identity_tables.specs.KeyTables.{Tables, own_count, is_entry, IsOneMoreTuple}
+use Rattle.identity_tables.specs.KeyTables.{Tables, is_entry, IsOneMoreTuple}
 use Rattle.identity_carry.specs.Tables.{KeyTuple, same_key_tuple, for_key, own, said, IsOneMoreOwn}
 
 pub tuple_decides : (xs ys : List Key) → Decides (same_tuple xs ys) (xs ≡ ys)

@@ -1,6 +1,6 @@
 -- The least fault of paths and constraints, one after another.
 use Rattle.std.proofs.Common.{◌≡◌, ◌≢◌, ◌⊎◌, inl, inr, ℕ, ◌+◌, ◌<◌, ◌≤◌, Bool, true, false, if◌then◌else◌, List, [], ◌∷◌, ◌++◌, Option, None, Some, length, get_or, take, slice_get, refl, sym, ap, ◌∙◌, subst, arith}
-use Rattle.std.specs.Prelude.{Any, Result, Ok, Err}
+use Rattle.std.specs.Prelude.{Any, Err}
 use Rattle.std.specs.List.{AllZip}
 use Rattle.std.proofs.lemmas.Bool.{cases_lt}
 use Rattle.std.proofs.lemmas.Grind.{common_steps}
@@ -14,7 +14,6 @@ use Rattle.xs_codes.specs.declared.code.Code.TheVariants.{CPropsCorrect2}
 use Rattle.xs_codes.specs.declared.fault.Fault.{Fault}
 use Rattle.xs_components.specs.Tables.{Tables}
 use Rattle.xs_components.specs.declared.constraint.Constraint.{Constraint}
-use Rattle.xs_components.specs.declared.constraint.ConstraintKind.{ConstraintKind}
 use Rattle.xs_components.specs.declared.constraint.ConstraintKind.TheVariants.{Keyref}
 use Rattle.xs_components.specs.declared.constraint.PathText.{PathText}
 use Rattle.xpath_subset.specs.Grammar.{WrittenPaths, IsReading, paths_meaning}
@@ -32,13 +31,13 @@ read-faultless IsWritten code path paths read f x = x.0 paths read
 
 -- one that is not read is read as nothing
 pub unread : (IsWritten : List ℕ → WrittenPaths → Type 0) (path : PathText) (fault : XPathFault) → IsReading (IsWritten path.text) (paths_meaning path.scope) (Err fault) → (paths : List Path) → IsReadAs IsWritten path paths → ⊥
-unread IsWritten path Syntax no paths read = no read.0.0 read.0.1
-unread IsWritten path Unbound no paths read = none-some paths (sym (no.1 read.0.0 read.0.1) ∙ read.1 read.0.0 read.0.1)
+unread IsWritten path Syntax fails paths read = fails read.0.0 read.0.1
+unread IsWritten path Unbound fails paths read = none-some paths (sym (fails.1 read.0.0 read.0.1) ∙ read.1 read.0.0 read.0.1)
 
 pub read-fault : (IsWritten : List ℕ → WrittenPaths → Type 0) (code : Code) (path : PathText) (xpath_fault : XPathFault) (fault : Fault) → IsReading (IsWritten path.text) (paths_meaning path.scope) (Err xpath_fault) → fault ≡ fault_at path.at code →
     IsLeast (IsUnreadable IsWritten code path) (Some fault)
-read-fault IsWritten code path xpath_fault fault no is = (
-  (unread IsWritten path xpath_fault no, is),
+read-fault IsWritten code path xpath_fault fault fails is = (
+  (unread IsWritten path xpath_fault fails, is),
   λ g x. subst (λ f. is_before f fault ≡ false) (is ∙ sym x.1) (fault_not_itself fault),
 )
 
@@ -103,6 +102,16 @@ pub neither : (a b : Option Fault) → sooner a b ≡ None → (a ≡ None) × (
 neither None b e = (refl, e)
 neither (Some first) None e = absurd (none-some first (sym e))
 neither (Some first) (Some other) e = absurd (neither-of first other (is_before other first) e)
+
+-- what is known of the first so many, with the next one
+module _ {X Y : Type 0} (Broken : X → Fault → Type 0) (R : X → Y → Type 0) (xs : List X) (i : ℕ) (x : X) (within : i < length xs) (is : x ≡ get_or xs i x) (best found new : Option Fault) (joined : new ≡ sooner best found) where
+  pub known-least : IsLeast (λ f. Any (λ y. Broken y f) (take i xs)) best → IsLeast (Broken x) found → IsLeast (λ f. Any (λ y. Broken y f) (take (i + 1) xs)) new
+  known-least before own = least-next Broken xs i x within best found new joined before (subst (λ y. IsLeast (Broken y) found) is own)
+
+  pub known-read : (ys more : List Y) (y : Y) → more ≡ ys ++ y ∷ [] → (best ≡ None → AllZip R (take i xs) ys) → (found ≡ None → R x y) → new ≡ None → AllZip R (take (i + 1) xs) more
+  known-read ys more y pushed before own none =
+      let both = neither best found (sym joined ∙ none) in
+      subst (AllZip R (take (i + 1) xs)) (sym pushed) (zip-next R xs ys i x y within (before both.0) (subst (λ z. R z y) is (own both.1)))
 
 -- ---- a keyref's fields
 

@@ -1,17 +1,32 @@
--- The least fault of a constraint by those of its paths and of the number of its fields.
-use Rattle.std.proofs.Common.{◌≡◌, ◌⊎◌, Option, None, sym, ap, ◌∙◌, subst}
+-- What paths and constraints are read as, or their least faults.
+use Rattle.std.proofs.Common.{◌≡◌, ◌⊎◌, ℕ, List, Option, None, Some, sym, ap, ◌∙◌, subst}
+use Rattle.std.specs.Prelude.{Err}
+use Rattle.std.proofs.lemmas.Option.{none-some}
 use Rattle.xs_codes.specs.Least.{IsLeast, sooner}
 use Rattle.xs_codes.proofs.LeastLaws.{least-sum}
+use Rattle.xs_codes.specs.declared.code.Code.{Code}
 use Rattle.xs_codes.specs.declared.code.Code.TheVariants.{CSelectorXpath}
 use Rattle.xs_codes.specs.declared.fault.Fault.{Fault}
 use Rattle.xs_components.specs.Tables.{Tables}
 use Rattle.xs_components.specs.declared.constraint.Constraint.{Constraint}
-use Rattle.xpath_subset.specs.Grammar.{IsSelector}
-use Rattle.identity_faults.specs.Faults.{IsSelectorFault, IsFieldFault, IsCountFault, IsFaultOf}
+use Rattle.xs_components.specs.declared.constraint.PathText.{PathText}
+use Rattle.xpath_subset.specs.Grammar.{WrittenPaths, IsSelector, IsReading, paths_meaning}
+use Rattle.xpath_subset.specs.declared.path.Path.{Path}
+use Rattle.xpath_subset.specs.declared.reading.XPathFault.{XPathFault}
+use Rattle.identity_paths.specs.Reads.{IsReadAs}
+use Rattle.identity_faults.specs.Faults.{fault_at, IsSelectorFault, IsFieldFault, IsCountFault, IsFaultOf}
 use Rattle.identity_faults.specs.inside.Reading.{IsPathRead, AreFieldsRead, IsConstraintRead}
 use Rattle.identity_faults.specs.declared.reading.PathReading.{PathReading}
 use Rattle.identity_faults.specs.declared.reading.FieldsReading.{FieldsReading}
-use Rattle.identity_faults.proofs.FaultLaws.{neither}
+use Rattle.identity_faults.proofs.FaultLaws.{read-faultless, read-fault, neither}
+
+module _ (IsWritten : List ℕ → WrittenPaths → Type 0) (code : Code) (path : PathText) where
+  pub path-read : (paths : List Path) → IsReadAs IsWritten path paths → IsPathRead IsWritten code path (record { fault = None; paths = paths })
+  path-read paths read = record { least = read-faultless IsWritten code path paths read; paths = λ none. read }
+
+  pub path-unread : (xpath_fault : XPathFault) (fault : Fault) (paths : List Path) → IsReading (IsWritten path.text) (paths_meaning path.scope) (Err xpath_fault) → fault ≡ fault_at path.at code →
+      IsPathRead IsWritten code path (record { fault = Some fault; paths = paths })
+  path-unread xpath_fault fault paths fails is = record { least = read-fault IsWritten code path xpath_fault fault fails is; paths = λ none. absurd (none-some fault (sym none)) }
 
 module _ (t : Tables) (c : Constraint) (selector : PathReading) (fields : FieldsReading) (count of_fields fault : Option Fault) where
   pub constraint-read : IsPathRead IsSelector CSelectorXpath c.selector selector → AreFieldsRead c.fields fields → IsLeast (IsCountFault t c) count →

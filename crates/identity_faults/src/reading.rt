@@ -1,7 +1,7 @@
 //! The paths of an identity constraint, read one by one.
 
-ghost use Rattle.std.specs.Prelude.{◌≡◌, ℕ, List, IfOk};
-ghost use Rattle.xpath_subset.specs.Grammar.{WrittenPaths, IsSelector, IsField, IsReading, paths_meaning};
+ghost use Rattle.std.specs.Prelude.{◌≡◌, IfOk};
+ghost use Rattle.xpath_subset.specs.Grammar.{IsSelector, IsField, IsReading, paths_meaning};
 ghost use Rattle.xs_codes.specs.declared.code.Code.TheVariants.{CSelectorXpath, CFieldsXpaths};
 ghost use Rattle.xs_components.specs.declared.constraint.PathText.{PathText as PathTextData};
 ghost use Rattle.identity_faults.specs.Faults as spec;
@@ -49,7 +49,8 @@ fn reading_of(
     read: Result<Paths, XPathFault>,
     code: Code,
 ) -> PathReading
-    ensures { (IsWritten : List ℕ → WrittenPaths → Type 0) → IsReading (IsWritten path.now.text) (paths_meaning path.now.scope) read → IsPathRead IsWritten code path.now result }
+    ensures selector { IsReading (IsSelector path.now.text) (paths_meaning path.now.scope) read → IsPathRead IsSelector code path.now result }
+    ensures field { IsReading (IsField path.now.text) (paths_meaning path.now.scope) read → IsPathRead IsField code path.now result }
 {
     match read {
         Ok(paths) => PathReading { fault: None, paths },

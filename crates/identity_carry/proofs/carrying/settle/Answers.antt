@@ -1,4 +1,4 @@
-use Rattle.std.proofs.Common.{◌≡◌, ◌≤◌, ◌+◌, ◌∙◌, ℕ, Option, ap, subst, arith}
+use Rattle.std.proofs.Common.{◌≡◌, ◌≤◌, ◌+◌, ◌∙◌, Option, ap, subst, arith}
 use Rattle.identity_carry.specs.Tables.{ArePending, level}
 use Rattle.identity_carry.specs.declared.carrying.Waiting.{Waiting}
 use Rattle.identity_carry.proofs.carrying.settle.Goals as goal

@@ -1,4 +1,3 @@
-use Rattle.std.proofs.Common.{◌≡◌}
 use Rattle.identity_counts.specs.Counting.{Links, IsLinked}
 use Rattle.identity_carry.specs.Tables.{AreParents, ArePending, HasSameOwn, level}
 use Rattle.identity_carry.proofs.carrying.settle.Given as goal

@@ -1,0 +1,15 @@
+use Rattle.identity_carry.proofs.CarryLaws.{counted-more-ok, counted-less, falls-there}
+use Rattle.identity_carry.proofs.carrying.recount.Goals as goal
+
+pub returns-then-waiting-clause-touched : goal.returns-then-waiting-clause-touched
+returns-then-waiting-clause-touched c =
+    counted-more-ok c.add.result c.args.tables.now c.add.new.self c.args.key c.args.tuple.now c.in_ok-clone.field-0 c.args.waiting c.if-waiting.true c.in_ok-clone.ensures.cases c.add.ensures.ok
+
+pub drop_entry-requires : goal.drop_entry-requires
+drop_entry-requires c =
+    let p = c.requires.pending in
+    falls-there p.0 c.args.tables.now c.args.waiting.at c.args.key c.args.tuple.now c.args.waiting.grows c.if-waiting.false p.1
+
+pub returns-clause-touched : goal.returns-clause-touched
+returns-clause-touched c = λ t i waits.
+    counted-less t i c.args.tables.now c.drop_entry.new.self c.args.waiting.at c.args.key c.args.tuple.now c.args.waiting.grows c.if-waiting.false c.drop_entry.ensures waits

@@ -1,0 +1,10 @@
+use Rattle.std.proofs.Common.{sym, subst}
+use Rattle.identity_counts.specs.Counting.{IsTouched}
+use Rattle.identity_carry.specs.Tables.{for_key, own, said, same_key_tuple}
+use Rattle.identity_carry.proofs.carrying.settle_at.Goals as goal
+
+pub returns-clause-pending : goal.returns-clause-pending
+returns-clause-pending c = λ t i parents waits.
+    let new = c.recount.new.tables in
+    c.note.ensures.pending t parents
+    (subst (IsTouched same_key_tuple t (own new) (said new) c.args.waiting.at (for_key c.args.key c.args.tuple.now)) (sym c.is_seen-was.ensures) (c.in_ok-recount.ensures.touched t i waits))
