@@ -1,0 +1,6 @@
+mod Adding
+mod Attributing
+mod Walking
+mod Extending
+mod Selecting
+mod Looking
