@@ -51,4 +51,5 @@ module _ (c : Compiled) (new : NameTable) where
     classes_are = h.classes_are;
     first = h.first;
     models_are = models-more h.first h.models_are g;
+    identities_are = h.identities_are;
   }

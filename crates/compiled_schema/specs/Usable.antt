@@ -18,6 +18,7 @@ use Rattle.content_models.specs.Built.{IsBuilt}
 use Rattle.content_models.specs.declared.automaton.ContentAutomaton.{ContentAutomaton}
 use Rattle.model_checks.specs.Checks.{IsAmbiguousModel}
 use Rattle.schema_models.specs.SetModels.{content_of}
+use Rattle.identity_paths.specs.Reads.{AreIdentities}
 use Rattle.assessment.specs.Attribution.{SchemaSet}
 use Rattle.compiled_schema.specs.declared.compiled.Compiled.{Compiled}
 
@@ -55,7 +56,7 @@ pub record AreModels (c : Compiled) (first : NameTable) : Type 0 where
   pub are : (n : ℕ) (model : Option ContentAutomaton) → slice_get c.models n ≡ Some model → HasModelOver first c n model
 
 -- Documents may be assessed by the set: governing declarations and types are read off it, elements and their attributes are judged
--- by it, and child elements are attributed to the terms of its content models.
+-- by it, and child elements are attributed to the terms of its content models; the paths of identity constraints are those that are written.
 pub record IsUsable (c : Compiled) : Type 0 where
   pub named : AreNamed c.names c.parts
   pub view : IsView c.parts c.declarations c.named
@@ -66,3 +67,4 @@ pub record IsUsable (c : Compiled) : Type 0 where
   pub classes_are : AreClassesOf c.parts c.classes.items
   pub first : NameTable
   pub models_are : AreModels c first
+  pub identities_are : AreIdentities c.parts c.identities.items

@@ -1,5 +1,6 @@
 use attr_uses::AttrTables;
 use component_tables::{ComponentNames, ContentTypes, Declarations};
+use identity_paths::IdentityPaths;
 use schema_models::Models;
 use simple_types::SimpleTypes;
 use xs_components::{Components, Members};
@@ -28,4 +29,6 @@ pub struct Compiled {
     pub contents: ContentTypes,
     /// The automata of the content models of its complex types.
     pub models: Models,
+    /// The paths of its identity constraints, by their numbers (Structures 3.11.1).
+    pub identities: Vec<IdentityPaths>,
 }

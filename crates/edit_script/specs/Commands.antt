@@ -81,10 +81,14 @@ unset rest = number_and_name rest >>= λ it. Ok (commands.Change (edits.UnsetAtt
 abbrev pub assess : Option (List ℕ) → Result Command ScriptFault
 assess rest = only_number rest >>= λ node. Ok (commands.Assess node)
 
--- `total`
-abbrev pub total : Option (List ℕ) → Result Command ScriptFault
-total None = Ok commands.Total
-total (Some rest) = Err WrongFields
+-- nothing stands behind the word
+abbrev pub no_field : Option (List ℕ) → Result (Unit {0}) ScriptFault
+no_field None = Ok tt
+no_field (Some rest) = Err WrongFields
+
+-- a command without fields: `errors`, `report`, `total`
+abbrev pub alone : Command → Option (List ℕ) → Result Command ScriptFault
+alone command rest = no_field rest >>= λ none. Ok command
 
 abbrev pub by_word : List ℕ → Option (List ℕ) → Option (List Item) → Result Command ScriptFault
 by_word word rest block =
@@ -96,8 +100,10 @@ by_word word rest block =
     else (if bytes_eq word (codes "set") then set rest
     else (if bytes_eq word (codes "unset") then unset rest
     else (if bytes_eq word (codes "assess") then assess rest
-    else (if bytes_eq word (codes "total") then total rest
-    else Err UnknownCommand))))))))
+    else (if bytes_eq word (codes "errors") then alone commands.Errors rest
+    else (if bytes_eq word (codes "report") then alone commands.Report rest
+    else (if bytes_eq word (codes "total") then alone commands.Total rest
+    else Err UnknownCommand))))))))))
 
 -- the command of a line and its block, or the first fault by its number
 abbrev pub command : List ℕ → Option (List Item) → Result Command ScriptFault
@@ -107,6 +113,8 @@ command line block = by_word (word_of line (split line)) (rest_of (split line)) 
 abbrev pub IsReady : Command → Type 0
 IsReady (commands.Change edit) = can_be_made edit ≡ true
 IsReady (commands.Assess node) = Unit {0}
+IsReady commands.Errors = Unit {0}
+IsReady commands.Report = Unit {0}
 IsReady commands.Total = Unit {0}
 
 abbrev pub IsReadyOr : Result Command ScriptFault → Type 0

@@ -29,3 +29,9 @@ empty_value = refl
 
 two_names : command (codes "unset 1 a b") None ≡ Err WrongFields
 two_names = refl
+
+errors_alone : command (codes "errors") None ≡ Ok commands.Errors
+errors_alone = refl
+
+report_with_a_field : command (codes "report ") None ≡ Err WrongFields
+report_with_a_field = refl

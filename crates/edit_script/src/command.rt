@@ -10,6 +10,10 @@ pub enum Command {
     Change(Edit),
     /// `assess N`: a question for the record of an element.
     Assess(u32),
+    /// `errors`: a question for the records that have a code, and the number of codes.
+    Errors,
+    /// `report`: a question for all records, and the number of codes.
+    Report,
     /// `total`: a question for the number of codes.
     Total,
 }

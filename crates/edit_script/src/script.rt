@@ -200,6 +200,16 @@ fn read_unset(alloc: Global, rest: Option<&str>) -> Result<Command, ScriptError>
     Ok(Command::Change(Edit::UnsetAttr { node, name }))
 }
 
+/// Whether nothing stands behind the word.
+fn no_field(rest: Option<&str>) -> Result<(), ScriptFault>
+    ensures { result ≡ script.no_field (option_copied rest.entry) }
+{
+    match rest {
+        Some(_) => Err(ScriptFault::WrongFields),
+        None => Ok(()),
+    }
+}
+
 fn read_by_word(
     alloc: Global,
     word: &str,
@@ -226,10 +236,14 @@ fn read_by_word(
         read_unset(alloc, rest)
     } else if word == "assess" {
         Ok(Command::Assess(only_number(rest)?))
+    } else if word == "errors" {
+        no_field(rest)?;
+        Ok(Command::Errors)
+    } else if word == "report" {
+        no_field(rest)?;
+        Ok(Command::Report)
     } else if word == "total" {
-        if rest.is_some() {
-            return Err(ScriptError::Refused(ScriptFault::WrongFields));
-        }
+        no_field(rest)?;
         Ok(Command::Total)
     } else {
         Err(ScriptError::Refused(ScriptFault::UnknownCommand))

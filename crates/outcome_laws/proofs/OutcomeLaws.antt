@@ -1,12 +1,14 @@
 -- What becomes of documents is determined.
 use Rattle.std.proofs.Common.{◌≡◌, ◌↔◌, inl, inr, ℕ, Bool, List, [], ◌∷◌, Option, None, Some, Result, Ok, Err, refl, sym, ap, ◌∙◌, subst}
 use Rattle.std.specs.Prelude.{Contains}
+use Rattle.std.specs.List.{AllZip}
 use Rattle.std.proofs.lemmas.Option.{none-some, same_Some}
 use Rattle.xs_codes.specs.declared.fault.Fault.{Fault}
 use Rattle.xs_codes.specs.Least.{IsLeast}
 use Rattle.xs_codes.proofs.LeastLaws.{least-same}
 use Rattle.xs_names.specs.Names.{NameTable}
 use Rattle.xs_components.specs.Tables.{Tables}
+use Rattle.xs_components.specs.declared.constraint.Constraint.{Constraint}
 use Rattle.xs_components.specs.declared.common.TypeId.{TypeId}
 use Rattle.particle_restrict.specs.declared.terms.Term.{Term}
 use Rattle.redefine_names.specs.declared.pairs.RedefinedPair.{RedefinedPair}
@@ -23,16 +25,18 @@ use Rattle.schema_set.specs.declared.inputs.SchemaInput.{SchemaInput}
 use Rattle.schema_check.specs.Phases.{IsFirstOfPhases}
 use Rattle.schema_check.specs.Compilation.{IsCompilation}
 use Rattle.schema_check.specs.declared.documents.CompiledSet.{CompiledSet}
-use Rattle.schema_check.specs.declared.documents.Refusal.{Refusal}
-use Rattle.schema_check.specs.declared.documents.Refusal.TheVariants as refusals
 use Rattle.compiled_schema.specs.Usable.{set_of}
 use Rattle.compiled_schema.specs.declared.compiled.Compiled.{Compiled}
-use Rattle.schema_compile.specs.Outcomes.{IsPropertyFault, attr_phase, derivation_phase, model_phase, restriction_phase, late_phases, IsSetOutcome, of_refusal, IsOutcome}
+use Rattle.schema_compile.specs.Outcomes.{IsPropertyFault, attr_phase, derivation_phase, model_phase, restriction_phase, identity_phase, late_phases, IsSetOutcome, IsOutcome}
 use Rattle.schema_compile.specs.declared.outcome.Outcome.{Outcome}
-use Rattle.schema_compile.specs.declared.outcome.Outcome.TheVariants.{Accepted, Broken, NotYet}
+use Rattle.schema_compile.specs.declared.outcome.Outcome.TheVariants.{Accepted, Broken}
 use Rattle.schema_compile.proofs.Members.{groups-same}
 use Rattle.schema_compile.proofs.Classes.{classes-same}
 use Rattle.schema_compile.proofs.Phases.{late-one}
+use Rattle.identity_faults.specs.Faults.{IsIdentityFault}
+use Rattle.identity_paths.specs.Reads.{ArePathsOf, AreIdentities}
+use Rattle.identity_paths.specs.declared.paths.IdentityPaths.{IdentityPaths}
+use Rattle.identity_paths.proofs.Once.{paths-once}
 use Rattle.set_laws.specs.Same.{AreSamePairs, IsSameMade}
 use Rattle.set_laws.proofs.CompileLaws.{compilations-same}
 use Rattle.outcome_laws.specs.Same.{IsSameOutcome}
@@ -107,46 +111,55 @@ module _ (a b : CompiledSet) (same : IsSameMade a b) where
       (subst (λ (names : NameTable). restriction_phase_at a.parts names a.redefined.groups.items found) same.names p) in
       (q.0, q.1, restriction-kept b.parts b.names a.redefined.groups.items b.redefined.groups.items same.groups q.0 found q.2)
 
+  identities : (found : Option Fault) → identity_phase a found → identity_phase b found
+  identities found p = subst (λ (t : Tables). IsLeast (IsIdentityFault t) found) same.parts p
+
   pub late-kept : (found : Option Fault) → IsFirstOfPhases (late_phases a) found → IsFirstOfPhases (late_phases b) found
-  late-kept = phases-kept (late_phases a) (late_phases b) (attrs, (derivation, (models, (restriction, tt))))
+  late-kept = phases-kept (late_phases a) (late_phases b) (attrs, (derivation, (models, (restriction, (identities, tt)))))
+
+-- the paths of identity constraints are one
+paths-same : (parts : List Constraint) (xs ys : List IdentityPaths) → AllZip ArePathsOf parts xs → AllZip ArePathsOf parts ys → xs ≡ ys
+paths-same [] [] [] p q = refl
+paths-same [] [] (y ∷ ys) p q = absurd q
+paths-same [] (x ∷ xs) ys p q = absurd p
+paths-same (c ∷ parts) [] ys p q = absurd p
+paths-same (c ∷ parts) (x ∷ xs) [] p q = absurd q
+paths-same (c ∷ parts) (x ∷ xs) (y ∷ ys) p q =
+    let first = paths-once c x y p.0 q.0 in
+    let rest = paths-same parts xs ys p.1 q.1 in
+    λ i. first i ∷ rest i
 
 -- ---- what the components of a set come to
 module _ (a b : CompiledSet) (same : IsSameMade a b) where
   late-same : (x y : Option Fault) → IsFirstOfPhases (late_phases a) x → IsFirstOfPhases (late_phases b) y → x ≡ y
   late-same x y p q = late-one b x y (late-kept a b same x p) q
 
-  accepted-same : (c d : Compiled) → IsSetOutcome a (Accepted c) → IsSetOutcome b (Accepted d) → set_of c ≡ set_of d
+  accepted-same : (c d : Compiled) → IsSetOutcome a (Accepted c) → IsSetOutcome b (Accepted d) → IsSameOutcome (Accepted c) (Accepted d)
   accepted-same c d p q =
       let names : c.names ≡ d.names = p.1.names ∙ (same.names ∙ sym q.1.names) in
       let parts : c.parts ≡ d.parts = p.1.parts ∙ (same.parts ∙ sym q.1.parts) in
       let members : c.members ≡ d.members = groups-same d.parts c.members d.members (subst (λ (t : Tables). AreGroups t c.members) parts p.2.groups) q.2.groups in
       let classes : c.classes.items ≡ d.classes.items = classes-same d.parts c.classes.items d.classes.items (subst (λ (t : Tables). AreClassesOf t c.classes.items) parts p.2.classes_are) q.2.classes_are in
-      λ i. record { names = names i; parts = parts i; members = members i; classes = classes i }
+      let paths = paths-same d.parts.constraints.parts c.identities.items d.identities.items (subst (λ (t : Tables). AreIdentities t c.identities.items) parts p.2.identities_are) q.2.identities_are in
+      ((λ i. record { names = names i; parts = parts i; members = members i; classes = classes i }), paths)
 
   set-outcomes-same : (x y : Outcome) → IsSetOutcome a x → IsSetOutcome b y → IsSameOutcome x y
   set-outcomes-same (Accepted c) (Accepted d) p q = accepted-same c d p q
   set-outcomes-same (Accepted c) (Broken g) p q = absurd (none-some g (late-same None (Some g) p.0 q))
-  set-outcomes-same (Accepted c) NotYet p q = absurd q
   set-outcomes-same (Broken f) (Accepted d) p q = absurd (none-some f (sym (late-same (Some f) None p q.0)))
   set-outcomes-same (Broken f) (Broken g) p q = same_Some f g (late-same (Some f) (Some g) p q)
-  set-outcomes-same (Broken f) NotYet p q = absurd q
-  set-outcomes-same NotYet y p q = absurd p
 
 -- ---- what documents come to
 module _ (inputs : List SchemaInput) where
-  refusals-same : (r s : Refusal) → IsCompilation inputs (Err r) → IsCompilation inputs (Err s) → IsSameOutcome (of_refusal r) (of_refusal s)
-  refusals-same (refusals.Broken f) (refusals.Broken g) p q = compilations-same inputs (Err (refusals.Broken f)) (Err (refusals.Broken g)) p q
-  refusals-same (refusals.Broken f) refusals.NotYet p q = absurd (compilations-same inputs (Err (refusals.Broken f)) (Err refusals.NotYet) p q)
-  refusals-same refusals.NotYet (refusals.Broken g) p q = absurd (compilations-same inputs (Err refusals.NotYet) (Err (refusals.Broken g)) p q)
-  refusals-same refusals.NotYet refusals.NotYet p q = tt
+  faults-same : (f g : Fault) → IsCompilation inputs (Err f) → IsCompilation inputs (Err g) → IsSameOutcome (Broken f) (Broken g)
+  faults-same f g p q = compilations-same inputs (Err f) (Err g) p q
 
-  refused-or-made : (r : Refusal) (made : CompiledSet) → IsCompilation inputs (Err r) → IsCompilation inputs (Ok made) → ⊥
-  refused-or-made (refusals.Broken f) made p q = compilations-same inputs (Err (refusals.Broken f)) (Ok made) p q
-  refused-or-made refusals.NotYet made p q = compilations-same inputs (Err refusals.NotYet) (Ok made) p q
+  broken-or-made : (f : Fault) (made : CompiledSet) → IsCompilation inputs (Err f) → IsCompilation inputs (Ok made) → ⊥
+  broken-or-made f made p q = compilations-same inputs (Err f) (Ok made) p q
 
   pub outcomes-same : (x y : Outcome) → IsOutcome inputs x → IsOutcome inputs y → IsSameOutcome x y
   outcomes-same x y (inl p) (inl q) =
-      subst (λ (o : Outcome). IsSameOutcome o y) (sym p.2) (subst (IsSameOutcome (of_refusal p.0)) (sym q.2) (refusals-same p.0 q.0 p.1 q.1))
-  outcomes-same x y (inl p) (inr q) = absurd (refused-or-made p.0 q.0 p.1 q.1)
-  outcomes-same x y (inr p) (inl q) = absurd (refused-or-made q.0 p.0 q.1 p.1)
+      subst (λ (o : Outcome). IsSameOutcome o y) (sym p.2) (subst (IsSameOutcome (Broken p.0)) (sym q.2) (faults-same p.0 q.0 p.1 q.1))
+  outcomes-same x y (inl p) (inr q) = absurd (broken-or-made p.0 q.0 p.1 q.1)
+  outcomes-same x y (inr p) (inl q) = absurd (broken-or-made q.0 p.0 q.1 p.1)
   outcomes-same x y (inr p) (inr q) = set-outcomes-same p.0 q.0 (compilations-same inputs (Ok p.0) (Ok q.0) p.1 q.1) x y p.2 q.2

@@ -1,6 +1,6 @@
 -- The phases of documents from those of the documents alone and from those of the set.
 use Rattle.std.specs.Prelude.{IfOk}
-use Rattle.std.proofs.Common.{◌≡◌, ◌⊎◌, inl, inr, ℕ, false, List, ◌∷◌, [], Option, None, Some, Result, Ok, Err, subst}
+use Rattle.std.proofs.Common.{◌≡◌, ◌⊎◌, inl, inr, ℕ, List, ◌∷◌, [], Option, None, Some, Result, Ok, Err, subst}
 use Rattle.xs_codes.specs.declared.fault.Fault.{Fault}
 use Rattle.xs_codes.specs.Least.{IsLeast}
 use Rattle.schema_set.specs.declared.documents.Available.{Available}
@@ -9,26 +9,23 @@ use Rattle.schema_set.specs.declared.documents.SetDocument.{SetDocument}
 use Rattle.schema_set.specs.declared.inputs.SchemaInput.{SchemaInput}
 use Rattle.schema_set.specs.Documents.{available, IsSet, IsShapeFault}
 use Rattle.schema_check.specs.declared.documents.CompiledSet.{CompiledSet}
-use Rattle.schema_check.specs.declared.documents.Refusal.{Refusal}
-use Rattle.schema_check.specs.declared.documents.Refusal.TheVariants.{Broken, NotYet}
 use Rattle.schema_check.specs.Phases.{IsFirstOfPhases}
 use Rattle.schema_check.specs.SetPhases.{name_phase, base_phase, type_phase, by_components, set_phases, IsSetCompiled}
-use Rattle.schema_check.specs.Compilation.{are_unassessed, by_set, shape_phase, composition_phase, later_phases, IsCompilation}
-use Rattle.schema_check.specs.inside.Typed.{as_refusal, IsComposed, IsComposedCompiled, IsClosedCompiled}
+use Rattle.schema_check.specs.Compilation.{by_set, shape_phase, composition_phase, later_phases, IsCompilation}
+use Rattle.schema_check.specs.inside.Typed.{IsComposed, IsComposedCompiled, IsClosedCompiled}
 use Rattle.schema_check.proofs.PhaseLaws.{after-one, first-implied}
 
-pub as-refusal : (available : List Available) (set : List SetDocument) (originals : List (Option ℕ)) (answer : Result CompiledSet Fault) → AreOriginals available set originals → IsSetCompiled set originals answer
-    → IsComposedCompiled available set (as_refusal answer)
-as-refusal available set originals (Ok made) of h = (originals, of, h)
-as-refusal available set originals (Err fault) of h = (originals, of, h)
+pub composed-set : {E : Type 0} (result : Result (Result CompiledSet Fault) E) (available : List Available) (set : List SetDocument) (originals : List (Option ℕ)) → AreOriginals available set originals
+    → IfOk result (IsSetCompiled set originals) → IfOk result (IsComposedCompiled available set)
+composed-set (Ok answer) available set originals of h = (originals, of, h)
+composed-set (Err e) available set originals of h = h
 
 -- a set without a fault of phase 2
-pub composed : {E : Type 0} (result : Result (Result CompiledSet Refusal) E) (available : List Available) (set : List SetDocument) (assessed : are_unassessed set ≡ false) → IsComposed available None
+pub composed : {E : Type 0} (result : Result (Result CompiledSet Fault) E) (available : List Available) (set : List SetDocument) → IsComposed available None
     → IfOk result (IsComposedCompiled available set) → IfOk result (IsClosedCompiled available set)
-composed (Ok (Ok made)) available set assessed none h = (assessed, none, h.0, h.1, h.2)
-composed (Ok (Err (Broken fault))) available set assessed none h = (assessed, inr (none, h.0, h.1, h.2))
-composed (Ok (Err NotYet)) available set assessed none h = absurd h.2
-composed (Err e) available set assessed none h = h
+composed (Ok (Ok made)) available set none h = (none, h.0, h.1, h.2)
+composed (Ok (Err fault)) available set none h = inr (none, h.0, h.1, h.2)
+composed (Err e) available set none h = h
 
 module _ (documents : List SchemaInput) where
   pub shape-phase : (found : Option Fault) → IsLeast (IsShapeFault documents) found → shape_phase documents found
@@ -39,7 +36,7 @@ module _ (documents : List SchemaInput) where
   unfolding composition_phase
   composition-phase found least = least
 
-  pub shape-refused : (fault : Fault) → shape_phase documents (Some fault) → IsCompilation documents (Err (Broken fault))
+  pub shape-refused : (fault : Fault) → shape_phase documents (Some fault) → IsCompilation documents (Err fault)
   shape-refused fault is = inl is
 
   module _ (set : List SetDocument) (of : IsSet documents set) (shaped : shape_phase documents None) where
@@ -57,12 +54,11 @@ module _ (documents : List SchemaInput) where
     refused fault (inl here) = inl (composition-phase (Some fault) here)
     refused fault (inr later) = behind later.1 (Some fault) later.2 (composition-phase None later.0) later.3
 
-    pub closed-compiled : {E : Type 0} (result : Result (Result CompiledSet Refusal) E) (shown : List Available) → shown ≡ available documents
+    pub closed-compiled : {E : Type 0} (result : Result (Result CompiledSet Fault) E) (shown : List Available) → shown ≡ available documents
         → IfOk result (IsClosedCompiled shown set) → IfOk result (IsCompilation documents)
     closed-compiled result shown same h = by-all result (subst (λ (l : List Available). IfOk result (IsClosedCompiled l set)) same h)
       where
-        by-all : {F : Type 0} (answer : Result (Result CompiledSet Refusal) F) → IfOk answer (IsClosedCompiled (available documents) set) → IfOk answer (IsCompilation documents)
-        by-all (Ok (Ok made)) k = ((shaped, behind k.2 None k.3 (composition-phase None k.1) k.4.0), set, k.2, of, k.3, k.0, k.4)
-        by-all (Ok (Err (Broken fault))) k = inr (shaped, (set, of, k.0), refused fault k.1)
-        by-all (Ok (Err NotYet)) k = (shaped, (set, of, k))
+        by-all : {F : Type 0} (answer : Result (Result CompiledSet Fault) F) → IfOk answer (IsClosedCompiled (available documents) set) → IfOk answer (IsCompilation documents)
+        by-all (Ok (Ok made)) k = ((shaped, behind k.1 None k.2 (composition-phase None k.0) k.3.0), set, k.1, of, k.2, k.3)
+        by-all (Ok (Err fault)) k = inr (shaped, refused fault k)
         by-all (Err e) k = tt

@@ -1,9 +1,7 @@
 -- What becomes of schema documents: the set that the first one leads to, compiled, or the first broken constraint.
-use Rattle.std.specs.Prelude.{◌≡◌, ◌⊎◌, ℕ, Bool, true, false, List, [], ◌∷◌, Option, None, Some, Result, Ok, Err}
-use Rattle.std.specs.List.{list_any}
+use Rattle.std.specs.Prelude.{◌≡◌, ◌⊎◌, ℕ, List, [], ◌∷◌, Option, None, Some, Result, Ok, Err}
 use Rattle.xs_codes.specs.declared.fault.Fault.{Fault}
 use Rattle.xs_codes.specs.Least.{IsLeast}
-use Rattle.schema_set.specs.Unassessed.{is_unassessed}
 use Rattle.schema_set.specs.declared.documents.Available.{Available}
 use Rattle.schema_set.specs.declared.inputs.SchemaInput.{SchemaInput}
 use Rattle.schema_set.specs.Documents.{available, IsSet, IsShapeFault}
@@ -12,14 +10,8 @@ use Rattle.redefine_faults.specs.Redefinitions.{IsRedefineFault}
 use Rattle.redefine_originals.specs.Originals.{AreOriginals}
 use Rattle.schema_set.specs.declared.documents.SetDocument.{SetDocument}
 use Rattle.schema_check.specs.declared.documents.CompiledSet.{CompiledSet}
-use Rattle.schema_check.specs.declared.documents.Refusal.{Refusal}
-use Rattle.schema_check.specs.declared.documents.Refusal.TheVariants.{Broken, NotYet}
 use Rattle.schema_check.specs.Phases.{IsFirstOfPhases}
 use Rattle.schema_check.specs.SetPhases.{name_phase, by_components, base_phase, type_phase, IsSetCompiled}
-
--- something in the documents of a set is not assessed yet
-abbrev pub are_unassessed : List SetDocument → Bool
-are_unassessed set = list_any (λ d. is_unassessed d.shaped.now.shapes) set
 
 -- what the documents of the set say of others by include, import and redefine, or what stands in a redefine, breaks a constraint
 -- (Structures 4.2)
@@ -48,15 +40,9 @@ module _ (documents : List SchemaInput) where
   abbrev pub phases : List (Option Fault → Type 0)
   phases = shape_phase ∷ later_phases
 
-  -- a set of the documents has something that is not assessed yet, or has not
-  abbrev pub IsAssessed : Bool → Type 0
-  IsAssessed answer = (set : List SetDocument) × IsSet documents set × (are_unassessed set ≡ answer)
-
-  -- The compiled set where no phase has a fault, else the first fault of the first phase that has one. A set whose documents are of
-  -- the right shape and have something that is not assessed yet is not compiled.
-  abbrev pub IsCompilation : Result CompiledSet Refusal → Type 0
+  -- the compiled set where no phase has a fault, else the first fault of the first phase that has one
+  abbrev pub IsCompilation : Result CompiledSet Fault → Type 0
   IsCompilation (Ok made) =
       IsFirstOfPhases phases None × (set : List SetDocument) × (originals : List (Option ℕ)) × IsSet documents set × AreOriginals (available documents) set originals
-      × (are_unassessed set ≡ false) × IsSetCompiled set originals (Ok made)
-  IsCompilation (Err (Broken fault)) = shape_phase (Some fault) ⊎ (shape_phase None × IsAssessed false × IsFirstOfPhases later_phases (Some fault))
-  IsCompilation (Err NotYet) = shape_phase None × IsAssessed true
+      × IsSetCompiled set originals (Ok made)
+  IsCompilation (Err fault) = IsFirstOfPhases phases (Some fault)

@@ -7,25 +7,17 @@ ghost use Rattle.schema_check.specs.Compilation as spec;
 ghost use Rattle.schema_check.specs.inside.Typed as inside;
 
 use crate::build;
-use crate::documents::{CompiledSet, Refusal};
+use crate::documents::CompiledSet;
 use crate::types::compile_parts;
 use build_components::tables_are_closed;
 use redefine_faults::first_redefine_fault;
 use redefine_originals::set_originals;
 use schema_set::{
-    Available, ClosedSet, EffectiveSet, SchemaInput, SetDocument, close_set, first_shape_fault,
-    is_unassessed, read_documents,
+    Available, ClosedSet, EffectiveSet, SchemaInput, close_set, first_shape_fault, read_documents,
 };
 use std::alloc::{AllocError, Global};
 use xs_codes::{Fault, sooner};
 use xs_names::Names;
-
-// Whether something in the documents of a set is not assessed yet.
-fn are_unassessed(set: &[SetDocument<'_>]) -> bool
-    ensures { result ≡ spec.are_unassessed set.now }
-{
-    set.iter().any(|document| is_unassessed(document.shaped.shapes.as_slice()))
-}
 
 // The documents of a set compiled, or their first fault.
 fn compile_set(
@@ -44,28 +36,17 @@ fn compile_set(
     }
 }
 
-// A fault as the reason of a refusal.
-fn as_refusal(answer: Result<CompiledSet, Fault>) -> Result<CompiledSet, Refusal>
-    ensures { result ≡ inside.as_refusal answer }
-{
-    match answer {
-        Ok(made) => Ok(made),
-        Err(fault) => Err(Refusal::Broken(fault)),
-    }
-}
-
 // A set that breaks no constraint of the phases on its documents.
 fn compile_composed(
     alloc: Global,
     available: &[Available],
     set: &EffectiveSet<'_>,
-) -> Result<Result<CompiledSet, Refusal>, AllocError>
+) -> Result<Result<CompiledSet, Fault>, AllocError>
     requires some { 0 < length available.now }
     ensures { IfOk result (λ answer. inside.IsComposedCompiled available.now set.now.documents answer) }
 {
     let originals = set_originals(alloc, available, set.documents.as_slice())?;
-    let answer = compile_set(alloc, set, originals.as_slice())?;
-    Ok(as_refusal(answer))
+    compile_set(alloc, set, originals.as_slice())
 }
 
 // The first fault of how the documents of a set are composed.
@@ -88,19 +69,15 @@ fn compile_closed<'a>(
     alloc: Global,
     available: &'a [Available],
     closed: &ClosedSet<'a>,
-) -> Result<Result<CompiledSet, Refusal>, AllocError>
+) -> Result<Result<CompiledSet, Fault>, AllocError>
     requires some { 0 < length available.now }
     requires set { IsEffectiveSet available.now closed.now.set.documents }
     requires least { IsLeast (IsCompositionFault available.now) closed.now.fault }
     ensures { IfOk result (inside.IsClosedCompiled available.now closed.now.set.documents) }
 {
-    let set = closed.set.documents.as_slice();
-    if are_unassessed(set) {
-        return Ok(Err(Refusal::NotYet));
-    }
     let found = composition_fault(alloc, available, closed)?;
     match found {
-        Some(fault) => Ok(Err(Refusal::Broken(fault))),
+        Some(fault) => Ok(Err(fault)),
         None => compile_composed(alloc, available, &closed.set),
     }
 }
@@ -116,7 +93,7 @@ fn compile_closed<'a>(
 pub fn compile(
     alloc: Global,
     documents: &[SchemaInput],
-) -> Result<Result<CompiledSet, Refusal>, AllocError>
+) -> Result<Result<CompiledSet, Fault>, AllocError>
     requires some { 0 < length documents.now }
     ensures { IfOk result (spec.IsCompilation documents.now) }
 {
@@ -126,7 +103,7 @@ pub fn compile(
     let faults = read.faults.as_slice();
     let set = closed.set.documents.as_slice();
     match first_shape_fault(faults, set) {
-        Some(fault) => Ok(Err(Refusal::Broken(fault))),
+        Some(fault) => Ok(Err(fault)),
         None => compile_closed(alloc, available, &closed),
     }
 }

@@ -1,6 +1,5 @@
 use redefine_names::RedefinedGroups;
 use simple_types::SimpleTypes;
-use xs_codes::Fault;
 use xs_components::Components;
 use xs_names::Names;
 
@@ -15,13 +14,4 @@ pub struct CompiledSet {
     pub types: SimpleTypes,
     /// The groups and attribute groups that redefine others without a reference to themselves, with these.
     pub redefined: RedefinedGroups,
-}
-
-/// Why schema documents are not compiled.
-#[derive(Debug, Clone, Copy, PartialEq, Eq)]
-pub enum Refusal {
-    /// The first constraint that is broken.
-    Broken(Fault),
-    /// The documents of the set break no constraint on their shape, and have something that is not assessed yet.
-    NotYet,
 }

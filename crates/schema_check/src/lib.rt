@@ -14,7 +14,7 @@ mod version_laws;
 
 pub use building::{BuiltSet, build};
 pub use compiling::compile;
-pub use documents::{CompiledSet, Refusal};
+pub use documents::CompiledSet;
 pub use laws::compiled_types_are_simple;
 pub use number_laws::kind_numbers_are_those_of_tables;
 pub use resolved::{components_are_simple, names_resolve};

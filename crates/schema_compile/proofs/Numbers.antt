@@ -10,6 +10,7 @@ use Rattle.derive_restriction.specs.DerivationFaults.{IsDerivationFault}
 use Rattle.redefine_names.specs.declared.pairs.RedefinedPair.{RedefinedPair}
 use Rattle.schema_models.specs.SetModels.{IsBroken}
 use Rattle.derive_values.specs.ValueFaults.{IsValueFault}
+use Rattle.identity_faults.specs.Faults.{IsIdentityFault}
 use Rattle.schema_compile.specs.Outcomes.{IsPropertyFault}
 use Rattle.schema_compile.proofs.Refused.{group-refused, type-refused}
 
@@ -63,3 +64,9 @@ module _ (t : Tables) where
 -- ---- phase 8, of content models
 pub model-eight : (names : NameTable) (t : Tables) (members : List (List ℕ)) (classes : List ℕ) (f : Fault) → IsBroken names t members classes f → f.phase ≡ 8
 model-eight names t members classes f h = by-record f _ h.2.4
+
+-- ---- phase 10, of identity constraints
+pub identity-ten : (t : Tables) (f : Fault) → IsIdentityFault t f → f.phase ≡ 10
+identity-ten t f (i, c, within, is, inl h) = by-record f _ h.1
+identity-ten t f (i, c, within, is, inr (inl h)) = by-record f _ h.4.1
+identity-ten t f (i, c, within, is, inr (inr h)) = by-record f _ h.fault_is

@@ -18,8 +18,10 @@ use Rattle.content_models.specs.declared.automaton.ContentAutomaton.{ContentAuto
 use Rattle.schema_models.specs.SetModels.{content_of, AreModels, IsBroken}
 use Rattle.schema_check.specs.declared.documents.CompiledSet.{CompiledSet}
 use Rattle.schema_compile.specs.Fit.{IsFit}
+use Rattle.identity_paths.specs.Reads.{AreIdentities}
 use Rattle.schema_compile.specs.declared.finding.Found.{Found}
-use Rattle.schema_compile.specs.Outcomes.{attr_phase, derivation_phase, model_phase, restriction_phase, late_phases}
+use Rattle.schema_compile.specs.declared.finding.Faultless.{Faultless}
+use Rattle.schema_compile.specs.Outcomes.{attr_phase, derivation_phase, model_phase, restriction_phase, identity_phase, late_phases}
 use Rattle.schema_compile.specs.inside.Finding.{early_phases, AreAttrUses, IsFound, AreModelsOf, AreContentsThere, IsJudged}
 use Rattle.schema_compile.proofs.MemberLaws.{members-named}
 
@@ -111,5 +113,11 @@ module _ (made : CompiledSet) (found : Found) (is : IsFound made.parts found) wh
       pub broken-restriction : (fault : Fault) → restriction_phase made (Some fault) → IsJudged made (Err fault)
       broken-restriction fault h = inr (early.0, inr (early.1.0, inr (no-broken, inl h)))
 
-      pub judged-in : AreContentsThere made.parts → restriction_phase made None → IsJudged made (Ok (found, models))
-      judged-in there h = ((early.0, (early.1.0, (no-broken, (h, tt)))), is, are, there)
+      -- and in phase 9
+      module _ (none : restriction_phase made None) where
+        pub broken-identity : (fault : Fault) → identity_phase made (Some fault) → IsJudged made (Err fault)
+        broken-identity fault h = inr (early.0, inr (early.1.0, inr (no-broken, inr (none, inl h))))
+
+        pub judged-in : AreContentsThere made.parts → (identities : Vec IdentityPaths) → identity_phase made None → AreIdentities made.parts identities.items →
+            IsJudged made (Ok (record { found = found; models = models; identities = identities }))
+        judged-in there identities h paths = ((early.0, (early.1.0, (no-broken, (none, (h, tt))))), is, are, there, paths)

@@ -9,12 +9,13 @@ use Rattle.derive_faults.specs.AttrFaults.{IsAttrFault}
 use Rattle.derive_restriction.specs.DerivationFaults.{IsDerivationFault}
 use Rattle.derive_models.specs.ModelFaults.{IsFirstModelFault}
 use Rattle.schema_models.specs.SetModels.{IsBroken}
+use Rattle.identity_faults.specs.Faults.{IsIdentityFault}
 use Rattle.derive_models.proofs.Firsts.{least-one}
 use Rattle.derive_models.proofs.LeastFaults.{one-first}
 use Rattle.schema_check.specs.Phases.{IsFirstOfPhases}
 use Rattle.schema_check.specs.declared.documents.CompiledSet.{CompiledSet}
-use Rattle.schema_compile.specs.Outcomes.{IsPropertyFault, attr_phase, derivation_phase, model_phase, restriction_phase, late_phases}
-use Rattle.schema_compile.proofs.Numbers.{property-six, derivation-seven, model-eight}
+use Rattle.schema_compile.specs.Outcomes.{IsPropertyFault, attr_phase, derivation_phase, model_phase, restriction_phase, identity_phase, late_phases}
+use Rattle.schema_compile.proofs.Numbers.{property-six, derivation-seven, model-eight, identity-ten}
 use Rattle.schema_compile.proofs.Marks.{marks-same, attr-too}
 use Rattle.schema_compile.proofs.Members.{groups-same}
 use Rattle.schema_compile.proofs.Classes.{classes-same}
@@ -72,5 +73,8 @@ module _ (made : CompiledSet) where
       let at_members : IsFirstModelFault made.parts made.names q.0 pairs a = subst (λ (ms : List (List ℕ)). IsFirstModelFault made.parts made.names ms pairs a) members p.2 in
       one-first made.parts made.names q.0 pairs a b q.1.each at_members q.2
 
+  pub identity-one : HasOne (identity_phase made)
+  identity-one a b p q = least-one (IsIdentityFault made.parts) 10 (identity-ten made.parts) a b p q
+
   pub late-one : (a b : Option Fault) → IsFirstOfPhases (late_phases made) a → IsFirstOfPhases (late_phases made) b → a ≡ b
-  late-one = first-one (late_phases made) (attrs-one, (derivation-one, (models-one, (restriction-one, tt))))
+  late-one = first-one (late_phases made) (attrs-one, (derivation-one, (models-one, (restriction-one, (identity-one, tt)))))

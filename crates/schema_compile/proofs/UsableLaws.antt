@@ -16,18 +16,26 @@ use Rattle.schema_check.specs.declared.documents.CompiledSet.{CompiledSet}
 use Rattle.compiled_schema.specs.Usable.{HasModelOver, AreModels, IsUsable}
 use Rattle.compiled_schema.specs.declared.compiled.Compiled.{Compiled}
 use Rattle.schema_compile.specs.Fit.{IsFit}
+use Rattle.identity_paths.specs.Reads.{AreIdentities}
 use Rattle.schema_compile.specs.declared.finding.Found.{Found}
+use Rattle.schema_compile.specs.declared.finding.Faultless.{Faultless}
 use Rattle.schema_compile.specs.declared.outcome.Outcome.{Outcome}
 use Rattle.schema_compile.specs.declared.outcome.Outcome.TheVariants.{Accepted}
 use Rattle.schema_compile.specs.Outcomes.{HaveUses, IsSetOutcome}
 use Rattle.schema_compile.specs.inside.Finding.{IsFound, AreModelsOf, AreContentsThere, IsJudged, joined}
 use Rattle.schema_compile.proofs.MemberLaws.{members-named}
 
-module _ (made : CompiledSet) (found : Found) (automata : List (Option ContentAutomaton)) (fit : IsFit made) (is : IsFound made.parts found) (there : AreContentsThere made.parts)
-    (are : AreModelsOf made found (Ok automata))
+module _ (made : CompiledSet) (whole : Faultless) (fit : IsFit made) (is : IsFound made.parts whole.found) (there : AreContentsThere made.parts)
+    (are : AreModelsOf made whole.found (Ok whole.models)) (paths : AreIdentities made.parts whole.identities.items)
   where
+    abbrev found : Found
+    found = whole.found
+
+    abbrev automata : List (Option ContentAutomaton)
+    automata = whole.models
+
     abbrev c : Compiled
-    c = joined made found automata
+    c = joined made whole
 
     unambiguous : (n p : ℕ) → n < length made.parts.complexes.parts → models.content_of made.parts n ≡ Some p → IsAmbiguousModel made.names made.parts found.members p → ⊥
     unambiguous n p l content ambiguous = are.0 (models.type_fault made.parts n CosNonambig) (n, l, (p, Ambiguous, content, ambiguous, refl))
@@ -67,11 +75,12 @@ module _ (made : CompiledSet) (found : Found) (automata : List (Option ContentAu
       classes_are = is.classes;
       first = made.names;
       models_are = automata-are;
+      identities_are = paths;
     }
 
-pub accepted : ((t : Tables) (ids : List Bool) → IsLeast (IsAttrFault t ids) None → HaveUses t) → (made : CompiledSet) (found : Found) (automata : List (Option ContentAutomaton)) (c : Compiled) → IsFit made → c ≡ joined made found automata → IsJudged made (Ok (found, automata))
+pub accepted : ((t : Tables) (ids : List Bool) → IsLeast (IsAttrFault t ids) None → HaveUses t) → (made : CompiledSet) (whole : Faultless) (c : Compiled) → IsFit made → c ≡ joined made whole → IsJudged made (Ok whole)
     → IsSetOutcome made (Accepted c)
-accepted uses made found automata c fit same judged =
+accepted uses made whole c fit same judged =
     let attrs = judged.0.0 in
     subst (λ (x : Compiled). IsSetOutcome made (Accepted x)) (sym same)
-    (judged.0, record { names = refl; parts = refl; types = refl }, usable made found automata fit judged.1 judged.3 judged.2, uses made.parts attrs.0 (λ fault x. attrs.2 fault (inl x)))
+    (judged.0, record { names = refl; parts = refl; types = refl }, usable made whole fit judged.1 judged.3 judged.2 judged.4, uses made.parts attrs.0 (λ fault x. attrs.2 fault (inl x)))

@@ -1,4 +1,4 @@
--- What becomes of schema documents: a set that documents are assessed by, the first broken constraint, or neither yet.
+-- What becomes of schema documents: a set that documents are assessed by, or the first broken constraint.
 use Rattle.std.specs.Prelude.{◌≡◌, ◌⊎◌, ℕ, ◌<◌, Bool, List, [], ◌∷◌, Option, None, Some, Ok, Err, length}
 use Rattle.xs_codes.specs.declared.fault.Fault.{Fault}
 use Rattle.xs_components.specs.Tables.{Tables}
@@ -8,18 +8,17 @@ use Rattle.derive_faults.specs.AttrFaults.{AreIdMarks, IsAttrFault, HasUses}
 use Rattle.derive_restriction.specs.DerivationFaults.{IsDerivationFault}
 use Rattle.derive_models.specs.ModelFaults.{IsFirstModelFault}
 use Rattle.derive_values.specs.ValueFaults.{IsValueFault}
+use Rattle.identity_faults.specs.Faults.{IsIdentityFault}
 use Rattle.component_tables.specs.Classes.{AreClassesOf}
 use Rattle.schema_models.specs.SetModels.{IsBroken}
 use Rattle.schema_check.specs.Compilation.{IsCompilation}
 use Rattle.schema_check.specs.Phases.{IsFirstOfPhases}
 use Rattle.schema_check.specs.declared.documents.CompiledSet.{CompiledSet}
-use Rattle.schema_check.specs.declared.documents.Refusal.{Refusal}
-use Rattle.schema_check.specs.declared.documents.Refusal.TheVariants as refusals
 use Rattle.schema_set.specs.declared.inputs.SchemaInput.{SchemaInput}
 use Rattle.compiled_schema.specs.Usable.{IsUsable}
 use Rattle.compiled_schema.specs.declared.compiled.Compiled.{Compiled}
 use Rattle.schema_compile.specs.declared.outcome.Outcome.{Outcome}
-use Rattle.schema_compile.specs.declared.outcome.Outcome.TheVariants.{Accepted, Broken, NotYet}
+use Rattle.schema_compile.specs.declared.outcome.Outcome.TheVariants.{Accepted, Broken}
 
 -- phase 6, of attributes and value constraints: src-attribute_group.2, src-ct.4 and src-ct.5 (Structures 3.4.3, 3.6.3),
 -- ag-props-correct.2 and .3, ct-props-correct.4 and .5 (Structures 3.4.6, 3.6.6); and of value constraints x-limit.value,
@@ -48,9 +47,13 @@ module _ (made : CompiledSet) where
   abbrev pub restriction_phase : Option Fault → Type 0
   restriction_phase found = (members : List (List ℕ)) × AreGroups made.parts members × IsFirstModelFault made.parts made.names members made.redefined.groups.items found
 
+  -- phase 10, of the paths and fields of identity constraints: c-selector-xpath, c-fields-xpaths and c-props-correct.2 (Structures 3.11.6)
+  abbrev pub identity_phase : Option Fault → Type 0
+  identity_phase found = IsLeast (IsIdentityFault made.parts) found
+
   -- the phases behind simple types
   abbrev pub late_phases : List (Option Fault → Type 0)
-  late_phases = attr_phase ∷ derivation_phase ∷ model_phase ∷ restriction_phase ∷ []
+  late_phases = attr_phase ∷ derivation_phase ∷ model_phase ∷ restriction_phase ∷ identity_phase ∷ []
 
 -- each complex type has attribute uses, no two of which have one name
 abbrev pub HaveUses : Tables → Type 0
@@ -66,16 +69,10 @@ pub record IsOf (made : CompiledSet) (c : Compiled) : Type 0 where
 abbrev pub IsSetOutcome : CompiledSet → Outcome → Type 0
 IsSetOutcome made (Accepted c) = IsFirstOfPhases (late_phases made) None × IsOf made c × IsUsable c × HaveUses made.parts
 IsSetOutcome made (Broken fault) = IsFirstOfPhases (late_phases made) (Some fault)
-IsSetOutcome made NotYet = ⊥
-
-abbrev pub of_refusal : Refusal → Outcome
-of_refusal (refusals.Broken fault) = Broken fault
-of_refusal refusals.NotYet = NotYet
 
 -- What documents come to: the first fault of the first phase that has one, by document, element and the order of codes; else the
--- compiled set, by which documents may be assessed. A set whose documents are of the right shape and have something that is not assessed
--- yet comes to neither. The phase that there is not yet has no fault where there is nothing of that: identity constraints.
+-- compiled set, by which documents may be assessed.
 abbrev pub IsOutcome : List SchemaInput → Outcome → Type 0
 IsOutcome documents outcome =
-    ((refusal : Refusal) × IsCompilation documents (Err refusal) × (outcome ≡ of_refusal refusal)) ⊎
+    ((fault : Fault) × IsCompilation documents (Err fault) × (outcome ≡ Broken fault)) ⊎
     ((made : CompiledSet) × IsCompilation documents (Ok made) × IsSetOutcome made outcome)

@@ -7,21 +7,21 @@ ghost use Rattle.schema_compile.specs.Outcomes as spec;
 ghost use Rattle.schema_compile.specs.inside.Finding as inside;
 
 use crate::Outcome;
-use crate::finding::Found;
+use crate::finding::Faultless;
 use crate::judging::judge;
 use crate::laws::compiled_parts_are_fit;
 use compiled_schema::Compiled;
 use derive_faults::faultless_types_have_uses;
-use schema_check::{CompiledSet, Refusal};
-use schema_models::Models;
+use schema_check::CompiledSet;
 use schema_set::SchemaInput;
 use std::alloc::{AllocError, Global};
 use xs_codes::Fault;
 
 // A set with what was found of it.
-fn joined(set: CompiledSet, found: Found, models: Models) -> Compiled
-    ensures { result ≡ inside.joined set found models }
+fn joined(set: CompiledSet, whole: Faultless) -> Compiled
+    ensures { result ≡ inside.joined set whole }
 {
+    let found = whole.found;
     Compiled {
         names: set.names,
         parts: set.parts,
@@ -32,19 +32,20 @@ fn joined(set: CompiledSet, found: Found, models: Models) -> Compiled
         named: found.named,
         attr_uses: found.attr_uses,
         contents: found.contents,
-        models,
+        models: whole.models,
+        identities: whole.identities,
     }
 }
 
 // What a set comes to.
-fn outcome_of(set: CompiledSet, judged: Result<(Found, Models), Fault>) -> Outcome
+fn outcome_of(set: CompiledSet, judged: Result<Faultless, Fault>) -> Outcome
     requires fit { IsFit set }
     requires judged { inside.IsJudged set judged }
     ensures { spec.IsSetOutcome set result }
 {
     faultless_types_have_uses();
     match judged {
-        Ok((found, models)) => Outcome::Accepted(joined(set, found, models)),
+        Ok(whole) => Outcome::Accepted(joined(set, whole)),
         Err(fault) => Outcome::Broken(fault),
     }
 }
@@ -60,20 +61,9 @@ fn complete(alloc: Global, mut set: CompiledSet) -> Result<Outcome, AllocError>
     }
 }
 
-// The outcome of documents that are not compiled.
-fn outcome_of_refusal(refusal: Refusal) -> Outcome
-    ensures { result ≡ spec.of_refusal refusal }
-{
-    match refusal {
-        Refusal::Broken(fault) => Outcome::Broken(fault),
-        Refusal::NotYet => Outcome::NotYet,
-    }
-}
-
 /// Schema documents compiled, as far as documents are assessed by them: phase by phase, shapes, composition, names, bases, simple
-/// types, attributes, derivation, content models, their restriction. The set is what the first document leads to. The first fault of
-/// the first phase that has one is answered, by document, element and the order of codes. What is not assessed yet is not compiled
-/// behind its shape.
+/// types, attributes, derivation, content models, their restriction, identity constraints. The set is what the first document leads
+/// to. The first fault of the first phase that has one is answered, by document, element and the order of codes.
 ///
 /// # Errors
 ///
@@ -88,6 +78,6 @@ pub fn compile(alloc: Global, documents: &[SchemaInput]) -> Result<Outcome, Allo
     let compiled = schema_check::compile(alloc, documents)?;
     match compiled {
         Ok(set) => complete(alloc, set),
-        Err(refusal) => Ok(outcome_of_refusal(refusal)),
+        Err(fault) => Ok(Outcome::Broken(fault)),
     }
 }

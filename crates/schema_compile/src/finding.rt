@@ -7,7 +7,9 @@ ghost use Rattle.schema_compile.specs.inside.Finding as spec;
 use attr_uses::AttrTables;
 use component_tables::{ComponentNames, ContentTypes, Declarations, classes_of};
 use derive_faults::id_marks;
+use identity_paths::IdentityPaths;
 use schema_check::CompiledSet;
+use schema_models::Models;
 use std::alloc::{AllocError, Global};
 use subst_groups::groups;
 use xs_components::Members;
@@ -21,6 +23,14 @@ pub(crate) struct Found {
     pub(crate) named: ComponentNames,
     pub(crate) attr_uses: AttrTables,
     pub(crate) contents: ContentTypes,
+}
+
+/// What is found of a set without a fault: that, with the automata of its content models and the paths of its identity constraints.
+#[derive(Drop)]
+pub(crate) struct Faultless {
+    pub(crate) found: Found,
+    pub(crate) models: Models,
+    pub(crate) identities: Vec<IdentityPaths>,
 }
 
 // The attribute uses of complex types and attribute groups.

@@ -1,4 +1,5 @@
-//! A set judged: what is found of it with the automata of its content models, or its first fault.
+//! A set judged: what is found of it with the automata of its content models and the paths of its identity constraints, or its
+//! first fault.
 
 ghost use Rattle.std.specs.Prelude.{◌≡◌, IfOk, None, Ok};
 ghost use Rattle.schema_models.specs.SetModels.{AreContentsLimited};
@@ -8,9 +9,10 @@ ghost use Rattle.schema_compile.specs.Outcomes as phases;
 ghost use Rattle.schema_compile.specs.inside.Finding as spec;
 
 use crate::faults::first_fault;
-use crate::finding::{Found, contents_are_there, find};
+use crate::finding::{Faultless, Found, contents_are_there, find};
 use content_models::ModelSource;
 use derive_models::{ModelSet, first_model_fault};
+use identity_faults::read_identities;
 use particle_forms::Inhabited;
 use schema_check::CompiledSet;
 use schema_models::{Models, build_models};
@@ -63,13 +65,38 @@ fn restriction_fault(
     first_model_fault(alloc, &compared, &set.redefined.groups, &mut set.types)
 }
 
-// What was found, with these automata of content models; or the first fault of phase 9.
+// What was found, with these automata of content models, and the paths of identity constraints; or the first fault of phase 10.
+fn with_identities(
+    alloc: Global,
+    set: &CompiledSet,
+    found: Found,
+    models: Models,
+) -> Result<Result<Faultless, Fault>, AllocError>
+    requires found { spec.IsFound set.now.parts found }
+    requires there { spec.AreContentsThere set.now.parts }
+    requires none { IsFirstOfPhases (spec.early_phases set.now) None }
+    requires models { spec.AreModelsOf set.now found (Ok models) }
+    requires restricted { phases.restriction_phase set.now None }
+    ensures judged { IfOk result (spec.IsJudged set.now) }
+{
+    match read_identities(alloc, &set.parts)? {
+        Ok(identities) => Ok(Ok(Faultless {
+            found,
+            models,
+            identities,
+        })),
+        Err(fault) => Ok(Err(fault)),
+    }
+}
+
+// What was found, with these automata of content models, and the paths of identity constraints; or the first fault of phases 9
+// and 10.
 fn with_restrictions(
     alloc: Global,
     set: &mut CompiledSet,
     found: Found,
     models: Models,
-) -> Result<Result<(Found, Models), Fault>, AllocError>
+) -> Result<Result<Faultless, Fault>, AllocError>
     requires fit { IsFit set.old }
     requires found { spec.IsFound set.old.parts found }
     requires there { spec.AreContentsThere set.old.parts }
@@ -80,16 +107,16 @@ fn with_restrictions(
 {
     match restriction_fault(alloc, set, &found)? {
         Some(fault) => Ok(Err(fault)),
-        None => Ok(Ok((found, models))),
+        None => with_identities(alloc, set, found, models),
     }
 }
 
-// What was found, and the automata of content models; or the first fault of phases 8 and 9.
+// What was found, the automata of content models, and the paths of identity constraints; or the first fault of phases 8 to 10.
 fn with_models(
     alloc: Global,
     set: &mut CompiledSet,
     found: Found,
-) -> Result<Result<(Found, Models), Fault>, AllocError>
+) -> Result<Result<Faultless, Fault>, AllocError>
     requires fit { IsFit set.old }
     requires found { spec.IsFound set.old.parts found }
     requires there { spec.AreContentsThere set.old.parts }
@@ -104,11 +131,12 @@ fn with_models(
     }
 }
 
-/// What is found of a set, and the automata of its content models; or the first fault of phases 6 to 9.
+/// What is found of a set, the automata of its content models, and the paths of its identity constraints; or the first fault of
+/// phases 6 to 10.
 pub(crate) fn judge(
     alloc: Global,
     set: &mut CompiledSet,
-) -> Result<Result<(Found, Models), Fault>, AllocError>
+) -> Result<Result<Faultless, Fault>, AllocError>
     requires fit { IsFit set.old }
     ensures judged { IfOk result (spec.IsJudged set.old) }
     ensures same { set.new ≡ set.old }

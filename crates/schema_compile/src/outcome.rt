@@ -8,6 +8,4 @@ pub enum Outcome {
     Accepted(Compiled),
     /// The first constraint that is broken.
     Broken(Fault),
-    /// The set has something that is not assessed yet.
-    NotYet,
 }

@@ -3,5 +3,4 @@ pub mod Order
 pub mod Composition
 pub mod Sourced
 pub mod Documents
-pub mod Unassessed
 pub mod inside

@@ -6,7 +6,6 @@ mod documents;
 mod entries;
 mod faults;
 mod following;
-mod forms;
 mod inputs;
 mod reaching;
 mod reading;
@@ -16,7 +15,6 @@ mod targets;
 
 pub use closing::close_set;
 pub use documents::{Available, ClosedSet, EffectiveSet, SetDocument};
-pub use forms::is_unassessed;
 pub use inputs::{ReadDocuments, SchemaInput};
 pub use reading::read_documents;
 pub use shape_faults::first_shape_fault;

@@ -9,7 +9,6 @@ use Rattle.schema_shape.specs.declared.forms.Shape.{Shape}
 use Rattle.schema_set.specs.declared.documents.Available.{Available}
 use Rattle.schema_set.specs.declared.documents.SetDocument.{SetDocument}
 use Rattle.schema_set.specs.Order.{same_target}
-use Rattle.schema_set.specs.Unassessed.{is_unassessed}
 use Rattle.redefine_originals.specs.declared.versions.Redefinable.{Redefinable}
 use Rattle.redefine_originals.specs.Versions.{Child, Version, declared_as}
 use Rattle.redefine_originals.specs.Originals.{shapes_of, elements, version_place, child_of, IsPlaceOf, IsChildPlace, IsOriginalPlace, AreOriginals}
@@ -18,7 +17,6 @@ use Rattle.representations.specs.declared.origins.Origin.{Origin}
 use Rattle.representations.specs.declared.parts.Representation.{Representation}
 use Rattle.set_representations.specs.Documents.{document_representations, representations_of, representations, document_scopes, scopes, origin_of, origins_of, origins, set_table}
 use Rattle.set_representations.specs.Scopes.{openings}
-use Rattle.schema_check.specs.Compilation.{are_unassessed}
 use Rattle.set_laws.specs.Same.{IsSameDocument}
 
 -- the same document, its shapes nowhere
@@ -53,13 +51,6 @@ scopes-bare t ds = ap (λ (ss : List (List (List ℕ × ℕ))). first_scope ∷ 
 pub origins-bare : (t : NameTable) (place : ℕ) (ds : List SetDocument) → origins_of t place (map bare ds) ≡ origins_of t place ds
 origins-bare t place [] = refl
 origins-bare t place (d ∷ ds) = ap (λ (os : List Origin). origin_of t place d ∷ os) (origins-bare t (place + length (shapes_of d)) ds)
-
-pub unassessed-bare : (ds : List SetDocument) → are_unassessed (map bare ds) ≡ are_unassessed ds
-unassessed-bare [] = refl
-unassessed-bare (d ∷ ds) = or-same (is_unassessed (shapes_of d)) (are_unassessed (map bare ds)) (are_unassessed ds) (unassessed-bare ds)
-  where
-    or-same : (x a b : Bool) → a ≡ b → (x || a) ≡ (x || b)
-    or-same x a b e = ap (λ (y : Bool). x || y) e
 
 -- ---- originals
 place-bare : (place : ℕ) (ds : List SetDocument) (target : Option (List ℕ)) (document item : ℕ) → version_place place (map bare ds) target document item ≡ version_place place ds target document item

@@ -1,5 +1,5 @@
 -- What documents are compiled to is determined.
-use Rattle.std.proofs.Common.{◌≡◌, ◌↔◌, inl, inr, ℕ, Bool, true, false, List, [], ◌∷◌, Option, None, Some, Result, Ok, Err, map, refl, sym, ap, ◌∙◌, subst, true≢false}
+use Rattle.std.proofs.Common.{◌≡◌, ◌↔◌, ℕ, List, [], ◌∷◌, Option, None, Some, Result, Ok, Err, map, refl, sym, ap, ◌∙◌, subst}
 use Rattle.std.proofs.lemmas.Option.{none-some, same_Some}
 use Rattle.std.proofs.Math.Path.{transport}
 use Rattle.std.specs.Prelude.{Contains}
@@ -17,13 +17,11 @@ use Rattle.schema_set.specs.Documents.{available, IsSet}
 use Rattle.schema_check.specs.Components.{versions, AreRedefining}
 use Rattle.schema_check.specs.Phases.{IsFirstOfPhases}
 use Rattle.schema_check.specs.SetPhases.{AreRanked, AreRedefiningGroups, IsSetCompiled}
-use Rattle.schema_check.specs.Compilation.{are_unassessed, shape_phase, later_phases, phases, IsAssessed, IsCompilation}
+use Rattle.schema_check.specs.Compilation.{phases, IsCompilation}
 use Rattle.schema_check.specs.declared.documents.CompiledSet.{CompiledSet}
-use Rattle.schema_check.specs.declared.documents.Refusal.{Refusal}
-use Rattle.schema_check.specs.declared.documents.Refusal.TheVariants.{Broken, NotYet}
 use Rattle.set_laws.specs.Same.{AreSamePairs, IsSameMade, IsSameCompilation}
-use Rattle.set_laws.proofs.BareLaws.{bare, unassessed-bare, set-originals-same}
-use Rattle.set_laws.proofs.PhaseLaws.{HasOne, first-one, sets-bare, names-same, own-bare, versions-bare, set-parts-same, shapes-one, later-one, each-one}
+use Rattle.set_laws.proofs.BareLaws.{bare, set-originals-same}
+use Rattle.set_laws.proofs.PhaseLaws.{HasOne, first-one, sets-bare, names-same, own-bare, versions-bare, set-parts-same, each-one}
 use Rattle.type_laws.proofs.RankedLaws.{ranked-same}
 
 -- ---- the components that redefine others
@@ -64,50 +62,20 @@ module _ (a b : List SetDocument) (xs ys : List (Option ℕ)) (same : map bare a
       }
 
 module _ (inputs : List SchemaInput) where
-  -- whether something is not assessed yet
-  unassessed-one : (x y : Bool) → IsAssessed inputs x → IsAssessed inputs y → x ≡ y
-  unassessed-one x y (a, set_a, p) (b, set_b, q) =
-      sym p ∙ (sym (unassessed-bare a) ∙ (ap are_unassessed (sets-bare inputs a b set_a set_b) ∙ (unassessed-bare b ∙ q)))
-
   first : HasOne (IsFirstOfPhases (phases inputs))
   first = first-one (phases inputs) (each-one inputs)
 
-  later : HasOne (IsFirstOfPhases (later_phases inputs))
-  later = first-one (later_phases inputs) (later-one inputs)
-
-  not-assessed : IsAssessed inputs true → IsAssessed inputs false → ⊥
-  not-assessed p q = true≢false (unassessed-one true false p q)
-
   -- a set that is compiled has no fault
-  made-or-broken : (made : CompiledSet) (fault : Fault) → IsCompilation inputs (Ok made) → IsCompilation inputs (Err (Broken fault)) → ⊥
-  made-or-broken made fault p (inl q) = none-some fault (shapes-one inputs None (Some fault) p.0.0 q)
-  made-or-broken made fault p (inr q) = none-some fault (later None (Some fault) p.0.1 q.2)
-
-  made-or-not : (made : CompiledSet) → IsCompilation inputs (Ok made) → IsCompilation inputs (Err NotYet) → ⊥
-  made-or-not made p q = not-assessed q.1 (p.1, p.3, p.5)
-
-  broken-or-not : (fault : Fault) → IsCompilation inputs (Err (Broken fault)) → IsCompilation inputs (Err NotYet) → ⊥
-  broken-or-not fault (inl p) q = none-some fault (shapes-one inputs None (Some fault) q.0 p)
-  broken-or-not fault (inr p) q = not-assessed q.1 p.1
-
-  broken-same : (f g : Fault) → IsCompilation inputs (Err (Broken f)) → IsCompilation inputs (Err (Broken g)) → f ≡ g
-  broken-same f g (inl p) (inl q) = same_Some f g (shapes-one inputs (Some f) (Some g) p q)
-  broken-same f g (inl p) (inr q) = absurd (none-some f (shapes-one inputs None (Some f) q.0 p))
-  broken-same f g (inr p) (inl q) = absurd (none-some g (shapes-one inputs None (Some g) p.0 q))
-  broken-same f g (inr p) (inr q) = same_Some f g (later (Some f) (Some g) p.2 q.2)
+  made-or-broken : (made : CompiledSet) (fault : Fault) → IsCompilation inputs (Ok made) → IsCompilation inputs (Err fault) → ⊥
+  made-or-broken made fault p q = none-some fault (first None (Some fault) p.0 q)
 
   sets-made-same : (made other : CompiledSet) → IsCompilation inputs (Ok made) → IsCompilation inputs (Ok other) → IsSameMade made other
-  sets-made-same made other (none, a, xs, set_a, orig_a, assessed, p) (none', b, ys, set_b, orig_b, assessed', q) =
+  sets-made-same made other (none, a, xs, set_a, orig_a, p) (none', b, ys, set_b, orig_b, q) =
       let same = sets-bare inputs a b set_a set_b in
       made-same a b xs ys same (set-originals-same (available inputs) a b xs ys same orig_a orig_b) made other p q
 
-  pub compilations-same : (x y : Result CompiledSet Refusal) → IsCompilation inputs x → IsCompilation inputs y → IsSameCompilation x y
+  pub compilations-same : (x y : Result CompiledSet Fault) → IsCompilation inputs x → IsCompilation inputs y → IsSameCompilation x y
   compilations-same (Ok made) (Ok other) p q = sets-made-same made other p q
-  compilations-same (Ok made) (Err (Broken g)) p q = absurd (made-or-broken made g p q)
-  compilations-same (Ok made) (Err NotYet) p q = absurd (made-or-not made p q)
-  compilations-same (Err (Broken f)) (Ok other) p q = absurd (made-or-broken other f q p)
-  compilations-same (Err (Broken f)) (Err (Broken g)) p q = broken-same f g p q
-  compilations-same (Err (Broken f)) (Err NotYet) p q = absurd (broken-or-not f p q)
-  compilations-same (Err NotYet) (Ok other) p q = absurd (made-or-not other q p)
-  compilations-same (Err NotYet) (Err (Broken g)) p q = absurd (broken-or-not g q p)
-  compilations-same (Err NotYet) (Err NotYet) p q = tt
+  compilations-same (Ok made) (Err g) p q = absurd (made-or-broken made g p q)
+  compilations-same (Err f) (Ok other) p q = absurd (made-or-broken other f q p)
+  compilations-same (Err f) (Err g) p q = same_Some f g (first (Some f) (Some g) p q)

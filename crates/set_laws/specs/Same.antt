@@ -4,8 +4,6 @@ use Rattle.xs_codes.specs.declared.fault.Fault.{Fault}
 use Rattle.redefine_names.specs.declared.pairs.RedefinedPair.{RedefinedPair}
 use Rattle.schema_set.specs.declared.documents.SetDocument.{SetDocument}
 use Rattle.schema_check.specs.declared.documents.CompiledSet.{CompiledSet}
-use Rattle.schema_check.specs.declared.documents.Refusal.{Refusal}
-use Rattle.schema_check.specs.declared.documents.Refusal.TheVariants.{Broken, NotYet}
 
 -- a document of this number, with this target namespace, and what its elements declare
 abbrev pub IsSameDocument : SetDocument → SetDocument → Type 0
@@ -23,8 +21,7 @@ pub record IsSameMade (a b : CompiledSet) : Type 0 where
   pub attr_groups : AreSamePairs a.redefined.attr_groups.items b.redefined.attr_groups.items
 
 -- the same fault, or sets that are the same
-abbrev pub IsSameCompilation : Result CompiledSet Refusal → Result CompiledSet Refusal → Type 0
+abbrev pub IsSameCompilation : Result CompiledSet Fault → Result CompiledSet Fault → Type 0
 IsSameCompilation (Ok a) (Ok b) = IsSameMade a b
-IsSameCompilation (Err (Broken f)) (Err (Broken g)) = f ≡ g
-IsSameCompilation (Err NotYet) (Err NotYet) = Unit {0}
+IsSameCompilation (Err f) (Err g) = f ≡ g
 IsSameCompilation _ _ = ⊥

@@ -6,7 +6,6 @@ ghost use Rattle.redefine_originals.specs.Originals.{AreOriginals};
 ghost use Rattle.schema_check.specs.Compilation.{composition_phase, by_set, shape_phase, IsCompilation};
 ghost use Rattle.schema_check.specs.SetPhases.{AreParts, base_phase, by_components, name_phase, names, type_phase};
 ghost use Rattle.schema_check.specs.declared.documents.CompiledSet.{CompiledSet};
-ghost use Rattle.schema_check.specs.declared.documents.Refusal.{Refusal};
 ghost use Rattle.schema_set.specs.Documents.{available, IsSet};
 ghost use Rattle.schema_set.specs.declared.documents.SetDocument.{SetDocument};
 ghost use Rattle.schema_set.specs.declared.inputs.SchemaInput.{SchemaInput};
@@ -44,7 +43,7 @@ pub fn early_faults_are_one()
         → by_set inputs (λ set originals. by_components set originals type_phase) b → a ≡ b }
 {}
 
-/// Documents are compiled to one set, up to the order of the pairs of redefining components, or to one refusal.
+/// Documents are compiled to one set, up to the order of the pairs of redefining components, or to one fault.
 pub fn documents_are_compiled_to_one()
-    ensures only { (inputs : List SchemaInput) (x y : Result CompiledSet Refusal) → IsCompilation inputs x → IsCompilation inputs y → IsSameCompilation x y }
+    ensures only { (inputs : List SchemaInput) (x y : Result CompiledSet Fault) → IsCompilation inputs x → IsCompilation inputs y → IsSameCompilation x y }
 {}

@@ -16,27 +16,48 @@ use Rattle.compiled_schema.specs.Usable.{set_of}
 use Rattle.compiled_schema.specs.declared.compiled.Compiled.{Compiled}
 use Rattle.assess_records.specs.Numbered.{Scope, Head, head_of, heads, names_of, named_texts, characters, scope_in, shape_of}
 use Rattle.assessment.specs.Attribution.{SchemaSet, content_particle, AreTerms}
-use Rattle.assessment.specs.Assessment.{nothing, entry, governed, sibling_records, AreAssessed, AreJudged, IsEntry}
+use Rattle.assessment.specs.Assessment.{Assessed, nothing, entry, entries, governed, sibling_records, AreAssessed, AreJudged, IsEntry}
 use Rattle.assessment.specs.Plain.{plain_beside}
-use Rattle.assessment.specs.Bearings.{Bearing, bearings_below}
-use Rattle.tree_assess.specs.Entries.{entry_of}
+use Rattle.tree_assess.specs.Entries.{Placed, ArePlain, placed_below, all_placed, entry_of, placed_of}
 use Rattle.tree_assess.specs.declared.entry.ElementEntry.{ElementEntry}
 use Rattle.tree_assess.specs.declared.entry.ChildOutcome.{ChildOutcome}
 use Rattle.tree_assess.specs.declared.elements.Entered.{Entered}
-use Rattle.tree_assess.specs.inside.Steps.{AreBorne, AreDone, IsDone, alone, bearing_of, root_pair_of, pairs_in}
+use Rattle.tree_assess.specs.inside.Steps.{AreDone, IsDone, alone, root_pair_of, pairs_in}
 use Rattle.tree_assess.specs.inside.Entering.{IsEntered, IsFinished, shape_from}
 
 -- an entry takes the place that was kept for it
-pub placed : (old pushed mid new : List ElementEntry) (blank own : ElementEntry) (below : List Bearing) (place : ℕ) → pushed ≡ old ++ blank ∷ [] → map bearing_of mid ≡ map bearing_of pushed ++ below → place ≡ length old
-    → new ≡ slice_set mid place own → map bearing_of new ≡ map bearing_of old ++ bearing_of own ∷ below
+pub placed : (old pushed mid new : List ElementEntry) (blank own : ElementEntry) (below : List Placed) (place : ℕ) → pushed ≡ old ++ blank ∷ [] → map placed_of mid ≡ map placed_of pushed ++ below → place ≡ length old
+    → new ≡ slice_set mid place own → map placed_of new ≡ map placed_of old ++ placed_of own ∷ below
 placed old pushed mid new blank own below place push more at set =
-    let held : map bearing_of mid ≡ map bearing_of old ++ bearing_of blank ∷ below =
-    more ∙ ap (λ es. map bearing_of es ++ below) push ∙ ap (λ es. es ++ below) (map-append bearing_of old (blank ∷ []))
-    ∙ append_assoc (map bearing_of old) (bearing_of blank ∷ []) below in
-    let place_is : place ≡ length (map bearing_of old) = at ∙ sym (length-map old bearing_of) in
-    ap (map bearing_of) set ∙ map-set bearing_of mid place own ∙ ap (λ es. slice_set es place (bearing_of own)) held
-    ∙ ap (λ n. slice_set (map bearing_of old ++ bearing_of blank ∷ below) n (bearing_of own)) place_is
-    ∙ set-append_seam (map bearing_of old) (bearing_of blank) below (bearing_of own)
+    let held : map placed_of mid ≡ map placed_of old ++ placed_of blank ∷ below =
+    more ∙ ap (λ es. map placed_of es ++ below) push ∙ ap (λ es. es ++ below) (map-append placed_of old (blank ∷ []))
+    ∙ append_assoc (map placed_of old) (placed_of blank ∷ []) below in
+    let place_is : place ≡ length (map placed_of old) = at ∙ sym (length-map old placed_of) in
+    ap (map placed_of) set ∙ map-set placed_of mid place own ∙ ap (λ es. slice_set es place (placed_of own)) held
+    ∙ ap (λ n. slice_set (map placed_of old ++ placed_of blank ∷ below) n (placed_of own)) place_is
+    ∙ set-append_seam (map placed_of old) (placed_of blank) below (placed_of own)
+
+count_placed : (parent : ℕ) (found : Assessed) → length (placed_below parent found) ≡ length (entries found)
+count_placed parent nothing = refl
+count_placed parent (entry own below next) =
+    let both = length-append (placed_below own.number below) (placed_below parent next) in
+    let all = length-append (entries below) (entries next) in
+    let first = count_placed own.number below in
+    let others = count_placed parent next in
+    omega arith
+
+-- how many entries were put below the one whose place was kept
+count_below : (old pushed mid : List ElementEntry) (blank : ElementEntry) (parent : ℕ) (found : Assessed) (place count : ℕ) → pushed ≡ old ++ blank ∷ [] → map placed_of mid ≡ map placed_of pushed ++ placed_below parent found → place ≡ length old
+    → count + place + 1 ≡ length mid → count ≡ length (entries found)
+count_below old pushed mid blank parent found place count push more at sum =
+    let size = length-map mid placed_of in
+    let all = ap length more in
+    let both = length-append (map placed_of pushed) (placed_below parent found) in
+    let held = length-map pushed placed_of in
+    let first = ap length push in
+    let one = length-append old (blank ∷ []) in
+    let placed_count = count_placed parent found in
+    omega arith
 
 module _ (c : Compiled) (bearer : ℕ) (outer : Scope) (g : Governing) (name : Expanded) (row : Row) (children : Forest) (e : Entered) (is : IsEntered c bearer outer g name row children e) where
   abbrev own_head : Head
@@ -74,21 +95,23 @@ module _ (c : Compiled) (bearer : ℕ) (outer : Scope) (g : Governing) (name : E
         known = known;
       };
       below_are = subst (λ scope. AreAssessed (set_of c) plain_beside scope (pairs_in e.inner.begun.items) children below.found) scope_is below.assessed;
-      bearings_are =
-          placed old pushed mid new blank end.own (bearings_below e.number below.found) place push below.bearings_are at end.placed
-          ∙ ap (λ n. map bearing_of old ++ record { bearer = n; own = entry_of end.own } ∷ bearings_below e.number below.found) (end.bearer_is ∙ is.bearer_is)
-          ∙ ap (λ n. map bearing_of old ++ record { bearer = bearer; own = entry_of end.own } ∷ bearings_below n below.found) (sym end.number_is);
+      placed_are =
+          placed old pushed mid new blank end.own (placed_below e.number below.found) place push below.placed_are at end.placed
+          ∙ ap (λ n. map placed_of old ++ record { bearer = n; below = end.own.below; own = entry_of end.own } ∷ placed_below e.number below.found) (end.bearer_is ∙ is.bearer_is)
+          ∙ ap (λ n. map placed_of old ++ record { bearer = bearer; below = n; own = entry_of end.own } ∷ placed_below e.number below.found)
+          (count_below old pushed mid blank e.number below.found place end.own.below push below.placed_are at end.below_is)
+          ∙ ap (λ n. map placed_of old ++ record { bearer = bearer; below = length (entries below.found); own = entry_of end.own } ∷ placed_below n below.found) (sym end.number_is);
       validity_is = end.validity_is;
       attempted_is = end.attempted_is;
     }
 
 -- the place that was kept is there
-pub place_there : (old pushed mid : List ElementEntry) (blank : ElementEntry) (below : List Bearing) (place : ℕ) → pushed ≡ old ++ blank ∷ [] → map bearing_of mid ≡ map bearing_of pushed ++ below → place ≡ length old → place < length mid
+pub place_there : (old pushed mid : List ElementEntry) (blank : ElementEntry) (below : List Placed) (place : ℕ) → pushed ≡ old ++ blank ∷ [] → map placed_of mid ≡ map placed_of pushed ++ below → place ≡ length old → place < length mid
 place_there old pushed mid blank below place push more at =
-    let size = length-map mid bearing_of in
+    let size = length-map mid placed_of in
     let all = ap length more in
-    let sum = length-append (map bearing_of pushed) below in
-    let held = length-map pushed bearing_of in
+    let sum = length-append (map placed_of pushed) below in
+    let held = length-map pushed placed_of in
     let first = ap length push in
     let one = length-append old (blank ∷ []) in
     omega arith
@@ -106,11 +129,11 @@ element_from k d b bearer outer g name row children e is same later counts old p
 -- the place that was kept for an element is there when its child elements are assessed
 pub kept_there : (s : SchemaSet) (parent : ℕ) (scope : Scope) (pairs : List Governing) (children : Forest) (counts : ChildCounts) (old pushed mid : List ElementEntry) (place : ℕ) → (blank : ElementEntry) × (pushed ≡ old ++ blank ∷ []) → place ≡ length old
     → AreDone s parent scope pairs children pushed mid counts → place < length mid
-kept_there s parent scope pairs children counts old pushed mid place kept at below = place_there old pushed mid kept.0 (bearings_below parent below.found) place kept.1 below.bearings_are at
+kept_there s parent scope pairs children counts old pushed mid place kept at below = place_there old pushed mid kept.0 (placed_below parent below.found) place kept.1 below.placed_are at
 
 -- a document is its root
 pub root_done : (s : SchemaSet) (g : Governing) (name : Expanded) (row : Row) (children : Forest) (new : List ElementEntry) (outcome : ChildOutcome)
-    → g ≡ root_pair_of s (head_of s.names first_scope name row.bindings row.attributes) → IsDone s row.number first_scope g name row children [] new outcome → AreBorne s (alone name row children) new
+    → g ≡ root_pair_of s (head_of s.names first_scope name row.bindings row.attributes) → IsDone s row.number first_scope g name row children [] new outcome → ArePlain s (alone name row children) new
 root_done s g name row children new outcome e done = record {
   found = entry done.own done.below nothing;
   assessed = (
@@ -123,14 +146,14 @@ root_done s g name row children new outcome e done = record {
     done.below_are,
     refl,
   );
-  bearings_are =
-      done.bearings_are ∙ ap (λ n. record { bearer = n; own = done.own } ∷ bearings_below done.own.number done.below) (sym done.entry_is.number_is)
-      ∙ ap (λ bs. record { bearer = done.own.number; own = done.own } ∷ bs) (sym (append-nil (bearings_below done.own.number done.below)));
+  placed_are =
+      done.placed_are ∙ ap (λ n. record { bearer = n; below = length (entries done.below); own = done.own } ∷ placed_below done.own.number done.below) (sym done.entry_is.number_is)
+      ∙ ap (λ bs. record { bearer = done.own.number; below = length (entries done.below); own = done.own } ∷ bs) (sym (append-nil (placed_below done.own.number done.below)));
 }
 
 pub root_from : (k d : Compiled) (outer : Scope) (g : Governing) (name : Expanded) (row : Row) (children : Forest) (old new : List ElementEntry) (outcome : ChildOutcome) → d ≡ k → outer ≡ first_scope
     → g ≡ root_pair_of (set_of k) (head_of k.names first_scope name row.bindings row.attributes) → old ≡ [] → IsDone (set_of d) row.number outer g name row children old new outcome
-    → AreBorne (set_of k) (alone name row children) new
+    → ArePlain (set_of k) (alone name row children) new
 root_from k d outer g name row children old new outcome same first pair empty done =
     root_done (set_of k) g name row children new outcome pair
     (subst (λ es. IsDone (set_of k) row.number first_scope g name row children es new outcome) empty

@@ -6,4 +6,3 @@ mod Forests
 mod Root
 mod Steps
 mod Below
-mod Joining

@@ -13,12 +13,12 @@ use Rattle.elem_governing.specs.declared.pairs.Governing.{Governing}
 use Rattle.tree_names.proofs.RowLaws.{drop_next}
 use Rattle.assess_records.specs.Numbered.{Scope}
 use Rattle.assessment.specs.Attribution.{SchemaSet}
-use Rattle.assessment.specs.Assessment.{Assessed, nothing, entry, sibling_records, AreAssessed}
+use Rattle.assessment.specs.Assessment.{Assessed, nothing, entry, entries, sibling_records, AreAssessed}
 use Rattle.assessment.specs.Plain.{plain_beside}
-use Rattle.assessment.specs.Bearings.{bearings_below}
+use Rattle.tree_assess.specs.Entries.{placed_below, placed_of}
 use Rattle.tree_assess.specs.declared.entry.ElementEntry.{ElementEntry}
 use Rattle.tree_assess.specs.declared.entry.ChildOutcome.{ChildOutcome}
-use Rattle.tree_assess.specs.inside.Steps.{IsThere, IsSoFar, AreDone, IsDone, counted_onto, pairs_in, bearing_of}
+use Rattle.tree_assess.specs.inside.Steps.{IsThere, IsSoFar, AreDone, IsDone, counted_onto, pairs_in}
 use Rattle.tree_assess.proofs.Counting.{counted}
 use Rattle.tree_assess.proofs.Forests.{here, here_text}
 
@@ -27,7 +27,7 @@ module _ (s : SchemaSet) (parent : ℕ) (scope : Scope) (pairs : List Governing)
   begun counts e = record {
     whole = λ rest. rest;
     assessed = λ rest h. h;
-    bearings_are = λ rest. refl;
+    placed_are = λ rest. refl;
     counts_are = λ rest. sym (counted (sibling_records rest)) ∙ ap (counted_onto (sibling_records rest)) (sym e);
   }
 
@@ -35,7 +35,7 @@ module _ (s : SchemaSet) (parent : ℕ) (scope : Scope) (pairs : List Governing)
   ended left place new counts so e = record {
     found = so.whole nothing;
     assessed = so.assessed nothing (subst (λ f. AreAssessed s plain_beside scope (drop place pairs) f nothing) (sym e) refl);
-    bearings_are = sym (so.bearings_are nothing ∙ append-nil (map bearing_of new));
+    placed_are = sym (so.placed_are nothing ∙ append-nil (map placed_of new));
     counts_are = sym (so.counts_are nothing);
   }
 
@@ -44,7 +44,7 @@ module _ (s : SchemaSet) (parent : ℕ) (scope : Scope) (pairs : List Governing)
     past_text new counts chars is so = record {
       whole = so.whole;
       assessed = λ rest h. so.assessed rest (subst (λ f. AreAssessed s plain_beside scope (drop place pairs) f rest) (sym (here_text left children next row first chars is)) h);
-      bearings_are = so.bearings_are;
+      placed_are = so.placed_are;
       counts_are = so.counts_are;
     }
 
@@ -64,9 +64,9 @@ module _ (s : SchemaSet) (parent : ℕ) (scope : Scope) (pairs : List Governing)
           record {
             whole = λ rest. so.whole (entry done.own done.below rest);
             assessed = λ rest h. so.assessed (entry done.own done.below rest) (one_more rest h);
-            bearings_are =
-                λ rest. so.bearings_are (entry done.own done.below rest)
-                ∙ sym (ap (λ l. l ++ bearings_below parent rest) done.bearings_are ∙ append_assoc (map bearing_of mid) (record { bearer = parent; own = done.own } ∷ bearings_below done.own.number done.below) (bearings_below parent rest));
+            placed_are =
+                λ rest. so.placed_are (entry done.own done.below rest)
+                ∙ sym (ap (λ l. l ++ placed_below parent rest) done.placed_are ∙ append_assoc (map placed_of mid) (record { bearer = parent; below = length (entries done.below); own = done.own } ∷ placed_below done.own.number done.below) (placed_below parent rest));
             counts_are = λ rest. so.counts_are (entry done.own done.below rest) ∙ ap (counted_onto (sibling_records rest)) counted_own;
           }
 

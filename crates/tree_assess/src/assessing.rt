@@ -8,17 +8,15 @@ ghost use Rattle.elem_governing.specs.View.{AreKnown};
 ghost use Rattle.compiled_schema.specs.Usable.{IsUsable, set_of};
 ghost use Rattle.tree_names.specs.Found.{HasNames};
 ghost use Rattle.assess_records.specs.Numbered.{heads};
-ghost use Rattle.tree_assess.specs.Entries.{AreEntries};
+ghost use Rattle.tree_assess.specs.Entries.{ArePlain};
 ghost use Rattle.tree_assess.specs.declared.entry.ElementEntry.{ElementEntry as ElementEntryData};
-ghost use Rattle.tree_assess.specs.inside.Steps.{CanAssess, IsThere, AreBorne, AreDone, IsDone, alone, pairs_in};
+ghost use Rattle.tree_assess.specs.inside.Steps.{CanAssess, IsThere, AreDone, IsDone, alone, pairs_in};
 ghost use Rattle.tree_assess.specs.inside.Entering.{IsFinished, shape_from};
 
 use crate::ElementEntry;
 use crate::elements::{Entered, enter, leave, root_of};
 use crate::entry::{ChildOutcome, begun, outcome_of};
-use crate::ids::join_ids;
 use assess_records::ChildCounts;
-use assessment::codes_of_ids_join_the_assessment;
 use compiled_schema::Compiled;
 use elem_governing::Governing;
 use plain_tree::Tree;
@@ -61,7 +59,8 @@ fn finish(
     ensures finished { IfOk result (IsFinished (set_of compiled.old) governing.now entered.number entered.bearer (shape_from entered counts) place found.old.items found.new.items) }
     ensures same { compiled.new ≡ compiled.old }
 {
-    let entry = leave(alloc, compiled, governing, entered, counts)?;
+    let mut entry = leave(alloc, compiled, governing, entered, counts)?;
+    entry.below = found.len() - place - 1;
     let outcome = outcome_of(&entry.element);
     found[place] = entry;
     Ok(outcome)
@@ -153,7 +152,7 @@ fn assess_root(
     children: Siblings<'_>,
 ) -> Result<Vec<ElementEntry>, AllocError>
     requires can { CanAssess compiled.old first_scope (alone name.now row.now children) }
-    ensures assessed { IfOk result (λ entries. AreBorne (set_of compiled.old) (alone name.now row.now children.entry) entries.items) }
+    ensures assessed { IfOk result (λ entries. ArePlain (set_of compiled.old) (alone name.now row.now children.entry) entries.items) }
     ensures same { compiled.new ≡ compiled.old }
 {
     let root = root_of(alloc, compiled, name, row)?;
@@ -166,8 +165,13 @@ fn assess_root(
     Ok(found)
 }
 
-// Assesses a document but for its IDs.
-fn assess_tree(
+/// The assessment of a document by a schema set (Structures 5.2) without the codes of identity constraints and of IDs: the entries of
+/// its elements in document order. The set is usable, and has the names of the document in its table.
+///
+/// # Errors
+///
+/// `AllocError` is want of memory.
+pub fn assess_plain(
     alloc: Global,
     compiled: &mut Compiled,
     tree: &Tree,
@@ -175,7 +179,7 @@ fn assess_tree(
     requires usable { IsUsable compiled.old }
     requires sound { IsSound compiled.old.names }
     requires names { HasNames compiled.old.names tree.now.forest }
-    ensures assessed { IfOk result (λ entries. AreBorne (set_of compiled.old) tree.now.forest entries.items) }
+    ensures assessed { IfOk result (λ entries. ArePlain (set_of compiled.old) tree.now.forest entries.items) }
     ensures tree { IfOk result (λ entries. IsTree tree.now) }
     ensures same { compiled.new ≡ compiled.old }
 {
@@ -187,27 +191,4 @@ fn assess_tree(
         },
         None => unreachable!(),
     }
-}
-
-/// The assessment of a document by a schema set (Structures 5.2): the entries of its elements in document order. The set is
-/// usable, and has the names of the document in its table.
-///
-/// # Errors
-///
-/// `AllocError` is want of memory.
-pub fn assess(
-    alloc: Global,
-    compiled: &mut Compiled,
-    tree: &Tree,
-) -> Result<Vec<ElementEntry>, AllocError>
-    requires usable { IsUsable compiled.old }
-    requires sound { IsSound compiled.old.names }
-    requires names { HasNames compiled.old.names tree.now.forest }
-    ensures assessed { IfOk result (λ entries. AreEntries (set_of compiled.old) tree.now.forest entries.items) }
-    ensures same { compiled.new ≡ compiled.old }
-{
-    let mut entries = assess_tree(alloc, compiled, tree)?;
-    join_ids(alloc, &mut entries)?;
-    codes_of_ids_join_the_assessment();
-    Ok(entries)
 }

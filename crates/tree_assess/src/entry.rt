@@ -16,6 +16,8 @@ pub struct ElementEntry {
     /// The number of the element that bears the IDs of its text: its parent, or the element itself where it is the root
     /// (Structures 3.15.5).
     pub bearer: u32,
+    /// How many of the next entries are of elements below it.
+    pub below: usize,
     /// What governs it.
     pub governing: Governing,
     pub element: ElementRecord,
@@ -60,6 +62,7 @@ pub(crate) fn begun(alloc: Global, number: u32, governing: Governing, name: Name
     ElementEntry {
         number,
         bearer: number,
+        below: 0,
         governing,
         element: ElementRecord {
             name,

@@ -16,7 +16,7 @@ use std::alloc::{AllocError, Global};
 
 // The entry of an element of this number, the IDs of whose text that element bears.
 fn entry_by(number: u32, bearer: u32, governing: &Governing, judged: Judged) -> ElementEntry
-    ensures { result ≡ record { number = number; bearer = bearer; governing = governing.now; element = judged.element; value = judged.value; attrs = judged.attrs; attr_values = judged.attr_values } }
+    ensures { result ≡ record { number = number; bearer = bearer; below = 0; governing = governing.now; element = judged.element; value = judged.value; attrs = judged.attrs; attr_values = judged.attr_values } }
 {
     let Judged {
         element,
@@ -27,6 +27,7 @@ fn entry_by(number: u32, bearer: u32, governing: &Governing, judged: Judged) -> 
     ElementEntry {
         number,
         bearer,
+        below: 0,
         governing: *governing,
         element,
         value,

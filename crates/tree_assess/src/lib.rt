@@ -5,8 +5,7 @@ mod assessing;
 mod elements;
 mod entry;
 mod governing;
-mod ids;
 mod judging;
 
-pub use assessing::assess;
+pub use assessing::assess_plain;
 pub use entry::ElementEntry;

@@ -1,5 +1,5 @@
 -- What judging the components of a set comes to, and what a set whose documents are of the right shape does.
-use Rattle.std.specs.Prelude.{◌≡◌, ◌⊎◌, ℕ, true, false, List, Option, None, Some, Result, Ok, Err}
+use Rattle.std.specs.Prelude.{◌≡◌, ◌⊎◌, ℕ, List, Option, None, Some, Result, Ok, Err}
 use Rattle.xs_codes.specs.declared.fault.Fault.{Fault}
 use Rattle.xs_components.specs.Tables.{Tables}
 use Rattle.xs_codes.specs.Least.{IsLeast}
@@ -10,11 +10,9 @@ use Rattle.schema_set.specs.declared.documents.Available.{Available}
 use Rattle.redefine_originals.specs.Originals.{AreOriginals}
 use Rattle.schema_set.specs.declared.documents.SetDocument.{SetDocument}
 use Rattle.schema_check.specs.declared.documents.CompiledSet.{CompiledSet}
-use Rattle.schema_check.specs.declared.documents.Refusal.{Refusal}
-use Rattle.schema_check.specs.declared.documents.Refusal.TheVariants.{Broken, NotYet}
 use Rattle.schema_check.specs.Phases.{IsFirstOfPhases}
 use Rattle.schema_check.specs.SetPhases.{part_phases, IsReady, IsSetCompiled}
-use Rattle.schema_check.specs.Compilation.{are_unassessed, BreaksComposition}
+use Rattle.schema_check.specs.Compilation.{BreaksComposition}
 
 abbrev pub IsTyped : Tables → Tables → Result SimpleTypes Fault → Type 0
 IsTyped old new (Ok types) = IsFirstOfPhases (part_phases old) None × IsReady old new types
@@ -24,30 +22,17 @@ abbrev pub ArePartsCompiled : NameTable → RedefinedGroups → Tables → Resul
 ArePartsCompiled t redefined parts (Ok made) = (made.names ≡ t) × (made.redefined ≡ redefined) × IsTyped parts made.parts (Ok made.types)
 ArePartsCompiled t redefined parts (Err fault) = IsFirstOfPhases (part_phases parts) (Some fault)
 
--- a fault as the reason of a refusal
-abbrev pub as_refusal : Result CompiledSet Fault → Result CompiledSet Refusal
-as_refusal (Ok made) = Ok made
-as_refusal (Err fault) = Err (Broken fault)
-
--- what a set comes to, as the answer of all phases
-abbrev pub IsRefusedOr : List SetDocument → List (Option ℕ) → Result CompiledSet Refusal → Type 0
-IsRefusedOr set originals (Ok made) = IsSetCompiled set originals (Ok made)
-IsRefusedOr set originals (Err (Broken fault)) = IsSetCompiled set originals (Err fault)
-IsRefusedOr set originals (Err NotYet) = ⊥
-
 -- a set without a fault of phases 1 and 2
-abbrev pub IsComposedCompiled : List Available → List SetDocument → Result CompiledSet Refusal → Type 0
-IsComposedCompiled available set answer = (originals : List (Option ℕ)) × AreOriginals available set originals × IsRefusedOr set originals answer
+abbrev pub IsComposedCompiled : List Available → List SetDocument → Result CompiledSet Fault → Type 0
+IsComposedCompiled available set answer = (originals : List (Option ℕ)) × AreOriginals available set originals × IsSetCompiled set originals answer
 
 -- the first fault of how the documents are composed, if there is one
 abbrev pub IsComposed : List Available → Option Fault → Type 0
 IsComposed available found = IsLeast (BreaksComposition available) found
 
 -- a set whose documents are of the right shape
-abbrev pub IsClosedCompiled : List Available → List SetDocument → Result CompiledSet Refusal → Type 0
+abbrev pub IsClosedCompiled : List Available → List SetDocument → Result CompiledSet Fault → Type 0
 IsClosedCompiled available set (Ok made) =
-    (are_unassessed set ≡ false) × IsComposed available None × (originals : List (Option ℕ)) × AreOriginals available set originals × IsSetCompiled set originals (Ok made)
-IsClosedCompiled available set (Err (Broken fault)) =
-    (are_unassessed set ≡ false)
-    × (IsComposed available (Some fault) ⊎ (IsComposed available None × (originals : List (Option ℕ)) × AreOriginals available set originals × IsSetCompiled set originals (Err fault)))
-IsClosedCompiled available set (Err NotYet) = are_unassessed set ≡ true
+    IsComposed available None × (originals : List (Option ℕ)) × AreOriginals available set originals × IsSetCompiled set originals (Ok made)
+IsClosedCompiled available set (Err fault) =
+    IsComposed available (Some fault) ⊎ (IsComposed available None × (originals : List (Option ℕ)) × AreOriginals available set originals × IsSetCompiled set originals (Err fault))

@@ -16,7 +16,9 @@ use Rattle.schema_models.specs.SetModels.{content_of, AreModels, IsBroken}
 use Rattle.schema_check.specs.Phases.{IsFirstOfPhases}
 use Rattle.schema_check.specs.declared.documents.CompiledSet.{CompiledSet}
 use Rattle.compiled_schema.specs.declared.compiled.Compiled.{Compiled}
+use Rattle.identity_paths.specs.Reads.{AreIdentities}
 use Rattle.schema_compile.specs.declared.finding.Found.{Found}
+use Rattle.schema_compile.specs.declared.finding.Faultless.{Faultless}
 use Rattle.schema_compile.specs.Outcomes.{attr_phase, derivation_phase, late_phases}
 
 -- the attribute uses of all complex types and attribute groups, with the marks of types of IDs
@@ -49,21 +51,24 @@ pub record AreContentsThere (t : Tables) : Type 0 where
   pub there : (n p : ℕ) → content_of t n ≡ Some p → p < length t.particles.parts
 
 -- the set with what was found of it
-abbrev pub joined : CompiledSet → Found → List (Option ContentAutomaton) → Compiled
-joined made found models = record {
+abbrev pub joined : CompiledSet → Faultless → Compiled
+joined made whole = record {
   names = made.names;
   parts = made.parts;
   types = made.types;
-  members = found.members;
-  classes = found.classes;
-  declarations = found.declarations;
-  named = found.named;
-  attr_uses = found.attr_uses;
-  contents = found.contents;
-  models = models;
+  members = whole.found.members;
+  classes = whole.found.classes;
+  declarations = whole.found.declarations;
+  named = whole.found.named;
+  attr_uses = whole.found.attr_uses;
+  contents = whole.found.contents;
+  models = whole.models;
+  identities = whole.identities;
 }
 
--- what is found of a set without a fault, and its automata; or the first fault
-abbrev pub IsJudged : CompiledSet → Result (Found × List (Option ContentAutomaton)) Fault → Type 0
-IsJudged made (Ok pair) = IsFirstOfPhases (late_phases made) None × IsFound made.parts pair.0 × AreModelsOf made pair.0 (Ok pair.1) × AreContentsThere made.parts
+-- what is found of a set without a fault, its automata and its paths; or the first fault
+abbrev pub IsJudged : CompiledSet → Result Faultless Fault → Type 0
+IsJudged made (Ok whole) =
+    IsFirstOfPhases (late_phases made) None × IsFound made.parts whole.found × AreModelsOf made whole.found (Ok whole.models) × AreContentsThere made.parts ×
+    AreIdentities made.parts whole.identities.items
 IsJudged made (Err fault) = IsFirstOfPhases (late_phases made) (Some fault)

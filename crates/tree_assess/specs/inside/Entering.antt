@@ -1,5 +1,5 @@
 -- An element before its child elements are assessed.
-use Rattle.std.specs.Prelude.{◌≡◌, ℕ, List, [], slice_set}
+use Rattle.std.specs.Prelude.{◌≡◌, ℕ, ◌+◌, List, [], length, slice_set}
 use Rattle.tree_rows.specs.Forest.{Forest}
 use Rattle.tree_rows.specs.declared.name.Expanded.{Expanded}
 use Rattle.tree_rows.specs.declared.row.Row.{Row}
@@ -48,5 +48,6 @@ pub record IsFinished (s : SchemaSet) (g : Governing) (number bearer : ℕ) (sha
   pub bearer_is : own.bearer ≡ bearer
   pub governing_is : own.governing ≡ g
   pub placed : new ≡ slice_set old place own
+  pub below_is : own.below + place + 1 ≡ length old
   pub validity_is : outcome.validity ≡ own.element.validity
   pub attempted_is : outcome.attempted ≡ own.element.attempted

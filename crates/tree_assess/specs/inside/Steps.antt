@@ -16,10 +16,9 @@ use Rattle.compiled_schema.specs.declared.compiled.Compiled.{Compiled}
 use Rattle.tree_names.specs.Found.{HasNames}
 use Rattle.assess_records.specs.Numbered.{Scope, Head, head_of, heads, names_of, scope_in}
 use Rattle.assessment.specs.Attribution.{SchemaSet, content_particle, AreTerms}
-use Rattle.assessment.specs.Assessment.{Entry, Assessed, governed, sibling_records, IsEntry, AreAssessed, IsAssessment}
+use Rattle.assessment.specs.Assessment.{Entry, Assessed, governed, entries, sibling_records, IsEntry, AreAssessed}
 use Rattle.assessment.specs.Plain.{plain_beside}
-use Rattle.assessment.specs.Bearings.{Bearing, bearings_below, bearings}
-use Rattle.tree_assess.specs.Entries.{entry_of}
+use Rattle.tree_assess.specs.Entries.{placed_below, placed_of}
 use Rattle.tree_assess.specs.declared.entry.ElementEntry.{ElementEntry}
 use Rattle.tree_assess.specs.declared.entry.ChildOutcome.{ChildOutcome}
 
@@ -47,10 +46,6 @@ root_pair_of s h = govern_root s.names s.parts h.name h.xsi h.scope
 abbrev pub pair_of : SchemaSet → Governing → Option ℕ → Head → Governing
 pair_of s parent term h = govern_child s.names s.parts parent.mode term h.name h.xsi h.scope
 
--- the entry that is kept of an element, with the element that bears the IDs of its text
-abbrev pub bearing_of : ElementEntry → Bearing
-bearing_of e = record { bearer = e.bearer; own = entry_of e }
-
 abbrev pub pairs_in : List ElementEntry → List Governing
 pairs_in pairs = map (λ (p : ElementEntry). p.governing) pairs
 
@@ -72,14 +67,14 @@ module _ (s : SchemaSet) where
   pub record IsSoFar (parent : ℕ) (scope : Scope) (pairs : List Governing) (all left : Forest) (place : ℕ) (old new : List ElementEntry) (counts : ChildCounts) : Type 0 where
     pub whole : Assessed → Assessed
     pub assessed : (rest : Assessed) → AreAssessed s plain_beside scope (drop place pairs) left rest → AreAssessed s plain_beside scope pairs all (whole rest)
-    pub bearings_are : (rest : Assessed) → map bearing_of old ++ bearings_below parent (whole rest) ≡ map bearing_of new ++ bearings_below parent rest
+    pub placed_are : (rest : Assessed) → map placed_of old ++ placed_below parent (whole rest) ≡ map placed_of new ++ placed_below parent rest
     pub counts_are : (rest : Assessed) → counts_of (sibling_records (whole rest)) ≡ counted_onto (sibling_records rest) counts
 
   -- siblings are assessed, and their entries stand behind the old ones
   pub record AreDone (parent : ℕ) (scope : Scope) (pairs : List Governing) (f : Forest) (old new : List ElementEntry) (counts : ChildCounts) : Type 0 where
     pub found : Assessed
     pub assessed : AreAssessed s plain_beside scope pairs f found
-    pub bearings_are : map bearing_of new ≡ map bearing_of old ++ bearings_below parent found
+    pub placed_are : map placed_of new ≡ map placed_of old ++ placed_below parent found
     pub counts_are : counts ≡ counts_of (sibling_records found)
 
   -- an element is assessed with what is below it, and their entries stand behind the old ones
@@ -89,12 +84,6 @@ module _ (s : SchemaSet) where
     pub below : Assessed
     pub entry_is : IsEntry s plain_beside g (head_of s.names outer name row.bindings row.attributes) row.number row.attributes children inner below own
     pub below_are : AreAssessed s plain_beside (scope_in s.names row.bindings outer) inner children below
-    pub bearings_are : map bearing_of new ≡ map bearing_of old ++ record { bearer = bearer; own = own } ∷ bearings_below own.number below
+    pub placed_are : map placed_of new ≡ map placed_of old ++ record { bearer = bearer; below = length (entries below); own = own } ∷ placed_below own.number below
     pub validity_is : outcome.validity ≡ own.element.validity
     pub attempted_is : outcome.attempted ≡ own.element.attempted
-
--- these are the entries of a document's assessment without the codes of its IDs, in document order, with those that bear the IDs
-pub record AreBorne (s : SchemaSet) (f : Forest) (es : List ElementEntry) : Type 0 where
-  pub found : Assessed
-  pub assessed : IsAssessment s plain_beside f found
-  pub bearings_are : map bearing_of es ≡ bearings found

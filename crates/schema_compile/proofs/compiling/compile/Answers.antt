@@ -1,4 +1,4 @@
-use Rattle.std.proofs.Common.{inl, subst}
+use Rattle.std.proofs.Common.{inl, refl, subst}
 use Rattle.schema_check.specs.Compilation.{IsCompilation}
 use Rattle.schema_compile.proofs.OutcomeLaws.{set-outcome}
 use Rattle.schema_compile.proofs.compiling.compile.Goals as goal
@@ -14,4 +14,4 @@ returns-in-Ok c =
     record { outcome = set-outcome documents c.complete.result c.in-Ok.set (subst (IsCompilation documents) c.in-Ok.is c.in_ok-compiled.ensures) c.complete.ensures }
 
 pub returns-in-Err : goal.returns-in-Err
-returns-in-Err c = record { outcome = inl (c.in-Err.refusal, subst (IsCompilation c.args.documents.now) c.in-Err.is c.in_ok-compiled.ensures, c.outcome_of_refusal.ensures) }
+returns-in-Err c = record { outcome = inl (c.in-Err.fault, subst (IsCompilation c.args.documents.now) c.in-Err.is c.in_ok-compiled.ensures, refl) }

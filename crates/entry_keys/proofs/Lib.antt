@@ -1,0 +1,6 @@
+mod Parsing
+mod Coding
+mod Agreeing
+mod Naming
+mod Joining
+mod There

@@ -1,0 +1,3 @@
+pub mod Parsed
+pub mod Coded
+pub mod Marking

@@ -1,0 +1,62 @@
+//! The assessment of a document, with the codes of its identity constraints and IDs.
+
+ghost use Rattle.std.specs.Prelude.{◌≡◌, All, IfOk, OnOk};
+ghost use Rattle.xs_names.specs.Names.{IsSound};
+ghost use Rattle.compiled_schema.specs.Usable.{IsUsable, set_of};
+ghost use Rattle.tree_names.specs.Found.{HasNames};
+ghost use Rattle.entry_keys.specs.Entries.{AreEntries};
+ghost use Rattle.entry_keys.specs.inside.Coded.{IsEntryNamed, coded};
+
+use crate::ids::{id_codes, mark_first};
+use crate::joining::join_identity;
+use compiled_schema::Compiled;
+use identity_assessment::identity_codes_join_the_assessment;
+use path_walk::KeySet;
+use plain_tree::Tree;
+use std::alloc::{AllocError, Global};
+use tree_assess::{ElementEntry, assess_plain};
+
+// Puts the codes of identity constraints to entries.
+fn join_set(
+    alloc: Global,
+    compiled: &Compiled,
+    entries: &mut [ElementEntry],
+) -> Result<(), AllocError>
+    requires usable { IsUsable compiled.now }
+    requires named { All (IsEntryNamed compiled.now.names) entries.old }
+    ensures { OnOk result (entries.new ≡ coded compiled.now.names compiled.now.parts compiled.now.identities.items entries.old) }
+{
+    let set = KeySet {
+        alloc,
+        names: &compiled.names,
+        parts: &compiled.parts,
+        contents: &compiled.contents,
+        identities: compiled.identities.as_slice(),
+    };
+    join_identity(&set, entries)
+}
+
+/// The assessment of a document by a schema set (Structures 5.2): the entries of its elements in document order, with the codes of its
+/// identity constraints and of its IDs. The set is usable, and has the names of the document in its table.
+///
+/// # Errors
+///
+/// `AllocError` is want of memory, or a table of an identity constraint would have more than 4,294,967,295 tuples.
+pub fn assess(
+    alloc: Global,
+    compiled: &mut Compiled,
+    tree: &Tree,
+) -> Result<Vec<ElementEntry>, AllocError>
+    requires usable { IsUsable compiled.old }
+    requires sound { IsSound compiled.old.names }
+    requires names { HasNames compiled.old.names tree.now.forest }
+    ensures assessed { IfOk result (λ entries. AreEntries (set_of compiled.old) compiled.old.identities.items tree.now.forest entries.items) }
+    ensures same { compiled.new ≡ compiled.old }
+{
+    identity_codes_join_the_assessment();
+    let mut entries = assess_plain(alloc, compiled, tree)?;
+    let ids = id_codes(alloc, entries.as_slice())?;
+    join_set(alloc, compiled, entries.as_mut_slice())?;
+    mark_first(entries.as_mut_slice(), ids.as_slice())?;
+    Ok(entries)
+}
