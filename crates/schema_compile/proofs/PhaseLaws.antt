@@ -1,5 +1,5 @@
 -- The phases behind simple types.
-use Rattle.std.proofs.Common.{◌≡◌, ◌⊎◌, inl, inr, ℕ, ◌<◌, Bool, true, false, List, Option, None, Some, Result, Ok, Err, length, if◌then◌else◌, sym, ap, subst, ◌∙◌}
+use Rattle.std.proofs.Common.{◌≡◌, inl, inr, ℕ, ◌<◌, Bool, false, List, Option, None, Some, Result, Ok, Err, length, sym, ap, subst}
 use Rattle.std.specs.Prelude.{IfOk, IfErr, IfNone, slice_index_or, slice_get}
 use Rattle.std.specs.Option.{option_and_then}
 use Rattle.std.specs.Global.{Vec}
@@ -16,7 +16,7 @@ use Rattle.derive_models.specs.ModelFaults.{IsFirstModelFault}
 use Rattle.redefine_names.specs.declared.pairs.RedefinedPair.{RedefinedPair}
 use Rattle.content_models.specs.Built.{IsSource}
 use Rattle.content_models.specs.declared.automaton.ContentAutomaton.{ContentAutomaton}
-use Rattle.schema_models.specs.SetModels.{content_of, AreModels, IsBroken}
+use Rattle.schema_models.specs.SetModels.{AreModels, IsBroken}
 use Rattle.schema_check.specs.declared.documents.CompiledSet.{CompiledSet}
 use Rattle.schema_compile.specs.Fit.{IsFit}
 use Rattle.identity_paths.specs.Reads.{AreIdentities}

@@ -1,4 +1,4 @@
-use Rattle.std.proofs.Common.{Option, None, Some, Result, subst}
+use Rattle.std.proofs.Common.{None, Some, Result, subst}
 use Rattle.std.specs.Prelude.{MatchResult}
 use Rattle.std.specs.Global.{Vec}
 use Rattle.xs_codes.specs.declared.fault.Fault.{Fault}
