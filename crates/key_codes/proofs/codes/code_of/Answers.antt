@@ -1,0 +1,19 @@
+use Rattle.std.proofs.Common.{List, map, sym, ap, ◌∙◌}
+use Rattle.std.proofs.lemmas.Result.{IfOk-weaker}
+use Rattle.identity_constraints.specs.Targets.{Outcome}
+use Rattle.identity_constraints.specs.Satisfied.{first_broken, checks, codes_by}
+use Rattle.path_walk.specs.Outcomes.{outcome_of}
+use Rattle.key_codes.proofs.codes.code_of.Goals as goal
+
+pub returns : goal.returns
+returns g c =
+    let names = c.args.set.now.names.now in
+    let t = c.args.set.now.parts.now in
+    let identities = c.args.set.now.identities.now in
+    let k = c.args.constraint in
+    let part = c.in-Some.part.now in
+    IfOk-weaker c.code_by.result _ _
+    (λ code e own below next is.
+    e own below next is
+    ∙ ap (λ (os : List Outcome). first_broken (checks names t identities part.kind os own below)) (ap (map outcome_of) c.as_slice.ensures.value ∙ c.in_ok-found.ensures own below next is)
+    ∙ ap (λ o. codes_by names t identities k o own below) (sym c.in-Some.ensures.value)) c.code_by.ensures
