@@ -54,7 +54,7 @@ module _ (names : NameTable) (t : Tables) (identities : List IdentityPaths) (k :
       → ((tuple : List Key) → times tuple more ≡ times tuple held + (if is_held owns tuple (times tuple below) then 1 else 0))
       → (tuple : List Key) → times tuple more + bearing names t identities k tuple (behind_first f) ≡ times tuple start + bearing names t identities k tuple all
   bearing_next all f first start held more owns below is so e many adds tuple =
-      let one = ap (λ b. if b then 1 else 0) (table_is first (below_first f) owns below e many tuple) in
+      let one = ap {B = ℕ} (λ b. if b then 1 else 0) (table_is first (below_first f) owns below e many tuple) in
       let split = bearing-first tuple f first is in
       omega (arith, so tuple, adds tuple, one, split)
 

@@ -75,7 +75,8 @@ fn keyref_code<T: KeySiblings>(
     ensures { IfOk result (λ code. (own : KeyElement) (below next : KeyForest) → T.forest at ≡ element own below next
         → found_of code ≡ spec.first_broken (spec.checks_by set.now.names.now set.now.parts.now set.now.identities.now (Keyref key) (map outcome_of outcomes.now) own below)) }
 {
-    if has_unmatched(set, key, outcomes, at)? {
+    let unmatched = has_unmatched(set, key, outcomes, at)?;
+    if unmatched {
         return Ok(Some(Code::CvcIdentityConstraint4_3));
     }
     Ok(None)

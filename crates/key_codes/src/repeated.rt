@@ -84,7 +84,8 @@ pub(crate) fn has_repeated(alloc: Global, outcomes: &[TargetOutcome]) -> Result<
     let mut bag = Bag::new(alloc)?;
     let mut left = outcomes;
     'outcomes: while let Some((outcome, rest)) = left.split_last() {
-        if repeats_tuple(&mut bag, outcome)? {
+        let repeated = repeats_tuple(&mut bag, outcome)?;
+        if repeated {
             return Ok(true);
         }
         left = rest;

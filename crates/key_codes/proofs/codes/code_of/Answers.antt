@@ -1,4 +1,6 @@
-use Rattle.std.proofs.Common.{List, map, sym, ap, ◌∙◌}
+use Rattle.std.proofs.Common.{◌≡◌, List, length, map, refl, sym, ap, ◌∙◌, Some}
+use Rattle.std.specs.Prelude.{slice_get}
+use Rattle.std.proofs.lemmas.Option.{slice_get_read}
 use Rattle.std.proofs.lemmas.Result.{IfOk-weaker}
 use Rattle.identity_constraints.specs.Targets.{Outcome}
 use Rattle.identity_constraints.specs.Satisfied.{first_broken, checks, codes_by}
@@ -12,8 +14,11 @@ returns g c =
     let identities = c.args.set.now.identities.now in
     let k = c.args.constraint in
     let part = c.in-Some.part.now in
+    let parts = c.constraints.result.now in
+    let there : slice_get t.constraints.parts k ≡ Some part =
+    ap (λ xs. slice_get xs k) (sym c.constraints.ensures.parts) ∙ ap (slice_get parts) (sym c.number.ensures) ∙ slice_get_read parts (length parts) c.number.result part refl c.in-Some.ensures.lookup.3.0 c.in-Some.ensures.lookup.1 in
     IfOk-weaker c.code_by.result _ _
     (λ code e own below next is.
     e own below next is
     ∙ ap (λ (os : List Outcome). first_broken (checks names t identities part.kind os own below)) (ap (map outcome_of) c.as_slice.ensures.value ∙ c.in_ok-found.ensures own below next is)
-    ∙ ap (λ o. codes_by names t identities k o own below) (sym c.in-Some.ensures.value)) c.code_by.ensures
+    ∙ ap (λ o. codes_by names t identities k o own below) (sym there)) c.code_by.ensures

@@ -46,7 +46,11 @@ left-preserved g t c =
     let next_size = ap size c.next-left.ensures in
     let below = c.add_held.new.held.items in
     let many : (tuple : List Key) → times tuple below ≡ bearing names parts identities k tuple (below_first f) =
-    λ tuple. c.in_ok-add_held.ensures tuple ∙ ap (λ ts. times tuple ts + bearing names parts identities k tuple (forest c.below.result)) c.new-below.ensures.items ∙ ap (bearing names parts identities k tuple) c.below.ensures in
+    λ tuple.
+    let added = c.in_ok-add_held.ensures tuple in
+    let nothing = ap (times tuple) c.new-below.ensures.items in
+    let under = ap (bearing names parts identities k tuple) c.below.ensures in
+    omega (arith, added, nothing, under) in
     let owns = c.in_ok-own.ensures first (below_first f) (behind_first f) (opened f first is) in
     record {
       named = subst (AreNamed names) (sym c.next-left.ensures) (named_behind names f l.invariant.named);

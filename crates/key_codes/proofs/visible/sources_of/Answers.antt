@@ -1,4 +1,4 @@
-use Rattle.std.proofs.Common.{◌≡◌, ◌+◌, List, sym, ap, ◌∙◌, subst}
+use Rattle.std.proofs.Common.{◌≡◌, List, sym, ap, ◌∙◌, subst, arith}
 use Rattle.std.proofs.lemmas.Result.{IfOk-weaker}
 use Rattle.simple_values.specs.declared.key.Key.{Key}
 use Rattle.identity_constraints.specs.Seen.{KeyForest}
@@ -23,8 +23,11 @@ returns g c =
     IfOk-weaker c.of.result _ _
     (λ sources are own below next is tuple.
     let many : (tuple : List Key) → times tuple held ≡ bearing names parts identities k tuple below =
-    λ tuple. c.in_ok-add_held.ensures tuple ∙ ap (λ ts. times tuple ts + bearing names parts identities k tuple (forest c.below.result)) c.new-below.ensures.items
-    ∙ ap (bearing names parts identities k tuple) (c.below.ensures ∙ ap below_first is) in
+    λ tuple.
+    let added = c.in_ok-add_held.ensures tuple in
+    let nothing = ap (times tuple) c.new-below.ensures.items in
+    let under = ap (bearing names parts identities k tuple) (c.below.ensures ∙ ap below_first is) in
+    omega (arith, added, nothing, under) in
     let these : AreSources c.in_ok-own.own.items held sources =
     subst (λ xs. AreSources c.in_ok-own.own.items xs sources) c.as_slice-2.ensures.value (subst (λ xs. AreSources xs c.as_slice-2.result.now sources) c.as_slice.ensures.value are) in
     told_held c.in_ok-own.own.items held sources these tuple ∙ table_is names parts identities k own below c.in_ok-own.own.items held (c.in_ok-own.ensures own below next is) many tuple)
