@@ -85,7 +85,5 @@ pub(crate) fn has_unmatched<T: KeySiblings>(
         → unmatched ≡ spec.has_unmatched set.now.names.now set.now.parts.now set.now.identities.now key (map outcome_of outcomes.now) own below) }
 {
     let sources = sources_of(set, key, at)?;
-    Ok(outcomes
-        .iter()
-        .any(|outcome| sources.lacks(&outcome.tuple)))
+    Ok(outcomes.iter().any(|outcome| sources.lacks(&outcome.tuple)))
 }

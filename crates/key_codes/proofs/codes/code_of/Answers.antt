@@ -1,10 +1,9 @@
-use Rattle.std.proofs.Common.{◌≡◌, List, length, map, refl, sym, ap, ◌∙◌, Some}
+use Rattle.std.proofs.Common.{◌≡◌, length, map, refl, sym, ap, ◌∙◌, Some}
 use Rattle.std.specs.Prelude.{slice_get}
 use Rattle.std.proofs.lemmas.Option.{slice_get_read}
 use Rattle.std.proofs.lemmas.Result.{IfOk-weaker}
-use Rattle.identity_constraints.specs.Targets.{Outcome}
-use Rattle.identity_constraints.specs.Satisfied.{first_broken, checks, codes_by}
 use Rattle.path_walk.specs.Outcomes.{outcome_of}
+use Rattle.key_codes.proofs.Breaking.{code_there}
 use Rattle.key_codes.proofs.codes.code_of.Goals as goal
 
 pub returns : goal.returns
@@ -18,7 +17,6 @@ returns g c =
     let there : slice_get t.constraints.parts k ≡ Some part =
     ap (λ xs. slice_get xs k) (sym c.constraints.ensures.parts) ∙ ap (slice_get parts) (sym c.number.ensures) ∙ slice_get_read parts (length parts) c.number.result part refl c.in-Some.ensures.lookup.3.0 c.in-Some.ensures.lookup.1 in
     IfOk-weaker c.code_by.result _ _
-    (λ code e own below next is.
-    e own below next is
-    ∙ ap (λ (os : List Outcome). first_broken (checks names t identities part.kind os own below)) (ap (map outcome_of) c.as_slice.ensures.value ∙ c.in_ok-found.ensures own below next is)
-    ∙ ap (λ o. codes_by names t identities k o own below) (sym there)) c.code_by.ensures
+    (λ code broken own below next is.
+    code_there names t identities k part (slice_get t.constraints.parts k) (map outcome_of c.as_slice.result.now) own below code there (ap (map outcome_of) c.as_slice.ensures.value ∙ c.in_ok-found.ensures own below next is) (broken own below next is))
+    c.code_by.ensures

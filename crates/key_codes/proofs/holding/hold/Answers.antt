@@ -1,6 +1,5 @@
-use Rattle.std.proofs.Common.{◌++◌, [], ap, sym, ◌∙◌, subst}
+use Rattle.std.proofs.Common.{◌++◌, [], subst}
 use Rattle.std.proofs.lemmas.Result.{on_ok_weaker}
-use Rattle.simple_values.specs.declared.key.Key.{Key}
 use Rattle.key_codes.specs.inside.Times.{AreSources, times}
 use Rattle.key_codes.proofs.Taking.{nothing_taken, all_taken}
 use Rattle.key_codes.proofs.holding.hold.Goals as goal

@@ -1,7 +1,6 @@
 use Rattle.std.proofs.Common.{◌≡◌, ◌++◌, ◌∷◌, [], List, ap, sym, ◌∙◌, subst, rules, append_assoc, append-nil}
 use Rattle.simple_values.specs.declared.key.Key.{Key}
 use Rattle.key_codes.specs.inside.Times.{AreTaken}
-use Rattle.key_codes.proofs.Timing.{nothing_left}
 use Rattle.key_codes.proofs.holding.take.Goals as goal
 
 pub left-init : goal.left-init

@@ -1,4 +1,4 @@
-use Rattle.std.proofs.Common.{sym, ◌∙◌, ap, arith}
+use Rattle.std.proofs.Common.{sym, ◌∙◌, arith}
 use Rattle.key_codes.proofs.Taking.{taken_now, not_taken, told_held}
 use Rattle.key_codes.proofs.holding.take_one.Goals as goal
 

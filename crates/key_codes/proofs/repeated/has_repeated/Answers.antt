@@ -1,7 +1,6 @@
 use Rattle.std.proofs.Common.{◌++◌, ◌∷◌, [], map, refl, ap, sym, ◌∙◌, append_assoc, append-nil}
 use Rattle.identity_constraints.specs.Satisfied.{has_repeated, tuples_in}
 use Rattle.path_walk.specs.Outcomes.{outcome_of}
-use Rattle.path_walk.specs.declared.tuples.TargetOutcome.{TargetOutcome}
 use Rattle.key_codes.proofs.Timing.{nothing_left}
 use Rattle.key_codes.proofs.Tuples.{repeated_in}
 use Rattle.key_codes.proofs.repeated.has_repeated.Goals as goal

@@ -1,7 +1,6 @@
 use Rattle.std.proofs.Common.{◌≡◌, List, sym, ap, ◌∙◌, subst, arith}
 use Rattle.std.proofs.lemmas.Result.{IfOk-weaker}
 use Rattle.simple_values.specs.declared.key.Key.{Key}
-use Rattle.identity_constraints.specs.Seen.{KeyForest}
 use Rattle.identity_constraints.specs.Satisfied.{bearing}
 use Rattle.path_walk.specs.Sight.{AreNamed, below_first}
 use Rattle.key_codes.specs.inside.Times.{AreSources, times}

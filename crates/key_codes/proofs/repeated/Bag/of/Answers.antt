@@ -1,5 +1,4 @@
 use Rattle.std.proofs.Common.{◌++◌, ◌∷◌, [], ap, sym, ◌∙◌, subst, arith, append_assoc, append-nil}
-use Rattle.simple_values.specs.declared.key.Key.{Key}
 use Rattle.key_codes.specs.inside.Times.{IsBag}
 use Rattle.key_codes.proofs.Timing.{nothing_left}
 use Rattle.key_codes.proofs.repeated.Bag.of.Goals as goal

@@ -1,4 +1,4 @@
-use Rattle.std.proofs.Common.{sym, ◌∙◌, arith, refl, true≢false}
+use Rattle.std.proofs.Common.{sym, arith, true≢false}
 use Rattle.key_codes.proofs.Timing.{repeated_first, not_repeated}
 use Rattle.key_codes.proofs.repeated.Bag.repeats.Goals as goal
 
