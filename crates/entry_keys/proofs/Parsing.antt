@@ -10,7 +10,7 @@ use Rattle.entry_keys.specs.declared.siblings.Parted.{Parted}
 use Rattle.entry_keys.specs.inside.Parsed.{assessed_by, assessed_of, IsParted, Sized, sized_of, flat}
 
 pub parted-length : (n : ℕ) (es : List ElementEntry) → length (take n es) + length (drop n es) ≡ length es
-pub parted-length n es = sym (length-append (take n es) (drop n es)) ∙ ap length (take-append-drop n es)
+parted-length n es = sym (length-append (take n es) (drop n es)) ∙ ap length (take-append-drop n es)
 
 no-entries : (n : ℕ) → assessed_by n [] ≡ nothing
 no-entries zero = refl

@@ -26,12 +26,12 @@ use Rattle.entry_keys.proofs.Parsing.{parse_parted, parted-length}
 
 -- ---- by the first
 
-pub parted_by : (es rest : List ElementEntry) (p : Parted) → es ≡ p.own.now ∷ rest → (n : ℕ) → n ≡ p.own.now.below → p.below.now ≡ take (min n (length rest)) rest → p.behind.now ≡ drop (min n (length rest)) rest → IsParted es p
-parted_by es rest p all n count below behind = record {
+pub parted_by : (es rest : List ElementEntry) (p : Parted) → es ≡ p.own.now ∷ rest → p.below.now ≡ take (min p.own.now.below (length rest)) rest → p.behind.now ≡ drop (min p.own.now.below (length rest)) rest → IsParted es p
+parted_by es rest p all below behind = record {
   rest = rest;
   all = all;
-  below_is = below ∙ take_min n rest ∙ ap (λ k. take k rest) count;
-  behind_is = behind ∙ drop_min n rest ∙ ap (λ k. drop k rest) count;
+  below_is = below ∙ take_min p.own.now.below rest;
+  behind_is = behind ∙ drop_min p.own.now.below rest;
 }
 
 -- those behind it are fewer
@@ -144,7 +144,7 @@ module _ (names : NameTable) (t : Tables) (identities : List IdentityPaths) wher
       at ∙ ap (coded_at names t identities place) (is ∙ ap (λ n. coded_from names t identities n es) next) ∙ one-more place es
 
   pub all_coded : (place : ℕ) (es new : List ElementEntry) → place ≡ 0 → new ≡ coded_from names t identities place es → new ≡ coded names t identities es
-  all_coded place es new none is = is ∙ ap (λ n. coded_from names t identities n es) none
+  all_coded place es new zero_is is = is ∙ ap (λ n. coded_from names t identities n es) zero_is
 
   named-at : (place : ℕ) (es : List ElementEntry) → All (IsEntryNamed names) es → All (IsEntryNamed names) (coded_at names t identities place es)
   named-at place [] all = all

@@ -12,4 +12,4 @@ pub left-smaller : goal.left-smaller
 left-smaller c = fewer c.left.left.now c.in-Some.parts c.in-Some.ensures
 
 pub returns : goal.returns
-returns c = sym (c.left.invariant ∙ none_invalid c.left.left.now c.in-None.ensures)
+returns c = sym (c.left.invariant ∙ none_invalid c.left.left.now c.in_default.ensures)

@@ -1,4 +1,4 @@
-use Rattle.std.proofs.Common.{◌≡◌, ◌-◌, suc, arith}
+use Rattle.std.proofs.Common.{◌≡◌, ◌-◌, suc, length, refl, arith}
 use Rattle.entry_keys.proofs.Stepping.{as_many, begun, more_coded, all_coded, still_named}
 use Rattle.entry_keys.proofs.joining.join_identity.Goals as goal
 
@@ -6,7 +6,7 @@ pub loop-place-init : goal.loop-place-init
 loop-place-init c =
     let set = c.args.set.now in record {
       within = omega arith;
-      so_far = begun set.names.now set.parts.now set.identities.now c.len-place.result c.args.entries.now c.len-place.ensures;
+      so_far = begun set.names.now set.parts.now set.identities.now (length c.args.entries.now) c.args.entries.now refl;
       named = c.requires.named;
     }
 
