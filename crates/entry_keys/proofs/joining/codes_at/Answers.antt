@@ -8,7 +8,7 @@ use Rattle.entry_keys.proofs.Naming.{all_drop, all_named}
 use Rattle.entry_keys.proofs.Stepping.{first_by}
 use Rattle.entry_keys.proofs.joining.codes_at.Goals as goal
 
-pub identity_codes-requires-clause-named : goal.identity_codes-codes-requires-clause-named
+pub identity_codes-requires-clause-named : goal.identity_codes-requires-clause-named
 identity_codes-requires-clause-named c =
     let names = c.args.set.now.names.now in
     let es = c.args.entries.now in
