@@ -1,7 +1,7 @@
 use Rattle.std.proofs.Common.{◌≡◌, ◌++◌, List, length}
 use Rattle.simple_values.specs.declared.key.Key.{Key}
 use Rattle.key_codes.specs.inside.Times.{IsBag}
-use Rattle.key_codes.proofs.holding.bag_of.Given as goal
+use Rattle.key_codes.proofs.repeated.Bag.of.Given as goal
 
 abbrev pub invariant-tuples : goal.invariant-tuples
 invariant-tuples l = record {
