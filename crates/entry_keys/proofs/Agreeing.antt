@@ -1,6 +1,5 @@
 -- Codes by the numbers of elements, of which no two have one.
-use Rattle.std.proofs.Common.{◌≡◌, ℕ, ◌+◌, ◌≤◌, ◌==◌, Bool, true, false, if◌then◌else◌, List, [], ◌∷◌, ◌++◌, refl, sym, ap, subst, ◌∙◌, arith, append-nil}
-use Rattle.std.proofs.lemmas.Bool.{eqb-true}
+use Rattle.std.proofs.Common.{◌≡◌, ℕ, ◌+◌, ◌≤◌, ◌==◌, Bool, true, false, if◌then◌else◌, List, [], ◌++◌, refl, sym, ap, subst, ◌∙◌, arith, append-nil}
 use Rattle.xs_names.specs.Names.{NameTable}
 use Rattle.xs_names.specs.Scope.{first_scope}
 use Rattle.xs_codes.specs.declared.fault.Found.{Found}
@@ -12,7 +11,7 @@ use Rattle.elem_governing.specs.declared.pairs.Governing.{Governing}
 use Rattle.identity_paths.specs.declared.paths.IdentityPaths.{IdentityPaths}
 use Rattle.identity_constraints.specs.Satisfied.{identity_codes, identity_at}
 use Rattle.assessment.specs.Attribution.{SchemaSet}
-use Rattle.assessment.specs.Assessment.{Beside, Entry, Assessed, nothing, entry, other_pairs, root_pairs, AreAssessed, IsAssessment}
+use Rattle.assessment.specs.Assessment.{Beside, Assessed, nothing, entry, other_pairs, root_pairs, AreAssessed, IsAssessment}
 use Rattle.assessment.specs.Joined.{is_root}
 use Rattle.identity_assessment.specs.Identity.{seen, seen_element, has_invalid, with_more, with_all}
 use Rattle.entry_keys.proofs.Coding.{Agrees}

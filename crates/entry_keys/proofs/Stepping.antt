@@ -1,20 +1,19 @@
 -- One entry more with the codes of its identity constraints, and what entries are by their first.
-use Rattle.std.proofs.Common.{◌≡◌, ℕ, zero, suc, ◌+◌, ◌<◌, ◌||◌, Bool, true, false, List, [], ◌∷◌, ◌++◌, length, get_or, take, drop, refl, sym, ap, subst, ◌∙◌, arith}
+use Rattle.std.proofs.Common.{◌≡◌, ℕ, zero, suc, ◌<◌, ◌||◌, Bool, true, false, List, [], ◌∷◌, ◌++◌, length, get_or, take, drop, refl, sym, ap, subst, ◌∙◌, arith}
 use Rattle.std.specs.Prelude.{All, slice_set, min}
 use Rattle.std.proofs.lemmas.List.{take_min, drop_min}
-use Rattle.std.proofs.lemmas.List.Elements.{All-nil, All-cons, All-head, All-tail}
+use Rattle.std.proofs.lemmas.List.Elements.{All-cons, All-head, All-tail}
 use Rattle.xs_names.specs.Names.{NameTable}
 use Rattle.xs_codes.specs.declared.fault.Found.{Found}
 use Rattle.xs_components.specs.Tables.{Tables}
 use Rattle.assess_records.specs.declared.outcome.Validity.{Validity}
-use Rattle.assess_records.specs.declared.outcome.Validity.TheVariants.{Valid, Invalid, NotKnown}
 use Rattle.assess_records.specs.declared.record.ElementRecord.{ElementRecord}
 use Rattle.identity_paths.specs.declared.paths.IdentityPaths.{IdentityPaths}
-use Rattle.identity_constraints.specs.Seen.{KeyAttribute, KeyElement, KeyForest, none, element}
+use Rattle.identity_constraints.specs.Seen.{KeyElement, KeyForest, none, element}
 use Rattle.identity_constraints.specs.Satisfied.{identity_codes}
 use Rattle.elem_codes.specs.Records.{is_invalid}
 use Rattle.elem_assess.specs.Marked.{validity_with, marked_record}
-use Rattle.assessment.specs.Assessment.{Assessed, nothing, entry}
+use Rattle.assessment.specs.Assessment.{Assessed}
 use Rattle.identity_assessment.specs.Identity.{seen, seen_element, has_invalid, validity_again, with_more}
 use Rattle.path_walk.specs.Sight.{IsFirst, below_first, behind_first}
 use Rattle.tree_assess.specs.Entries.{entry_of}

@@ -1,6 +1,5 @@
 -- The entries of a document with the codes of its identity constraints and IDs.
-use Rattle.std.proofs.Common.{◌≡◌, ℕ, ◌+◌, ◌<◌, ◌≤◌, ◌==◌, Bool, true, false, if◌then◌else◌, List, [], ◌∷◌, ◌++◌, length, map, take, get_or, refl, sym, ap, subst, ◌∙◌, arith, append_assoc, append-nil}
-use Rattle.std.specs.Prelude.{slice_set}
+use Rattle.std.proofs.Common.{◌≡◌, ℕ, ◌+◌, ◌<◌, ◌≤◌, ◌==◌, Bool, if◌then◌else◌, List, [], ◌∷◌, ◌++◌, length, map, take, get_or, refl, sym, ap, ◌∙◌, arith, append_assoc, append-nil}
 use Rattle.std.specs.List.{flat_map}
 use Rattle.std.proofs.lemmas.List.{map-append, take_more}
 use Rattle.std.proofs.lemmas.Grind.{flat_map-append}
@@ -8,7 +7,6 @@ use Rattle.tree_rows.specs.Forest.{Forest, Document}
 use Rattle.tree_rows.specs.Whole.{IsTree}
 use Rattle.xs_codes.specs.declared.fault.Found.{Found}
 use Rattle.assess_records.specs.declared.outcome.Validity.{Validity}
-use Rattle.assess_records.specs.declared.outcome.Validity.TheVariants.{Valid, Invalid, NotKnown}
 use Rattle.assess_records.specs.declared.record.ElementRecord.{ElementRecord}
 use Rattle.identity_tables.specs.Ids.{BorneAtom, borne_in, borne_in_all, id_codes}
 use Rattle.identity_paths.specs.declared.paths.IdentityPaths.{IdentityPaths}
@@ -19,7 +17,7 @@ use Rattle.assessment.specs.Plain.{plain_beside}
 use Rattle.assessment.specs.Bearings.{Bearing, bearings_below, bearings, borne_of, borne_values}
 use Rattle.assessment.specs.Joined.{is_root, marked, marked_entry, marked_record}
 use Rattle.elem_assess.specs.Marked.{validity_with}
-use Rattle.identity_assessment.specs.Identity.{seen, has_invalid, validity_again, with_more, with_all, beside_of, said, with_codes}
+use Rattle.identity_assessment.specs.Identity.{seen, has_invalid, validity_again, with_more, with_all, beside_of, with_codes}
 use Rattle.tree_assess.specs.Entries.{Placed, placed_below, all_placed, placed_of, entry_of, ArePlain}
 use Rattle.tree_assess.specs.declared.entry.ElementEntry.{ElementEntry}
 use Rattle.entry_keys.specs.Entries.{AreEntries}
@@ -180,13 +178,3 @@ atoms_next es i e within at =
     ∙ ap (flat_map borne_of) (sym (map-append bearing_of (take i es) (e ∷ [])))
     ∙ ap (λ x. atoms_in (take i es ++ x ∷ [])) at
     ∙ ap atoms_in (sym (take_more es i e within))
-
--- codes behind those of the first
-pub first_marks : (es new : List ElementEntry) (codes : List Found) (old own : ElementEntry) → 0 < length es → old ≡ get_or es 0 old → own ≡ record old { element = marked_record codes old.element } → new ≡ slice_set es 0 own
-    → new ≡ with_marks codes es
-first_marks [] new codes old own some at is set = absurd (omega (arith, some))
-first_marks (e ∷ es) new codes old own some at is set = set ∙ ap (λ x. x ∷ es) (is ∙ ap (λ (x : ElementEntry). record x { element = marked_record codes x.element }) at)
-
-pub no_marks : (es : List ElementEntry) (codes : List Found) → length es ≡ 0 → es ≡ with_marks codes es
-no_marks [] codes e = refl
-no_marks (x ∷ es) codes e = absurd (omega (arith, e))
