@@ -1,6 +1,5 @@
 -- The entries of a document with the codes of its identity constraints and IDs.
-use Rattle.std.proofs.Common.{◌≡◌, ℕ, ◌+◌, ◌<◌, ◌≤◌, ◌==◌, Bool, true, false, if◌then◌else◌, List, [], ◌∷◌, ◌++◌, length, map, take, get_or, refl, sym, ap, subst, ◌∙◌, arith, append_assoc, append-nil}
-use Rattle.std.specs.Prelude.{slice_set}
+use Rattle.std.proofs.Common.{◌≡◌, ℕ, ◌+◌, ◌<◌, ◌≤◌, ◌==◌, Bool, if◌then◌else◌, List, [], ◌∷◌, ◌++◌, length, map, take, get_or, refl, sym, ap, ◌∙◌, arith, append_assoc, append-nil}
 use Rattle.std.specs.List.{flat_map}
 use Rattle.std.proofs.lemmas.List.{map-append, take_more}
 use Rattle.std.proofs.lemmas.Grind.{flat_map-append}
@@ -8,7 +7,6 @@ use Rattle.tree_rows.specs.Forest.{Forest, Document}
 use Rattle.tree_rows.specs.Whole.{IsTree}
 use Rattle.xs_codes.specs.declared.fault.Found.{Found}
 use Rattle.assess_records.specs.declared.outcome.Validity.{Validity}
-use Rattle.assess_records.specs.declared.outcome.Validity.TheVariants.{Valid, Invalid, NotKnown}
 use Rattle.assess_records.specs.declared.record.ElementRecord.{ElementRecord}
 use Rattle.identity_tables.specs.Ids.{BorneAtom, borne_in, borne_in_all, id_codes}
 use Rattle.identity_paths.specs.declared.paths.IdentityPaths.{IdentityPaths}
@@ -19,7 +17,7 @@ use Rattle.assessment.specs.Plain.{plain_beside}
 use Rattle.assessment.specs.Bearings.{Bearing, bearings_below, bearings, borne_of, borne_values}
 use Rattle.assessment.specs.Joined.{is_root, marked, marked_entry, marked_record}
 use Rattle.elem_assess.specs.Marked.{validity_with}
-use Rattle.identity_assessment.specs.Identity.{seen, has_invalid, validity_again, with_more, with_all, beside_of, said, with_codes}
+use Rattle.identity_assessment.specs.Identity.{seen, has_invalid, validity_again, with_more, with_all, beside_of, with_codes}
 use Rattle.tree_assess.specs.Entries.{Placed, placed_below, all_placed, placed_of, entry_of, ArePlain}
 use Rattle.tree_assess.specs.declared.entry.ElementEntry.{ElementEntry}
 use Rattle.entry_keys.specs.Entries.{AreEntries}
@@ -80,6 +78,10 @@ owns-flat : (found : Assessed) → map own_of (flat found) ≡ entries found
 owns-flat nothing = refl
 owns-flat (entry own below next) = ap (λ more. own ∷ more) (map-append own_of (flat below) (flat next) ∙ (λ i. owns-flat below i ++ owns-flat next i))
 
+-- the entries are those of what was found
+pub plain_entries : (found : Assessed) (es : List ElementEntry) → map placed_of es ≡ all_placed found → map entry_of es ≡ entries found
+plain_entries found es is = sym (owns es) ∙ ap (map own_of) (sym (sized-all es) ∙ ap (map sized_in) is ∙ sized-found found) ∙ owns-flat found
+
 -- ---- the codes of IDs behind those of identity constraints
 
 again : (codes more : List Found) (below : Bool) (validity : Validity) → validity_again (codes ++ more) below validity ≡ validity_with more (validity_again codes below validity)
@@ -123,9 +125,9 @@ module _ (f : Forest) (k : ℕ → List Found) (ids : List Found) where
         (λ i. entry (record own { element = with_more (here i) (has_invalid (one i)) own.element }) (one i) (two i))
         ∙ ap (λ (r : ElementRecord). entry (record own { element = r }) (with_all k below) (with_all k next)) (with-ids (k own.number) ids (has_invalid (with_all k below)) own.element)
 
-  all-roots : (s : SchemaSet) (found : Assessed) → IsRootOf s plain_beside f found → ((n : ℕ) → found_times n found ≤ 1) → with_all both found ≡ marked ids (with_all k found)
-  all-roots s nothing root once = refl
-  all-roots s (entry own below next) root once = at-root own below next root once
+  all-roots : (found : Assessed) → IsRootOf f found → ((n : ℕ) → found_times n found ≤ 1) → with_all both found ≡ marked ids (with_all k found)
+  all-roots nothing root once = refl
+  all-roots (entry own below next) root once = at-root own below next root once
 
 -- ---- all together
 
@@ -148,7 +150,7 @@ module _ (s : SchemaSet) (identities : List IdentityPaths) (d : Document) (tree 
   coded-entries = sym (owns (coded s.names s.parts identities old)) ∙ ap (map own_of) flat-coded ∙ owns-flat (with_all at_number plain.found)
 
   all-codes : marked (id_codes (borne_values plain.found)) (with_all at_number plain.found) ≡ with_codes s identities d.forest plain.found
-  all-codes = sym (all-roots d.forest at_number (id_codes (borne_values plain.found)) s plain.found (root_of s plain_beside d.forest plain.found tree.root plain.assessed) once)
+  all-codes = sym (all-roots d.forest at_number (id_codes (borne_values plain.found)) plain.found (root_of s plain_beside d.forest plain.found tree.root plain.assessed) once)
 
   pub joined : ((s : SchemaSet) (identities : List IdentityPaths) (f : Forest) (found : Assessed) → IsAssessment s plain_beside f found
       → IsAssessment s (beside_of s identities f (with_codes s identities f found)) f (with_codes s identities f found))
@@ -176,13 +178,3 @@ atoms_next es i e within at =
     ∙ ap (flat_map borne_of) (sym (map-append bearing_of (take i es) (e ∷ [])))
     ∙ ap (λ x. atoms_in (take i es ++ x ∷ [])) at
     ∙ ap atoms_in (sym (take_more es i e within))
-
--- codes behind those of the first
-pub first_marks : (es new : List ElementEntry) (codes : List Found) (old own : ElementEntry) → 0 < length es → old ≡ get_or es 0 old → own ≡ record old { element = marked_record codes old.element } → new ≡ slice_set es 0 own
-    → new ≡ with_marks codes es
-first_marks [] new codes old own some at is set = absurd (omega (arith, some))
-first_marks (e ∷ es) new codes old own some at is set = set ∙ ap (λ x. x ∷ es) (is ∙ ap (λ (x : ElementEntry). record x { element = marked_record codes x.element }) at)
-
-pub no_marks : (es : List ElementEntry) (codes : List Found) → length es ≡ 0 → es ≡ with_marks codes es
-no_marks [] codes e = refl
-no_marks (x ∷ es) codes e = absurd (omega (arith, e))
