@@ -1,12 +1,12 @@
 -- The numbers of entries.
-use Rattle.std.proofs.Common.{◌≡◌, ◌≤◌, ◌==◌, ℕ, ◌+◌, List, [], ◌∷◌, ◌++◌, Bool, sym, ap, ◌∙◌, subst, arith}
+use Rattle.std.proofs.Common.{◌≡◌, ◌≤◌, ◌==◌, ℕ, ◌+◌, List, [], ◌∷◌, ◌++◌, sym, ap, ◌∙◌, subst, arith}
 use Rattle.std.specs.Prelude.{if◌then◌else◌}
 use Rattle.tree_rows.specs.Forest.{Forest, none, text, element, Document}
 use Rattle.tree_rows.specs.Whole.{HasRoot, times}
 use Rattle.elem_governing.specs.declared.pairs.Governing.{Governing}
 use Rattle.xs_names.specs.Scope.{first_scope}
 use Rattle.assessment.specs.Attribution.{SchemaSet}
-use Rattle.assessment.specs.Assessment.{Beside, Entry, Assessed, nothing, entry, entries, other_pairs, root_pairs, AreAssessed, IsAssessment}
+use Rattle.assessment.specs.Assessment.{Beside, Entry, Assessed, entries, other_pairs, root_pairs, AreAssessed, IsAssessment}
 use Rattle.assess_records.specs.Numbered.{Scope, heads, scope_in}
 use Rattle.identity_assessment.specs.Identity.{beside_of}
 use Rattle.what_is_found.specs.IsFound.{IsFound, times_found}

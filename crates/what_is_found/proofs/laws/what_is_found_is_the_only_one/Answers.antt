@@ -1,5 +1,5 @@
 use Rattle.std.proofs.Common.{◌≡◌, List, sym, ap, ◌∙◌, subst}
-use Rattle.assessment.specs.Assessment.{Assessed, entries, IsAssessment}
+use Rattle.assessment.specs.Assessment.{entries, IsAssessment}
 use Rattle.assessment.specs.Plain.{plain_beside}
 use Rattle.identity_paths.specs.declared.paths.IdentityPaths.{IdentityPaths}
 use Rattle.identity_assessment.specs.Identity.{beside_of, with_codes}
@@ -10,7 +10,7 @@ returns c = record {
   only = λ s d x y p q.
       let paths : q.identities ≡ p.identities = c.identities_go_by_the_set.ensures.one s.parts q.identities p.identities q.read p.read in
       let other : IsAssessment s (beside_of s p.identities d.forest q.found) d.forest q.found =
-          subst (λ (identities : List IdentityPaths). IsAssessment s (beside_of s identities d.forest q.found) d.forest q.found) paths q.assessed in
+      subst (λ (identities : List IdentityPaths). IsAssessment s (beside_of s identities d.forest q.found) d.forest q.found) paths q.assessed in
       let mine = c.identity_codes_join_the_assessment.ensures.parted s p.identities d.forest p.found p.assessed in
       let yours = c.identity_codes_join_the_assessment.ensures.parted s p.identities d.forest q.found other in
       let plain : mine.0 ≡ yours.0 = c.the_assessment_is_the_only_one.ensures.only s plain_beside d.forest mine.0 yours.0 p.sound p.named mine.1 yours.1 in
