@@ -46,7 +46,9 @@ impl OpenDocument {
     /// Lets go of it.
     fn close(self) {
         let OpenDocument {
-            session, documents, ..
+            session,
+            documents,
+            ..
         } = self;
         session.close();
         drop(documents);
