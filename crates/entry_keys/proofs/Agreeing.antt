@@ -22,6 +22,11 @@ abbrev pub found_times : ℕ → Assessed → ℕ
 found_times n nothing = 0
 found_times n (entry own below next) = (if own.number == n then 1 else 0) + (found_times n below + found_times n next)
 
+-- the first is the root
+abbrev pub IsRootOf : Forest → Assessed → Type 0
+IsRootOf f nothing = ⊥
+IsRootOf f (entry own below next) = (n : ℕ) → is_root f n ≡ (own.number == n)
+
 -- those of the document, at most
 module _ (s : SchemaSet) (b : Beside) where
   times-within : (n : ℕ) (f : Forest) (scope : Scope) (pairs : List Governing) (found : Assessed) → AreAssessed s b scope pairs f found → found_times n found ≤ times n f
@@ -38,11 +43,6 @@ module _ (s : SchemaSet) (b : Beside) where
   found_once d tree found is n =
       let within = times-within n d.forest first_scope (root_pairs s (heads s.names first_scope d.forest)) found is in
       omega (arith, within, tree.differ n)
-
-  -- the first is the root
-  pub IsRootOf : Forest → Assessed → Type 0
-  IsRootOf f nothing = ⊥
-  IsRootOf f (entry own below next) = (n : ℕ) → is_root f n ≡ (own.number == n)
 
   pub root_of : (f : Forest) (found : Assessed) → HasRoot f → IsAssessment s b f found → IsRootOf f found
   root_of none found root a = absurd root

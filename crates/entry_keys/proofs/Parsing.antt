@@ -9,8 +9,8 @@ use Rattle.tree_assess.specs.declared.entry.ElementEntry.{ElementEntry}
 use Rattle.entry_keys.specs.declared.siblings.Parted.{Parted}
 use Rattle.entry_keys.specs.inside.Parsed.{assessed_by, assessed_of, IsParted, Sized, sized_of, flat}
 
-parted-length : (n : ℕ) (es : List ElementEntry) → length (take n es) + length (drop n es) ≡ length es
-parted-length n es = sym (length-append (take n es) (drop n es)) ∙ ap length (take-append-drop n es)
+pub parted-length : (n : ℕ) (es : List ElementEntry) → length (take n es) + length (drop n es) ≡ length es
+pub parted-length n es = sym (length-append (take n es) (drop n es)) ∙ ap length (take-append-drop n es)
 
 no-entries : (n : ℕ) → assessed_by n [] ≡ nothing
 no-entries zero = refl

@@ -80,6 +80,10 @@ owns-flat : (found : Assessed) → map own_of (flat found) ≡ entries found
 owns-flat nothing = refl
 owns-flat (entry own below next) = ap (λ more. own ∷ more) (map-append own_of (flat below) (flat next) ∙ (λ i. owns-flat below i ++ owns-flat next i))
 
+-- the entries are those of what was found
+pub plain_entries : (found : Assessed) (es : List ElementEntry) → map placed_of es ≡ all_placed found → map entry_of es ≡ entries found
+plain_entries found es is = sym (owns es) ∙ ap (map own_of) (sym (sized-all es) ∙ ap (map sized_in) is ∙ sized-found found) ∙ owns-flat found
+
 -- ---- the codes of IDs behind those of identity constraints
 
 again : (codes more : List Found) (below : Bool) (validity : Validity) → validity_again (codes ++ more) below validity ≡ validity_with more (validity_again codes below validity)
@@ -123,9 +127,9 @@ module _ (f : Forest) (k : ℕ → List Found) (ids : List Found) where
         (λ i. entry (record own { element = with_more (here i) (has_invalid (one i)) own.element }) (one i) (two i))
         ∙ ap (λ (r : ElementRecord). entry (record own { element = r }) (with_all k below) (with_all k next)) (with-ids (k own.number) ids (has_invalid (with_all k below)) own.element)
 
-  all-roots : (s : SchemaSet) (found : Assessed) → IsRootOf s plain_beside f found → ((n : ℕ) → found_times n found ≤ 1) → with_all both found ≡ marked ids (with_all k found)
-  all-roots s nothing root once = refl
-  all-roots s (entry own below next) root once = at-root own below next root once
+  all-roots : (found : Assessed) → IsRootOf f found → ((n : ℕ) → found_times n found ≤ 1) → with_all both found ≡ marked ids (with_all k found)
+  all-roots nothing root once = refl
+  all-roots (entry own below next) root once = at-root own below next root once
 
 -- ---- all together
 
@@ -148,7 +152,7 @@ module _ (s : SchemaSet) (identities : List IdentityPaths) (d : Document) (tree 
   coded-entries = sym (owns (coded s.names s.parts identities old)) ∙ ap (map own_of) flat-coded ∙ owns-flat (with_all at_number plain.found)
 
   all-codes : marked (id_codes (borne_values plain.found)) (with_all at_number plain.found) ≡ with_codes s identities d.forest plain.found
-  all-codes = sym (all-roots d.forest at_number (id_codes (borne_values plain.found)) s plain.found (root_of s plain_beside d.forest plain.found tree.root plain.assessed) once)
+  all-codes = sym (all-roots d.forest at_number (id_codes (borne_values plain.found)) plain.found (root_of s plain_beside d.forest plain.found tree.root plain.assessed) once)
 
   pub joined : ((s : SchemaSet) (identities : List IdentityPaths) (f : Forest) (found : Assessed) → IsAssessment s plain_beside f found
       → IsAssessment s (beside_of s identities f (with_codes s identities f found)) f (with_codes s identities f found))
