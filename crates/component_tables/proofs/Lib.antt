@@ -1,5 +1,4 @@
 pub mod FirstLaws
 pub mod NameLaws
 pub mod TypeLaws
-mod ClassLaws
 pub mod ContentLaws

@@ -1,6 +1,7 @@
 pub mod SimpleValidity
 pub mod Trees
 pub mod TypeTree
+pub mod Holding
 pub mod Forms
 pub mod Judging
 pub mod Least
