@@ -28,13 +28,14 @@ pub(crate) struct Properties {
 impl Hash for Properties {
     ghost use Rattle.std.specs.Prelude.{◌++◌};
     ghost use Rattle.std.specs.Hash as fed;
-    ghost use Rattle.std.proofs.Common.{rules};
-    ghost use Rattle.std.specs.Cmp.Rules.{hashing};
-    ghost use Rattle.element_classes.specs.inside.Numbers.{type_number};
+    ghost use Rattle.std.specs.Hash.{and-Alike, first_alike};
+    ghost use Rattle.xs_names.specs.contracts.ids.NameIdHash.TheImpl.Laws as names;
+    ghost use Rattle.element_classes.specs.contracts.values.ValueKeyHash.TheImpl.Laws as values;
+    ghost use Rattle.element_classes.specs.inside.Numbers.{type_number, types_alike};
 
-    ghost hash_input = { λ p. ⟦<NameId as Hash>⟧.hash_input p.name ++ fed.u32 (type_number p.of) ++ ⟦<ValueKey as Hash>⟧.hash_input p.value };
+    ghost hash_input = { λ p. ⟦<NameId as Hash>⟧.hash_input p.name ++ (fed.u32 (type_number p.of) ++ ⟦<ValueKey as Hash>⟧.hash_input p.value) };
 
-    ghost respects_eq = { Prim.search (hashing, rules) };
+    ghost respects_eq = { (and-Alike (record { fed = λ p q. names.respects_eq-law p.name q.name }) (and-Alike (record { fed = λ p q. types_alike p.of q.of }) (first_alike _ (record { fed = λ p q. values.respects_eq-law p.value q.value })))).fed };
 
     fn hash<H: Hasher>(&self, state: &mut H) {
         self.name.hash(state);
