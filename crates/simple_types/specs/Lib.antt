@@ -8,5 +8,6 @@ pub mod Least
 pub mod Lookup
 pub mod SimpleTypes
 pub mod TypeRules
+pub mod Broken
 pub mod Determined
 pub mod inside
