@@ -55,9 +55,9 @@ module _ (t : NameTable) (origins : List Origin) (reps : List Representation) (n
         let second = code_if (is_xsi t (attribute_name rep.form)) NoXsi third in
         let first = code_if (is_xmlns t (attribute_name rep.form)) NoXmlns second in
         let here : Contains (codes_of t spaces kinds origin place rep.form) SrcResolve =
-            kept (is_double spaces place) SchPropsCorrect2 SrcResolve first
-            (kept (is_xmlns t (attribute_name rep.form)) NoXmlns SrcResolve second
-            (kept (is_xsi t (attribute_name rep.form)) NoXsi SrcResolve third (first-kept (is_lost spaces kinds rep.form) SrcResolve last is))) in
+        kept (is_double spaces place) SchPropsCorrect2 SrcResolve first
+        (kept (is_xmlns t (attribute_name rep.form)) NoXmlns SrcResolve second
+        (kept (is_xsi t (attribute_name rep.form)) NoXsi SrcResolve third (first-kept (is_lost spaces kinds rep.form) SrcResolve last is))) in
         none (name_fault rep.at SrcResolve) (inl (place, rep, SrcResolve, at, here, refl))
 
     by-answer : (b : Bool) → resolves (spaces_of reps) (kinds_of reps) to ≡ b → resolves (spaces_of reps) (kinds_of reps) to ≡ true
