@@ -9,7 +9,7 @@ use Rattle.xs_codes.specs.declared.code.Code.{Code}
 use Rattle.xs_codes.specs.declared.code.Code.TheVariants.{SchPropsCorrect2, NoXmlns, NoXsi, SrcResolve, SrcResolve4}
 use Rattle.xs_names.specs.Names.{NameTable}
 use Rattle.component_tables.specs.Symbols.{if_named, first_from, first_place}
-use Rattle.representations.specs.Names.{type_symbol, spaces_of}
+use Rattle.representations.specs.Names.{type_symbol, constraint_symbol, spaces_of}
 use Rattle.representations.specs.declared.origins.Origin.{Origin}
 use Rattle.representations.specs.declared.parts.Represented.{Represented}
 use Rattle.representations.specs.declared.parts.Represented.TheVariants as forms
@@ -19,9 +19,9 @@ use Rattle.reference_faults.specs.Doubles.{is_double}
 use Rattle.reference_faults.specs.Faults.{name_fault, code_if, is_lost, is_foreign, reference_codes, codes_of, IsBroken}
 use Rattle.reference_faults.specs.Imports.{origin_at}
 use Rattle.reference_faults.specs.References.{references}
-use Rattle.reference_faults.specs.Resolution.{simple_symbol, kinds_of, is_named, resolves}
+use Rattle.reference_faults.specs.Resolution.{simple_symbol, key_symbol, kinds_of, resolves, place_of}
 use Rattle.reference_faults.specs.declared.reference.Reference.{Reference}
-use Rattle.reference_faults.specs.declared.reference.Reference.TheVariants.{ToType, ToSimpleType}
+use Rattle.reference_faults.specs.declared.reference.Reference.TheVariants.{ToElement, ToAttribute, ToType, ToSimpleType, ToAnyTypeAsSimple, ToGroup, ToAttributeGroup, ToKey}
 
 -- one that fails is no element of a list whose elements all pass
 all-pass : {X : Type 0} (f : X → Bool) (xs : List X) (x : X) → f x ≡ false → Contains xs x → list_all f xs ≡ false
@@ -75,42 +75,53 @@ some-not-none : (o : Option ℕ) → is_some o ≡ true → o ≡ None → ⊥
 some-not-none None e f = true≢false (sym e)
 some-not-none (Some n) e f = cc
 
-pub type-found : (reps : List Representation) (name : ℕ) → resolves (spaces_of reps) (kinds_of reps) (ToType name) ≡ true → first_place (spaces_of reps).types name ≢ None
-type-found reps name e f = some-not-none (first_place (spaces_of reps).types name) e f
+or-right : (a b : Option ℕ) → option_or a b ≡ None → b ≡ None
+or-right None b e = e
+or-right (Some n) b e = cc
 
--- the symbol of a simple type is that of a type
-symbol-same : (form : Represented) (name : ℕ) → simple_symbol form ≡ Some name → type_symbol form ≡ Some name
-symbol-same (forms.SimpleType own finals) name e = e
-symbol-same form name e = absurd (none-is name e)
-  where
-    none-is : (n : ℕ) → None ≡ Some n → ⊥
-    none-is n e = cc
+or-left : (a b : Option ℕ) → option_or a b ≡ None → a ≡ None
+or-left None b e = refl
+or-left (Some n) b e = cc
+
+none-is : (n : ℕ) → None ≡ Some n → ⊥
+none-is n e = cc
 
 -- what is among some symbols is among those that have them too
-more-named : (reps : List Representation) (place name : ℕ) → first_from (map (λ r. type_symbol r.form) reps) place name ≡ None → first_from (map (λ r. simple_symbol r.form) reps) place name ≡ None
-more-named [] place name e = refl
-more-named (rep ∷ reps) place name e = by-symbol (simple_symbol rep.form) refl
-  where
-    rest : first_from (map (λ r. type_symbol r.form) reps) (suc place) name ≡ None
-    rest = or-right (if_named (type_symbol rep.form) place name) (first_from (map (λ r. type_symbol r.form) reps) (suc place) name) e
-      where
-        or-right : (a b : Option ℕ) → option_or a b ≡ None → b ≡ None
-        or-right None b e = e
-        or-right (Some n) b e = cc
+module _ (narrow wide : Represented → Option ℕ) (within : (form : Represented) (name : ℕ) → narrow form ≡ Some name → wide form ≡ Some name) where
+  abbrev first_of : (Represented → Option ℕ) → List Representation → ℕ → ℕ → Option ℕ
+  first_of symbol reps place name = first_from (map (λ r. symbol r.form) reps) place name
 
-    here : if_named (type_symbol rep.form) place name ≡ None
-    here = or-left (if_named (type_symbol rep.form) place name) (first_from (map (λ r. type_symbol r.form) reps) (suc place) name) e
-      where
-        or-left : (a b : Option ℕ) → option_or a b ≡ None → a ≡ None
-        or-left None b e = refl
-        or-left (Some n) b e = cc
+  more-named : (reps : List Representation) (place name : ℕ) → first_of wide reps place name ≡ None → first_of narrow reps place name ≡ None
+  more-named [] place name e = refl
+  more-named (rep ∷ reps) place name e =
+      by-symbol (narrow rep.form) refl (more-named reps (suc place) name (or-right (if_named (wide rep.form) place name) (first_of wide reps (suc place) name) e))
+    where
+      here : if_named (wide rep.form) place name ≡ None
+      here = or-left (if_named (wide rep.form) place name) (first_of wide reps (suc place) name) e
 
-    by-symbol : (o : Option ℕ) → simple_symbol rep.form ≡ o → option_or (if_named (simple_symbol rep.form) place name) (first_from (map (λ r. simple_symbol r.form) reps) (suc place) name) ≡ None
-    by-symbol None f = ap (λ s. option_or (if_named s place name) (first_from (map (λ r. simple_symbol r.form) reps) (suc place) name)) f ∙ more-named reps (suc place) name rest
-    by-symbol (Some own) f =
-        let same : simple_symbol rep.form ≡ type_symbol rep.form = f ∙ sym (symbol-same rep.form own f) in
-        ap (λ s. option_or (if_named s place name) (first_from (map (λ r. simple_symbol r.form) reps) (suc place) name)) same
-        ∙ (ap (λ o. option_or o (first_from (map (λ r. simple_symbol r.form) reps) (suc place) name)) here ∙ more-named reps (suc place) name rest)
+      by-symbol : (o : Option ℕ) → narrow rep.form ≡ o → first_of narrow reps (suc place) name ≡ None → option_or (if_named (narrow rep.form) place name) (first_of narrow reps (suc place) name) ≡ None
+      by-symbol None f rest = ap (λ s. option_or (if_named s place name) (first_of narrow reps (suc place) name)) f ∙ rest
+      by-symbol (Some own) f rest =
+          let same : narrow rep.form ≡ wide rep.form = f ∙ sym (within rep.form own f) in
+          ap (λ s. option_or (if_named s place name) (first_of narrow reps (suc place) name)) same
+          ∙ (ap (λ o. option_or o (first_of narrow reps (suc place) name)) here ∙ rest)
 
-pub simple-found : (reps : List Representation) (name : ℕ) → resolves (spaces_of reps) (kinds_of reps) (ToSimpleType name) ≡ true → first_place (spaces_of reps).types name ≢ None
-simple-found reps name e f = some-not-none (first_place (kinds_of reps).simples name) e (more-named reps 0 name f)
+-- the symbol of a simple type is that of a type
+simple-within : (form : Represented) (name : ℕ) → simple_symbol form ≡ Some name → type_symbol form ≡ Some name
+simple-within (forms.SimpleType own finals) name e = e
+simple-within form name e = absurd (none-is name e)
+
+key-within : (form : Represented) (name : ℕ) → key_symbol form ≡ Some name → constraint_symbol form ≡ Some name
+key-within (forms.Unique own) name e = e
+key-within (forms.Key own) name e = e
+key-within form name e = absurd (none-is name e)
+
+pub place-found : (reps : List Representation) (to : Reference) → resolves (spaces_of reps) (kinds_of reps) to ≡ true → place_of (spaces_of reps) to ≢ None
+place-found reps (ToElement name) e f = some-not-none (first_place (spaces_of reps).elements name) e f
+place-found reps (ToAttribute name) e f = some-not-none (first_place (spaces_of reps).attributes name) e f
+place-found reps (ToType name) e f = some-not-none (first_place (spaces_of reps).types name) e f
+place-found reps (ToSimpleType name) e f = some-not-none (first_place (kinds_of reps).simples name) e (more-named simple_symbol type_symbol simple-within reps 0 name f)
+place-found reps ToAnyTypeAsSimple e f = true≢false (sym e)
+place-found reps (ToGroup name) e f = some-not-none (first_place (spaces_of reps).groups name) e f
+place-found reps (ToAttributeGroup name) e f = some-not-none (first_place (spaces_of reps).attr_groups name) e f
+place-found reps (ToKey name) e f = some-not-none (first_place (kinds_of reps).keys name) e (more-named key_symbol constraint_symbol key-within reps 0 name f)

@@ -108,12 +108,12 @@ more-told r rules fault k = record { of = k.of; among = (suc k.among.0, (let l =
 
 told : (rules : List Rule) (fault : Fault) → IsAmong fault (faults_of_rules rules) → Told rules fault
 told [] fault among = absurd among
-told (r ∷ rules) fault among = by r.broken refl among
+told (r ∷ rules) fault among = by r.broken refl (λ more. told rules fault more) among
   where
-    by : (b : Bool) → r.broken ≡ b → IsAmong fault (if b then fault_at r.at r.code ∷ faults_of_rules rules else faults_of_rules rules) → Told (r ∷ rules) fault
-    by true e (inl same) = record { of = r; among = (zero, omega arith, refl); broken = e; is = same }
-    by true e (inr more) = more-told r rules fault (told rules fault more)
-    by false e more = more-told r rules fault (told rules fault more)
+    by : (b : Bool) → r.broken ≡ b → (IsAmong fault (faults_of_rules rules) → Told rules fault) → IsAmong fault (if b then fault_at r.at r.code ∷ faults_of_rules rules else faults_of_rules rules) → Told (r ∷ rules) fault
+    by true e rec (inl same) = record { of = r; among = (zero, omega arith, refl); broken = e; is = same }
+    by true e rec (inr more) = more-told r rules fault (rec more)
+    by false e rec more = more-told r rules fault (rec more)
 
 among-if : (b : Bool) (fault other : Fault) (faults : List Fault) → IsAmong fault faults → IsAmong fault (if b then other ∷ faults else faults)
 among-if true fault other faults among = inr among
@@ -168,17 +168,17 @@ among-known None f faults among = among
 among-known (Some b) f faults among = inr among
 
 -- what is known, and then rules
-first-with : (Known_ Own : Fault → Type 0) (best : Option Fault) (rules : List Rule) → IsFirst Known_ best → ((f : Fault) → IsAmong f (faults_of_rules rules) → Own f) → ((f : Fault) → Own f → IsAmong f (faults_of_rules rules)) →
-    IsFirst (λ f. Own f ⊎ Known_ f) (first_from best rules)
-first-with Known_ Own best rules known there back =
-    first-by-list (λ f. Own f ⊎ Known_ f) (with_fault best (faults_of_rules rules)) (first_from best rules) (rules_from_least rules best) (from best known) (to best known)
+first-with : (Earlier Own : Fault → Type 0) (best : Option Fault) (rules : List Rule) → IsFirst Earlier best → ((f : Fault) → IsAmong f (faults_of_rules rules) → Own f) → ((f : Fault) → Own f → IsAmong f (faults_of_rules rules)) →
+    IsFirst (λ f. Own f ⊎ Earlier f) (first_from best rules)
+first-with Earlier Own best rules known there back =
+    first-by-list (λ f. Own f ⊎ Earlier f) (with_fault best (faults_of_rules rules)) (first_from best rules) (rules_from_least rules best) (from best known) (to best known)
   where
-    from : (best : Option Fault) → IsFirst Known_ best → (f : Fault) → IsAmong f (with_fault best (faults_of_rules rules)) → Own f ⊎ Known_ f
+    from : (best : Option Fault) → IsFirst Earlier best → (f : Fault) → IsAmong f (with_fault best (faults_of_rules rules)) → Own f ⊎ Earlier f
     from None known f among = inl (there f among)
-    from (Some b) known f (inl same) = inr (subst Known_ (sym same) known.0)
+    from (Some b) known f (inl same) = inr (subst Earlier (sym same) known.0)
     from (Some b) known f (inr more) = inl (there f more)
 
-    to : (best : Option Fault) → IsFirst Known_ best → (f : Fault) → Own f ⊎ Known_ f → IsReached f (with_fault best (faults_of_rules rules))
+    to : (best : Option Fault) → IsFirst Earlier best → (f : Fault) → Own f ⊎ Earlier f → IsReached f (with_fault best (faults_of_rules rules))
     to best known f (inl own) = reached-itself f (with_fault best (faults_of_rules rules)) (among-known best f (faults_of_rules rules) (back f own))
     to None known f (inr more) = absurd (known f more)
     to (Some b) known f (inr more) = (b, inl refl, known.1 f more)
@@ -189,9 +189,6 @@ none-first = λ f b. b
 not-not : (a b : Bool) → a ≡ not b → not a ≡ b
 not-not a true e = ap not e
 not-not a false e = ap not e
-
-no-rule : (at : Place) (broken : Bool) (code : Code) (r : Rule) → Contains [] r → ⊥
-no-rule at broken code r (k, l, is) = absurd (omega (arith, l))
 
 module _ (t : Tables) (at : Place) where
   -- what breaks the rule of a code
@@ -240,12 +237,12 @@ module _ (t : Tables) (at : Place) where
 
   members-there : (members : List TypeId) (f : Fault) → IsAmong f (faults_of_rules (members_rules t at members)) → Own (UnionOf members) f
   members-there [] f among = absurd among
-  members-there (m ∷ ms) f among = by (is_final_for_unions t m) refl among
+  members-there (m ∷ ms) f among = by (is_final_for_unions t m) refl (λ more. members-there ms f more) among
     where
-      by : (b : Bool) → is_final_for_unions t m ≡ b → IsAmong f (if b then fault_at at XSimpleFinal ∷ faults_of_rules (members_rules t at ms) else faults_of_rules (members_rules t at ms)) → Own (UnionOf (m ∷ ms)) f
-      by true e (inl same) = (XSimpleFinal, (refl, m, (zero, omega arith, refl), e), same)
-      by true e (inr more) = one-more m ms f (members-there ms f more)
-      by false e more = one-more m ms f (members-there ms f more)
+      by : (b : Bool) → is_final_for_unions t m ≡ b → (IsAmong f (faults_of_rules (members_rules t at ms)) → Own (UnionOf ms) f) → IsAmong f (if b then fault_at at XSimpleFinal ∷ faults_of_rules (members_rules t at ms) else faults_of_rules (members_rules t at ms)) → Own (UnionOf (m ∷ ms)) f
+      by true e rec (inl same) = (XSimpleFinal, (refl, m, (zero, omega arith, refl), e), same)
+      by true e rec (inr more) = one-more m ms f (rec more)
+      by false e rec more = one-more m ms f (rec more)
 
   member-back : (members : List TypeId) (of : TypeId) → Contains members of → is_final_for_unions t of ≡ true → IsAmong (fault_at at XSimpleFinal) (faults_of_rules (members_rules t at members))
   member-back [] of among broken = absurd (let l = among.1 in omega arith)
@@ -297,15 +294,15 @@ record Judging (table : List JudgedType) (fault : Fault) : Type 0 where
 
 judging-in : (table : List JudgedType) (fault : Fault) → IsAmong fault (faults_in table) → Judging table fault
 judging-in [] fault among = absurd among
-judging-in (j ∷ js) fault among = by j.fault refl among
+judging-in (j ∷ js) fault among = by j.fault refl (λ more. judging-in js fault more) among
   where
     later : Judging js fault → Judging (j ∷ js) fault
     later k = record { place = suc k.place; judged = k.judged; at = k.at; is = k.is }
 
-    by : (o : Option Fault) → j.fault ≡ o → IsAmong fault (with_fault o (faults_in js)) → Judging (j ∷ js) fault
-    by None e more = later (judging-in js fault more)
-    by (Some f) e (inl same) = record { place = zero; judged = j; at = refl; is = e ∙ ap Some (sym same) }
-    by (Some f) e (inr more) = later (judging-in js fault more)
+    by : (o : Option Fault) → j.fault ≡ o → (IsAmong fault (faults_in js) → Judging js fault) → IsAmong fault (with_fault o (faults_in js)) → Judging (j ∷ js) fault
+    by None e rec more = later (rec more)
+    by (Some f) e rec (inl same) = record { place = zero; judged = j; at = refl; is = e ∙ ap Some (sym same) }
+    by (Some f) e rec (inr more) = later (rec more)
 
 judged-among : (table : List JudgedType) (n : ℕ) (judged : JudgedType) (fault : Fault) → slice_get table n ≡ Some judged → judged.fault ≡ Some fault → IsAmong fault (faults_in table)
 judged-among [] n judged fault at is = absurd (none-is judged at)
