@@ -2,3 +2,4 @@ pub mod FirstLaws
 pub mod NameLaws
 pub mod TypeLaws
 pub mod ContentLaws
+pub mod DeclaredLaws
