@@ -1,12 +1,12 @@
 -- What is noted of properties, one declaration after another, gives their classes.
-use Rattle.std.proofs.Common.{◌≡◌, ◌≢◌, ℕ, ◌+◌, ◌<◌, ◌⊎◌, inl, inr, Bool, true, false, cond, Option, None, Some, refl, sym, ap, ◌∙◌, subst, arith}
+use Rattle.std.proofs.Common.{◌≡◌, ◌≢◌, ℕ, zero, suc, ◌+◌, ◌≤◌, ◌<◌, ◌⊎◌, inl, inr, Bool, true, false, cond, List, [], ◌∷◌, ◌++◌, Option, None, Some, length, slice_get, refl, sym, ap, ◌∙◌, subst, arith}
 use Rattle.std.specs.Bool.{Decides}
 use Rattle.std.proofs.lemmas.Bool.{cases_eq, true≢false}
 use Rattle.xs_components.specs.Tables.{Tables}
-use Rattle.element_classes.specs.Classes.{AreAlike, IsClassOf}
+use Rattle.element_classes.specs.Classes.{AreAlike, IsClassOf, AreClassesOf}
 use Rattle.element_classes.specs.declared.properties.Properties.{Properties}
 use Rattle.element_classes.specs.contracts.properties.PropertiesPartialEq.TheImpl as properties
-use Rattle.element_classes.specs.inside.Firsts.{Notes, AreNoted, HasNone}
+use Rattle.element_classes.specs.inside.Firsts.{Notes, AreNoted, AreClassed, HasNone}
 use Rattle.element_classes.specs.inside.Keys.{HasKey, IsKeyOf}
 use Rattle.element_classes.proofs.Deciding.{properties_decide}
 use Rattle.element_classes.proofs.KeyLaws.{one-key, alike-by, key-shared}
@@ -152,3 +152,49 @@ module _ (t : Tables) where
 
         pub noted-more : AreNoted t (n + 1) new
         noted-more = by-noted (old own) refl
+
+-- ---- the classes one after another
+
+none-at : (xs : List ℕ) → length xs ≡ 0 → (n c : ℕ) → slice_get xs n ≡ Some c → ⊥
+none-at [] e n c at = none-some c at
+none-at (x ∷ xs) e n c at = absurd (omega (arith, e))
+
+-- what stands in a list with one more stands in it, or is that one
+one-behind : (xs : List ℕ) (x n c : ℕ) → slice_get (xs ++ x ∷ []) n ≡ Some c → (slice_get xs n ≡ Some c) ⊎ ((n ≡ length xs) × (x ≡ c))
+one-behind [] x zero c at = inr (refl, same-some x c at)
+one-behind [] x (suc n) c at = absurd (none-some c at)
+one-behind (y ∷ ys) x zero c at = inl at
+one-behind (y ∷ ys) x (suc n) c at = elim (one-behind ys x n c at) [ inl here ↦ inl here | inr last ↦ inr (ap suc last.0, last.1) ]
+
+length-behind : (xs : List ℕ) (x : ℕ) → length (xs ++ x ∷ []) ≡ length xs + 1
+length-behind [] x = refl
+length-behind (y ∷ ys) x = let more = length-behind ys x in omega (arith, more)
+
+module _ (t : Tables) where
+  pub classed-none : (classes : List ℕ) → length classes ≡ 0 → (noted : Properties → Option ℕ) → HasNone noted → AreClassed t 0 classes noted
+  classed-none classes empty noted none = record {
+    few = omega arith;
+    each = empty;
+    are = λ n c at. absurd (none-at classes empty n c at);
+    noted_for = noted-none t noted none;
+  }
+
+  pub classed-more : (number id class_number : ℕ) (classes next : List ℕ) (old new : Properties → Option ℕ) → id ≡ number → number < length t.elements.parts → AreClassed t number classes old →
+      IsClassOf t id class_number → AreNoted t (id + 1) new → next ≡ classes ++ class_number ∷ [] → AreClassed t (number + 1) next new
+  classed-more number id class_number classes next old new same there before is noted e =
+      subst (λ (xs : List ℕ). AreClassed t (number + 1) xs new) (sym e) (record {
+        few = omega (arith, there);
+        each = (let l = length-behind classes class_number in let b = before.each in omega (arith, l, b));
+        are = λ n c at. elim (one-behind classes class_number n c at) [
+          | inl earlier ↦ before.are n c earlier
+          | inr last ↦
+              subst (λ (m : ℕ). IsClassOf t m c) (same ∙ (sym before.each ∙ sym last.0)) (subst (IsClassOf t id) last.1 is)
+        ];
+        noted_for = subst (λ (n : ℕ). AreNoted t (n + 1) new) same noted;
+      })
+
+  pub classed-all : (number : ℕ) (classes : List ℕ) (noted : Properties → Option ℕ) → length t.elements.parts ≤ number → AreClassed t number classes noted → AreClassesOf t classes
+  classed-all number classes noted past classed = record {
+    each = (let f = classed.few in let e = classed.each in omega (arith, f, e, past));
+    are = classed.are;
+  }
