@@ -1,6 +1,5 @@
 -- Declarations have the same properties where they have one key.
 use Rattle.std.proofs.Common.{◌≡◌, ℕ, inl, inr, Bool, true, false, Option, None, Some, Result, Ok, Err, length, slice_get, refl, sym, ap, ◌∙◌, subst}
-use Rattle.std.proofs.lemmas.Bool.{true≢false}
 use Rattle.std.proofs.lemmas.Option.{same_Some}
 use Rattle.xs_codes.specs.declared.code.Code.{Code}
 use Rattle.xs_components.specs.Tables.{Tables}
@@ -24,7 +23,7 @@ use Rattle.element_classes.specs.Classes.{AreSameConstraints, AreAlike}
 use Rattle.element_classes.specs.Values.{text_type, read_type, HasValue, outcome_key, IsTextKey}
 use Rattle.element_classes.specs.declared.properties.Properties.{Properties}
 use Rattle.element_classes.specs.declared.values.ValueKey.{ValueKey}
-use Rattle.element_classes.specs.declared.values.ValueKey.TheVariants.{Absent, Default, Fixed}
+use Rattle.element_classes.specs.declared.values.ValueKey.TheVariants.{Absent}
 use Rattle.element_classes.specs.inside.Keys.{AreRead, key_with, constraint_key, IsReadKey, IsConstraintKey, IsValueKey, HasNoConstraints, joined, HasKey, IsKeyOf}
 
 -- the literals of the type by which a text is read are known

@@ -1,6 +1,5 @@
 -- The content type that is found along ranks is the one.
-use Rattle.std.proofs.Common.{◌≡◌, ℕ, zero, suc, ◌+◌, ◌<◌, Bool, true, false, length, Option, None, Some, slice_get, slice_index, refl, sym, ap, subst, ◌∙◌, arith}
-use Rattle.std.proofs.lemmas.Option.{slice_get_within}
+use Rattle.std.proofs.Common.{◌≡◌, ℕ, zero, suc, ◌+◌, ◌<◌, List, [], ◌∷◌, length, Option, None, Some, slice_get, slice_index, refl, sym, ap, subst, ◌∙◌, arith}
 use Rattle.xs_components.specs.Tables.{Tables}
 use Rattle.xs_components.specs.declared.common.TypeId.{TypeId}
 use Rattle.xs_components.specs.declared.common.TypeId.TheVariants as types
@@ -10,7 +9,7 @@ use Rattle.component_references.specs.Ranked.{IsRanked}
 use Rattle.component_tables.specs.ContentTypes.{part_content, complex_content, content_of}
 use Rattle.component_tables.specs.declared.content_types.ContentType.{ContentType}
 use Rattle.component_tables.proofs.ContentLaws.{complex_content_is}
-use Rattle.type_derivation.specs.Contents.{HasContent, of_any, of_built_in, of_simple, own, inherited}
+use Rattle.type_derivation.specs.Contents.{HasContent, of_any, of_built_in, of_simple, inherited}
 
 there-not-none : {T : Type 0} (parts : List T) (n : ℕ) → n < length parts → slice_get parts n ≡ None → ⊥
 there-not-none [] n l e = omega (arith, l)

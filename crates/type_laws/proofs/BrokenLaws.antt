@@ -1,8 +1,7 @@
 -- Judging the simple types of components finds the first of what they and their facets break (Structures 3.14.6).
 use Rattle.std.proofs.Common.{◌≡◌, ℕ, zero, suc, inl, inr, Bool, true, false, not, if◌then◌else◌, List, [], ◌∷◌, ◌++◌, Option, None, Some, Result, Ok, Err, slice_get, refl, sym, ap, ◌∙◌, subst, arith}
-use Rattle.std.specs.Prelude.{Contains, is_some, ◌<◌, length, map}
+use Rattle.std.specs.Prelude.{◌<◌, ◌⊎◌, Contains, is_some, length}
 use Rattle.std.specs.Option.{unwrap_or}
-use Rattle.std.proofs.lemmas.Bool.{false≢true}
 use Rattle.std.proofs.lemmas.Option.{slice_get_within, same_Some}
 use Rattle.xs_codes.specs.declared.code.Code.{Code}
 use Rattle.xs_codes.specs.declared.code.Code.TheVariants.{XSimpleBase, StPropsCorrect3, XSimpleFinal, CosListOfAtomic}
@@ -34,12 +33,12 @@ use Rattle.facets.specs.Source.{list_of, union_of}
 use Rattle.simple_types.specs.Broken.{Breaks, judging, BreaksStep, BreaksOwnStep, BreaksContent, BreaksType, IsBroken, of_type, of_content, IsFirst, ending}
 use Rattle.simple_types.specs.Forms.{IsStepMade, IsFormMade, IsContentMade}
 use Rattle.simple_types.specs.Holding.{holds_list}
-use Rattle.simple_types.specs.Judging.{Holds, IsSimpleAt, IsContentAt, AreSimplesJudged, AreContentsJudged}
+use Rattle.simple_types.specs.Judging.{Holds, IsSimpleAt, IsContentAt}
 use Rattle.simple_types.specs.Least.{faults_of_rules, with_fault, faults_in, faults_of_types, IsAmong, IsBehindNone, IsLeast}
 use Rattle.simple_types.specs.Lookup.{looked_up, content_of}
 use Rattle.simple_types.specs.SimpleTypes.{AreTypesOf, IsBuilt, first_fault_of}
 use Rattle.simple_types.specs.SimpleValidity.{AreInForce, AreMembers, IsListKnown, made_from_both, known_behind}
-use Rattle.simple_types.specs.Trees.{simple_tree, restricted_tree, type_tree}
+use Rattle.simple_types.specs.Trees.{simple_tree, type_tree}
 use Rattle.simple_types.specs.TypeRules.{no_fault, is_any_simple_type, is_final_for_restriction, is_final_for_lists, is_final_for_unions, base_rules, item_rules, members_rules}
 use Rattle.simple_types.specs.TypeTree.{TypeTree, not_simple, built_in, restriction, list_type, union_type, MemberTrees, no_member, member}
 use Rattle.simple_types.specs.declared.judged.JudgedType.{JudgedType}
