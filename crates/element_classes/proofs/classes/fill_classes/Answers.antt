@@ -28,7 +28,7 @@ loop-id-smaller c = let there = c.in-Some.ensures.there.1 in omega (arith, there
 pub loop-id-preserved : goal.loop-id-preserved
 loop-id-preserved c = record {
   same = c.class_of.ensures.same ∙ c.loop-id.invariant.same;
-  classed = classed-more c.args.set.now.parts.now c.loop-id.number c.in-Some.id c.in_ok-class.class c.loop-id.classes.items c.push.new.classes.items
+  classed = classed-more c.args.set.now.parts.now c.loop-id.number c.in-Some.id c.in_ok-class.class c.loop-id.classes.items c.push.new.self.items
       (get properties.eq-value.it c.loop-id.firsts) (get properties.eq-value.it c.class_of.new.firsts) c.in-Some.ensures.there.0 c.in-Some.ensures.there.1 c.loop-id.invariant.classed
       c.in_ok-class.ensures.class c.in_ok-class.ensures.noted c.in_ok-push.ensures.items;
 }
