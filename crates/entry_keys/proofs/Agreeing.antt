@@ -1,6 +1,5 @@
 -- Codes by the numbers of elements, of which no two have one.
-use Rattle.std.proofs.Common.{◌≡◌, ℕ, ◌+◌, ◌≤◌, ◌==◌, Bool, true, false, if◌then◌else◌, List, [], ◌∷◌, ◌++◌, refl, sym, ap, subst, ◌∙◌, arith, append-nil}
-use Rattle.std.proofs.lemmas.Bool.{eqb-true}
+use Rattle.std.proofs.Common.{◌≡◌, ℕ, ◌+◌, ◌≤◌, ◌==◌, Bool, true, false, if◌then◌else◌, List, [], ◌++◌, refl, sym, ap, subst, ◌∙◌, arith, append-nil}
 use Rattle.xs_names.specs.Names.{NameTable}
 use Rattle.xs_names.specs.Scope.{first_scope}
 use Rattle.xs_codes.specs.declared.fault.Found.{Found}
@@ -12,7 +11,7 @@ use Rattle.elem_governing.specs.declared.pairs.Governing.{Governing}
 use Rattle.identity_paths.specs.declared.paths.IdentityPaths.{IdentityPaths}
 use Rattle.identity_constraints.specs.Satisfied.{identity_codes, identity_at}
 use Rattle.assessment.specs.Attribution.{SchemaSet}
-use Rattle.assessment.specs.Assessment.{Beside, Entry, Assessed, nothing, entry, other_pairs, root_pairs, AreAssessed, IsAssessment}
+use Rattle.assessment.specs.Assessment.{Beside, Assessed, nothing, entry, other_pairs, root_pairs, AreAssessed, IsAssessment}
 use Rattle.assessment.specs.Joined.{is_root}
 use Rattle.identity_assessment.specs.Identity.{seen, seen_element, has_invalid, with_more, with_all}
 use Rattle.entry_keys.proofs.Coding.{Agrees}
@@ -21,6 +20,11 @@ use Rattle.entry_keys.proofs.Coding.{Agrees}
 abbrev pub found_times : ℕ → Assessed → ℕ
 found_times n nothing = 0
 found_times n (entry own below next) = (if own.number == n then 1 else 0) + (found_times n below + found_times n next)
+
+-- the first is the root
+abbrev pub IsRootOf : Forest → Assessed → Type 0
+IsRootOf f nothing = ⊥
+IsRootOf f (entry own below next) = (n : ℕ) → is_root f n ≡ (own.number == n)
 
 -- those of the document, at most
 module _ (s : SchemaSet) (b : Beside) where
@@ -38,11 +42,6 @@ module _ (s : SchemaSet) (b : Beside) where
   found_once d tree found is n =
       let within = times-within n d.forest first_scope (root_pairs s (heads s.names first_scope d.forest)) found is in
       omega (arith, within, tree.differ n)
-
-  -- the first is the root
-  pub IsRootOf : Forest → Assessed → Type 0
-  IsRootOf f nothing = ⊥
-  IsRootOf f (entry own below next) = (n : ℕ) → is_root f n ≡ (own.number == n)
 
   pub root_of : (f : Forest) (found : Assessed) → HasRoot f → IsAssessment s b f found → IsRootOf f found
   root_of none found root a = absurd root

@@ -1,13 +1,12 @@
 -- Entries with the codes of identity constraints.
-use Rattle.std.proofs.Common.{◌≡◌, ℕ, ◌+◌, List, [], ◌∷◌, ◌++◌, length, take, drop, map, refl, sym, ap, subst, ◌∙◌, arith, append_assoc, append-nil}
+use Rattle.std.proofs.Common.{◌≡◌, ℕ, List, [], ◌∷◌, ◌++◌, length, take, drop, map, refl, sym, ap, ◌∙◌, arith, append_assoc, append-nil}
 use Rattle.std.proofs.lemmas.List.{take-append-drop, length-append, length-map, map-append}
 use Rattle.std.proofs.Math.Seq.{take-append_seam}
 use Rattle.xs_names.specs.Names.{NameTable}
 use Rattle.xs_codes.specs.declared.fault.Found.{Found}
 use Rattle.xs_components.specs.Tables.{Tables}
-use Rattle.assess_records.specs.declared.record.ElementRecord.{ElementRecord}
 use Rattle.identity_paths.specs.declared.paths.IdentityPaths.{IdentityPaths}
-use Rattle.identity_constraints.specs.Seen.{KeyForest, element}
+use Rattle.identity_constraints.specs.Seen.{element}
 use Rattle.identity_constraints.specs.Satisfied.{identity_codes}
 use Rattle.assessment.specs.Assessment.{Entry, Assessed, nothing, entry, entries}
 use Rattle.identity_assessment.specs.Identity.{seen, seen_element, has_invalid, with_more, with_all}

@@ -2,5 +2,6 @@ mod Parsing
 mod Coding
 mod Agreeing
 mod Naming
-mod Joining
+mod Stepping
+mod Together
 mod There

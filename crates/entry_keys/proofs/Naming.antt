@@ -1,14 +1,12 @@
 -- Names of entries.
-use Rattle.std.proofs.Common.{◌≡◌, ℕ, zero, suc, ◌<◌, List, [], ◌∷◌, length, take, drop, map, refl, sym, ap, subst}
-use Rattle.std.specs.Prelude.{All, Option, Some, None}
+use Rattle.std.proofs.Common.{◌≡◌, ℕ, zero, suc, List, [], ◌∷◌, length, take, drop, refl, ap}
+use Rattle.std.specs.Prelude.{All, Option}
 use Rattle.std.proofs.lemmas.List.Elements.{All-nil, All-cons, All-head, All-tail}
 use Rattle.xs_names.specs.Names.{NameTable}
 use Rattle.simple_values.specs.declared.value.Value.{Value}
 use Rattle.assess_records.specs.declared.record.AttrRecord.{AttrRecord}
-use Rattle.identity_constraints.specs.Seen.{KeyAttribute}
-use Rattle.identity_assessment.specs.Identity.{seen, seen_attributes, seen_element}
+use Rattle.identity_assessment.specs.Identity.{seen, seen_attributes}
 use Rattle.path_walk.specs.Sight.{attributes_of, AreNamed}
-use Rattle.tree_assess.specs.Entries.{entry_of}
 use Rattle.tree_assess.specs.declared.entry.ElementEntry.{ElementEntry}
 use Rattle.entry_keys.specs.inside.Parsed.{assessed_by, assessed_of}
 use Rattle.entry_keys.specs.inside.Coded.{IsEntryNamed}

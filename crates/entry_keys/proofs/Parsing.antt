@@ -1,5 +1,5 @@
 -- Entries, read as they stand in a document.
-use Rattle.std.proofs.Common.{◌≡◌, ℕ, zero, suc, ◌+◌, ◌≤◌, List, [], ◌∷◌, ◌++◌, length, take, drop, map, refl, sym, ap, subst, ◌∙◌, arith}
+use Rattle.std.proofs.Common.{◌≡◌, ℕ, zero, suc, ◌+◌, ◌≤◌, List, [], ◌∷◌, ◌++◌, length, take, drop, map, refl, sym, ap, ◌∙◌, arith}
 use Rattle.std.specs.List.{drop-map}
 use Rattle.std.proofs.lemmas.List.{take-append-drop, length-append, take-map}
 use Rattle.std.proofs.Math.Seq.{take-append_seam, drop-append_seam}
@@ -9,7 +9,7 @@ use Rattle.tree_assess.specs.declared.entry.ElementEntry.{ElementEntry}
 use Rattle.entry_keys.specs.declared.siblings.Parted.{Parted}
 use Rattle.entry_keys.specs.inside.Parsed.{assessed_by, assessed_of, IsParted, Sized, sized_of, flat}
 
-parted-length : (n : ℕ) (es : List ElementEntry) → length (take n es) + length (drop n es) ≡ length es
+pub parted-length : (n : ℕ) (es : List ElementEntry) → length (take n es) + length (drop n es) ≡ length es
 parted-length n es = sym (length-append (take n es) (drop n es)) ∙ ap length (take-append-drop n es)
 
 no-entries : (n : ℕ) → assessed_by n [] ≡ nothing

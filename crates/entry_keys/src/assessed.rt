@@ -6,6 +6,7 @@ ghost use Rattle.compiled_schema.specs.Usable.{IsUsable, set_of};
 ghost use Rattle.tree_names.specs.Found.{HasNames};
 ghost use Rattle.entry_keys.specs.Entries.{AreEntries};
 ghost use Rattle.entry_keys.specs.inside.Coded.{IsEntryNamed, coded};
+ghost use Rattle.entry_keys.specs.inside.Marking.{codes_in, with_marks};
 
 use crate::ids::{id_codes, mark_first};
 use crate::joining::join_identity;
@@ -36,6 +37,23 @@ fn join_set(
     join_identity(&set, entries)
 }
 
+// Puts the codes of identity constraints to entries, and then those of IDs to the root, which is the first.
+fn join_codes(
+    alloc: Global,
+    compiled: &Compiled,
+    entries: &mut Vec<ElementEntry>,
+) -> Result<(), AllocError>
+    requires usable { IsUsable compiled.now }
+    requires named { All (IsEntryNamed compiled.now.names) entries.old.items }
+    ensures { OnOk result (entries.new.items
+        ≡ with_marks (codes_in entries.old.items) (coded compiled.now.names compiled.now.parts compiled.now.identities.items entries.old.items)) }
+{
+    let ids = id_codes(alloc, entries)?;
+    join_set(alloc, compiled, entries)?;
+    mark_first(entries, ids.as_slice())?;
+    Ok(())
+}
+
 /// The assessment of a document by a schema set (Structures 5.2): the entries of its elements in document order, with the codes of its
 /// identity constraints and of its IDs. The set is usable, and has the names of the document in its table.
 ///
@@ -53,10 +71,8 @@ pub fn assess(
     ensures assessed { IfOk result (λ entries. AreEntries (set_of compiled.old) compiled.old.identities.items tree.now.forest entries.items) }
     ensures same { compiled.new ≡ compiled.old }
 {
-    identity_codes_join_the_assessment();
     let mut entries = assess_plain(alloc, compiled, tree)?;
-    let ids = id_codes(alloc, entries.as_slice())?;
-    join_set(alloc, compiled, entries.as_mut_slice())?;
-    mark_first(entries.as_mut_slice(), ids.as_slice())?;
+    join_codes(alloc, compiled, &mut entries)?;
+    identity_codes_join_the_assessment();
     Ok(entries)
 }

@@ -1,26 +1,38 @@
 //! The codes of identity constraints, put to entries.
 
-ghost use Rattle.std.specs.Prelude.{◌≡◌, ◌<◌, All, length, OnOk};
+ghost use Rattle.std.specs.Prelude.{◌≡◌, ◌<◌, [], All, drop, length, IfOk, OnOk};
 ghost use Rattle.component_tables.specs.ContentTypes.{AreContentsOf};
+ghost use Rattle.elem_codes.specs.Records as records;
 ghost use Rattle.identity_assessment.specs.Identity as spec;
 ghost use Rattle.entry_keys.specs.inside.Parsed.{assessed_of, below_of};
-ghost use Rattle.entry_keys.specs.inside.Coded.{IsCodedAt, IsEntryNamed, coded};
+ghost use Rattle.entry_keys.specs.inside.Coded.{IsEntryNamed, coded, coded_at, first_codes};
 
-use crate::siblings::{EntrySiblings, parted};
+use crate::siblings::{EntrySiblings, by_first};
 use assess_records::{ElementRecord, Validity};
+use assessment::mark;
 use key_codes::identity_codes;
 use path_walk::KeySet;
 use std::alloc::AllocError;
 use tree_assess::ElementEntry;
 use xs_codes::Found;
 
+// Whether this is the validity of an invalid element.
+fn is_invalid(validity: Validity) -> bool
+    ensures { result ≡ records.is_invalid validity }
+{
+    match validity {
+        Validity::Invalid => true,
+        Validity::Valid | Validity::NotKnown => false,
+    }
+}
+
 // Whether one of some siblings is invalid.
 fn has_invalid(siblings: &[ElementEntry]) -> bool
     ensures { result ≡ spec.has_invalid (assessed_of siblings.now) }
 {
     let mut left = siblings;
-    'left: while let Some(parts) = parted(left) {
-        if parts.own.element.validity == Validity::Invalid {
+    'left: while let Some(parts) = by_first(left) {
+        if is_invalid(parts.own.element.validity) {
             return true;
         }
         left = parts.behind;
@@ -28,37 +40,57 @@ fn has_invalid(siblings: &[ElementEntry]) -> bool
     false
 }
 
-// Whether a child element of the first of some entries is invalid.
-fn has_invalid_below(entries: &[ElementEntry]) -> bool
-    ensures { result ≡ spec.has_invalid (below_of (assessed_of entries.now)) }
+// Whether a child element of the entry of a place is invalid.
+fn has_invalid_below(entries: &[ElementEntry], place: usize) -> bool
+    requires { place < length entries.now }
+    ensures { result ≡ spec.has_invalid (below_of (assessed_of (drop place entries.now))) }
 {
-    match parted(entries) {
+    let (_, from) = entries.split_at(place);
+    match by_first(from) {
         None => false,
         Some(parts) => has_invalid(parts.below),
     }
 }
 
-// The validity of an element with more codes, and with invalid child elements or without (Structures 3.3.5).
-fn validity_again(codes: &[Found], below: bool, validity: Validity) -> Validity
-    ensures { result ≡ spec.validity_again codes.now below validity }
+// The codes of the identity constraints of the entry of a place.
+fn codes_at(
+    set: &KeySet<'_>,
+    entries: &[ElementEntry],
+    place: usize,
+) -> Result<Vec<Found>, AllocError>
+    requires contents { AreContentsOf set.now.parts.now set.now.contents.now }
+    requires named { All (IsEntryNamed set.now.names.now) entries.now }
+    requires place { place < length entries.now }
+    ensures { IfOk result (λ codes. codes.items ≡ first_codes set.now.names.now set.now.parts.now set.now.identities.now (spec.seen (assessed_of (drop place entries.now)))) }
 {
-    if !codes.is_empty() {
-        return Validity::Invalid;
-    }
-    if below && validity == Validity::Valid {
-        return Validity::Invalid;
-    }
-    validity
+    let (_, from) = entries.split_at(place);
+    let codes = identity_codes(set, EntrySiblings { entries: from })?;
+    Ok(codes)
 }
 
-// Puts codes behind those of a record.
+// The validity of an element without more codes, with invalid child elements or without (Structures 3.3.5).
+fn validity_above(below: bool, validity: Validity) -> Validity
+    ensures { result ≡ spec.validity_again [] below validity }
+{
+    match validity {
+        Validity::Valid => {
+            if below {
+                Validity::Invalid
+            } else {
+                Validity::Valid
+            }
+        }
+        Validity::Invalid => Validity::Invalid,
+        Validity::NotKnown => Validity::NotKnown,
+    }
+}
+
+// Puts codes behind those of a record, where child elements are invalid or none is.
 fn add_codes(own: &mut ElementRecord, codes: &[Found], below: bool) -> Result<(), AllocError>
     ensures { OnOk result (own.new ≡ spec.with_more codes.now below own.old) }
 {
-    own.validity = validity_again(codes, below, own.validity);
-    for code in codes {
-        own.codes.push(*code)?;
-    }
+    own.validity = validity_above(below, own.validity);
+    mark(own, codes)?;
     Ok(())
 }
 
@@ -67,12 +99,12 @@ fn join_at(set: &KeySet<'_>, entries: &mut [ElementEntry], place: usize) -> Resu
     requires contents { AreContentsOf set.now.parts.now set.now.contents.now }
     requires named { All (IsEntryNamed set.now.names.now) entries.old }
     requires place { place < length entries.old }
-    ensures { OnOk result (IsCodedAt set.now.names.now set.now.parts.now set.now.identities.now place entries.old entries.new) }
+    ensures { OnOk result (entries.new ≡ coded_at set.now.names.now set.now.parts.now set.now.identities.now place entries.old) }
 {
-    let from = &entries[place..];
-    let codes = identity_codes(set, EntrySiblings { entries: from })?;
-    let below = has_invalid_below(from);
-    add_codes(&mut entries[place].element, codes.as_slice(), below)
+    let codes = codes_at(set, entries, place)?;
+    let below = has_invalid_below(entries, place);
+    add_codes(&mut entries[place].element, codes.as_slice(), below)?;
+    Ok(())
 }
 
 /// Puts the codes of the identity constraints of each element behind the others of its record, from the last element to the first

@@ -24,11 +24,12 @@ pub(crate) struct Parted<'a> {
 }
 
 /// Entries by the first of them; `None` where there are none.
-pub(crate) fn parted<'a>(entries: &'a [ElementEntry]) -> Option<Parted<'a>>
+pub(crate) fn by_first<'a>(entries: &'a [ElementEntry]) -> Option<Parted<'a>>
     ensures { MatchOption result (entries.now ≡ []) (IsParted entries.now) }
 {
     let (own, rest) = entries.split_first()?;
-    let (below, behind) = rest.split_at(own.below.min(rest.len()));
+    let count = own.below.min(rest.len());
+    let (below, behind) = rest.split_at(count);
     Some(Parted { own, below, behind })
 }
 
@@ -36,14 +37,16 @@ pub(crate) fn parted<'a>(entries: &'a [ElementEntry]) -> Option<Parted<'a>>
 fn sight_of<'a>(own: &'a ElementEntry) -> KeySight<'a>
     ensures { sight.seen result ≡ seen_element (entry_of own.now) }
 {
+    let attrs = own.attrs.as_slice();
+    let attr_values = own.attr_values.as_slice();
     KeySight {
         number: own.number,
         name: own.element.name,
         declaration: own.governing.declaration,
         of: own.governing.of,
         value: &own.value,
-        attrs: own.attrs.as_slice(),
-        attr_values: own.attr_values.as_slice(),
+        attrs,
+        attr_values,
     }
 }
 
@@ -54,12 +57,14 @@ impl<'a> KeySiblings for EntrySiblings<'a> {
     ghost forest = { λ s. seen (assessed_of s.entries.now) };
 
     fn first(&self) -> Option<KeySight<'_>> {
-        let own = self.entries.first()?;
-        Some(sight_of(own))
+        match by_first(self.entries) {
+            None => None,
+            Some(parts) => Some(sight_of(parts.own)),
+        }
     }
 
     fn below(&self) -> Self {
-        match parted(self.entries) {
+        match by_first(self.entries) {
             None => EntrySiblings {
                 entries: self.entries,
             },
@@ -70,7 +75,7 @@ impl<'a> KeySiblings for EntrySiblings<'a> {
     }
 
     fn next(&self) -> Self {
-        match parted(self.entries) {
+        match by_first(self.entries) {
             None => EntrySiblings {
                 entries: self.entries,
             },

@@ -1,2 +1,5 @@
-mod Timing
+mod Breaking
+mod Siblings
 mod Taking
+mod Timing
+mod Tuples

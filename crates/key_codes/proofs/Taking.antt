@@ -7,8 +7,8 @@ use Rattle.key_codes.specs.declared.repeated.Bag.{Bag}
 use Rattle.std.specs.Prelude.{not}
 use Rattle.std.proofs.lemmas.Bool.{eqb-true, eq-eqb}
 use Rattle.key_codes.specs.declared.holding.Sources.{Sources}
-use Rattle.key_codes.specs.inside.Times.{times, count_in, IsBag, IsOneMore, AreSources, AreTaken, is_told}
-use Rattle.key_codes.proofs.Timing.{Same, same, other, same_or_other, tuple_self, times_append, times_none, times_some, has_append}
+use Rattle.key_codes.specs.inside.Times.{times, count_in, IsBag, AreSources, AreTaken, is_told}
+use Rattle.key_codes.proofs.Timing.{same, other, same_or_other, tuple_self, times_append, times_none, times_some, has_append}
 
 abbrev weight : Bool → ℕ
 weight b = if b then 1 else 0

@@ -1,7 +1,6 @@
 -- How often tuples are there, and which are there at all.
-use Rattle.std.proofs.Common.{◌≡◌, ℕ, ◌+◌, ◌||◌, ◌==◌, Bool, true, false, if◌then◌else◌, List, [], ◌∷◌, ◌++◌, refl, sym, ap, subst, ◌∙◌, arith, true≢false}
+use Rattle.std.proofs.Common.{◌≡◌, ℕ, ◌+◌, ◌||◌, Bool, true, false, if◌then◌else◌, List, [], ◌∷◌, ◌++◌, length, refl, sym, ap, subst, ◌∙◌, arith}
 use Rattle.std.specs.Bool.{Decides}
-use Rattle.std.specs.List.{list_any}
 use Rattle.std.proofs.lemmas.Slice.Eq.{slice_eq-Decides}
 use Rattle.std.proofs.lemmas.List.Folds.{list_any-append}
 use Rattle.simple_values.specs.declared.key.Key.{Key}
@@ -33,6 +32,10 @@ tuple_self x = (tuple_decides x x).1 refl
 pub times_append : (x : List Key) (xs ys : List (List Key)) → times x (xs ++ ys) ≡ times x xs + times x ys
 times_append x [] ys = omega arith
 times_append x (y ∷ xs) ys = omega (arith, times_append x xs ys)
+
+pub nothing_left : {X : Type 0} (xs : List X) → length xs ≡ 0 → xs ≡ []
+nothing_left [] e = refl
+nothing_left (x ∷ xs) e = cc
 
 abbrev weight : Bool → ℕ
 weight b = if b then 1 else 0

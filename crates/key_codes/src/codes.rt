@@ -1,6 +1,6 @@
 //! The codes of identity constraints of an element.
 
-ghost use Rattle.std.specs.Prelude.{◌≡◌, IfOk, map, slice_get};
+ghost use Rattle.std.specs.Prelude.{◌≡◌, ◌++◌, IfOk, OnOk, map, slice_get};
 ghost use Rattle.xs_components.specs.declared.constraint.ConstraintKind.TheVariants.{Unique, Key, Keyref};
 ghost use Rattle.component_tables.specs.ContentTypes.{AreContentsOf};
 ghost use Rattle.identity_constraints.specs.Seen.{KeyElement, KeyForest, element};
@@ -14,7 +14,7 @@ use crate::visible::has_unmatched;
 use path_walk::{KeySet, KeySiblings, TargetOutcome, constraints_of, outcomes};
 use std::alloc::AllocError;
 use xs_codes::{Code, Found};
-use xs_components::{Constraint, ConstraintId, ConstraintKind};
+use xs_components::{ConstraintId, ConstraintKind};
 
 // Whether a target misuses a field (cvc-identity-constraint.3).
 fn has_misused(outcomes: &[TargetOutcome]) -> bool
@@ -75,7 +75,8 @@ fn keyref_code<T: KeySiblings>(
     ensures { IfOk result (λ code. (own : KeyElement) (below next : KeyForest) → T.forest at ≡ element own below next
         → found_of code ≡ spec.first_broken (spec.checks_by set.now.names.now set.now.parts.now set.now.identities.now (Keyref key) (map outcome_of outcomes.now) own below)) }
 {
-    if has_unmatched(set, key, outcomes, at)? {
+    let unmatched = has_unmatched(set, key, outcomes, at)?;
+    if unmatched {
         return Ok(Some(Code::CvcIdentityConstraint4_3));
     }
     Ok(None)
@@ -121,6 +122,16 @@ fn code_of<T: KeySiblings>(
     code_by(set, part.kind, found.as_slice(), at)
 }
 
+// Puts a code at the end, if there is one.
+fn push_code(codes: &mut Vec<Found>, code: Option<Code>) -> Result<(), AllocError>
+    ensures { OnOk result (codes.new.items ≡ codes.old.items ++ found_of code) }
+{
+    if let Some(code) = code {
+        codes.push(Found { code, place: 0 })?;
+    }
+    Ok(())
+}
+
 /// The codes of the first of some siblings: of each identity constraint of its declaration, in order, the first that is broken of
 /// cvc-identity-constraint.3 to .4.3 (Structures 3.11.4).
 ///
@@ -139,9 +150,8 @@ pub fn identity_codes<T: KeySiblings>(set: &KeySet<'_>, at: T) -> Result<Vec<Fou
     };
     let mut left = constraints_of(set.parts, &own);
     'constraints: while let Some((constraint, more)) = left.split_first() {
-        if let Some(code) = code_of(set, *constraint, at)? {
-            codes.push(Found { code, place: 0 })?;
-        }
+        let code = code_of(set, *constraint, at)?;
+        push_code(&mut codes, code)?;
         left = more;
     }
     Ok(codes)

@@ -1,9 +1,11 @@
 //! The table of an element for a key, from its own tuples and those in the tables of its child elements (Structures 3.11.5).
 
-ghost use Rattle.std.specs.Prelude.{◌≡◌, ◌+◌, ◌++◌, ℕ, List, IfOk, OnOk, if◌then◌else◌};
+ghost use Rattle.std.specs.Prelude.{◌≡◌, ◌+◌, ◌++◌, ◌∷◌, ℕ, List, IfOk, OnOk, not, if◌then◌else◌};
+ghost use Rattle.std.specs.List.{list_any};
+ghost use Rattle.std.specs.Option.{option_to_list};
 ghost use Rattle.simple_values.specs.declared.key.Key.{Key};
 ghost use Rattle.identity_constraints.specs.Satisfied.{is_held};
-ghost use Rattle.key_codes.specs.inside.Times.{AreSources, AreTaken, IsBag, is_told, times};
+ghost use Rattle.key_codes.specs.inside.Times.{AreSources, AreTaken, is_told, times};
 
 use crate::repeated::Bag;
 use identity_tables::Tuple;
@@ -16,28 +18,14 @@ pub(crate) struct Sources {
     pub below: Bag,
 }
 
-// These tuples in a bag.
-fn bag_of(alloc: Global, tuples: &[Tuple]) -> Result<Bag, AllocError>
-    ensures { IfOk result (IsBag tuples.now) }
-{
-    let mut bag = Bag::new(alloc)?;
-    let mut left = tuples;
-    'tuples: while let Some((tuple, rest)) = left.split_last() {
-        bag.put(tuple)?;
-        left = rest;
-    }
-    Ok(bag)
-}
-
 impl Sources {
     /// These own tuples, and these of child elements.
     pub(crate) fn of(alloc: Global, own: &[Tuple], below: &[Tuple]) -> Result<Self, AllocError>
         ensures { IfOk result (AreSources own.now below.now) }
     {
-        Ok(Sources {
-            own: bag_of(alloc, own)?,
-            below: bag_of(alloc, below)?,
-        })
+        let own = Bag::of(alloc, own)?;
+        let below = Bag::of(alloc, below)?;
+        Ok(Sources { own, below })
     }
 
     /// Whether the table of the element has the tuple.
@@ -46,6 +34,38 @@ impl Sources {
     {
         self.own.count(tuple) != 0 || self.below.count(tuple) == 1
     }
+
+    /// Whether there is a tuple, and the table of the element does not have it.
+    pub(crate) fn lacks(&self, tuple: &Option<Tuple>) -> bool
+        ensures { result ≡ list_any (λ t. not (is_told self.now t)) (option_to_list tuple.now) }
+    {
+        match tuple {
+            None => false,
+            Some(tuple) => !self.holds(tuple),
+        }
+    }
+}
+
+// Takes a tuple, where it is in the table of the element and was not taken before.
+fn take_one(
+    tuple: Tuple,
+    sources: &Sources,
+    taken: &mut Bag,
+    held: &mut Vec<Tuple>,
+) -> Result<(), AllocError>
+    ensures { OnOk result ((own below before : List (List Key)) (base : List Key → ℕ) → AreSources own below sources.now
+        → AreTaken own below before base taken.old held.old.items → AreTaken own below (tuple ∷ before) base taken.new held.new.items) }
+{
+    let before = taken.count(&tuple);
+    if before != 0 {
+        return Ok(());
+    }
+    if !sources.holds(&tuple) {
+        return Ok(());
+    }
+    taken.put(&tuple)?;
+    held.push(tuple)?;
+    Ok(())
 }
 
 // Takes of these tuples those in the table of the element, each once.
@@ -60,10 +80,7 @@ fn take(
 {
     let mut left = candidates;
     'left: while let Some(tuple) = left.pop() {
-        if taken.count(&tuple) == 0 && sources.holds(&tuple) {
-            taken.put(&tuple)?;
-            held.push(tuple)?;
-        }
+        take_one(tuple, sources, taken, held)?;
     }
     Ok(())
 }

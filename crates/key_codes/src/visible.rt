@@ -85,14 +85,5 @@ pub(crate) fn has_unmatched<T: KeySiblings>(
         → unmatched ≡ spec.has_unmatched set.now.names.now set.now.parts.now set.now.identities.now key (map outcome_of outcomes.now) own below) }
 {
     let sources = sources_of(set, key, at)?;
-    let mut left = outcomes;
-    'outcomes: while let Some((outcome, more)) = left.split_first() {
-        if let Some(tuple) = &outcome.tuple {
-            if !sources.holds(tuple) {
-                return Ok(true);
-            }
-        }
-        left = more;
-    }
-    Ok(false)
+    Ok(outcomes.iter().any(|outcome| sources.lacks(&outcome.tuple)))
 }

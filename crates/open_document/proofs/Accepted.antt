@@ -1,31 +1,28 @@
 -- What schema documents come to.
-use Rattle.std.specs.Prelude.{◌≡◌, List, Result, Ok, Err, IfOk, OnOk}
+use Rattle.std.specs.Prelude.{◌≡◌, ℕ, List, Result, Ok, Err, IfOk, OnOk}
 use Rattle.std.proofs.Common.{arith, inl, inr, refl, sym, ap, ◌∙◌, subst}
 use Rattle.tree_rows.specs.Forest.{Document}
-use Rattle.assessment.specs.Attribution.{SchemaSet}
 use Rattle.session_model.specs.State.{State, IsOpened}
 use Rattle.compiled_schema.specs.declared.compiled.Compiled.{Compiled}
 use Rattle.compiled_schema.specs.Usable.{IsUsable}
 use Rattle.schema_compile.specs.Outcomes.{IsOutcome}
-use Rattle.schema_check.specs.declared.documents.Refusal.TheVariants as refusals
 use Rattle.schema_set.specs.declared.inputs.SchemaInput.{SchemaInput}
 use Rattle.schema_compile.specs.declared.outcome.Outcome.{Outcome}
 use Rattle.schema_compile.specs.declared.outcome.Outcome.TheVariants.{Accepted}
 use Rattle.told.specs.Outcomes.{told_of}
 use Rattle.open_document.specs.Answers.{IsCompiled, IsOpenedBy, verdict_of, work_after}
-use Rattle.open_document.specs.State.{WorkState, working, IsOpen}
+use Rattle.open_document.specs.State.{Basis, OpenState, WorkState, working, IsOpen}
 use Rattle.open_document.specs.declared.verdict.SetVerdict.{SetVerdict}
 
 module _ (documents : List SchemaInput) where
   -- documents may be assessed by a set that is accepted
   pub accepted_usable : (c : Compiled) → IsOutcome documents (Accepted c) → IsUsable c
-  accepted_usable c (inl (refusals.Broken fault, is, other)) = grind arith
-  accepted_usable c (inl (refusals.NotYet, is, other)) = grind arith
+  accepted_usable c (inl (fault, is, other)) = grind arith
   accepted_usable c (inr (made, compiled, (unbroken, of, usable, uses))) = usable
 
   -- one of their outcomes is told and worked by
   pub told_and_worked : {E : Type 0} (r : Result SetVerdict E) (old new : WorkState) (o : Outcome) → IsOutcome documents o
-      → IfOk r (λ told. told ≡ verdict_of (told_of o)) → OnOk r (new ≡ work_after old (told_of o)) → IfOk r (λ told. IsCompiled documents old told new)
+      → IfOk r (λ told. told ≡ verdict_of (told_of o)) → OnOk r (new ≡ work_after old documents (told_of o)) → IfOk r (λ told. IsCompiled documents old told new)
   told_and_worked (Ok told) old new o is told_is work_is = record {
     outcome = told_of o;
     is_outcome = record { first = refl; rules_are = refl; outcome = o; is_outcome = is; told_is = refl };
@@ -35,18 +32,22 @@ module _ (documents : List SchemaInput) where
   told_and_worked (Err e) old new o is told_is work_is = tt
 
 -- a document that was opened is open
-pub opened_open : {T E : Type 0} (r : Result T E) (set : SchemaSet) (d : Document) (w : WorkState) → OnOk r (IsOpenedBy set d w) → OnOk r (IsOpen w)
-opened_open (Ok x) set d w h =
+pub opened_open : {T E : Type 0} (r : Result T E) (most : ℕ) (basis : Basis) (d : Document) (w : WorkState) → OnOk r (IsOpenedBy most basis d w) → OnOk r (IsOpen w)
+opened_open (Ok x) most basis d w h =
     subst IsOpen (sym (h.work_is ∙ ap working h.document_is)) refl
-opened_open (Err e) set d w h = tt
+opened_open (Err e) most basis d w h = tt
+
+-- a document with this session
+abbrev open_by : ℕ → Basis → State → OpenState
+open_by most basis session = record { session = session; documents = basis.documents; most = most }
 
 -- a session that was opened is that of the document
-pub opened_by : {T E : Type 0} (r : Result T E) (set : SchemaSet) (d : Document) (w : WorkState) (session : State) → IsOpened set d session
-    → OnOk r (w ≡ working (record { session = session })) → OnOk r (IsOpenedBy set d w)
-opened_by (Ok x) set d w session is h = record {
-  document = record { session = session };
+pub opened_by : {T E : Type 0} (r : Result T E) (most : ℕ) (basis : Basis) (d : Document) (w : WorkState) (session : State) → IsOpened basis.set d session
+    → OnOk r (w ≡ working (open_by most basis session)) → OnOk r (IsOpenedBy most basis d w)
+opened_by (Ok x) most basis d w session is h = record {
+  document = open_by most basis session;
   work_is = h;
   found_is = is.found_is;
-  document_is = ap (λ (s : State). record { session = s }) is.new_is;
+  document_is = ap (open_by most basis) is.new_is;
 }
-opened_by (Err e) set d w session is h = tt
+opened_by (Err e) most basis d w session is h = tt

@@ -16,7 +16,7 @@ use Rattle.edit_script.specs.declared.command.ScriptFault.{ScriptFault}
 use Rattle.assessment.specs.Assessment.{Entry}
 use Rattle.assessment.specs.Attribution.{SchemaSet}
 use Rattle.session_model.specs.Asking.{entry_at, code_total}
-use Rattle.session_model.specs.Reports.{entry_text}
+use Rattle.session_model.specs.Reports.{entry_text, report}
 use Rattle.session_model.specs.State.{State, with_names, after_edit}
 use Rattle.told.specs.Told.{Said, free, Told, says, looks}
 use Rattle.open_document.specs.State.{OpenState, with_session}
@@ -49,6 +49,10 @@ assess_reply s node = records_reply s.set (kind_of node s.document.forest) (entr
 abbrev pub total_reply : State → List ℕ
 total_reply s = total_line (code_total s.found)
 
+-- the record lines of all elements and attributes, or so many at most of those that have a code; and the number of all codes
+abbrev pub report_reply : Option ℕ → State → List ℕ
+report_reply most s = report most s ++ total_reply s
+
 -- the revision, and the number of codes
 abbrev pub made_reply : State → List ℕ
 made_reply s = made s.revision (code_total s.found)
@@ -72,5 +76,7 @@ module _ (budget : State → Edit → State → ℕ) where
   abbrev pub line_told : OpenState → Result Command ScriptFault → (OpenState → Told) → Told
   line_told s (Ok (commands.Change edit)) next = edit_told s edit (edited s.session.document edit) next
   line_told s (Ok (commands.Assess node)) next = says (free (assess_reply s.session node)) (next s)
+  line_told s (Ok commands.Errors) next = says (free (report_reply (Some s.most) s.session)) (next s)
+  line_told s (Ok commands.Report) next = says (free (report_reply None s.session)) (next s)
   line_told s (Ok commands.Total) next = says (free (total_reply s.session)) (next s)
   line_told s (Err fault) next = says (free (refusal (faults.number_of fault) (faults.name_of fault))) (next s)

@@ -1,11 +1,24 @@
 -- What a stream works on.
-use Rattle.std.specs.Prelude.{◌≡◌, false}
+use Rattle.std.specs.Prelude.{◌≡◌, false, ℕ, List}
 use Rattle.assessment.specs.Attribution.{SchemaSet}
+use Rattle.schema_set.specs.declared.inputs.SchemaInput.{SchemaInput}
 use Rattle.session_model.specs.State.{State}
 
--- A session over a document. What else commands come to need, a history, another set of schemas, a log of authors, has its field here.
+-- what documents are assessed by: a schema set, and the schema documents of the stream, of which another set can be asked for
+pub record Basis : Type 0 where
+  pub set : SchemaSet
+  pub documents : List SchemaInput
+
+-- a set, with the documents that it was compiled of
+abbrev pub with_documents : List SchemaInput → SchemaSet → Basis
+with_documents documents set = record { set = set; documents = documents }
+
+-- A session over a document, the schema documents of the stream, and how many record lines a question for those with a code is answered by at
+-- most. What else commands come to need, a history, the number of the present set, a log of authors, has its field here.
 pub record OpenState : Type 0 where
   pub session : State
+  pub documents : List SchemaInput
+  pub most : ℕ
 
 -- the document with its session in this state
 abbrev pub with_session : OpenState → State → OpenState
@@ -14,17 +27,17 @@ with_session s x = record s { session = x }
 -- nothing yet, the schema set that documents are assessed by, or the document that is open
 pub data WorkState : Type 0 where
   empty : WorkState
-  ready : (set : SchemaSet) → WorkState
+  ready : (basis : Basis) → WorkState
   working : (document : OpenState) → WorkState
 
 -- there is a schema set, and no document yet
 abbrev pub IsReady : WorkState → Type 0
 IsReady empty = ⊥
-IsReady (ready set) = Unit {0}
+IsReady (ready basis) = Unit {0}
 IsReady (working s) = ⊥
 
 -- a document is open, and want of memory has not closed it
 abbrev pub IsOpen : WorkState → Type 0
 IsOpen empty = ⊥
-IsOpen (ready set) = ⊥
+IsOpen (ready basis) = ⊥
 IsOpen (working s) = s.session.closed ≡ false

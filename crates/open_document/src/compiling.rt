@@ -8,7 +8,7 @@ ghost use Rattle.compiled_schema.specs.Usable.{IsUsable, set_of};
 ghost use Rattle.told.specs.Outcomes.{told_of};
 ghost use Rattle.open_document.specs.Answers as answers;
 ghost use Rattle.open_document.specs.Held.{work_of, IsKept};
-ghost use Rattle.open_document.specs.State.{ready};
+ghost use Rattle.open_document.specs.State.{ready, with_documents};
 
 use crate::SetVerdict;
 use crate::held::{Held, make_ready};
@@ -26,49 +26,66 @@ fn are_whole(documents: &[SchemaInput])
     }
 }
 
-// Keeps a set that is accepted.
-fn accept(held: &mut Held, alloc: Global, set: Compiled) -> Result<SetVerdict, AllocError>
+// Keeps a set that is accepted, with the documents that it was compiled of.
+fn accept(
+    held: &mut Held,
+    alloc: Global,
+    set: Compiled,
+    documents: Vec<SchemaInput>,
+) -> Result<SetVerdict, AllocError>
     requires usable { IsUsable set }
     requires kept { IsKept held.old }
     ensures told { IfOk result (λ told. told ≡ SetVerdict.Accepted) }
-    ensures ready { OnOk result (work_of held.new ≡ ready (set_of set)) }
+    ensures ready { OnOk result (work_of held.new ≡ ready (with_documents documents.items (set_of set))) }
     ensures kept { IsKept held.new }
 {
-    match make_ready(held, alloc, set) {
+    match make_ready(held, alloc, set, documents) {
         Ok(()) => Ok(SetVerdict::Accepted),
         Err(error) => Err(error),
     }
 }
 
 // Keeps what schema documents come to.
-fn take(held: &mut Held, alloc: Global, outcome: Outcome) -> Result<SetVerdict, AllocError>
-    requires usable { (documents : List SchemaInputData) × IsOutcome documents outcome }
+fn take(
+    held: &mut Held,
+    alloc: Global,
+    outcome: Outcome,
+    documents: Vec<SchemaInput>,
+) -> Result<SetVerdict, AllocError>
+    requires usable { (all : List SchemaInputData) × IsOutcome all outcome }
     requires kept { IsKept held.old }
     ensures told { IfOk result (λ told. told ≡ answers.verdict_of (told_of outcome)) }
-    ensures work { OnOk result (work_of held.new ≡ answers.work_after (work_of held.old) (told_of outcome)) }
+    ensures work { OnOk result (work_of held.new ≡ answers.work_after (work_of held.old) documents.items (told_of outcome)) }
     ensures kept { IsKept held.new }
 {
     match outcome {
-        Outcome::Accepted(set) => accept(held, alloc, set),
+        Outcome::Accepted(set) => accept(held, alloc, set, documents),
         Outcome::Broken(fault) => Ok(SetVerdict::Broken(fault)),
-        Outcome::NotYet => Ok(SetVerdict::NotYet),
     }
 }
 
-/// Compiles schema documents, and keeps the set where it is accepted.
+// What schema documents come to.
+fn outcome_of(alloc: Global, documents: &[SchemaInput]) -> Result<Outcome, AllocError>
+    requires some { 0 < length documents.now }
+    ensures outcome { IfOk result (IsOutcome documents.now) }
+{
+    are_whole(documents);
+    compile(alloc, documents)
+}
+
+/// Compiles schema documents, and keeps the set with them where it is accepted.
 pub(crate) fn compile_into(
     held: &mut Held,
     alloc: Global,
-    documents: &[SchemaInput],
+    documents: Vec<SchemaInput>,
 ) -> Result<SetVerdict, AllocError>
-    requires some { 0 < length documents.now }
+    requires some { 0 < length documents.items }
     requires kept { IsKept held.old }
-    ensures compiled { IfOk result (λ told. answers.IsCompiled documents.now (work_of held.old) told (work_of held.new)) }
+    ensures compiled { IfOk result (λ told. answers.IsCompiled documents.items (work_of held.old) told (work_of held.new)) }
     ensures kept { IsKept held.new }
 {
-    are_whole(documents);
-    match compile(alloc, documents) {
-        Ok(outcome) => take(held, alloc, outcome),
+    match outcome_of(alloc, documents.as_slice()) {
+        Ok(outcome) => take(held, alloc, outcome, documents),
         Err(error) => Err(error),
     }
 }

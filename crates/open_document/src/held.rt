@@ -1,27 +1,66 @@
 //! What a workspace keeps.
 
-ghost use Rattle.std.specs.Prelude.{◌≡◌, false, IfOk, OnOk};
-ghost use Rattle.assessment.specs.Attribution.{SchemaSet};
+ghost use Rattle.std.specs.Prelude.{◌≡◌, IfOk, OnOk};
 ghost use Rattle.compiled_schema.specs.Usable.{IsUsable, set_of};
 ghost use Rattle.session_model.specs.Spending.{Counts};
 ghost use Rattle.open_document.specs.Answers as answers;
-ghost use Rattle.open_document.specs.Held.{work_of, IsKept};
-ghost use Rattle.open_document.specs.State.{working, ready, IsReady, IsOpen};
+ghost use Rattle.open_document.specs.Held.{basis_of, state_of, work_of, IsKept};
+ghost use Rattle.open_document.specs.State.{Basis, working, ready, with_documents, IsReady, IsOpen};
 
 use compiled_schema::Compiled;
 use plain_session::{PlainSession, let_go};
 use plain_tree::Tree;
+use schema_set::SchemaInput;
 use session_model::Session;
 use std::alloc::{AllocError, Global};
 use std::mem;
 use xsv_steps::{Ledger, Steps};
 
-/// What a workspace keeps, boxed, since it is large.
+/// A set by which documents may be assessed, and the schema documents that it was compiled of.
+#[derive(Drop)]
+pub(crate) struct CompiledBasis {
+    pub set: Box<Compiled>,
+    pub documents: Vec<SchemaInput>,
+}
+
+impl CompiledBasis {
+    /// Lets go of it.
+    fn close(self) {
+        let CompiledBasis { set, documents } = self;
+        let_go(Box::into_inner(set));
+        drop(documents);
+    }
+}
+
+/// A document that is open.
+#[derive(Drop)]
+pub(crate) struct OpenDocument {
+    pub session: PlainSession,
+    /// The schema documents of the stream.
+    pub documents: Vec<SchemaInput>,
+    /// How many record lines a question for those with a code is answered by at most.
+    pub most: u32,
+}
+
+impl OpenDocument {
+    /// Lets go of it.
+    fn close(self) {
+        let OpenDocument {
+            session,
+            documents,
+            ..
+        } = self;
+        session.close();
+        drop(documents);
+    }
+}
+
+/// What a workspace keeps, boxed where it is large.
 #[derive(Drop)]
 pub(crate) enum Held {
     Empty,
-    Ready(Box<Compiled>),
-    Working(Box<PlainSession>),
+    Ready(CompiledBasis),
+    Working(Box<OpenDocument>),
 }
 
 /// A value, boxed. For any type, so that no proof goes into what the value is made of.
@@ -42,8 +81,8 @@ pub fn boxed<T: Drop>(alloc: Global, value: T) -> Result<Box<T>, AllocError>
 pub(crate) fn close(held: Held) {
     match held {
         Held::Empty => {}
-        Held::Ready(set) => let_go(Box::into_inner(set)),
-        Held::Working(session) => Box::into_inner(session).close(),
+        Held::Ready(basis) => basis.close(),
+        Held::Working(document) => Box::into_inner(document).close(),
     }
 }
 
@@ -54,16 +93,21 @@ fn keep(held: &mut Held, next: Held)
     close(mem::replace(held, next));
 }
 
-/// Keeps a set by which documents may be assessed.
-pub(crate) fn make_ready(held: &mut Held, alloc: Global, set: Compiled) -> Result<(), AllocError>
+/// Keeps a set by which documents may be assessed, and the schema documents that it was compiled of.
+pub(crate) fn make_ready(
+    held: &mut Held,
+    alloc: Global,
+    set: Compiled,
+    documents: Vec<SchemaInput>,
+) -> Result<(), AllocError>
     requires usable { IsUsable set }
     requires kept { IsKept held.old }
-    ensures ready { OnOk result (work_of held.new ≡ ready (set_of set)) }
+    ensures ready { OnOk result (work_of held.new ≡ ready (with_documents documents.items (set_of set))) }
     ensures kept { IsKept held.new }
 {
     match Box::new(alloc, set) {
         Ok(set) => {
-            keep(held, Held::Ready(set));
+            keep(held, Held::Ready(CompiledBasis { set, documents }));
             Ok(())
         }
         Err(failed) => {
@@ -73,15 +117,15 @@ pub(crate) fn make_ready(held: &mut Held, alloc: Global, set: Compiled) -> Resul
     }
 }
 
-// Keeps a session.
-fn work_on(held: &mut Held, alloc: Global, session: PlainSession) -> Result<(), AllocError>
+// Keeps a document that is open.
+fn work_on(held: &mut Held, alloc: Global, document: OpenDocument) -> Result<(), AllocError>
     requires kept { IsKept held.old }
-    ensures working { OnOk result (work_of held.new ≡ working (record { session = session })) }
+    ensures working { OnOk result (work_of held.new ≡ working (state_of document)) }
     ensures kept { IsKept held.new }
 {
-    match Box::new(alloc, session) {
-        Ok(session) => {
-            keep(held, Held::Working(session));
+    match Box::new(alloc, document) {
+        Ok(document) => {
+            keep(held, Held::Working(document));
             Ok(())
         }
         Err(failed) => {
@@ -95,39 +139,50 @@ fn work_on(held: &mut Held, alloc: Global, session: PlainSession) -> Result<(), 
 fn open_by<L: Ledger>(
     held: &mut Held,
     alloc: Global,
-    set: Box<Compiled>,
+    basis: CompiledBasis,
     tree: Tree,
+    most: u32,
     steps: &mut Steps<L>,
 ) -> Result<(), AllocError>
-    requires usable { IsUsable set.value }
+    requires usable { IsUsable basis.set.value }
     requires kept { IsKept held.old }
-    ensures opened { OnOk result (answers.IsOpenedBy (set_of set.value) tree (work_of held.new)) }
+    ensures opened { OnOk result (answers.IsOpenedBy most (basis_of basis) tree (work_of held.new)) }
     ensures open { OnOk result (IsOpen (work_of held.new)) }
     ensures steps { Counts steps.old steps.new (answers.opening_cost tree) }
     ensures kept { IsKept held.new }
 {
+    let CompiledBasis { set, documents } = basis;
     match PlainSession::open(alloc, set, tree, steps) {
-        Ok(session) => work_on(held, alloc, session),
+        Ok(session) => {
+            let document = OpenDocument {
+                session,
+                documents,
+                most,
+            };
+            work_on(held, alloc, document)
+        }
         Err(error) => Err(error),
     }
 }
 
-/// Opens a document by the set that is ready. For want of memory the set is let go of.
+/// Opens a document by the set that is ready, of which a question for record lines with a code is answered by so many at most. For
+/// want of memory the set is let go of.
 pub(crate) fn open<L: Ledger>(
     held: &mut Held,
     alloc: Global,
     tree: Tree,
+    most: u32,
     steps: &mut Steps<L>,
 ) -> Result<(), AllocError>
     requires ready { IsReady (work_of held.old) }
     requires kept { IsKept held.old }
-    ensures opened { (set : SchemaSet) → work_of held.old ≡ ready set → OnOk result (answers.IsOpenedBy set tree (work_of held.new)) }
+    ensures opened { (basis : Basis) → work_of held.old ≡ ready basis → OnOk result (answers.IsOpenedBy most basis tree (work_of held.new)) }
     ensures open { OnOk result (IsOpen (work_of held.new)) }
     ensures steps { Counts steps.old steps.new (answers.opening_cost tree) }
     ensures kept { IsKept held.new }
 {
     match mem::replace(held, Held::Empty) {
-        Held::Ready(set) => open_by(held, alloc, set, tree, steps),
+        Held::Ready(basis) => open_by(held, alloc, basis, tree, most, steps),
         Held::Empty | Held::Working(_) => unreachable!(),
     }
 }

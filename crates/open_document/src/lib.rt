@@ -11,7 +11,7 @@ mod working;
 mod workspace;
 
 pub use held::boxed;
-pub use line::answer_line;
+pub use line::answer_read;
 pub use reply::{write_answer, write_made, write_total};
 pub use verdict::{SetVerdict, Verdict};
 pub use workspace::Workspace;

@@ -1,4 +1,4 @@
-ghost use Rattle.std.specs.Prelude.{◌≡◌, ◌≤◌, Some, IfSome, true, false, OnOk};
+ghost use Rattle.std.specs.Prelude.{◌≡◌, ◌≤◌, Some, true, false, OnOk};
 ghost use Rattle.xsv_io.specs.Causes.{KeepsCount};
 ghost use Rattle.xsv_io.specs.Parts.{parts_text};
 ghost use Rattle.xsv_io.specs.Written.{Written};
@@ -9,12 +9,12 @@ ghost use Rattle.report_text.specs.Named.{IsNamed, AreNamed};
 ghost use Rattle.told.specs.Going.{Answers, trace};
 ghost use Rattle.told.specs.Tells.{Tells, Wrote, IsWriteFault};
 ghost use Rattle.told.specs.Told.{Told};
-ghost use Rattle.open_document.specs.Replies.{made, total_line, total_reply, refusal, no_element, assess_reply, made_reply, edit_told};
+ghost use Rattle.open_document.specs.Replies.{made, total_line, total_reply, report_reply, refusal, no_element, assess_reply, made_reply, edit_told};
 ghost use Rattle.open_document.specs.State.{OpenState, with_session};
 
 use compiled_schema::Compiled;
 use report_text::{Records, write_records};
-use session_model::{Session, SessionError};
+use session_model::{Session, SessionError, write_report};
 use told::BreakOff;
 use tree_edits::Edit;
 use tree_rows::NodeKind;
@@ -95,6 +95,36 @@ pub fn answer_total<S: Session, W: Sink>(session: &S, sink: &mut W) -> Result<()
     ensures writes { KeepsCount W.faults W.fault_bound sink.old sink.new (IsWriteFault result) }
 {
     tell_total(sink, session.code_total())
+}
+
+/// Writes the record lines that are told, and the number of all codes.
+fn write_lines<S: Session, W: Sink>(
+    session: &S,
+    most: Option<u32>,
+    sink: &mut W,
+) -> Result<(), Failed>
+    requires { (S.state session.now).closed ≡ false }
+    ensures written { Written W.taken W.faults W.fault_bound sink.old sink.new result (report_reply most (S.state session.now)) }
+{
+    write_report(session, most, sink)?;
+    write_total(sink, session.code_total())
+}
+
+/// Answers with the record lines of all elements and attributes, or so many at most of those that have a code; and with the number
+/// of all codes.
+pub fn answer_report<S: Session, W: Sink>(
+    session: &S,
+    most: Option<u32>,
+    sink: &mut W,
+) -> Result<(), BreakOff>
+    requires { (S.state session.now).closed ≡ false }
+    ensures wrote { Wrote result (W.taken sink.old) (W.taken sink.new) (report_reply most (S.state session.now)) }
+    ensures writes { KeepsCount W.faults W.fault_bound sink.old sink.new (IsWriteFault result) }
+{
+    match write_lines(session, most, sink) {
+        Ok(()) => Ok(()),
+        Err(_) => Err(BreakOff::WriteFault),
+    }
 }
 
 /// Writes a refusal.

@@ -10,8 +10,6 @@ pub enum SetVerdict {
     Accepted,
     /// The first constraint that is broken.
     Broken(Fault),
-    /// The set has something that is not assessed yet.
-    NotYet,
 }
 
 /// What the last line tells of a document.

@@ -1,95 +1,74 @@
-//! What is written of the session over an open document. This module and `held` name the session that is behind.
+//! What is written of a document that is open. This module and `held` name the session that is behind.
 
-ghost use Rattle.std.specs.Prelude.{◌≡◌, ◌≤◌, ◌++◌, false, OnOk};
-ghost use Rattle.xsv_io.specs.Written.{Written};
+ghost use Rattle.std.specs.Prelude.{◌≡◌, ◌≤◌, false, OnOk};
 ghost use Rattle.xsv_io.specs.Causes.{KeepsCount};
-ghost use Rattle.edit_script.specs.Commands.{command};
-ghost use Rattle.session_model.specs.Asking.{code_total, root_validity};
-ghost use Rattle.session_model.specs.Reports.{report};
-ghost use Rattle.plain_session.specs.Costs.{edit_cost};
 ghost use Rattle.told.specs.Going.{Answers, trace};
 ghost use Rattle.told.specs.Tells.{Wrote, IsWriteFault};
 ghost use Rattle.told.specs.Told.{Told};
-ghost use Rattle.open_document.specs.Replies.{line_told, made_reply, total_reply};
-ghost use Rattle.open_document.specs.State.{OpenState, with_session};
+ghost use Rattle.open_document.specs.Answers as answers;
+ghost use Rattle.open_document.specs.Held.{state_of};
+ghost use Rattle.open_document.specs.State.{OpenState};
 
 use crate::Verdict;
-use crate::line::answer_line;
-use crate::reply::{answer_made, write_total};
+use crate::held::OpenDocument;
+use crate::line::answer_read;
+use crate::reply::{answer_made, answer_report};
+use edit_script::read_command;
 use item_listing::Items;
-use plain_session::PlainSession;
-use session_model::{Session, write_report};
+use session_model::Session;
 use std::alloc::Global;
 use told::BreakOff;
 use xs_names::Text;
-use xsv_io::{Failed, Sink};
+use xsv_io::Sink;
 use xsv_steps::{Ledger, Steps};
 
-// Writes the record lines that are told, and the number of all codes.
-fn write_lines<W: Sink>(
-    session: &PlainSession,
-    most: Option<u32>,
-    sink: &mut W,
-) -> Result<(), Failed>
-    requires { session.now.closed ≡ false }
-    ensures written { Written W.taken W.faults W.fault_bound sink.old sink.new result (report most session.now ++ total_reply session.now) }
-{
-    write_report(session, most, sink)?;
-    write_total(sink, session.code_total())
-}
-
-/// Writes the report on a session: the record lines of its elements, or so many at most of those that have a code, and the number
-/// of all codes.
-pub(crate) fn tell_report<W: Sink>(
-    session: &PlainSession,
-    most: Option<u32>,
-    sink: &mut W,
-) -> Result<(), BreakOff>
-    requires { session.now.closed ≡ false }
-    ensures wrote { Wrote result (W.taken sink.old) (W.taken sink.new) (report most session.now ++ total_reply session.now) }
+/// Writes the report on a document: the record lines of its elements and attributes, and the number of all codes.
+pub(crate) fn tell_report<W: Sink>(document: &OpenDocument, sink: &mut W) -> Result<(), BreakOff>
+    requires { document.now.session.closed ≡ false }
+    ensures wrote { Wrote result (W.taken sink.old) (W.taken sink.new) (answers.report (state_of document.now)) }
     ensures writes { KeepsCount W.faults W.fault_bound sink.old sink.new (IsWriteFault result) }
 {
-    match write_lines(session, most, sink) {
-        Ok(()) => Ok(()),
-        Err(_) => Err(BreakOff::WriteFault),
-    }
+    answer_report(&document.session, None, sink)
 }
 
-/// Writes the revision of a session, and the number of codes.
-pub(crate) fn tell_first<W: Sink>(session: &PlainSession, sink: &mut W) -> Result<(), BreakOff>
-    requires { session.now.closed ≡ false }
-    ensures wrote { Wrote result (W.taken sink.old) (W.taken sink.new) (made_reply session.now) }
+/// Writes the revision of a document, and the number of codes.
+pub(crate) fn tell_first<W: Sink>(document: &OpenDocument, sink: &mut W) -> Result<(), BreakOff>
+    requires { document.now.session.closed ≡ false }
+    ensures wrote { Wrote result (W.taken sink.old) (W.taken sink.new) (answers.first_line (state_of document.now)) }
     ensures writes { KeepsCount W.faults W.fault_bound sink.old sink.new (IsWriteFault result) }
 {
-    answer_made(session, sink)
+    answer_made(&document.session, sink)
 }
 
-/// Answers a command of a session.
+/// Answers a command, with the items of its block where it begins one.
 pub(crate) fn answer<W: Sink, L: Ledger>(
     alloc: Global,
-    session: &mut PlainSession,
+    document: &mut OpenDocument,
     line: &Text,
     block: Option<Items>,
     sink: &mut W,
     steps: &mut Steps<L>,
 ) -> Result<(), BreakOff>
-    requires { session.old.closed ≡ false }
-    ensures answers { (s : OpenState) (next : OpenState → Told) → Answers (line_told edit_cost (with_session s session.old) (command line.now block) next)
-        result (trace (W.taken sink.old) steps.old) (trace (W.taken sink.new) steps.new) (λ done. next (with_session s session.new)) }
-    ensures open { OnOk result (session.new.closed ≡ false) }
+    requires { document.old.session.closed ≡ false }
+    ensures answers { (next : OpenState → Told) → Answers (answers.command_told (state_of document.old) line.now block next)
+        result (trace (W.taken sink.old) steps.old) (trace (W.taken sink.new) steps.new) (λ done. next (state_of document.new)) }
+    ensures open { OnOk result (document.new.session.closed ≡ false) }
     ensures writes { KeepsCount W.faults W.fault_bound sink.old sink.new (IsWriteFault result) }
     ensures later { steps.old ≤ steps.new }
 {
-    answer_line(alloc, session, line, block, sink, steps)
+    match read_command(alloc, line, block) {
+        Ok(read) => answer_read(&mut document.session, document.most, read, sink, steps),
+        Err(_) => Err(BreakOff::Memory),
+    }
 }
 
-/// What the last line tells of a session: the validity of the root, and the number of codes.
-pub(crate) fn verdict(session: &PlainSession) -> Verdict
-    requires { session.now.closed ≡ false }
-    ensures { result ≡ record { validity = root_validity session.now.found; total = code_total session.now.found } }
+/// What the last line tells of a document: the validity of the root, and the number of codes.
+pub(crate) fn verdict(document: &OpenDocument) -> Verdict
+    requires { document.now.session.closed ≡ false }
+    ensures { result ≡ answers.verdict (state_of document.now) }
 {
     Verdict {
-        validity: session.root_validity(),
-        total: session.code_total(),
+        validity: document.session.root_validity(),
+        total: document.session.code_total(),
     }
 }

@@ -1,12 +1,11 @@
 ghost use Rattle.std.specs.Prelude.{◌≡◌, ◌<◌, ◌≤◌, length, Option, IfOk, OnOk};
 ghost use Rattle.xsv_io.specs.Causes.{KeepsCount};
-ghost use Rattle.assessment.specs.Attribution.{SchemaSet};
 ghost use Rattle.session_model.specs.Spending.{Counts};
 ghost use Rattle.told.specs.Going.{Answers, trace};
 ghost use Rattle.told.specs.Tells.{Wrote, IsWriteFault};
 ghost use Rattle.told.specs.Told.{Told};
 ghost use Rattle.open_document.specs.Answers as answers;
-ghost use Rattle.open_document.specs.State.{OpenState, WorkState, empty, ready, working, IsReady, IsOpen};
+ghost use Rattle.open_document.specs.State.{Basis, OpenState, WorkState, empty, ready, working, IsReady, IsOpen};
 
 use crate::compiling::compile_into;
 use crate::held::{Held, close, open};
@@ -23,7 +22,7 @@ use xsv_io::Sink;
 use xsv_steps::{Ledger, Steps};
 
 /// What a stream works on: nothing yet, the schema set that documents are assessed by, or the document that is open. Contracts
-/// see which, with the set, or with the session over the document.
+/// see which, with the set, or with the session over the document; and with the schema documents of the stream.
 #[derive(Drop)]
 pub struct Workspace {
     held: Held,
@@ -52,7 +51,8 @@ impl Workspace {
         Workspace { held: Held::Empty }
     }
 
-    /// Compiles schema documents. A set that is accepted is what documents are assessed by from then on; else nothing changes.
+    /// Compiles schema documents. A set that is accepted is what documents are assessed by from then on, and the documents are kept
+    /// with it; else nothing changes.
     ///
     /// # Errors
     ///
@@ -60,15 +60,16 @@ impl Workspace {
     pub fn compile(
         &mut self,
         alloc: Global,
-        documents: &[SchemaInput],
+        documents: Vec<SchemaInput>,
     ) -> Result<SetVerdict, AllocError>
-        requires some { 0 < length documents.now }
-        ensures compiled { IfOk result (λ told. answers.IsCompiled documents.now self.old told self.new) }
+        requires some { 0 < length documents.items }
+        ensures compiled { IfOk result (λ told. answers.IsCompiled documents.items self.old told self.new) }
     {
         compile_into(&mut self.held, alloc, documents)
     }
 
-    /// Opens a document, which is assessed by the schema set that is ready.
+    /// Opens a document, which is assessed by the schema set that is ready. A question for its record lines that have a code is
+    /// answered by `most` lines at most.
     ///
     /// # Errors
     ///
@@ -77,29 +78,29 @@ impl Workspace {
         &mut self,
         alloc: Global,
         tree: Tree,
+        most: u32,
         steps: &mut Steps<L>,
     ) -> Result<(), AllocError>
         requires { IsReady self.old }
-        ensures opened { (set : SchemaSet) → self.old ≡ ready set → OnOk result (answers.IsOpenedBy set tree self.new) }
+        ensures opened { (basis : Basis) → self.old ≡ ready basis → OnOk result (answers.IsOpenedBy most basis tree self.new) }
         ensures open { OnOk result (IsOpen self.new) }
         ensures steps { Counts steps.old steps.new (answers.opening_cost tree) }
     {
-        open(&mut self.held, alloc, tree, steps)
+        open(&mut self.held, alloc, tree, most, steps)
     }
 
-    /// Writes the report: the record line of each element and attribute, or so many at most of those that have a code; and the
-    /// number of all codes.
+    /// Writes the report: the record line of each element and attribute, and the number of all codes.
     ///
     /// # Errors
     ///
     /// `WriteFault` where the sink failed; a front was then written.
-    pub fn write_report<W: Sink>(&self, most: Option<u32>, sink: &mut W) -> Result<(), BreakOff>
+    pub fn write_report<W: Sink>(&self, sink: &mut W) -> Result<(), BreakOff>
         requires { IsOpen self.now }
-        ensures wrote { (s : OpenState) → self.now ≡ working s → Wrote result (W.taken sink.old) (W.taken sink.new) (answers.report most s) }
+        ensures wrote { (s : OpenState) → self.now ≡ working s → Wrote result (W.taken sink.old) (W.taken sink.new) (answers.report s) }
         ensures writes { KeepsCount W.faults W.fault_bound sink.old sink.new (IsWriteFault result) }
     {
         match &self.held {
-            Held::Working(session) => tell_report(session, most, sink),
+            Held::Working(document) => tell_report(document, sink),
             Held::Empty | Held::Ready(_) => unreachable!(),
         }
     }
@@ -115,7 +116,7 @@ impl Workspace {
         ensures writes { KeepsCount W.faults W.fault_bound sink.old sink.new (IsWriteFault result) }
     {
         match &self.held {
-            Held::Working(session) => tell_first(session, sink),
+            Held::Working(document) => tell_first(document, sink),
             Held::Empty | Held::Ready(_) => unreachable!(),
         }
     }
@@ -143,7 +144,7 @@ impl Workspace {
         ensures later { steps.old ≤ steps.new }
     {
         match &mut self.held {
-            Held::Working(session) => answer(alloc, session, line, block, sink, steps),
+            Held::Working(document) => answer(alloc, document, line, block, sink, steps),
             Held::Empty | Held::Ready(_) => unreachable!(),
         }
     }
@@ -154,7 +155,7 @@ impl Workspace {
         ensures { (s : OpenState) → self.now ≡ working s → result ≡ answers.verdict s }
     {
         match &self.held {
-            Held::Working(session) => verdict(session),
+            Held::Working(document) => verdict(document),
             Held::Empty | Held::Ready(_) => unreachable!(),
         }
     }

@@ -1,10 +1,9 @@
 -- What is known of a tree is what is found of it.
-use Rattle.std.proofs.Common.{◌≡◌, ◌*◌, ◌≤◌, ◌<◌, ◌^◌, ℕ, List, Bool, Result, Ok, Err, map, sym, ap, subst, ◌∙◌, arith}
+use Rattle.std.proofs.Common.{◌≡◌, ◌≤◌, ℕ, List, Bool, Result, Ok, Err, map, sym, ap, subst, ◌∙◌}
 use Rattle.std.specs.Prelude.{All, false, OnOk}
 use Rattle.xs_names.specs.Names.{NameTable}
-use Rattle.tree_rows.specs.Forest.{Forest, Document, count}
+use Rattle.tree_rows.specs.Forest.{Forest, Document}
 use Rattle.tree_rows.specs.Whole.{IsTree}
-use Rattle.tree_rows.specs.declared.limits.TheConstants.{MAX_NODES}
 use Rattle.tree_edits.specs.Tests.{edited}
 use Rattle.tree_edits.specs.declared.edit.Edit.{Edit}
 use Rattle.tree_names.specs.Table.{document_table}
@@ -12,11 +11,11 @@ use Rattle.assessment.specs.Assessment.{Entry, entries}
 use Rattle.assessment.specs.Attribution.{SchemaSet}
 use Rattle.compiled_schema.specs.Usable.{set_of}
 use Rattle.compiled_schema.specs.declared.compiled.Compiled.{Compiled}
-use Rattle.tree_assess.specs.Entries.{AreEntries, entry_of}
+use Rattle.tree_assess.specs.Entries.{entry_of}
 use Rattle.tree_assess.specs.declared.entry.ElementEntry.{ElementEntry}
+use Rattle.entry_keys.specs.Entries.{AreEntries}
 use Rattle.what_is_found.specs.IsFound.{IsFound, times_found}
 use Rattle.session_model.specs.Asking.{code_total}
-use Rattle.session_model.specs.Few.{most_codes}
 use Rattle.session_model.specs.Reports.{IsEntryNamed}
 use Rattle.session_model.specs.Applying.{IsEdited}
 use Rattle.session_model.specs.State.{State, with_names, next_revision, IsOpened}
@@ -25,17 +24,22 @@ use Rattle.plain_session.specs.Stocks.{IsReady, IsStock}
 use Rattle.plain_session.specs.declared.session.PlainSession.TheInside.{Inside}
 use Rattle.plain_session.specs.declared.stock.Stock.{Stock}
 
-module _ (set : Compiled) (d : Document) (es : List ElementEntry) (are : AreEntries (set_of set) d.forest es) where
+module _ (set : Compiled) (d : Document) (es : List ElementEntry) (are : AreEntries (set_of set) set.identities.items d.forest es) where
   pub found_by : IsReady set → IsTree d → IsFound (set_of set) d (map entry_of es)
   found_by ready tree =
-      record { sound = ready.sound; named = ready.usable.named.attributes; tree = tree; found = are.found; assessed = are.assessed; entries_are = are.entries_are }
+      record {
+        sound = ready.sound;
+        named = ready.usable.named.attributes;
+        tree = tree;
+        identities = set.identities.items;
+        read = ready.usable.identities_are;
+        found = are.found;
+        assessed = are.assessed;
+        entries_are = are.entries_are;
+      }
 
   pub are_named : All (IsEntryNamed (set_of set)) (entries are.found) → All (IsEntryNamed (set_of set)) (map entry_of es)
   are_named named = subst (All (IsEntryNamed (set_of set))) (sym are.entries_are) named
-
-  -- the codes of a tree within its limits can be counted
-  pub can_count : code_total (entries are.found) ≤ most_codes * count d.forest → count d.forest ≤ MAX_NODES → code_total (map entry_of es) < 2 ^ 64
-  can_count few within = omega (arith, few, within, ap code_total are.entries_are)
 
 -- a set whose table has got the names of a document
 pub set_named : {T E : Type 0} (r : Result T E) (set new : Compiled) (names : NameTable) (f : Forest) → new ≡ record set { names = names } → names ≡ document_table set.names f

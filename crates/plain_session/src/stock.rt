@@ -7,10 +7,11 @@ ghost use Rattle.compiled_schema.specs.Usable.{IsUsable, set_of};
 ghost use Rattle.plain_session.specs.Stocks.{IsReady, IsStock};
 
 use compiled_schema::{Compiled, usable_with_more_names};
+use entry_keys::assess;
 use plain_tree::Tree;
-use session_model::{count_codes, entries_are_named, entries_have_few_codes};
+use session_model::{count_codes, entries_are_named};
 use std::alloc::{AllocError, Global};
-use tree_assess::{ElementEntry, assess};
+use tree_assess::ElementEntry;
 use tree_names::{add_names, document_names_are_found};
 use xs_names::NsId;
 
@@ -48,25 +49,31 @@ fn places_in(alloc: Global, entries: &[ElementEntry], free: u32) -> Vec<usize> {
     places
 }
 
-// The entries of a tree whose names are in the table of the set.
+// The entries of a tree whose names are in the table of the set. Codes that are past counting are want of memory.
 fn assessed(alloc: Global, set: &mut Compiled, tree: &Tree) -> Result<Stock, AllocError>
     requires ready { IsReady set.old }
     requires names { HasNames set.old.names tree.now.forest }
     ensures stock { IfOk result (IsStock set.old tree.now) }
     ensures same { set.new ≡ set.old }
 {
-    // Who reads a tree is told that it is one, and within the limits: its codes can be counted.
+    // Who reads a tree is told that it is one.
     let free = tree.next_free();
     entries_are_named();
-    entries_have_few_codes();
     let entries = assess(alloc, set, tree)?;
-    let total = count_codes(&entries);
-    let places = places_in(alloc, &entries, free);
-    Ok(Stock {
-        entries,
-        total,
-        places,
-    })
+    match count_codes(&entries) {
+        Some(total) => {
+            let places = places_in(alloc, &entries, free);
+            Ok(Stock {
+                entries,
+                total,
+                places,
+            })
+        }
+        None => {
+            drop(entries);
+            Err(AllocError)
+        }
+    }
 }
 
 /// Puts the names of a tree into the table of a set, and assesses it.

@@ -48,7 +48,7 @@ module _ (documents : List SchemaInput) (trees : All (λ input. IsTree input.tre
         set,
         is.2,
         (λ k d h. of-tree (get_or set k d) (all-shaped documents set is.3 (no-faults is.0.0) k d h)),
-        is.6,
+        is.5,
       )
 
 module _ (resolve : (t : NameTable) (origins : List Origin) (reps : List Representation) → IsLeast (IsBroken t origins reps) None → AreResolved reps)

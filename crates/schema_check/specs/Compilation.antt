@@ -36,7 +36,7 @@ module _ (documents : List SchemaInput) where
   later_phases =
       composition_phase ∷ by_set name_phase ∷ by_set (λ set originals. by_components set originals base_phase) ∷ by_set (λ set originals. by_components set originals type_phase) ∷ []
 
-  -- the phases that there are: shapes, composition, names, bases, simple types
+  -- the phases up to simple types: shapes, composition, names, bases, simple types
   abbrev pub phases : List (Option Fault → Type 0)
   phases = shape_phase ∷ later_phases
 

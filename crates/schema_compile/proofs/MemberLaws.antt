@@ -1,6 +1,6 @@
 -- The members of substitution groups have names of the table.
-use Rattle.std.proofs.Common.{◌≡◌, ℕ, ◌<◌, ◌≤◌, List, [], ◌∷◌, Option, None, Some, length, map, inl, inr, sym, ap, subst, ◌∙◌}
-use Rattle.std.specs.Prelude.{All, Contains, slice_get, unwrap_or}
+use Rattle.std.proofs.Common.{◌≡◌, ℕ, ◌<◌, List, [], Option, Some, length, map, inl, inr, sym, ap, subst, ◌∙◌}
+use Rattle.std.specs.Prelude.{All, Contains, unwrap_or}
 use Rattle.std.specs.Option.{option_and_then}
 use Rattle.std.proofs.lemmas.Bool.{cases_lt}
 use Rattle.std.proofs.lemmas.List.Elements.{All-nil, All-cons, All-map, All-weaker, All-contains, All-contains_itself}

@@ -1,7 +1,8 @@
 -- The phases behind simple types.
-use Rattle.std.proofs.Common.{◌≡◌, ◌⊎◌, inl, inr, ℕ, ◌<◌, Bool, true, false, List, Option, None, Some, Result, Ok, Err, length, if◌then◌else◌, sym, ap, subst, ◌∙◌}
+use Rattle.std.proofs.Common.{◌≡◌, inl, inr, ℕ, ◌<◌, Bool, false, List, Option, None, Some, Result, Ok, Err, length, sym, ap, subst}
 use Rattle.std.specs.Prelude.{IfOk, IfErr, IfNone, slice_index_or, slice_get}
 use Rattle.std.specs.Option.{option_and_then}
+use Rattle.std.specs.Global.{Vec}
 use Rattle.std.proofs.lemmas.Option.{none-some, slice_get_within}
 use Rattle.xs_codes.specs.declared.fault.Fault.{Fault}
 use Rattle.xs_components.specs.Tables.{Tables}
@@ -15,12 +16,12 @@ use Rattle.derive_models.specs.ModelFaults.{IsFirstModelFault}
 use Rattle.redefine_names.specs.declared.pairs.RedefinedPair.{RedefinedPair}
 use Rattle.content_models.specs.Built.{IsSource}
 use Rattle.content_models.specs.declared.automaton.ContentAutomaton.{ContentAutomaton}
-use Rattle.schema_models.specs.SetModels.{content_of, AreModels, IsBroken}
+use Rattle.schema_models.specs.SetModels.{AreModels, IsBroken}
 use Rattle.schema_check.specs.declared.documents.CompiledSet.{CompiledSet}
 use Rattle.schema_compile.specs.Fit.{IsFit}
 use Rattle.identity_paths.specs.Reads.{AreIdentities}
+use Rattle.identity_paths.specs.declared.paths.IdentityPaths.{IdentityPaths}
 use Rattle.schema_compile.specs.declared.finding.Found.{Found}
-use Rattle.schema_compile.specs.declared.finding.Faultless.{Faultless}
 use Rattle.schema_compile.specs.Outcomes.{attr_phase, derivation_phase, model_phase, restriction_phase, identity_phase, late_phases}
 use Rattle.schema_compile.specs.inside.Finding.{early_phases, AreAttrUses, IsFound, AreModelsOf, AreContentsThere, IsJudged}
 use Rattle.schema_compile.proofs.MemberLaws.{members-named}
@@ -118,6 +119,6 @@ module _ (made : CompiledSet) (found : Found) (is : IsFound made.parts found) wh
         pub broken-identity : (fault : Fault) → identity_phase made (Some fault) → IsJudged made (Err fault)
         broken-identity fault h = inr (early.0, inr (early.1.0, inr (no-broken, inr (none, inl h))))
 
-        pub judged-in : AreContentsThere made.parts → (identities : Vec IdentityPaths) → identity_phase made None → AreIdentities made.parts identities.items →
-            IsJudged made (Ok (record { found = found; models = models; identities = identities }))
+        pub judged-in : AreContentsThere made.parts → (identities : Vec IdentityPaths) → identity_phase made None → AreIdentities made.parts identities.items
+            → IsJudged made (Ok (record { found = found; models = models; identities = identities }))
         judged-in there identities h paths = ((early.0, (early.1.0, (no-broken, (none, (h, tt))))), is, are, there, paths)

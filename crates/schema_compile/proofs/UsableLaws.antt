@@ -1,9 +1,8 @@
 -- A set without a fault, with what was found of it, is usable.
-use Rattle.std.proofs.Common.{◌≡◌, inl, ℕ, ◌<◌, Bool, List, Option, None, Some, Result, Ok, Err, length, refl, sym, ap, subst, ◌∙◌}
+use Rattle.std.proofs.Common.{◌≡◌, inl, ℕ, ◌<◌, Bool, List, Option, None, Some, Ok, length, refl, sym, subst}
 use Rattle.std.specs.Prelude.{slice_get, slice_index_or}
 use Rattle.std.proofs.lemmas.Option.{slice_get_within, get_or_from_slice_get}
 use Rattle.xs_codes.specs.declared.code.Code.TheVariants.{CosNonambig}
-use Rattle.xs_codes.specs.declared.fault.Fault.{Fault}
 use Rattle.xs_codes.specs.Least.{IsLeast}
 use Rattle.xs_names.proofs.GrownLaws.{Grown-refl}
 use Rattle.xs_components.specs.Tables.{Tables}
@@ -19,7 +18,6 @@ use Rattle.schema_compile.specs.Fit.{IsFit}
 use Rattle.identity_paths.specs.Reads.{AreIdentities}
 use Rattle.schema_compile.specs.declared.finding.Found.{Found}
 use Rattle.schema_compile.specs.declared.finding.Faultless.{Faultless}
-use Rattle.schema_compile.specs.declared.outcome.Outcome.{Outcome}
 use Rattle.schema_compile.specs.declared.outcome.Outcome.TheVariants.{Accepted}
 use Rattle.schema_compile.specs.Outcomes.{HaveUses, IsSetOutcome}
 use Rattle.schema_compile.specs.inside.Finding.{IsFound, AreModelsOf, AreContentsThere, IsJudged, joined}

@@ -1,9 +1,8 @@
 -- The names of originals behind those of documents.
-use Rattle.std.proofs.Common.{◌≡◌, ℕ, suc, ◌<◌, ◌≤◌, List, [], ◌∷◌, Option, None, Some, length, arith}
-use Rattle.std.specs.Prelude.{All, IfSome}
-use Rattle.std.proofs.lemmas.List.Elements.{All-nil, All-cons, All-head, All-tail}
+use Rattle.std.proofs.Common.{ℕ, suc, ◌<◌, ◌≤◌, List, [], ◌∷◌, Option, None, Some, arith}
+use Rattle.std.specs.Prelude.{IfSome}
+use Rattle.std.proofs.lemmas.List.Elements.{All-cons, All-head, All-tail}
 use Rattle.xs_names.specs.Names.{NameTable, with_name, same_name, space_of, local_of}
-use Rattle.xs_names.specs.Numbering.{HasNoRepeats}
 use Rattle.xs_names.proofs.GrownLaws.{Grown-with_name}
 use Rattle.xs_names.proofs.NumberingLaws.{same_name-Decides, HasNoRepeats-with_item}
 use Rattle.representations.specs.declared.parts.Representation.{Representation}

@@ -61,9 +61,9 @@ fn complete(alloc: Global, mut set: CompiledSet) -> Result<Outcome, AllocError>
     }
 }
 
-/// Schema documents compiled, as far as documents are assessed by them: phase by phase, shapes, composition, names, bases, simple
-/// types, attributes, derivation, content models, their restriction, identity constraints. The set is what the first document leads
-/// to. The first fault of the first phase that has one is answered, by document, element and the order of codes.
+/// Schema documents compiled, phase by phase: shapes, composition, names, bases, simple types, attributes, derivation, content
+/// models, their restriction, identity constraints. The set is what the first document leads to. The first fault of the first phase
+/// that has one is answered, by document, element and the order of codes.
 ///
 /// # Errors
 ///

@@ -1,4 +1,4 @@
-//! Schema documents compiled, as far as documents are assessed by them.
+//! Schema documents compiled, phase by phase, or the first constraint that they break.
 #![tactic(auto)]
 
 mod compiling;

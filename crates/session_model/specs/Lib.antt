@@ -4,5 +4,4 @@ pub mod Asking
 pub mod Reports
 pub mod Applying
 pub mod Spending
-pub mod Few
 pub mod inside

@@ -1,42 +1,36 @@
-ghost use Rattle.std.specs.Prelude.{◌≡◌, ◌<◌, ◌^◌, map};
+ghost use Rattle.std.specs.Prelude.{◌≡◌, ◌≤◌, ◌^◌, map, MatchOption};
 ghost use Rattle.session_model.specs.Asking.{attr_total, entry_total, code_total};
 ghost use Rattle.tree_assess.specs.Entries.{entry_of};
 
 use assess_records::AttrRecord;
 use tree_assess::ElementEntry;
 
-/// The number of codes of the records of attributes.
-fn count_attr_codes(attrs: &[AttrRecord]) -> u64
-    requires few { attr_total attrs.now < 2 ^ 64 }
-    ensures { result ≡ attr_total attrs.now }
+/// The number of codes of the records of attributes, `None` where it does not fit.
+fn count_attr_codes(attrs: &[AttrRecord]) -> Option<u64>
+    ensures { MatchOption result (2 ^ 64 ≤ attr_total attrs.now) (λ total. total ≡ attr_total attrs.now) }
 {
-    let mut left = attrs;
     let mut total: u64 = 0;
-    'attrs: while let Some((record, more)) = left.split_first() {
-        total += record.codes.len() as u64;
-        left = more;
+    for record in attrs {
+        total = total.checked_add(record.codes.len() as u64)?;
     }
-    total
+    Some(total)
 }
 
-/// The number of codes of the records of an element and of its attributes.
-fn count_entry_codes(entry: &ElementEntry) -> u64
-    requires few { entry_total (entry_of entry.now) < 2 ^ 64 }
-    ensures { result ≡ entry_total (entry_of entry.now) }
+/// The number of codes of the records of an element and of its attributes, `None` where it does not fit.
+fn count_entry_codes(entry: &ElementEntry) -> Option<u64>
+    ensures { MatchOption result (2 ^ 64 ≤ entry_total (entry_of entry.now)) (λ total. total ≡ entry_total (entry_of entry.now)) }
 {
-    entry.element.codes.len() as u64 + count_attr_codes(entry.attrs.as_slice())
+    let of_attrs = count_attr_codes(entry.attrs.as_slice())?;
+    of_attrs.checked_add(entry.element.codes.len() as u64)
 }
 
-/// The number of codes of all records.
-pub fn count_codes(entries: &[ElementEntry]) -> u64
-    requires few { code_total (map entry_of entries.now) < 2 ^ 64 }
-    ensures { result ≡ code_total (map entry_of entries.now) }
+/// The number of codes of all records; `None` where it does not fit, since it is past 18,446,744,073,709,551,615.
+pub fn count_codes(entries: &[ElementEntry]) -> Option<u64>
+    ensures { MatchOption result (2 ^ 64 ≤ code_total (map entry_of entries.now)) (λ total. total ≡ code_total (map entry_of entries.now)) }
 {
-    let mut left = entries;
     let mut total: u64 = 0;
-    'entries: while let Some((entry, more)) = left.split_first() {
-        total += count_entry_codes(entry);
-        left = more;
+    for entry in entries {
+        total = total.checked_add(count_entry_codes(entry)?)?;
     }
-    total
+    Some(total)
 }

@@ -9,6 +9,6 @@ mod session;
 
 pub use count::count_codes;
 pub use find::{find_next, find_records, root_validity};
-pub use laws::{entries_are_named, entries_have_few_codes};
+pub use laws::entries_are_named;
 pub use report::write_report;
 pub use session::{Session, SessionError};

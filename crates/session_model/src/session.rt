@@ -26,7 +26,7 @@ use xsv_steps::{Ledger, Steps};
 pub enum SessionError {
     /// The edit is refused, and nothing has changed.
     Refused(EditError),
-    /// Memory was wanting. The session is closed.
+    /// Memory was wanting, or there are more codes than 18,446,744,073,709,551,615. The session is closed.
     Memory,
     /// An earlier edit ended in want of memory.
     Closed,
@@ -50,7 +50,7 @@ pub trait Session {
     ///
     /// # Errors
     ///
-    /// `AllocError` is want of memory.
+    /// `AllocError` is want of memory, or there are more codes than 18,446,744,073,709,551,615.
     fn open<L: Ledger>(
         alloc: Global,
         set: Box<Compiled>,

@@ -1,6 +1,6 @@
 -- What documents represent does not depend on where their shapes lie.
-use Rattle.std.proofs.Common.{◌≡◌, ℕ, ◌+◌, ◌==◌, ◌&&◌, ◌||◌, Bool, true, false, List, [], ◌∷◌, ◌++◌, Option, None, Some, if◌then◌else◌, length, map, refl, reverse, sym, ap, ◌∙◌, subst}
-use Rattle.std.specs.List.{AllZip, flat_map, list_any, position_from}
+use Rattle.std.proofs.Common.{◌≡◌, ℕ, ◌+◌, ◌==◌, ◌&&◌, List, [], ◌∷◌, ◌++◌, Option, None, Some, if◌then◌else◌, length, map, refl, reverse, sym, ap, ◌∙◌, subst}
+use Rattle.std.specs.List.{AllZip, flat_map, position_from}
 use Rattle.std.specs.Option.{option_and_then}
 use Rattle.xs_names.specs.Names.{NameTable}
 use Rattle.xs_names.specs.Scope.{first_scope}
@@ -15,7 +15,7 @@ use Rattle.redefine_originals.specs.Originals.{shapes_of, elements, version_plac
 use Rattle.representations.specs.Documents.{document_table}
 use Rattle.representations.specs.declared.origins.Origin.{Origin}
 use Rattle.representations.specs.declared.parts.Representation.{Representation}
-use Rattle.set_representations.specs.Documents.{document_representations, representations_of, representations, document_scopes, scopes, origin_of, origins_of, origins, set_table}
+use Rattle.set_representations.specs.Documents.{document_representations, representations_of, document_scopes, scopes, origin_of, origins_of, set_table}
 use Rattle.set_representations.specs.Scopes.{openings}
 use Rattle.set_laws.specs.Same.{IsSameDocument}
 

@@ -1,19 +1,17 @@
 -- What documents are compiled to is determined.
-use Rattle.std.proofs.Common.{◌≡◌, ◌↔◌, ℕ, List, [], ◌∷◌, Option, None, Some, Result, Ok, Err, map, refl, sym, ap, ◌∙◌, subst}
+use Rattle.std.proofs.Common.{◌≡◌, ℕ, List, Option, None, Some, Result, Ok, Err, map, sym, ap, ◌∙◌, subst}
 use Rattle.std.proofs.lemmas.Option.{none-some, same_Some}
 use Rattle.std.proofs.Math.Path.{transport}
-use Rattle.std.specs.Prelude.{Contains}
 use Rattle.xs_codes.specs.declared.fault.Fault.{Fault}
 use Rattle.xs_components.specs.Tables.{Tables}
 use Rattle.representations.specs.declared.parts.Representation.{Representation}
 use Rattle.redefine_names.specs.Groups.{AreRedefined}
 use Rattle.redefine_names.specs.declared.groups.RedefinedGroups.{RedefinedGroups}
-use Rattle.redefine_names.specs.declared.pairs.RedefinedPair.{RedefinedPair}
-use Rattle.set_representations.specs.Documents.{representations, set_table}
+use Rattle.set_representations.specs.Documents.{set_table}
 use Rattle.xs_names.specs.Names.{no_names}
 use Rattle.schema_set.specs.declared.documents.SetDocument.{SetDocument}
 use Rattle.schema_set.specs.declared.inputs.SchemaInput.{SchemaInput}
-use Rattle.schema_set.specs.Documents.{available, IsSet}
+use Rattle.schema_set.specs.Documents.{available}
 use Rattle.schema_check.specs.Components.{versions, AreRedefining}
 use Rattle.schema_check.specs.Phases.{IsFirstOfPhases}
 use Rattle.schema_check.specs.SetPhases.{AreRanked, AreRedefiningGroups, IsSetCompiled}

@@ -1,6 +1,5 @@
 -- Each of the first phases has at most one answer.
 use Rattle.std.proofs.Common.{◌≡◌, inl, inr, ℕ, List, [], ◌∷◌, Option, None, Some, map, refl, sym, ap, ◌∙◌, subst}
-use Rattle.std.specs.List.{AllZip}
 use Rattle.std.proofs.lemmas.Option.{none-some}
 use Rattle.std.proofs.Math.Path.{transport}
 use Rattle.xs_codes.specs.declared.fault.Fault.{Fault}
@@ -8,13 +7,11 @@ use Rattle.xs_codes.specs.Least.{IsLeast}
 use Rattle.xs_names.specs.Names.{NameTable, no_names}
 use Rattle.xs_components.specs.Tables.{Tables}
 use Rattle.set_laws.proofs.Firsts.{least-one}
-use Rattle.representations.specs.declared.origins.Origin.{Origin}
 use Rattle.representations.specs.declared.parts.Representation.{Representation}
 use Rattle.representations.specs.declared.source.Source.{Source}
 use Rattle.set_representations.specs.Documents.{representations, scopes, origins, set_table}
 use Rattle.redefine_names.specs.VersionNames.{with_versions}
 use Rattle.redefine_names.specs.Renamed.{renamed}
-use Rattle.redefine_originals.specs.Originals.{AreOriginals}
 use Rattle.schema_set.specs.declared.documents.SetDocument.{SetDocument}
 use Rattle.schema_set.specs.declared.inputs.SchemaInput.{SchemaInput}
 use Rattle.schema_set.specs.Documents.{available, IsSet, IsShapeFault}
@@ -24,7 +21,6 @@ use Rattle.schema_check.specs.Phases.{IsFirstOfPhases}
 use Rattle.schema_check.specs.Components.{all_names, versions, AreOf, IsFault, IsNameFault, AreComponents}
 use Rattle.schema_check.specs.SetPhases.{base_phase, type_phase, names, name_phase, AreParts, by_components}
 use Rattle.schema_check.specs.Compilation.{BreaksComposition, shape_phase, composition_phase, by_set, later_phases, phases}
-use Rattle.set_laws.specs.Same.{IsSameDocument}
 use Rattle.set_laws.proofs.SetLaws.{sets-same}
 use Rattle.set_laws.proofs.BareLaws.{bare, bare-same, table-bare, representations-bare, scopes-bare, origins-bare, set-originals-same}
 use Rattle.type_laws.proofs.TypesLaws.{types-one}

@@ -1,13 +1,12 @@
 -- What is told behind a turn of the code.
 use Rattle.std.proofs.Common.{◌≡◌, ℕ, List, Option, Some, Result, Ok, Err, IfOk, refl, ap, ◌∙◌}
-use Rattle.assessment.specs.Attribution.{SchemaSet}
 use Rattle.told.specs.Told.{free, Told, over, says}
 use Rattle.told.specs.Going.{trace, Answers}
 use Rattle.told.specs.Tells.{Wrote}
 use Rattle.told.specs.declared.break_off.BreakOff.{BreakOff}
 use Rattle.told.specs.declared.ending.Ending.{Ending}
 use Rattle.told.proofs.Saying.{free_where}
-use Rattle.open_document.specs.State.{OpenState, WorkState, empty, ready, working, IsReady, IsOpen as IsDocumentOpen}
+use Rattle.open_document.specs.State.{Basis, OpenState, WorkState, empty, ready, working, IsReady, IsOpen as IsDocumentOpen}
 use Rattle.stream_answers.specs.Output.{ends}
 use Rattle.stream_answers.specs.inside.Turns.{Spot}
 use Rattle.stream_answers.specs.inside.Turning.{spot_of, behind, place_by, moved, GoesTo, EndsSo}
@@ -17,14 +16,14 @@ use Rattle.stream_answers.specs.declared.turn.Turn.TheVariants as turns
 
 -- ---- what a stream works on
 
-pub ready_set : (w : WorkState) → IsReady w → (set : SchemaSet) × (w ≡ ready set)
-ready_set empty h = absurd h
-ready_set (ready set) h = (set, refl)
-ready_set (working s) h = absurd h
+pub ready_basis : (w : WorkState) → IsReady w → (basis : Basis) × (w ≡ ready basis)
+ready_basis empty h = absurd h
+ready_basis (ready basis) h = (basis, refl)
+ready_basis (working s) h = absurd h
 
 pub open_document : (w : WorkState) → IsDocumentOpen w → (s : OpenState) × (w ≡ working s)
 open_document empty h = absurd h
-open_document (ready set) h = absurd h
+open_document (ready basis) h = absurd h
 open_document (working s) h = (s, refl)
 
 -- ---- turns

@@ -1,7 +1,6 @@
 -- A document was opened, and its report or the first line of its session was written.
 use Rattle.std.proofs.Common.{◌≡◌, ◌≤◌, ◌+◌, ℕ, List, Option, Result, Err, IfOk, refl, subst}
 use Rattle.tree_rows.specs.Forest.{Document}
-use Rattle.assessment.specs.Attribution.{SchemaSet}
 use Rattle.assessment.specs.Assessment.{Entry}
 use Rattle.session_model.specs.State.{with_names}
 use Rattle.told.specs.Told.{Said, Told, says}
@@ -11,29 +10,26 @@ use Rattle.told.specs.declared.break_off.BreakOff.{BreakOff}
 use Rattle.told.specs.declared.break_off.BreakOff.TheVariants.{Memory}
 use Rattle.told.proofs.Saying.{said_where, looks_breaks, looked_answers}
 use Rattle.open_document.specs.Answers.{IsOpenedBy, opened, opening_cost}
-use Rattle.open_document.specs.State.{OpenState, WorkState}
-use Rattle.stream_sections.specs.declared.asked.Asked.{Asked}
+use Rattle.open_document.specs.State.{Basis, OpenState, WorkState}
 use Rattle.stream_answers.specs.Output.{opening, opening_told}
+use Rattle.stream_answers.specs.declared.wanted.Wanted.{Wanted}
 
-module _ (a : Asked) (set : SchemaSet) (d : Document) (next : OpenState → Told) where
-  abbrev said_of : List Entry → Said
-  said_of found = record { text = opening a (opened set d found); cost = opening_cost d }
+module _ (w : Wanted) (basis : Basis) (d : Document) (next : OpenState → Told) where
+  abbrev said_by : OpenState → Said
+  said_by s = record { text = opening w.asked s; cost = opening_cost d }
 
   abbrev told_of : List Entry → Told
-  told_of found = says (said_of found) (next (opened set d found))
+  told_of found = says (said_by (opened w.most basis d found)) (next (opened w.most basis d found))
 
-  abbrev said_by : OpenState → Said
-  said_by s = record { text = opening a s; cost = opening_cost d }
-
-  pub opening_answers : {T : Type 0} (work : WorkState) (h : IsOpenedBy set d work) (r : Result T BreakOff) (old new : Option (List ℕ)) (n m : ℕ) (after : T → Told)
-      → Wrote r old new (opening a h.document) → n ≤ m → m ≤ n + opening_cost d → IfOk r (λ x. after x ≡ next h.document)
-      → Answers (opening_told a set d next) r (trace old n) (trace new m) after
-  opening_answers work h r old new n m after w later few is =
-      looked_answers (with_names set d.forest) d told_of h.document.session.found r (trace old n) (trace new m) after h.found_is
+  pub opening_answers : {T : Type 0} (work : WorkState) (h : IsOpenedBy w.most basis d work) (r : Result T BreakOff) (old new : Option (List ℕ)) (n m : ℕ) (after : T → Told)
+      → Wrote r old new (opening w.asked h.document) → n ≤ m → m ≤ n + opening_cost d → IfOk r (λ x. after x ≡ next h.document)
+      → Answers (opening_told w basis d next) r (trace old n) (trace new m) after
+  opening_answers work h r old new n m after wrote later few is =
+      looked_answers (with_names basis.set d.forest) d told_of h.document.session.found r (trace old n) (trace new m) after h.found_is
       (subst (λ (s : OpenState). Answers (says (said_by s) (next s)) r (trace old n) (trace new m) after) h.document_is
-      (said_where (said_by h.document) after (next h.document) r old new n m is w later few))
+      (said_where (said_by h.document) after (next h.document) r old new n m is wrote later few))
 
   pub opening_breaks : {T : Type 0} (taken : Option (List ℕ)) (n m : ℕ) (after : T → Told) → n ≤ m → m ≤ n + opening_cost d
-      → Answers (opening_told a set d next) (Err Memory) (trace taken n) (trace taken m) after
+      → Answers (opening_told w basis d next) (Err Memory) (trace taken n) (trace taken m) after
   opening_breaks taken n m after later few =
-      looks_breaks (with_names set d.forest) d told_of (λ found. opening_cost d) taken taken n m (λ found k h. h) refl later (λ found is. few)
+      looks_breaks (with_names basis.set d.forest) d told_of (λ found. opening_cost d) taken taken n m (λ found k h. h) refl later (λ found is. few)

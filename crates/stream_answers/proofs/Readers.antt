@@ -5,8 +5,8 @@ use Rattle.item_listing.specs.declared.item.Item.TheVariants as items
 use Rattle.tree_rows.specs.Forest.{Document}
 use Rattle.tree_building.specs.declared.building.Building.{Building}
 use Rattle.tree_building.specs.declared.fault.TreeFault.{TreeFault}
-use Rattle.stream_sections.specs.Lines.{is_listing, ends_schemas}
-use Rattle.stream_sections.specs.Sections.{refused, goes_on, misplaced, grown_by, with_tree}
+use Rattle.stream_sections.specs.Lines.{ends_schemas}
+use Rattle.stream_sections.specs.Sections.{refused, goes_on, grown_by, with_tree}
 use Rattle.stream_sections.specs.inside.CommandTurns as command_turns
 use Rattle.stream_sections.specs.inside.DocumentTurns as document_turns
 use Rattle.stream_sections.specs.inside.SchemaTurns as schema_turns

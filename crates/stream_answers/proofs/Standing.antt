@@ -1,10 +1,9 @@
 -- Where a stream stands at a place, an item turns what the place's reader turns.
 use Rattle.std.proofs.Common.{◌≡◌, ◌⊎◌, inl, inr, ℕ, Option, None, refl, sym, ap, ◌∙◌, subst}
 use Rattle.item_listing.specs.declared.item.Item.{Item}
-use Rattle.assessment.specs.Attribution.{SchemaSet}
 use Rattle.told.specs.Told.{Told}
 use Rattle.told.specs.declared.ending.Ending.{Ending}
-use Rattle.open_document.specs.State.{OpenState, WorkState, empty, ready, working, IsReady, IsOpen as IsDocumentOpen}
+use Rattle.open_document.specs.State.{Basis, OpenState, WorkState, empty, ready, working, IsReady, IsOpen as IsDocumentOpen}
 use Rattle.open_document.specs.declared.verdict.Verdict.{Verdict}
 use Rattle.stream_sections.specs.Sections.{misplaced, no_end}
 use Rattle.stream_sections.specs.inside.CommandTurns as command_turns
@@ -22,27 +21,28 @@ use Rattle.stream_answers.specs.inside.Turning.{IsOpen, spot_of, behind, ending_
 use Rattle.stream_answers.specs.declared.place.Place.{Place}
 use Rattle.stream_answers.specs.declared.place.Place.TheVariants as places
 use Rattle.stream_answers.specs.declared.turn.Turn.{Turn}
+use Rattle.stream_answers.specs.declared.wanted.Wanted.{Wanted}
 use Rattle.stream_answers.proofs.Readers.{some_sections}
 
 -- ---- by the place
 
-module _ (a : Asked) (line : ℕ) (it : Item) (next : Spot → Told) (place : Place) (work : WorkState) where
+module _ (w : Wanted) (line : ℕ) (it : Item) (next : Spot → Told) (place : Place) (work : WorkState) where
   pub schemas_turn : (r : SchemaReader) → place ≡ places.Schemas r
-      → turned a line (spot_of place work) it next ≡ schemas_turned a line (schema_turns.turned a line r it) next
-  schemas_turn r is = ap (λ (p : Place). turned a line (spot_of p work) it next) is
+      → turned w line (spot_of place work) it next ≡ schemas_turned w.asked line (schema_turns.turned w.asked line r it) next
+  schemas_turn r is = ap (λ (p : Place). turned w line (spot_of p work) it next) is
 
-  pub document_turn : (r : DocumentReader) (set : SchemaSet) → place ≡ places.Document r → work ≡ ready set
-      → turned a line (spot_of place work) it next ≡ document_turned a set (document_turns.turned a line r it) next
-  document_turn r set is e =
-      ap (λ (p : Place). turned a line (spot_of p work) it next) is ∙ ap (λ (w : WorkState). turned a line (spot_of (places.Document r) w) it next) e
+  pub document_turn : (r : DocumentReader) (basis : Basis) → place ≡ places.Document r → work ≡ ready basis
+      → turned w line (spot_of place work) it next ≡ document_turned w basis (document_turns.turned w.asked line r it) next
+  document_turn r basis is e =
+      ap (λ (p : Place). turned w line (spot_of p work) it next) is ∙ ap (λ (x : WorkState). turned w line (spot_of (places.Document r) x) it next) e
 
   pub commands_turn : (r : CommandReader) (s : OpenState) → place ≡ places.Commands r → work ≡ working s
-      → turned a line (spot_of place work) it next ≡ commands_turned s (command_turns.turned line r it) next
+      → turned w line (spot_of place work) it next ≡ commands_turned s (command_turns.turned line r it) next
   commands_turn r s is e =
-      ap (λ (p : Place). turned a line (spot_of p work) it next) is ∙ ap (λ (w : WorkState). turned a line (spot_of (places.Commands r) w) it next) e
+      ap (λ (p : Place). turned w line (spot_of p work) it next) is ∙ ap (λ (x : WorkState). turned w line (spot_of (places.Commands r) x) it next) e
 
-  pub ended_turn : (v : Option Verdict) → place ≡ places.Ended v → turned a line (spot_of place work) it next ≡ stop_told (misplaced line)
-  ended_turn v is = ap (λ (p : Place). turned a line (spot_of p work) it next) is
+  pub ended_turn : (v : Option Verdict) → place ≡ places.Ended v → turned w line (spot_of place work) it next ≡ stop_told (misplaced line)
+  ended_turn v is = ap (λ (p : Place). turned w line (spot_of p work) it next) is
 
 module _ (place : Place) (work : WorkState) (h : IsOpen place work) where
   pub is_ready : (r : DocumentReader) → place ≡ places.Document r → IsReady work
@@ -84,12 +84,12 @@ unended_by place (inr (inr h)) = subst IsUnended (sym h.1) tt
 module _ (lines : ℕ) where
   document_unended : (r : DocumentReader) (work : WorkState) → IsReady work → finished lines (spot_of (places.Document r) work) ≡ stop_told (no_end lines)
   document_unended r empty h = absurd h
-  document_unended r (ready set) h = refl
+  document_unended r (ready basis) h = refl
   document_unended r (working s) h = absurd h
 
   commands_unended : (r : CommandReader) (work : WorkState) → IsDocumentOpen work → finished lines (spot_of (places.Commands r) work) ≡ stop_told (no_end lines)
   commands_unended r empty h = absurd h
-  commands_unended r (ready set) h = absurd h
+  commands_unended r (ready basis) h = absurd h
   commands_unended r (working s) h = refl
 
   pub unended : (place : Place) (work : WorkState) → IsOpen place work → IsUnended place → finished lines (spot_of place work) ≡ stop_told (no_end lines)

@@ -1,6 +1,6 @@
 -- What is told of a stream, by what its items give: schema sections, a document, commands, the end; or a line that is refused. What its schema
 -- documents come to is asked, and what is found of its document is looked at, since relations say these.
-use Rattle.std.specs.Prelude.{ℕ, List, [], ◌∷◌, ◌++◌, map, Option, Some, None, codes}
+use Rattle.std.specs.Prelude.{ℕ, List, [], ◌∷◌, ◌++◌, map, Some, None, codes}
 use Rattle.std.specs.Fmt.{decimal}
 use Rattle.tree_rows.specs.Forest.{Document}
 use Rattle.item_listing.specs.Listed.{Listed}
@@ -12,11 +12,11 @@ use Rattle.assessment.specs.Attribution.{SchemaSet}
 use Rattle.schema_set.specs.declared.inputs.SchemaInput.{SchemaInput}
 use Rattle.report_text.specs.Words.{validity_word}
 use Rattle.session_model.specs.State.{with_names}
-use Rattle.told.specs.Outcomes.{Question, SetOutcome, accepted, broken, not_yet}
+use Rattle.told.specs.Outcomes.{Question, SetOutcome, accepted, broken}
 use Rattle.told.specs.Told.{free, Told, over, says, asks, looks}
 use Rattle.told.specs.declared.ending.Ending.{Ending}
-use Rattle.told.specs.declared.ending.Ending.TheVariants.{Valid, NotValid, Unsupported}
-use Rattle.open_document.specs.State.{OpenState}
+use Rattle.told.specs.declared.ending.Ending.TheVariants.{Valid, NotValid}
+use Rattle.open_document.specs.State.{Basis, OpenState, with_documents}
 use Rattle.open_document.specs.Answers.{opened, opening_cost, report, first_line, command_told, verdict}
 use Rattle.open_document.specs.declared.verdict.Verdict.{Verdict}
 use Rattle.stream_sections.specs.Sections as sections
@@ -26,6 +26,7 @@ use Rattle.stream_sections.specs.declared.asked.Asked.TheVariants.{Check, Assess
 use Rattle.stream_sections.specs.declared.schemas.SchemaSection.{SchemaSection}
 use Rattle.stream_answers.specs.Faults.{fault_line, fault_ending}
 use Rattle.stream_answers.specs.Refusals.{refusal_line, refusal_ending}
+use Rattle.stream_answers.specs.declared.wanted.Wanted.{Wanted}
 
 -- this is written last, and the stream has ended so
 abbrev pub ends : List ℕ → Ending → Told
@@ -57,10 +58,6 @@ verdict_told v = ends (end_line v) (ending_of v.validity)
 
 -- ---- schema documents
 
--- not of the form that is accepted so far
-abbrev pub not_yet_line : List ℕ
-not_yet_line = codes "unsupported NotYet" ++ 10 ∷ []
-
 abbrev pub schema_ok : List ℕ
 schema_ok = codes "schema ok" ++ 10 ∷ []
 
@@ -79,19 +76,19 @@ question_by rules start all = record { documents = inputs all; start = start; ru
 abbrev pub question_of : List SchemaSection → Question
 question_of all = question_by V10 0 all
 
--- the schema set is accepted, or its first broken constraint is named, or it is not of the form that is accepted so far
+-- the schema set is accepted, or its first broken constraint is named
 abbrev pub compiled_told : (SchemaSet → Told) → SetOutcome → Told
 compiled_told next (accepted set) = says (free schema_ok) (next set)
 compiled_told next (broken fault) = ends (fault_line fault) (fault_ending fault)
-compiled_told next not_yet = ends not_yet_line Unsupported
 
-abbrev pub stream_told : {Rest : Type 0} → (SchemaSet → Rest → Told) → Stream Rest → Told
-stream_told rest_told (sections.schemas all rest) = asks (question_of all) (compiled_told (λ set. rest_told set rest))
+-- documents are assessed by the set, with which the schema documents are kept
+abbrev pub stream_told : {Rest : Type 0} → (Basis → Rest → Told) → Stream Rest → Told
+stream_told rest_told (sections.schemas all rest) = asks (question_of all) (compiled_told (λ set. rest_told (with_documents (inputs all) set) rest))
 stream_told rest_told (sections.unfinished stop) = stop_told stop
 
 -- a stream for `check` has no document
-abbrev pub check_told : SchemaSet → Closing → Told
-check_told set closing = closing_told (over (Some Valid)) closing
+abbrev pub check_told : Basis → Closing → Told
+check_told basis closing = closing_told (over (Some Valid)) closing
 
 -- ---- the document and its commands
 
@@ -104,20 +101,24 @@ commands_told s (sections.uncommanded stop) = stop_told stop
 -- what is written of the document that was opened: the report, or the first line of a session
 abbrev pub opening : Asked → OpenState → List ℕ
 opening Check s = []
-opening Assess s = report None s
+opening Assess s = report s
 opening Session s = first_line s
 
 -- a document is opened by a schema set, and what is told behind it
-abbrev pub opening_told : Asked → SchemaSet → Document → (OpenState → Told) → Told
-opening_told a set d next = looks (with_names set d.forest) d (λ found. says
-    (record { text = opening a (opened set d found); cost = opening_cost d }) (next (opened set d found)))
+abbrev pub opening_told : Wanted → Basis → Document → (OpenState → Told) → Told
+opening_told w basis d next = looks (with_names basis.set d.forest) d (λ found. says
+    (record { text = opening w.asked (opened w.most basis d found); cost = opening_cost d }) (next (opened w.most basis d found)))
 
-abbrev pub opened_told : Asked → SchemaSet → Opened → Told
-opened_told a set (sections.document d more) = opening_told a set d (λ s. commands_told s more)
-opened_told a set (sections.undocumented stop) = stop_told stop
+abbrev pub opened_told : Wanted → Basis → Opened → Told
+opened_told w basis (sections.document d more) = opening_told w basis d (λ s. commands_told s more)
+opened_told w basis (sections.undocumented stop) = stop_told stop
+
+-- what is told of items where the stream has these sections
+abbrev pub told_for : Wanted → Asked → Listed → Told
+told_for w Check its = stream_told check_told (sections.schemas_alone Check its)
+told_for w Assess its = stream_told (opened_told w) (sections.with_document Assess its)
+told_for w Session its = stream_told (opened_told w) (sections.with_document Session its)
 
 -- what is told of items, by what they give
-abbrev pub sections_told : Asked → Listed → Told
-sections_told Check its = stream_told check_told (sections.schemas_alone Check its)
-sections_told Assess its = stream_told (opened_told Assess) (sections.with_document Assess its)
-sections_told Session its = stream_told (opened_told Session) (sections.with_document Session its)
+abbrev pub sections_told : Wanted → Listed → Told
+sections_told w its = told_for w w.asked its

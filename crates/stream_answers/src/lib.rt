@@ -12,8 +12,10 @@ mod refusal;
 mod schemas;
 mod stream;
 mod turn;
+mod wanted;
 
 pub use laws::places_answer_sections;
 pub use place::Place;
 pub use refusal::write_refusal;
 pub use stream::Stream;
+pub use wanted::Wanted;

@@ -4,7 +4,7 @@ ghost use Rattle.told.specs.Told.{Told, asks};
 ghost use Rattle.told.specs.Going.{Answers, trace};
 ghost use Rattle.told.specs.Tells.{Tells, IsWriteFault};
 ghost use Rattle.open_document.specs.Answers.{question};
-ghost use Rattle.open_document.specs.State.{WorkState};
+ghost use Rattle.open_document.specs.State.{WorkState, with_documents};
 ghost use Rattle.stream_sections.specs.inside.SchemaTurns as schema_turns;
 ghost use Rattle.stream_answers.specs.Faults as faults;
 ghost use Rattle.stream_answers.specs.Output as output;
@@ -14,7 +14,7 @@ ghost use Rattle.stream_answers.specs.inside.Turning.{MovesOpen, EndsSo, GoesTo,
 
 use crate::Place;
 use crate::fault::write_fault;
-use crate::turn::{Turn, not_yet, refuse};
+use crate::turn::{Turn, refuse};
 use open_document::{SetVerdict, Workspace, boxed, write_answer};
 use schema_set::SchemaInput;
 use std::alloc::{AllocError, Global};
@@ -72,12 +72,12 @@ fn compile<W: Sink>(
     alloc: Global,
     asked: Asked,
     line: u32,
-    documents: &[SchemaInput],
+    documents: Vec<SchemaInput>,
     work: &mut Workspace,
     sink: &mut W,
 ) -> Result<Turn, BreakOff>
-    requires some { 0 < length documents.now }
-    ensures takes { (n : ℕ) (next : Spot → Told) (stood : Place) → Answers (asks (question documents.now) (output.compiled_told (λ set. next (spot_behind asked line set))))
+    requires some { 0 < length documents.items }
+    ensures takes { (n : ℕ) (next : Spot → Told) (stood : Place) → Answers (asks (question documents.items) (output.compiled_told (λ set. next (spot_behind asked line (with_documents documents.items set)))))
         result (trace (W.taken sink.old) n) (trace (W.taken sink.new) n) (moved next stood work.new) }
     ensures open { (stood : Place) → IfOk result (MovesOpen stood work.new) }
     ensures writes { KeepsCount W.faults W.fault_bound sink.old sink.new (IsWriteFault result) }
@@ -85,7 +85,6 @@ fn compile<W: Sink>(
     match work.compile(alloc, documents) {
         Ok(SetVerdict::Accepted) => accept(alloc, asked, line, sink),
         Ok(SetVerdict::Broken(fault)) => refuse_set(sink, fault),
-        Ok(SetVerdict::NotYet) => not_yet(sink),
         Err(_) => Err(BreakOff::Memory),
     }
 }
@@ -100,13 +99,13 @@ fn end_schemas<W: Sink>(
     sink: &mut W,
 ) -> Result<Turn, BreakOff>
     requires some { 0 < length sections }
-    ensures takes { (n : ℕ) (next : Spot → Told) (stood : Place) → Answers (asks (output.question_of sections) (output.compiled_told (λ set. next (spot_behind asked line set))))
+    ensures takes { (n : ℕ) (next : Spot → Told) (stood : Place) → Answers (asks (output.question_of sections) (output.compiled_told (λ set. next (spot_behind asked line (with_documents (output.inputs sections) set)))))
         result (trace (W.taken sink.old) n) (trace (W.taken sink.new) n) (moved next stood work.new) }
     ensures open { (stood : Place) → IfOk result (MovesOpen stood work.new) }
     ensures writes { KeepsCount W.faults W.fault_bound sink.old sink.new (IsWriteFault result) }
 {
     match inputs_of(alloc, sections) {
-        Ok(documents) => compile(alloc, asked, line, documents.as_slice(), work, sink),
+        Ok(documents) => compile(alloc, asked, line, documents, work, sink),
         Err(_) => Err(BreakOff::Memory),
     }
 }

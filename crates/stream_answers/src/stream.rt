@@ -7,18 +7,18 @@ ghost use Rattle.stream_answers.specs.Output as output;
 ghost use Rattle.stream_answers.specs.inside.Turns.{Spot, turned, finished, unbegun};
 ghost use Rattle.stream_answers.specs.inside.Turning.{IsStanding, stands, behind, moved, MovesOpen};
 
-use crate::Place;
 use crate::commands::answer_commands;
 use crate::document::answer_document;
 use crate::ending::ending_of;
 use crate::refusal::write_refusal;
 use crate::schemas::answer_schemas;
 use crate::turn::{Turn, refuse, settle};
+use crate::{Place, Wanted};
 use item_listing::{Item, Reason};
 use open_document::{Verdict, Workspace, write_answer};
 use report_text::validity_word;
 use std::alloc::Global;
-use stream_sections::{Asked, Refusal, RefusedLine, SchemaReader};
+use stream_sections::{Refusal, RefusedLine, SchemaReader};
 use told::{BreakOff, Ending};
 use xsv_io::{Part, Sink};
 use xsv_steps::{Ledger, Steps};
@@ -26,7 +26,7 @@ use xsv_steps::{Ledger, Steps};
 /// A stream that is answered: what it is read for, where it stands, and what it works on.
 #[derive(Drop)]
 pub struct Stream {
-    pub asked: Asked,
+    pub wanted: Wanted,
     pub place: Place,
     pub work: Workspace,
 }
@@ -51,13 +51,13 @@ fn write_verdict<W: Sink>(sink: &mut W, verdict: &Verdict) -> Result<Ending, Bre
 
 impl Stream {
     /// A stream of which nothing was read.
-    pub fn new(alloc: Global, asked: Asked) -> Self
-        ensures asked { result.asked ≡ asked }
+    pub fn new(alloc: Global, wanted: Wanted) -> Self
+        ensures wanted { result.wanted ≡ wanted }
         ensures stands { stands result ≡ unbegun }
         ensures open { IsStanding result }
     {
         Stream {
-            asked,
+            wanted,
             place: Place::Schemas(SchemaReader::new(alloc)),
             work: Workspace::new(),
         }
@@ -73,20 +73,22 @@ impl Stream {
         steps: &mut Steps<L>,
     ) -> Result<Turn, BreakOff>
         requires { IsStanding self.old }
-        ensures takes { (next : Spot → Told) → Answers (turned self.old.asked line (stands self.old) item next) result
+        ensures takes { (next : Spot → Told) → Answers (turned self.old.wanted line (stands self.old) item next) result
             (trace (W.taken sink.old) steps.old) (trace (W.taken sink.new) steps.new) (moved next self.new.place self.new.work) }
         ensures open { IfOk result (MovesOpen self.new.place self.new.work) }
-        ensures asked { self.new.asked ≡ self.old.asked }
+        ensures wanted { self.new.wanted ≡ self.old.wanted }
         ensures writes { KeepsCount W.faults W.fault_bound sink.old sink.new (IsWriteFault result) }
         ensures later { steps.old ≤ steps.new }
     {
         match &mut self.place {
-            Place::Schemas(reader) => match reader.take(alloc, self.asked, line, item) {
-                Ok(turn) => answer_schemas(alloc, self.asked, line, turn, &mut self.work, sink),
+            Place::Schemas(reader) => match reader.take(alloc, self.wanted.asked, line, item) {
+                Ok(turn) => {
+                    answer_schemas(alloc, self.wanted.asked, line, turn, &mut self.work, sink)
+                }
                 Err(_) => Err(BreakOff::Memory),
             },
-            Place::Document(reader) => match reader.take(alloc, self.asked, line, item) {
-                Ok(turn) => answer_document(alloc, self.asked, turn, &mut self.work, sink, steps),
+            Place::Document(reader) => match reader.take(alloc, self.wanted.asked, line, item) {
+                Ok(turn) => answer_document(alloc, self.wanted, turn, &mut self.work, sink, steps),
                 Err(_) => Err(BreakOff::Memory),
             },
             Place::Commands(reader) => match reader.take(alloc, line, item) {
@@ -118,10 +120,10 @@ impl Stream {
         steps: &mut Steps<L>,
     ) -> Result<Option<Ending>, BreakOff>
         requires { IsStanding self.old }
-        ensures takes { (next : Spot → Told) → Answers (turned self.old.asked line (stands self.old) item next) result
+        ensures takes { (next : Spot → Told) → Answers (turned self.old.wanted line (stands self.old) item next) result
             (trace (W.taken sink.old) steps.old) (trace (W.taken sink.new) steps.new) (behind next (stands self.new)) }
         ensures open { IfOk result (λ ended. ended ≡ None → IsStanding self.new) }
-        ensures asked { self.new.asked ≡ self.old.asked }
+        ensures wanted { self.new.wanted ≡ self.old.wanted }
         ensures writes { KeepsCount W.faults W.fault_bound sink.old sink.new (IsWriteFault result) }
         ensures later { steps.old ≤ steps.new }
     {
@@ -158,7 +160,7 @@ impl Stream {
     /// Lets go of it.
     pub fn close(self) {
         let Stream {
-            asked: _,
+            wanted: _,
             place,
             work,
         } = self;

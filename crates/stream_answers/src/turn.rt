@@ -1,17 +1,15 @@
 ghost use Rattle.std.specs.Prelude.{◌≡◌, IfOk};
 ghost use Rattle.told.specs.Tells.{Tells};
 ghost use Rattle.open_document.specs.State.{WorkState};
-ghost use Rattle.stream_answers.specs.Output as output;
 ghost use Rattle.stream_answers.specs.Refusals as refusals;
 ghost use Rattle.stream_answers.specs.inside.Turning.{MovesOpen, EndsSo, ending_by, place_by};
 
 use crate::Place;
 use crate::refusal::write_refusal;
-use open_document::write_answer;
 use std::mem;
 use stream_sections::RefusedLine;
 use told::{BreakOff, Ending};
-use xsv_io::{Part, Sink};
+use xsv_io::Sink;
 
 /// What an item has done.
 #[derive(Drop)]
@@ -31,16 +29,6 @@ pub fn refuse<W: Sink>(sink: &mut W, spot: RefusedLine) -> Result<Turn, BreakOff
     ensures open { (stood : Place) (work : WorkState) → IfOk result (MovesOpen stood work) }
 {
     Ok(Turn::Ends(write_refusal(sink, spot)?))
-}
-
-/// The stream has something that is not assessed yet.
-pub fn not_yet<W: Sink>(sink: &mut W) -> Result<Turn, BreakOff>
-    ensures tells { Tells W.taken W.faults W.fault_bound sink.old sink.new result output.not_yet_line }
-    ensures ends { IfOk result (EndsSo Ending.Unsupported) }
-    ensures open { (stood : Place) (work : WorkState) → IfOk result (MovesOpen stood work) }
-{
-    write_answer(sink, &[Part::Text("unsupported NotYet\n")])?;
-    Ok(Turn::Ends(Ending::Unsupported))
 }
 
 /// Goes to the place of a turn, and answers how the stream ended, where it has.

@@ -1,9 +1,9 @@
 -- One step of a run behind another.
-use Rattle.std.proofs.Common.{◌≡◌, ◌≤◌, ◌+◌, ℕ, List, [], ◌++◌, Option, Some, Result, Ok, Err, IfOk, refl, sym, ap, ◌∙◌, subst, append_assoc, arith}
+use Rattle.std.proofs.Common.{◌≡◌, ◌≤◌, ◌+◌, ℕ, ◌++◌, Some, Result, Ok, Err, sym, subst, append_assoc, arith}
 use Rattle.std.specs.Io.KnownBytes.{Appends}
 use Rattle.std.proofs.KnownBytes.{Appends-nil, Appends-trans}
-use Rattle.told.specs.Told.{Said, silent, joined, Told, over, Leads}
-use Rattle.told.specs.Going.{Trace, trace, Goes, Breaks, Answers, Ends}
+use Rattle.told.specs.Told.{silent, joined, Told, over, Leads}
+use Rattle.told.specs.Going.{Trace, Goes, Breaks, Answers, Ends}
 use Rattle.told.specs.declared.break_off.BreakOff.{BreakOff}
 use Rattle.told.specs.declared.ending.Ending.{Ending}
 use Rattle.told.proofs.Leading.{leads_here, leads_same, leads_then}
@@ -62,12 +62,6 @@ goes_nowhere t a = goes_from t t a (leads_here t)
 pub answers_behind : {T : Type 0} (t u : Told) (r : Result T BreakOff) (a b : Trace) (after : T → Told) → Leads t silent u → Answers u r a b after
     → Answers t r a b after
 answers_behind t u r a b after l h = goes_answers t r a a b u after (goes_from t u a l) h
-
--- what is told behind the answer is the same
-pub answers_to : {T : Type 0} (t : Told) (r : Result T BreakOff) (a b : Trace) (after other : T → Told) → IfOk r (λ x. after x ≡ other x) → Answers t r a b after
-    → Answers t r a b other
-answers_to t (Ok x) a b after other is h = subst (Goes t a b) is h
-answers_to t (Err why) a b after other is h = h
 
 -- the same is told
 pub answers_as : {T : Type 0} (t u : Told) (r : Result T BreakOff) (a b : Trace) (after : T → Told) → t ≡ u → Answers u r a b after → Answers t r a b after

@@ -1,11 +1,11 @@
 -- What is told leads on, and to one output.
-use Rattle.std.proofs.Common.{◌≡◌, ◌⊎◌, inl, inr, ℕ, ◌+◌, List, [], ◌∷◌, ◌++◌, Option, refl, sym, ap, ◌∙◌, subst, append_assoc, append-nil, zero-add, add-zero, add_assoc}
+use Rattle.std.proofs.Common.{◌≡◌, inl, inr, ℕ, ◌+◌, List, ◌++◌, Option, refl, sym, ap, ◌∙◌, subst, append_assoc, append-nil, zero-add, add-zero, add_assoc}
 use Rattle.tree_rows.specs.Forest.{Document}
 use Rattle.assessment.specs.Attribution.{SchemaSet}
 use Rattle.assessment.specs.Assessment.{Entry}
 use Rattle.what_is_found.specs.IsFound.{IsFound}
 use Rattle.told.specs.Outcomes.{Question, SetOutcome, IsOutcomeOf}
-use Rattle.told.specs.Told.{Said, free, silent, joined, Told, over, says, asks, looks, Leads}
+use Rattle.told.specs.Told.{Said, silent, joined, Told, over, says, asks, looks, Leads}
 use Rattle.told.specs.declared.ending.Ending.{Ending}
 
 -- ---- texts one behind another
@@ -48,10 +48,6 @@ module _ (y : Said) (v : Told) where
   leads_then (asks question next) x u (inr h) l = inr (h.0, h.1, leads_then (next h.0) x u h.2 l)
   leads_then (looks set document next) x u (inl h) l = from_here (looks set document next) x u h.0 h.1 l
   leads_then (looks set document next) x u (inr h) l = inr (h.0, h.1, leads_then (next h.0) x u h.2 l)
-
--- nothing is said on the way
-pub leads_silent : (t u v : Told) (y : Said) → Leads t silent u → Leads u y v → Leads t y v
-leads_silent t u v y h l = subst (λ (s : Said). Leads t s v) (silent_first y) (leads_then y v t silent u h l)
 
 -- what schema documents come to is known
 pub leads_asked : (question : Question) (next : SetOutcome → Told) (o : SetOutcome) → IsOutcomeOf question o → Leads (asks question next) silent (next o)

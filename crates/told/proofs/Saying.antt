@@ -1,14 +1,14 @@
 -- One text that is said.
-use Rattle.std.proofs.Common.{◌≡◌, ◌≤◌, ◌+◌, ◌-◌, ℕ, List, [], ◌++◌, take, Option, Some, Result, Ok, Err, IfOk, refl, sym, ap, ◌∙◌, subst, append-nil, arith}
+use Rattle.std.proofs.Common.{◌≡◌, ◌≤◌, ◌+◌, ◌-◌, ℕ, List, [], take, Option, Some, Result, Ok, Err, IfOk, refl, sym, ap, subst, arith}
 use Rattle.std.specs.Io.KnownBytes.{Appends}
-use Rattle.std.proofs.KnownBytes.{Appends-nil, Appends-trans}
+use Rattle.std.proofs.KnownBytes.{Appends-nil}
 use Rattle.tree_rows.specs.Forest.{Document}
 use Rattle.assessment.specs.Attribution.{SchemaSet}
 use Rattle.assessment.specs.Assessment.{Entry}
 use Rattle.what_is_found.specs.IsFound.{IsFound}
 use Rattle.told.specs.Outcomes.{Question, SetOutcome, IsOutcomeOf}
-use Rattle.told.specs.Told.{Said, free, silent, joined, Told, over, says, asks, looks, Leads, CostsNow, CostsNext}
-use Rattle.told.specs.Going.{Trace, trace, Goes, Breaks, Answers, Ends}
+use Rattle.told.specs.Told.{Said, free, silent, Told, over, says, asks, looks, Leads, CostsNow, CostsNext}
+use Rattle.told.specs.Going.{Trace, trace, Breaks, Answers, Ends}
 use Rattle.told.specs.Tells.{Wrote}
 use Rattle.told.specs.declared.break_off.BreakOff.{BreakOff}
 use Rattle.told.specs.declared.break_off.BreakOff.TheVariants.{Memory, WriteFault}

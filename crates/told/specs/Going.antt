@@ -1,5 +1,5 @@
 -- What a run has written and counted, by what is told.
-use Rattle.std.specs.Prelude.{◌≡◌, ◌≤◌, ◌+◌, ℕ, List, ◌++◌, Option, Some, Result, Ok, Err}
+use Rattle.std.specs.Prelude.{◌≤◌, ◌+◌, ℕ, List, ◌++◌, Option, Some, Result, Ok, Err}
 use Rattle.std.specs.Io.KnownBytes.{Appends}
 use Rattle.told.specs.Told.{Said, Told, over, Leads, CostsNext, IsBegun}
 use Rattle.told.specs.declared.break_off.BreakOff.{BreakOff}

@@ -16,17 +16,15 @@ pub record Question : Type 0 where
   pub start : ℕ
   pub rules : Rules
 
--- a set that documents are assessed by; or the first constraint that is broken; or something that is not assessed yet
+-- a set that documents are assessed by, or the first constraint that is broken
 pub data SetOutcome : Type 0 where
   accepted : (set : SchemaSet) → SetOutcome
   broken : (fault : Fault) → SetOutcome
-  not_yet : SetOutcome
 
 -- what is told of an outcome: of a set that is accepted, what it is as a schema set
 abbrev pub told_of : Outcome → SetOutcome
 told_of (outcomes.Accepted set) = accepted (set_of set)
 told_of (outcomes.Broken fault) = broken fault
-told_of outcomes.NotYet = not_yet
 
 -- The documents come to this. So far a set starts at the first of them, and is read by the rules of XML Schema 1.0.
 pub record IsOutcomeOf (question : Question) (o : SetOutcome) : Type 0 where

@@ -11,6 +11,6 @@ pub enum Ending {
     ListingRefused,
     /// A limit is passed.
     Limit,
-    /// The schema set or the document has something that is not supported, or not assessed yet.
+    /// The schema set names something that is not supported.
     Unsupported,
 }

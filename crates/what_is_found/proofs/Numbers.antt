@@ -1,14 +1,15 @@
 -- The numbers of entries.
-use Rattle.std.proofs.Common.{◌≡◌, ◌≤◌, ◌==◌, ℕ, ◌+◌, List, [], ◌∷◌, ◌++◌, Bool, sym, ap, ◌∙◌, subst, arith}
+use Rattle.std.proofs.Common.{◌≡◌, ◌≤◌, ◌==◌, ℕ, ◌+◌, List, [], ◌∷◌, ◌++◌, sym, ap, ◌∙◌, subst, arith}
 use Rattle.std.specs.Prelude.{if◌then◌else◌}
 use Rattle.tree_rows.specs.Forest.{Forest, none, text, element, Document}
 use Rattle.tree_rows.specs.Whole.{HasRoot, times}
 use Rattle.elem_governing.specs.declared.pairs.Governing.{Governing}
 use Rattle.xs_names.specs.Scope.{first_scope}
 use Rattle.assessment.specs.Attribution.{SchemaSet}
-use Rattle.assessment.specs.Assessment.{Beside, Entry, Assessed, nothing, entry, entries, other_pairs, root_pairs, AreAssessed, IsAssessment}
+use Rattle.assessment.specs.Assessment.{Beside, Entry, Assessed, entries, other_pairs, root_pairs, AreAssessed, IsAssessment}
 use Rattle.assess_records.specs.Numbered.{Scope, heads, scope_in}
-use Rattle.what_is_found.specs.IsFound.{IsFound, codes_beside, times_found}
+use Rattle.identity_assessment.specs.Identity.{beside_of}
+use Rattle.what_is_found.specs.IsFound.{IsFound, times_found}
 
 pub append-times : (key : ℕ) (xs ys : List Entry) → times_found key (xs ++ ys) ≡ times_found key xs + times_found key ys
 append-times key [] ys = omega arith
@@ -36,10 +37,10 @@ module _ (s : SchemaSet) (b : Beside) where
 module _ (s : SchemaSet) (d : Document) (es : List Entry) (is : IsFound s d es) where
   pub found-once : (key : ℕ) → times_found key es ≤ 1
   found-once key =
-      let within = times-within s (codes_beside s d.forest is.found) key d.forest first_scope (root_pairs s (heads s.names first_scope d.forest)) is.found is.assessed in
+      let within = times-within s (beside_of s is.identities d.forest is.found) key d.forest first_scope (root_pairs s (heads s.names first_scope d.forest)) is.found is.assessed in
       omega (arith, within, is.tree.differ key, ap (times_found key) is.entries_are)
 
   pub found-first : (own : Entry) × (more : List Entry) × (es ≡ own ∷ more) × (own.number ≡ 1)
   found-first =
-      let first = root-first s (codes_beside s d.forest is.found) d.forest is.found is.tree.root is.assessed in
+      let first = root-first s (beside_of s is.identities d.forest is.found) d.forest is.found is.tree.root is.assessed in
       (first.0, first.1, is.entries_are ∙ first.2, first.3)

@@ -1,26 +1,26 @@
 -- What is found out about the elements of a document by a schema set (Structures 5.2).
 use Rattle.std.specs.Prelude.{◌≡◌, ℕ, ◌+◌, ◌==◌, List, [], ◌∷◌, if◌then◌else◌}
 use Rattle.xs_names.specs.Names.{IsSound}
-use Rattle.tree_rows.specs.Forest.{Forest, Document}
+use Rattle.tree_rows.specs.Forest.{Document}
 use Rattle.tree_rows.specs.Whole.{IsTree}
 use Rattle.attr_assess.specs.Added.{AreNamed}
 use Rattle.assessment.specs.Attribution.{SchemaSet}
-use Rattle.assessment.specs.Assessment.{Beside, Entry, Assessed, entries, IsAssessment}
-use Rattle.assessment.specs.Joined.{beside_of}
+use Rattle.assessment.specs.Assessment.{Entry, Assessed, entries, IsAssessment}
+use Rattle.identity_paths.specs.Reads.{AreIdentities}
+use Rattle.identity_paths.specs.declared.paths.IdentityPaths.{IdentityPaths}
+use Rattle.identity_assessment.specs.Identity.{beside_of}
 
--- The codes that stand behind the others of an element's record, by the set and by what was found: those of the document's IDs stand at the
--- root (3.3.4), and there are no identity constraints.
-abbrev pub codes_beside : SchemaSet → Forest → Assessed → Beside
-codes_beside s f found = beside_of f found
-
--- These are the entries of the assessment of a document by a set, in document order. The set's table has each name once, those of its
--- attribute declarations among them, and the document is one tree: so there are no others.
+-- These are the entries of the assessment of a document by a set, in document order, with the codes of the set's identity constraints (3.11.4)
+-- and of the document's IDs (3.3.4). The set's table has each name once, those of its attribute declarations among them, the document is one
+-- tree, and the paths of a set's constraints are read in one way: so there are no others.
 pub record IsFound (s : SchemaSet) (d : Document) (es : List Entry) : Type 0 where
   pub sound : IsSound s.names
   pub named : AreNamed s.names s.parts
   pub tree : IsTree d
+  pub identities : List IdentityPaths
+  pub read : AreIdentities s.parts identities
   pub found : Assessed
-  pub assessed : IsAssessment s (codes_beside s d.forest found) d.forest found
+  pub assessed : IsAssessment s (beside_of s identities d.forest found) d.forest found
   pub entries_are : es ≡ entries found
 
 -- how many entries have the number

@@ -6,13 +6,16 @@ ghost use Rattle.assessment.specs.Attribution.{SchemaSet};
 ghost use Rattle.assessment.specs.Assessment.{Entry};
 ghost use Rattle.what_is_found.specs.IsFound.{IsFound, times_found};
 
-use assessment_laws::the_assessment_with_ids_is_the_only_one;
+use assessment_laws::the_assessment_is_the_only_one;
+use identity_assessment::{identities_go_by_the_set, identity_codes_join_the_assessment};
 
 /// What is found out about a document by a schema set is one answer.
 pub fn what_is_found_is_the_only_one()
     ensures only { (s : SchemaSet) (d : Document) (x y : List Entry) → IsFound s d x → IsFound s d y → x ≡ y }
 {
-    the_assessment_with_ids_is_the_only_one();
+    identities_go_by_the_set();
+    identity_codes_join_the_assessment();
+    the_assessment_is_the_only_one();
 }
 
 /// The first entry is the root's, whose number is 1.

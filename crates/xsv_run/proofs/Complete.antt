@@ -1,6 +1,5 @@
 -- Streams of which no line is refused, and that there is one output.
-use Rattle.std.proofs.Common.{◌≡◌, ◌⊎◌, inl, inr, ℕ, ◌+◌, List, ◌++◌, Bool, true, Option, Some, None, refl, sym, ap, ◌∙◌, subst, arith}
-use Rattle.std.specs.Option.{option_map}
+use Rattle.std.proofs.Common.{◌≡◌, inl, inr, ℕ, ◌+◌, List, Bool, true, Option, Some, None, sym, ap, ◌∙◌, subst, arith}
 use Rattle.item_listing.specs.Listed.{listed}
 use Rattle.item_listing.specs.State.{unread}
 use Rattle.item_listing.specs.declared.item.Item.{Item}
@@ -14,20 +13,21 @@ use Rattle.schema_compile.specs.Outcomes.{IsOutcome}
 use Rattle.schema_compile.specs.declared.outcome.Outcome.{Outcome}
 use Rattle.schema_compile.specs.declared.outcome.Outcome.TheVariants as outcomes
 use Rattle.outcome_laws.specs.Same.{IsSameOutcome}
-use Rattle.told.specs.Outcomes.{told_of as outcome_told, Question, SetOutcome, accepted, broken, not_yet, IsOutcomeOf}
-use Rattle.told.specs.Told.{Said, free, silent, joined, Told, over, says, asks, Leads}
+use Rattle.told.specs.Outcomes.{told_of as outcome_told, Question, SetOutcome, accepted, broken, IsOutcomeOf}
+use Rattle.told.specs.Told.{Said, free, joined, Told, over, asks, Leads}
 use Rattle.told.specs.declared.ending.Ending.{Ending}
 use Rattle.told.specs.declared.ending.Ending.TheVariants as endings
 use Rattle.told.proofs.Leading.{IsOver, leads_says, leads_to_one}
 use Rattle.open_document.specs.Answers.{opened, opening_cost}
-use Rattle.open_document.specs.State.{OpenState}
+use Rattle.open_document.specs.State.{Basis, OpenState, with_documents}
 use Rattle.stream_sections.specs.Sections as sections
 use Rattle.stream_sections.specs.Spelled.{whole, given, has_document, Order, SpellsCheck, SpellsStream}
 use Rattle.stream_sections.specs.declared.asked.Asked.{Asked}
 use Rattle.stream_sections.specs.declared.asked.Asked.TheVariants.{Check, Assess, Session}
 use Rattle.stream_sections.specs.declared.schemas.SchemaSection.{SchemaSection}
 use Rattle.stream_answers.specs.Faults.{fault_line, fault_ending}
-use Rattle.stream_answers.specs.Output.{ends, schema_ok, not_yet_line, question_of, compiled_told, check_told, opening, opened_told, commands_told, stream_told, sections_told}
+use Rattle.stream_answers.specs.Output.{ends, schema_ok, inputs, question_of, compiled_told, check_told, opening, opened_told, commands_told, stream_told, sections_told}
+use Rattle.stream_answers.specs.declared.wanted.Wanted.{Wanted}
 use Rattle.xsv_run.specs.Statuses.{status_of}
 use Rattle.xsv_run.specs.Output.{Output, ComesTo, IsOutput, output_of, told_of}
 use Rattle.xsv_run.specs.Complete.{IsByOutcome, IsCheckOutput, IsStreamOutput, answer, answered_output}
@@ -36,15 +36,10 @@ use Rattle.xsv_run.proofs.Replies.{says_back, says_on, last_back, last_said, las
 -- ---- one output
 
 same_told : (a b : Outcome) → IsSameOutcome a b → outcome_told a ≡ outcome_told b
-same_told (outcomes.Accepted a) (outcomes.Accepted b) h = ap accepted h
+same_told (outcomes.Accepted a) (outcomes.Accepted b) h = ap accepted h.0
 same_told (outcomes.Accepted a) (outcomes.Broken g) h = absurd h
-same_told (outcomes.Accepted a) outcomes.NotYet h = absurd h
 same_told (outcomes.Broken f) (outcomes.Accepted b) h = absurd h
 same_told (outcomes.Broken f) (outcomes.Broken g) h = ap broken h
-same_told (outcomes.Broken f) outcomes.NotYet h = absurd h
-same_told outcomes.NotYet (outcomes.Accepted b) h = absurd h
-same_told outcomes.NotYet (outcomes.Broken g) h = absurd h
-same_told outcomes.NotYet outcomes.NotYet h = refl
 
 pub one_outcome : ((documents : List SchemaInput) (a b : Outcome) → IsOutcome documents a → IsOutcome documents b → IsSameOutcome a b)
     → (question : Question) (x y : SetOutcome) → IsOutcomeOf question x → IsOutcomeOf question y → x ≡ y
@@ -58,7 +53,7 @@ module _ (found_is : (s : SchemaSet) (d : Document) (x y : List Entry) → IsFou
       let one = leads_to_one found_is outcome_is t h.said l.said h.ending l.ending h.leads l.leads in
       h.output_is ∙ (ap (λ (s : Said). output_of s h.ending) one.0 ∙ (ap (output_of l.said) one.1 ∙ sym l.output_is))
 
-  pub one_output : (what : Option Asked) (bytes : List ℕ) (closed : Bool) (x y : Output) → IsOutput what bytes closed x → IsOutput what bytes closed y → x ≡ y
+  pub one_output : (what : Option Wanted) (bytes : List ℕ) (closed : Bool) (x y : Output) → IsOutput what bytes closed x → IsOutput what bytes closed y → x ≡ y
   one_output None bytes closed x y h l = h ∙ sym l
   one_output (Some what) bytes closed x y h l = comes_to_one (told_of what bytes closed) x y h l
 
@@ -90,121 +85,128 @@ module _ (text : List ℕ) (ending : Ending) where
 -- ---- a stream for `check`
 
 abbrev check_next : SetOutcome → Told
-check_next = compiled_told (λ set. check_told set sections.ended)
+check_next = compiled_told (λ set. over (Some endings.Valid))
 
 check_is : (o : SetOutcome) (out : Output) → ComesTo (check_next o) out → IsCheckOutput o out
 check_is (accepted set) out h = last_is schema_ok endings.Valid out h
 check_is (broken fault) out h = last_is (fault_line fault) (fault_ending fault) out h
-check_is not_yet out h = last_is not_yet_line endings.Unsupported out h
 
 check_comes_by : (o : SetOutcome) (out : Output) → IsCheckOutput o out → ComesTo (check_next o) out
 check_comes_by (accepted set) out h = last_comes schema_ok endings.Valid out h
 check_comes_by (broken fault) out h = last_comes (fault_line fault) (fault_ending fault) out h
-check_comes_by not_yet out h = last_comes not_yet_line endings.Unsupported out h
+
+abbrev wanted_of : Asked → ℕ → Wanted
+wanted_of a most = record { asked = a; most = most }
 
 -- what is asked for is told of the items of the bytes
-told_is : (a : Asked) (bytes : List ℕ) (its : List Item) (t : Told) → listed unread bytes true ≡ whole its → sections_told a (whole its) ≡ t
-    → told_of a bytes true ≡ t
-told_is a bytes its t reads tells = ap (sections_told a) reads ∙ tells
+told_is : (w : Wanted) (bytes : List ℕ) (its : List Item) (t : Told) → listed unread bytes true ≡ whole its → sections_told w (whole its) ≡ t
+    → told_of w bytes true ≡ t
+told_is w bytes its t reads tells = ap (sections_told w) reads ∙ tells
 
 module _ (law : (all : List SchemaSection) (its : List Item) → SpellsCheck all its → sections.schemas_alone Check (whole its) ≡ sections.schemas all sections.ended)
-    (bytes : List ℕ) (its : List Item) (all : List SchemaSection) (out : Output) (reads : listed unread bytes true ≡ whole its) (spells : SpellsCheck all its) where
-  check_told_is : told_of Check bytes true ≡ asks (question_of all) check_next
-  check_told_is = told_is Check bytes its (asks (question_of all) check_next) reads (ap (stream_told check_told) (law all its spells))
+    (most : ℕ) (bytes : List ℕ) (its : List Item) (all : List SchemaSection) (out : Output) (reads : listed unread bytes true ≡ whole its)
+    (spells : SpellsCheck all its) where
+  check_told_is : told_of (wanted_of Check most) bytes true ≡ asks (question_of all) check_next
+  check_told_is = told_is (wanted_of Check most) bytes its (asks (question_of all) check_next) reads (ap (stream_told check_told) (law all its spells))
 
-  pub check_answered : IsOutput (Some Check) bytes true out → IsByOutcome all IsCheckOutput out
+  pub check_answered : IsOutput (Some (wanted_of Check most)) bytes true out → IsByOutcome all IsCheckOutput out
   check_answered h =
       let o = known (question_of all) check_next out (subst (λ (t : Told). ComesTo t out) check_told_is h) in
       (o.0, o.1, check_is o.0 out o.2)
 
-  pub check_comes : IsByOutcome all IsCheckOutput out → IsOutput (Some Check) bytes true out
+  pub check_comes : IsByOutcome all IsCheckOutput out → IsOutput (Some (wanted_of Check most)) bytes true out
   check_comes h = subst (λ (t : Told). ComesTo t out) (sym check_told_is) (asked (question_of all) check_next out h.0 h.1 (check_comes_by h.0 out h.2))
 
 -- ---- a stream with a document
 
-abbrev stream_next : Asked → Document → List Order → SetOutcome → Told
-stream_next a d orders = compiled_told (λ set. opened_told a set (sections.document d (given orders)))
+module _ (w : Wanted) (all : List SchemaSection) (d : Document) (orders : List Order) where
+  abbrev stream_next : SetOutcome → Told
+  stream_next = compiled_told (λ set. opened_told w (with_documents (inputs all) set) (sections.document d (given orders)))
 
-module _ (a : Asked) (set : SchemaSet) (d : Document) (orders : List Order) where
-  abbrev said_of : OpenState → Said
-  said_of s = record { text = opening a s; cost = opening_cost d }
+  module _ (set : SchemaSet) where
+    abbrev basis : Basis
+    basis = with_documents (inputs all) set
 
-  -- all that is said of a document that was opened
-  abbrev whole_said : OpenState → Said → OpenState → Said
-  whole_said s replies last = joined (free schema_ok) (joined (said_of s) (joined replies (last_said last)))
+    abbrev said_of : OpenState → Said
+    said_of s = record { text = opening w.asked s; cost = opening_cost d }
 
-  cost_is : (x y : ℕ) → 0 + (x + (y + 0)) ≡ x + y
-  cost_is x y = omega arith
+    -- all that is said of a document that was opened
+    abbrev whole_said : OpenState → Said → OpenState → Said
+    whole_said s replies last = joined (free schema_ok) (joined (said_of s) (joined replies (last_said last)))
 
-  output_is : (s : OpenState) (replies : Said) (last : OpenState) → output_of (whole_said s replies last) (Some (last_ending last)) ≡ answered_output a d s replies last
-  output_is s replies last = ap (λ (n : ℕ). answer (whole_said s replies last).text n (status_of (last_ending last))) (cost_is (opening_cost d) replies.cost)
+    cost_is : (x y : ℕ) → 0 + (x + (y + 0)) ≡ x + y
+    cost_is x y = omega arith
 
-  looked_back : (said : Said) (e : Option Ending) → Leads (opened_told a set (sections.document d (given orders))) said (over e)
-      → (found : List Entry) × IsFound (with_names set d.forest) d found × (rest : Said) × Leads (commands_told (opened set d found) (given orders)) rest (over e)
-      × (said ≡ joined (said_of (opened set d found)) rest)
-  looked_back said e (inl h) = absurd (subst IsOver h.1 tt)
-  looked_back said e (inr h) =
-      let one = says_back (said_of (opened set d h.0)) (commands_told (opened set d h.0) (given orders)) said e h.2 in
-      (h.0, h.1, one.0, one.1, one.2)
+    output_is : (s : OpenState) (replies : Said) (last : OpenState) → output_of (whole_said s replies last) (Some (last_ending last)) ≡ answered_output w.asked d s replies last
+    output_is s replies last = ap (λ (n : ℕ). answer (whole_said s replies last).text n (status_of (last_ending last))) (cost_is (opening_cost d) replies.cost)
 
-  opened_answered : (out : Output) → ComesTo (stream_next a d orders (accepted set)) out → IsStreamOutput a d orders (accepted set) out
-  opened_answered out h =
-      let one = says_back (free schema_ok) (opened_told a set (sections.document d (given orders))) h.said h.ending h.leads in
-      let two = looked_back one.0 h.ending one.1 in
-      let all = commands_back (opened set d two.0) orders two.2 h.ending two.3 in
-      let s = opened set d two.0 in
-      let said_is : h.said ≡ whole_said s all.0 all.1 = one.2 ∙ ap (joined (free schema_ok)) (two.4 ∙ ap (joined (said_of s)) all.3) in (
-        two.0,
-        two.1,
-        all.0,
-        all.1,
-        all.2,
-        h.output_is ∙ (ap (λ (x : Said). output_of x h.ending) said_is ∙ (ap (output_of (whole_said s all.0 all.1)) all.4 ∙ output_is s all.0 all.1)),
-      )
+    looked_back : (said : Said) (e : Option Ending) → Leads (opened_told w basis (sections.document d (given orders))) said (over e)
+        → (found : List Entry) × IsFound (with_names set d.forest) d found × (rest : Said)
+        × Leads (commands_told (opened w.most basis d found) (given orders)) rest (over e) × (said ≡ joined (said_of (opened w.most basis d found)) rest)
+    looked_back said e (inl h) = absurd (subst IsOver h.1 tt)
+    looked_back said e (inr h) =
+        let s = opened w.most basis d h.0 in
+        let one = says_back (said_of s) (commands_told s (given orders)) said e h.2 in
+        (h.0, h.1, one.0, one.1, one.2)
 
-  opened_comes : (out : Output) → IsStreamOutput a d orders (accepted set) out → ComesTo (stream_next a d orders (accepted set)) out
-  opened_comes out h =
-      let s = opened set d h.0 in
-      let behind = commands_on s orders h.2 h.3 h.4 in
-      let to : Told = over (Some (last_ending h.3)) in
-      let looked : Leads (opened_told a set (sections.document d (given orders))) (joined (said_of s) (joined h.2 (last_said h.3))) to =
-      inr (h.0, h.1, says_on (said_of s) (commands_told s (given orders)) (joined h.2 (last_said h.3)) to behind) in
-      record {
-        said = whole_said s h.2 h.3;
-        ending = Some (last_ending h.3);
-        leads = says_on (free schema_ok) (opened_told a set (sections.document d (given orders))) (joined (said_of s) (joined h.2 (last_said h.3))) to looked;
-        output_is = h.5 ∙ sym (output_is s h.2 h.3);
-      }
+    opened_answered : (out : Output) → ComesTo (stream_next (accepted set)) out → IsStreamOutput w all d orders (accepted set) out
+    opened_answered out h =
+        let one = says_back (free schema_ok) (opened_told w basis (sections.document d (given orders))) h.said h.ending h.leads in
+        let two = looked_back one.0 h.ending one.1 in
+        let s = opened w.most basis d two.0 in
+        let replied = commands_back s orders two.2 h.ending two.3 in
+        let said_is : h.said ≡ whole_said s replied.0 replied.1 = one.2 ∙ ap (joined (free schema_ok)) (two.4 ∙ ap (joined (said_of s)) replied.3) in (
+          two.0,
+          two.1,
+          replied.0,
+          replied.1,
+          replied.2,
+          h.output_is ∙ (ap (λ (x : Said). output_of x h.ending) said_is ∙ (ap (output_of (whole_said s replied.0 replied.1)) replied.4 ∙ output_is s replied.0 replied.1)),
+        )
 
-stream_is : (a : Asked) (d : Document) (orders : List Order) (o : SetOutcome) (out : Output) → ComesTo (stream_next a d orders o) out → IsStreamOutput a d orders o out
-stream_is a d orders (accepted set) out h = opened_answered a set d orders out h
-stream_is a d orders (broken fault) out h = last_is (fault_line fault) (fault_ending fault) out h
-stream_is a d orders not_yet out h = last_is not_yet_line endings.Unsupported out h
+    opened_comes : (out : Output) → IsStreamOutput w all d orders (accepted set) out → ComesTo (stream_next (accepted set)) out
+    opened_comes out h =
+        let s = opened w.most basis d h.0 in
+        let behind = commands_on s orders h.2 h.3 h.4 in
+        let to : Told = over (Some (last_ending h.3)) in
+        let looked : Leads (opened_told w basis (sections.document d (given orders))) (joined (said_of s) (joined h.2 (last_said h.3))) to =
+        inr (h.0, h.1, says_on (said_of s) (commands_told s (given orders)) (joined h.2 (last_said h.3)) to behind) in
+        record {
+          said = whole_said s h.2 h.3;
+          ending = Some (last_ending h.3);
+          leads = says_on (free schema_ok) (opened_told w basis (sections.document d (given orders))) (joined (said_of s) (joined h.2 (last_said h.3))) to looked;
+          output_is = h.5 ∙ sym (output_is s h.2 h.3);
+        }
 
-stream_comes_by : (a : Asked) (d : Document) (orders : List Order) (o : SetOutcome) (out : Output) → IsStreamOutput a d orders o out → ComesTo (stream_next a d orders o) out
-stream_comes_by a d orders (accepted set) out h = opened_comes a set d orders out h
-stream_comes_by a d orders (broken fault) out h = last_comes (fault_line fault) (fault_ending fault) out h
-stream_comes_by a d orders not_yet out h = last_comes not_yet_line endings.Unsupported out h
+  stream_is : (o : SetOutcome) (out : Output) → ComesTo (stream_next o) out → IsStreamOutput w all d orders o out
+  stream_is (accepted set) out h = opened_answered set out h
+  stream_is (broken fault) out h = last_is (fault_line fault) (fault_ending fault) out h
+
+  stream_comes_by : (o : SetOutcome) (out : Output) → IsStreamOutput w all d orders o out → ComesTo (stream_next o) out
+  stream_comes_by (accepted set) out h = opened_comes set out h
+  stream_comes_by (broken fault) out h = last_comes (fault_line fault) (fault_ending fault) out h
 
 module _ (law : (a : Asked) (all : List SchemaSection) (d : Document) (orders : List Order) (its : List Item) → SpellsStream a all d orders its
     → sections.with_document a (whole its) ≡ sections.schemas all (sections.document d (given orders))) where
   -- `check` has no document
-  sections_are : (a : Asked) (all : List SchemaSection) (d : Document) (orders : List Order) (its : List Item) → has_document a ≡ true → SpellsStream a all d orders its
-      → sections_told a (whole its) ≡ asks (question_of all) (stream_next a d orders)
-  sections_are Check all d orders its asks_for spells = cc
-  sections_are Assess all d orders its asks_for spells = ap (stream_told (opened_told Assess)) (law Assess all d orders its spells)
-  sections_are Session all d orders its asks_for spells = ap (stream_told (opened_told Session)) (law Session all d orders its spells)
+  sections_for : (a : Asked) (most : ℕ) (all : List SchemaSection) (d : Document) (orders : List Order) (its : List Item) → has_document a ≡ true
+      → SpellsStream a all d orders its → sections_told (wanted_of a most) (whole its) ≡ asks (question_of all) (stream_next (wanted_of a most) all d orders)
+  sections_for Check most all d orders its asks_for spells = cc
+  sections_for Assess most all d orders its asks_for spells = ap (stream_told (opened_told (wanted_of Assess most))) (law Assess all d orders its spells)
+  sections_for Session most all d orders its asks_for spells = ap (stream_told (opened_told (wanted_of Session most))) (law Session all d orders its spells)
 
-  module _ (a : Asked) (bytes : List ℕ) (its : List Item) (all : List SchemaSection) (d : Document) (orders : List Order) (out : Output)
-      (reads : listed unread bytes true ≡ whole its) (spells : SpellsStream a all d orders its) where
-    stream_told_is : told_of a bytes true ≡ asks (question_of all) (stream_next a d orders)
-    stream_told_is = told_is a bytes its (asks (question_of all) (stream_next a d orders)) reads (sections_are a all d orders its spells.asks spells)
+  module _ (w : Wanted) (bytes : List ℕ) (its : List Item) (all : List SchemaSection) (d : Document) (orders : List Order) (out : Output)
+      (reads : listed unread bytes true ≡ whole its) (spells : SpellsStream w.asked all d orders its) where
+    stream_told_is : told_of w bytes true ≡ asks (question_of all) (stream_next w all d orders)
+    stream_told_is =
+        told_is w bytes its (asks (question_of all) (stream_next w all d orders)) reads (sections_for w.asked w.most all d orders its spells.asks spells)
 
-    pub stream_answered : IsOutput (Some a) bytes true out → IsByOutcome all (IsStreamOutput a d orders) out
+    pub stream_answered : IsOutput (Some w) bytes true out → IsByOutcome all (IsStreamOutput w all d orders) out
     stream_answered h =
-        let o = known (question_of all) (stream_next a d orders) out (subst (λ (t : Told). ComesTo t out) stream_told_is h) in
-        (o.0, o.1, stream_is a d orders o.0 out o.2)
+        let o = known (question_of all) (stream_next w all d orders) out (subst (λ (t : Told). ComesTo t out) stream_told_is h) in
+        (o.0, o.1, stream_is w all d orders o.0 out o.2)
 
-    pub stream_comes : IsByOutcome all (IsStreamOutput a d orders) out → IsOutput (Some a) bytes true out
+    pub stream_comes : IsByOutcome all (IsStreamOutput w all d orders) out → IsOutput (Some w) bytes true out
     stream_comes h =
-        subst (λ (t : Told). ComesTo t out) (sym stream_told_is) (asked (question_of all) (stream_next a d orders) out h.0 h.1 (stream_comes_by a d orders h.0 out h.2))
+        subst (λ (t : Told). ComesTo t out) (sym stream_told_is)
+        (asked (question_of all) (stream_next w all d orders) out h.0 h.1 (stream_comes_by w all d orders h.0 out h.2))

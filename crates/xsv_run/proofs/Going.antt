@@ -1,8 +1,7 @@
 -- Lines and pieces, one after another.
-use Rattle.std.proofs.Common.{◌≡◌, ℕ, ◌+◌, ◌≤◌, List, [], ◌++◌, length, Bool, true, false, Option, Some, None, Result, Ok, Err, IfOk, sym, ap, ◌∙◌, subst, arith, length-append, if◌then◌else◌}
+use Rattle.std.proofs.Common.{◌≡◌, ℕ, ◌+◌, List, [], ◌++◌, length, Bool, true, false, Option, Some, None, Result, Ok, Err, IfOk, sym, ap, ◌∙◌, subst, arith, length-append, if◌then◌else◌}
 use Rattle.item_listing.specs.State.{Reading}
 use Rattle.item_listing.specs.declared.past.Past.{Past}
-use Rattle.item_listing.specs.declared.limits.TheConstants.{MOST_BYTES}
 use Rattle.item_listing.specs.Listing.{bytes_taken, fed}
 use Rattle.item_listing.specs.Listed.{listed, Waits}
 use Rattle.told.specs.Told.{Told}
@@ -34,9 +33,9 @@ module _ (r f : Reader) (bytes : List ℕ) (past : f.listing.past ≡ r.listing.
     (reads : (more : List ℕ) (closed : Bool) → listed f.listing more closed ≡ listed r.listing (bytes ++ more) closed) where
   same_told : (more : List ℕ) (closed : Bool) → to_tell r (bytes ++ more) closed ≡ to_tell f more closed
   same_told more closed =
-      ap (told r.stream.asked r.listing.past.lines (stands r.stream)) (sym (reads more closed))
-      ∙ ap (λ (q : Past). told r.stream.asked q.lines (stands r.stream) (listed f.listing more closed)) (sym past)
-      ∙ ap (λ (x : Stream). told x.asked f.listing.past.lines (stands x) (listed f.listing more closed)) (sym same)
+      ap (told r.stream.wanted r.listing.past.lines (stands r.stream)) (sym (reads more closed))
+      ∙ ap (λ (q : Past). told r.stream.wanted q.lines (stands r.stream) (listed f.listing more closed)) (sym past)
+      ∙ ap (λ (x : Stream). told x.wanted f.listing.past.lines (stands x) (listed f.listing more closed)) (sym same)
 
   feeds : (s : Reader) (o n : Trace) → GoesOn f o s n → Feeds r o bytes s n
   feeds s o n on = λ more closed. subst (λ (t : Told). Goes t o n (to_tell s more closed)) (sym (same_told more closed)) (on more closed)
@@ -74,9 +73,9 @@ module _ (r f : Reader) (past : f.listing.past ≡ r.listing.past) (same : f.str
     (finish : (more : List ℕ) (closed : Bool) → listed f.listing more closed ≡ listed r.listing [] true) where
   told_last : to_tell r [] true ≡ to_tell f [] true
   told_last =
-      ap (told r.stream.asked r.listing.past.lines (stands r.stream)) (sym (finish [] true))
-      ∙ ap (λ (q : Past). told r.stream.asked q.lines (stands r.stream) (listed f.listing [] true)) (sym past)
-      ∙ ap (λ (x : Stream). told x.asked f.listing.past.lines (stands x) (listed f.listing [] true)) (sym same)
+      ap (told r.stream.wanted r.listing.past.lines (stands r.stream)) (sym (finish [] true))
+      ∙ ap (λ (q : Past). told r.stream.wanted q.lines (stands r.stream) (listed f.listing [] true)) (sym past)
+      ∙ ap (λ (x : Stream). told x.wanted f.listing.past.lines (stands x) (listed f.listing [] true)) (sym same)
 
   pub ends_last : (o n : Trace) (e : Result Ending BreakOff) → HasEnded f o n e → Ends (to_tell r [] true) e o n
   ends_last o n e ended = ends_as (to_tell r [] true) (to_tell f [] true) e o n told_last (ended [] true)
@@ -85,6 +84,6 @@ module _ (r f : Reader) (past : f.listing.past ≡ r.listing.past) (same : f.str
       → lines ≡ s.listing.past.lines → Ends (finished lines (stands s.stream)) e m n → Ends (to_tell r [] true) e o n
   finished_last s lines o m n e on waits done_now count answers =
       let last : to_tell s [] true ≡ finished lines (stands s.stream) =
-      ap (told s.stream.asked s.listing.past.lines (stands s.stream)) (waits.1 done_now [] true) ∙ ap (λ k. finished k (stands s.stream)) (sym count) in
+      ap (told s.stream.wanted s.listing.past.lines (stands s.stream)) (waits.1 done_now [] true) ∙ ap (λ k. finished k (stands s.stream)) (sym count) in
       ends_as (to_tell r [] true) (to_tell f [] true) e o n told_last
       (goes_ends (to_tell f [] true) e o m n (to_tell s [] true) (on [] true) (ends_as (to_tell s [] true) (finished lines (stands s.stream)) e m n last answers))

@@ -1,7 +1,6 @@
 -- An item that was answered.
-use Rattle.std.proofs.Common.{◌≡◌, ℕ, ◌+◌, ◌<◌, ◌≤◌, List, ◌++◌, length, Bool, Option, Some, None, Result, Ok, Err, IfOk, refl, sym, ap, ◌∙◌, subst, arith}
+use Rattle.std.proofs.Common.{◌≡◌, ℕ, ◌+◌, ◌<◌, List, ◌++◌, length, Bool, Option, Some, None, Result, Ok, Err, IfOk, refl, sym, ap, ◌∙◌, subst, arith}
 use Rattle.item_listing.specs.State.{Reading}
-use Rattle.item_listing.specs.declared.limits.TheConstants.{MOST_BYTES}
 use Rattle.item_listing.specs.Listing.{after, bytes_taken, Leaves, IsDrained}
 use Rattle.item_listing.specs.Listed.{gives, refused, listed, ReadsOn}
 use Rattle.item_listing.specs.declared.item.Item.{Item}
@@ -15,7 +14,7 @@ use Rattle.told.specs.declared.ending.Ending.{Ending}
 use Rattle.told.proofs.Going.{answers_as, ends_as}
 use Rattle.told.proofs.Saying.{free_ends, memory_breaks}
 use Rattle.stream_sections.specs.Sections.{bad_line}
-use Rattle.stream_sections.specs.declared.asked.Asked.{Asked}
+use Rattle.stream_answers.specs.declared.wanted.Wanted.{Wanted}
 use Rattle.stream_sections.specs.declared.refusal.Refusal.TheVariants as refusals
 use Rattle.stream_answers.specs.Output.{stop_told}
 use Rattle.stream_answers.specs.Refusals.{refusal_line, refusal_ending}
@@ -29,29 +28,29 @@ use Rattle.xsv_run.specs.inside.Progress.{GoesOn, HasEnded, EndsFed, Progresses,
 use Rattle.xsv_run.proofs.Going.{waits_on}
 
 -- what is told of a stream behind an item
-abbrev pub TakesItem : Asked → ℕ → Stream → Item → Stream → Trace → Trace → Result (Option Ending) BreakOff → Type 0
+abbrev pub TakesItem : Wanted → ℕ → Stream → Item → Stream → Trace → Trace → Result (Option Ending) BreakOff → Type 0
 TakesItem a line x it y old new found = (next : Spot → Told) → Answers (turned a line (stands x) it next) found old new (behind next (stands y))
 
 module _ (r s : Reader) (it : Item) (line : ℕ) (old new : Trace)
     (reads : (more : List ℕ) (closed : Bool) → listed r.listing more closed ≡ gives it (listed s.listing more closed))
-    (counts : s.listing.past.lines ≡ r.listing.past.lines + 1) (at : line ≡ s.listing.past.lines) (same : s.stream.asked ≡ r.stream.asked) where
+    (counts : s.listing.past.lines ≡ r.listing.past.lines + 1) (at : line ≡ s.listing.past.lines) (same : s.stream.wanted ≡ r.stream.wanted) where
   abbrev then_told : List ℕ → Bool → Spot → Told
-  then_told more closed spot = told s.stream.asked s.listing.past.lines spot (listed s.listing more closed)
+  then_told more closed spot = told s.stream.wanted s.listing.past.lines spot (listed s.listing more closed)
 
-  told_is : (more : List ℕ) (closed : Bool) → to_tell r more closed ≡ turned r.stream.asked line (stands r.stream) it (then_told more closed)
+  told_is : (more : List ℕ) (closed : Bool) → to_tell r more closed ≡ turned r.stream.wanted line (stands r.stream) it (then_told more closed)
   told_is more closed =
-      ap (told r.stream.asked r.listing.past.lines (stands r.stream)) (reads more closed)
-      ∙ ap (λ n. turned r.stream.asked n (stands r.stream) it (λ spot. told r.stream.asked n spot (listed s.listing more closed))) (sym counts)
-      ∙ ap (λ n. turned r.stream.asked n (stands r.stream) it (λ spot. told r.stream.asked s.listing.past.lines spot (listed s.listing more closed))) (sym at)
-      ∙ ap (λ (a : Asked). turned r.stream.asked line (stands r.stream) it (λ spot. told a s.listing.past.lines spot (listed s.listing more closed))) (sym same)
+      ap (told r.stream.wanted r.listing.past.lines (stands r.stream)) (reads more closed)
+      ∙ ap (λ n. turned r.stream.wanted n (stands r.stream) it (λ spot. told r.stream.wanted n spot (listed s.listing more closed))) (sym counts)
+      ∙ ap (λ n. turned r.stream.wanted n (stands r.stream) it (λ spot. told r.stream.wanted s.listing.past.lines spot (listed s.listing more closed))) (sym at)
+      ∙ ap (λ (a : Wanted). turned r.stream.wanted line (stands r.stream) it (λ spot. told a s.listing.past.lines spot (listed s.listing more closed))) (sym same)
 
-  item_answers : (found : Result (Option Ending) BreakOff) → TakesItem r.stream.asked line r.stream it s.stream old new found → (more : List ℕ) (closed : Bool)
+  item_answers : (found : Result (Option Ending) BreakOff) → TakesItem r.stream.wanted line r.stream it s.stream old new found → (more : List ℕ) (closed : Bool)
       → Answers (to_tell r more closed) found old new (behind (then_told more closed) (stands s.stream))
   item_answers found takes more closed =
-      answers_as (to_tell r more closed) (turned r.stream.asked line (stands r.stream) it (then_told more closed)) found old new
+      answers_as (to_tell r more closed) (turned r.stream.wanted line (stands r.stream) it (then_told more closed)) found old new
       (behind (then_told more closed) (stands s.stream)) (told_is more closed) (takes (then_told more closed))
 
-  item_progresses : (found : Result (Option Ending) BreakOff) → TakesItem r.stream.asked line r.stream it s.stream old new found → Progresses r old s new found
+  item_progresses : (found : Result (Option Ending) BreakOff) → TakesItem r.stream.wanted line r.stream it s.stream old new found → Progresses r old s new found
   item_progresses (Ok None) takes = λ more closed. item_answers (Ok None) takes more closed
   item_progresses (Ok (Some ending)) takes = λ more closed. item_answers (Ok (Some ending)) takes more closed
   item_progresses (Err why) takes = λ more closed. item_answers (Err why) takes more closed
@@ -63,8 +62,8 @@ takes_next r s old new (Err why) h = h
 
 -- the next item was read and answered
 pub item_read : (r s : Reader) (read : Result (Option Item) ListingFault) (it : Item) (line : ℕ) (old new : Trace) (found : Result (Option Ending) BreakOff) (n : Result Next BreakOff)
-    → read ≡ Ok (Some it) → ReadsOn r.listing read s.listing → Leaves r.listing read s.listing → line ≡ s.listing.past.lines → s.stream.asked ≡ r.stream.asked
-    → TakesItem r.stream.asked line r.stream it s.stream old new found → n ≡ next_by found → TakesNext r old s new n
+    → read ≡ Ok (Some it) → ReadsOn r.listing read s.listing → Leaves r.listing read s.listing → line ≡ s.listing.past.lines → s.stream.wanted ≡ r.stream.wanted
+    → TakesItem r.stream.wanted line r.stream it s.stream old new found → n ≡ next_by found → TakesNext r old s new n
 item_read r s read it line old new found n is reads leaves at same takes by =
     let on = subst (λ x. ReadsOn r.listing x s.listing) is reads in
     let left : s.listing ≡ after r.listing (Some it) = subst (λ x. Leaves r.listing x s.listing) is leaves in
@@ -120,7 +119,7 @@ module _ (r : Reader) (fault : ListingFault) (old new : Option (List ℕ)) (k : 
 
   fault_ends : (e : Result Ending BreakOff) → Ends (stop_told (bad_line fault)) e (trace old k) (trace new k) → HasEnded r (trace old k) (trace new k) e
   fault_ends e ended = λ more closed.
-      ends_as (to_tell r more closed) (stop_told (bad_line fault)) e (trace old k) (trace new k) (ap (told r.stream.asked r.listing.past.lines (stands r.stream)) (reads more closed)) ended
+      ends_as (to_tell r more closed) (stop_told (bad_line fault)) e (trace old k) (trace new k) (ap (told r.stream.wanted r.listing.past.lines (stands r.stream)) (reads more closed)) ended
 
   refused_by : (s : Reader) (n : Result Next BreakOff) → Wrote n old new refused_line → IfOk n (λ next. next ≡ nexts.Ends refused_ending)
       → TakesNext r (trace old k) s (trace new k) n

@@ -1,5 +1,5 @@
 -- What is told of commands leads to their replies, and to no others.
-use Rattle.std.proofs.Common.{◌≡◌, ◌⊎◌, inl, inr, ℕ, ◌+◌, List, [], ◌∷◌, ◌++◌, Option, Some, Result, Ok, Err, refl, sym, ap, ◌∙◌, subst, append_assoc, zero-add, add-zero, add_assoc}
+use Rattle.std.proofs.Common.{◌≡◌, inl, inr, ℕ, List, [], ◌∷◌, Option, Some, Result, Ok, Err, refl, sym, ap, ◌∙◌, subst}
 use Rattle.tree_rows.specs.Forest.{Document}
 use Rattle.tree_edits.specs.Tests.{edited}
 use Rattle.tree_edits.specs.declared.edit.Edit.{Edit}
@@ -8,12 +8,11 @@ use Rattle.edit_script.specs.Commands.{command}
 use Rattle.edit_script.specs.declared.command.Command.{Command}
 use Rattle.edit_script.specs.declared.command.Command.TheVariants as commands
 use Rattle.edit_script.specs.declared.command.ScriptFault.{ScriptFault}
-use Rattle.assessment.specs.Assessment.{Entry}
 use Rattle.session_model.specs.State.{after_edit}
 use Rattle.plain_session.specs.Costs.{edit_cost}
 use Rattle.told.specs.Told.{Said, free, silent, joined, Told, over, says, Leads}
 use Rattle.told.specs.declared.ending.Ending.{Ending}
-use Rattle.told.proofs.Leading.{IsOver, silent_first, silent_last, joined_assoc, leads_here, leads_says}
+use Rattle.told.proofs.Leading.{IsOver, silent_first, silent_last, joined_assoc, leads_says}
 use Rattle.open_document.specs.Answers.{verdict}
 use Rattle.open_document.specs.Replies.{edit_told, line_told, made_said}
 use Rattle.open_document.specs.State.{OpenState, with_session}
@@ -61,6 +60,8 @@ module _ (s : OpenState) (k : OpenState → Told) (said : Said) (e : Option Endi
   pub reply_back : (r : Result Command ScriptFault) → Leads (line_told edit_cost s r k) said (over e) → IsRepliedTo (IsReply s r)
   reply_back (Ok (commands.Change edit)) h = edit_back edit (edited s.session.document edit) h
   reply_back (Ok (commands.Assess node)) h = stays_back _ h
+  reply_back (Ok commands.Errors) h = stays_back _ h
+  reply_back (Ok commands.Report) h = stays_back _ h
   reply_back (Ok commands.Total) h = stays_back _ h
   reply_back (Err fault) h = stays_back _ h
 
@@ -84,6 +85,8 @@ module _ (s : OpenState) (k : OpenState → Told) (own : Said) (next : OpenState
   pub reply_on : (r : Result Command ScriptFault) → IsReply s r own next → Leads (line_told edit_cost s r k) (joined own later) rest
   reply_on (Ok (commands.Change edit)) h = edit_on edit (edited s.session.document edit) h
   reply_on (Ok (commands.Assess node)) h = stays_on _ h
+  reply_on (Ok commands.Errors) h = stays_on _ h
+  reply_on (Ok commands.Report) h = stays_on _ h
   reply_on (Ok commands.Total) h = stays_on _ h
   reply_on (Err fault) h = stays_on _ h
 

@@ -1,6 +1,6 @@
 -- A stream, piece by piece.
 use Rattle.std.proofs.Common.{◌≡◌, ℕ, ◌+◌, ◌-◌, ◌≤◌, ◌<◌, List, [], ◌++◌, length, Bool, true, false, Option, Some, None, Result, IfSome, refl, sym, ap, ◌∙◌, arith, subst, append_assoc, append-nil, length-append}
-use Rattle.std.specs.Io.KnownBytes.{Appends, Consumes, IsAtEnd, Keeps}
+use Rattle.std.specs.Io.KnownBytes.{Consumes, IsAtEnd, Keeps}
 use Rattle.std.proofs.KnownBytes.{Consumes-nil, Consumes-trans, Consumes-kept}
 use Rattle.item_listing.specs.State.{Reading, unread}
 use Rattle.item_listing.specs.declared.limits.TheConstants.{MOST_BYTES}
@@ -14,7 +14,7 @@ use Rattle.told.proofs.Going.{goes_same, goes_then, goes_ends}
 use Rattle.stream_answers.specs.Output.{sections_told}
 use Rattle.stream_answers.specs.inside.Turns.{Spot, told, unbegun}
 use Rattle.stream_answers.specs.inside.Turning.{stands}
-use Rattle.stream_sections.specs.declared.asked.Asked.{Asked}
+use Rattle.stream_answers.specs.declared.wanted.Wanted.{Wanted}
 use Rattle.xsv_run.specs.Taking.{TakesAtMost}
 use Rattle.xsv_run.specs.Output.{BreaksOff, IsOutput, output_of, told_of}
 use Rattle.xsv_run.specs.declared.reader.Reader.{Reader}
@@ -24,23 +24,23 @@ pub unread_waits : Waits unread
 unread_waits = (λ e. refl, λ e. cc)
 
 -- nothing was read yet: what is told place by place is what the sections tell
-module _ (law : (a : Asked) (its : Listed) → told a 0 unbegun its ≡ sections_told a its) (r : Reader) (rest : Option (List ℕ)) (o : Trace)
+module _ (law : (a : Wanted) (its : Listed) → told a 0 unbegun its ≡ sections_told a its) (r : Reader) (rest : Option (List ℕ)) (o : Trace)
     (place : stands r.stream ≡ unbegun) (read : r.listing ≡ unread) where
-  begun_told : (more : List ℕ) (closed : Bool) → told_of r.stream.asked more closed ≡ to_tell r more closed
+  begun_told : (more : List ℕ) (closed : Bool) → told_of r.stream.wanted more closed ≡ to_tell r more closed
   begun_told more closed =
-      sym (law r.stream.asked (listed unread more closed))
-      ∙ ap (λ (s : Spot). told r.stream.asked 0 s (listed unread more closed)) (sym place)
-      ∙ ap (λ (x : Reading). told r.stream.asked x.past.lines (stands r.stream) (listed x more closed)) (sym read)
+      sym (law r.stream.wanted (listed unread more closed))
+      ∙ ap (λ (s : Spot). told r.stream.wanted 0 s (listed unread more closed)) (sym place)
+      ∙ ap (λ (x : Reading). told r.stream.wanted x.past.lines (stands r.stream) (listed x more closed)) (sym read)
 
-  pub stands_first : StandsAt r.stream.asked rest rest o o r
+  pub stands_first : StandsAt r.stream.wanted rest rest o o r
   stands_first = record {
     bytes = [];
     consumed = Consumes-nil rest;
     counted = ap bytes_taken read;
-    goes = λ more closed. goes_same (told_of r.stream.asked more closed) (to_tell r more closed) o (begun_told more closed);
+    goes = λ more closed. goes_same (told_of r.stream.wanted more closed) (to_tell r more closed) o (begun_told more closed);
   }
 
-module _ (a : Asked) (rest_old rest_mid rest_new : Option (List ℕ)) (o m n : Trace) (r : Reader) where
+module _ (a : Wanted) (rest_old rest_mid rest_new : Option (List ℕ)) (o m n : Trace) (r : Reader) where
   module _ (s : Reader) (count : ℕ) where
     goes_on : (front bytes : List ℕ) → ((more : List ℕ) (closed : Bool) → Goes (told_of a (front ++ more) closed) o m (to_tell r more closed)) → Feeds r m bytes s n
         → (more : List ℕ) (closed : Bool) → Goes (told_of a ((front ++ bytes) ++ more) closed) o n (to_tell s more closed)
@@ -120,7 +120,7 @@ module _ (a : Asked) (rest_old rest_mid rest_new : Option (List ℕ)) (o m n : T
   stops_failed : StandsAt a rest_old rest_mid o m r → Waits r.listing → r.listing.finished ≡ false → Keeps rest_mid rest_new
       → BreaksOff (Some a) rest_old rest_new o.taken m.taken
   stops_failed one waits going kept =
-      let now : to_tell r [] false ≡ over None = ap (told r.stream.asked r.listing.past.lines (stands r.stream)) (waits.0 going) in
+      let now : to_tell r [] false ≡ over None = ap (told r.stream.wanted r.listing.past.lines (stands r.stream)) (waits.0 going) in
       let so = one.goes [] false in record {
         bytes = one.bytes;
         consumed = Consumes-kept rest_old rest_mid rest_new one.bytes one.consumed kept;
@@ -140,7 +140,7 @@ module _ (a : Asked) (rest_old rest_mid rest_new : Option (List ℕ)) (o m n : T
   few_failed one few kept = (one.bytes, Consumes-kept rest_old rest_mid rest_new one.bytes one.consumed kept, omega (arith, one.counted, few))
 
 -- the piece that was read is none, since the source has ended
-module _ (a : Asked) (rest_old rest_mid rest_new : Option (List ℕ)) (o m k n : Trace) (r s : Reader) (one : StandsAt a rest_old rest_mid o m r)
+module _ (a : Wanted) (rest_old rest_mid rest_new : Option (List ℕ)) (o m k n : Trace) (r s : Reader) (one : StandsAt a rest_old rest_mid o m r)
     (facts : (s ≡ r) × (k ≡ m) × Consumes rest_mid rest_new [] × IsAtEnd rest_new) where
   pub output_last : (e : Result Ending BreakOff) → Ends (to_tell s [] true) e k n → IfSome rest_old (λ whole. Ends (told_of a whole true) e o n)
   output_last e answers =
@@ -150,7 +150,7 @@ module _ (a : Asked) (rest_old rest_mid rest_new : Option (List ℕ)) (o m k n :
   pub few_last : (room : ℕ) → bytes_taken r.listing + room ≡ MOST_BYTES + 1 → TakesAtMost (MOST_BYTES + 1) rest_old rest_new
   few_last room is = few_at_end a rest_old rest_mid rest_new o m n r one facts.2 (omega (arith, is))
 
-pub output_broken : (a : Asked) (rest_old rest_mid : Option (List ℕ)) (o m k : Trace) (r : Reader) → StandsAt a rest_old rest_mid o m r → k ≡ m
+pub output_broken : (a : Wanted) (rest_old rest_mid : Option (List ℕ)) (o m k : Trace) (r : Reader) → StandsAt a rest_old rest_mid o m r → k ≡ m
     → IfSome rest_old (λ whole. (rest : Told) × Goes (told_of a whole true) o k rest)
 output_broken a rest_old rest_mid o m k r one same =
     subst (λ (v : Trace). IfSome rest_old (λ whole. (rest : Told) × Goes (told_of a whole true) o v rest)) (sym same) (output_failed a rest_old rest_mid rest_mid o m m r one)

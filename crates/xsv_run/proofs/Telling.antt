@@ -1,21 +1,21 @@
 -- How a run has ended, by what is told.
-use Rattle.std.proofs.Common.{◌≡◌, ◌≤◌, ℕ, List, Option, Some, None, IfSome, true, Result, Ok, Err, refl, sym, ◌∙◌, arith, subst}
+use Rattle.std.proofs.Common.{◌≡◌, ◌≤◌, ℕ, List, Option, Some, None, IfSome, true, Result, Ok, Err, refl, sym, arith, subst}
 use Rattle.xsv_io.specs.Causes.{Rose}
 use Rattle.told.specs.Told.{Told, over}
-use Rattle.told.specs.Going.{Trace, trace, Goes, Ends}
+use Rattle.told.specs.Going.{Trace, Goes, Ends}
 use Rattle.told.specs.Tells.{IsWriteFault}
 use Rattle.told.specs.declared.break_off.BreakOff.{BreakOff}
 use Rattle.told.specs.declared.break_off.BreakOff.TheVariants as breaks
 use Rattle.told.specs.declared.ending.Ending.{Ending}
 use Rattle.told.specs.declared.ending.Ending.TheVariants as endings
-use Rattle.stream_sections.specs.declared.asked.Asked.{Asked}
+use Rattle.stream_answers.specs.declared.wanted.Wanted.{Wanted}
 use Rattle.xsv_run.specs.Statuses.{status_of, status_by}
-use Rattle.xsv_run.specs.Output.{Answers, AnswersWords, BreaksOff, EndsAs, RefusesWords, asked, output_of, told_of}
+use Rattle.xsv_run.specs.Output.{Answers, AnswersWords, BreaksOff, EndsAs, RefusesWords, wanted, output_of, told_of}
 use Rattle.xsv_run.specs.declared.status.Status.{Status}
 use Rattle.xsv_run.specs.declared.status.Status.TheVariants as statuses
 
 -- the status of a stream that has ended
-module _ (what : Asked) (whole : List ℕ) (a b : Trace) where
+module _ (what : Wanted) (whole : List ℕ) (a b : Trace) where
   ends_by : (ending : Ending) → Goes (told_of what whole true) a b (over (Some ending)) → EndsAs (Some what) whole (status_of ending) a b
   ends_by ending g = record {
     output = output_of g.said (Some ending);
@@ -43,12 +43,12 @@ pub if_some : {P Q : List ℕ → Type 0} (rest : Option (List ℕ)) → ((whole
 if_some None f h = tt
 if_some (Some whole) f h = f whole h
 
-pub answers_by : (what : Asked) (rest : Option (List ℕ)) (e : Result Ending BreakOff) (a b : Trace) (status : Status) → status ≡ status_by e
+pub answers_by : (what : Wanted) (rest : Option (List ℕ)) (e : Result Ending BreakOff) (a b : Trace) (status : Status) → status ≡ status_by e
     → IfSome rest (λ whole. Ends (told_of what whole true) e a b) → IfSome rest (λ whole. Answers (Some what) whole status a b)
 answers_by what rest e a b status is =
     if_some rest (λ whole ended. subst (λ (s : Status). Answers (Some what) whole s a b) (sym is) (as_status what whole a b e ended))
 
-pub answers_broken : (what : Asked) (rest : Option (List ℕ)) (a b : Trace)
+pub answers_broken : (what : Wanted) (rest : Option (List ℕ)) (a b : Trace)
     → IfSome rest (λ whole. (more : Told) × Goes (told_of what whole true) a b more) → IfSome rest (λ whole. Answers (Some what) whole statuses.ReadFault a b)
 answers_broken what rest a b = if_some rest (λ whole broke. broke)
 
@@ -92,22 +92,22 @@ whatever_rest None h = tt
 whatever_rest (Some whole) h = h whole
 
 -- words that ask for nothing
-pub none_asked : (words : List (List ℕ)) (rest : Option (List ℕ)) (a b : Trace) (status : Status) → asked words ≡ None → RefusesWords status a b
-    → IfSome rest (λ whole. Answers (asked words) whole status a b)
-none_asked words rest a b status is h = whatever_rest rest (λ whole. subst (λ (q : Option Asked). Answers q whole status a b) (sym is) h)
+pub none_wanted : (words : List (List ℕ)) (rest : Option (List ℕ)) (a b : Trace) (status : Status) → wanted words ≡ None → RefusesWords status a b
+    → IfSome rest (λ whole. Answers (wanted words) whole status a b)
+none_wanted words rest a b status is h = whatever_rest rest (λ whole. subst (λ (q : Option Wanted). Answers q whole status a b) (sym is) h)
 
-pub none_words : (q : Option Asked) (rest : Option (List ℕ)) (a b : Trace) (status : Status) → q ≡ None → RefusesWords status a b → AnswersWords q status a b rest rest
-none_words q rest a b status is h = subst (λ (x : Option Asked). AnswersWords x status a b rest rest) (sym is) (h, refl)
+pub none_words : (q : Option Wanted) (rest : Option (List ℕ)) (a b : Trace) (status : Status) → q ≡ None → RefusesWords status a b → AnswersWords q status a b rest rest
+none_words q rest a b status is h = subst (λ (x : Option Wanted). AnswersWords x status a b rest rest) (sym is) (h, refl)
 
 -- words that ask for a stream
-pub some_asked : (words : List (List ℕ)) (what : Asked) (rest : Option (List ℕ)) (status : Status) (a b : Trace) → Some what ≡ asked words
-    → IfSome rest (λ whole. Answers (Some what) whole status a b) → IfSome rest (λ whole. Answers (asked words) whole status a b)
-some_asked words what rest status a b is h = subst (λ (q : Option Asked). IfSome rest (λ whole. Answers q whole status a b)) is h
+pub some_wanted : (words : List (List ℕ)) (what : Wanted) (rest : Option (List ℕ)) (status : Status) (a b : Trace) → Some what ≡ wanted words
+    → IfSome rest (λ whole. Answers (Some what) whole status a b) → IfSome rest (λ whole. Answers (wanted words) whole status a b)
+some_wanted words what rest status a b is h = subst (λ (q : Option Wanted). IfSome rest (λ whole. Answers q whole status a b)) is h
 
-pub some_broken : (words : List (List ℕ)) (what : Asked) (status : Status) (rest_old rest_new o n : Option (List ℕ)) → Some what ≡ asked words
-    → (status ≡ statuses.ReadFault → BreaksOff (Some what) rest_old rest_new o n) → status ≡ statuses.ReadFault → BreaksOff (asked words) rest_old rest_new o n
-some_broken words what status rest_old rest_new o n is h fault = subst (λ (q : Option Asked). BreaksOff q rest_old rest_new o n) is (h fault)
+pub some_broken : (words : List (List ℕ)) (what : Wanted) (status : Status) (rest_old rest_new o n : Option (List ℕ)) → Some what ≡ wanted words
+    → (status ≡ statuses.ReadFault → BreaksOff (Some what) rest_old rest_new o n) → status ≡ statuses.ReadFault → BreaksOff (wanted words) rest_old rest_new o n
+some_broken words what status rest_old rest_new o n is h fault = subst (λ (q : Option Wanted). BreaksOff q rest_old rest_new o n) is (h fault)
 
-pub some_words : (words : List (List ℕ)) (what : Asked) (status : Status) (a b : Trace) (rest_old rest_new : Option (List ℕ)) → Some what ≡ asked words
-    → (status ≡ statuses.Words → ⊥) → AnswersWords (asked words) status a b rest_old rest_new
-some_words words what status a b rest_old rest_new is h = subst (λ (q : Option Asked). AnswersWords q status a b rest_old rest_new) is h
+pub some_words : (words : List (List ℕ)) (what : Wanted) (status : Status) (a b : Trace) (rest_old rest_new : Option (List ℕ)) → Some what ≡ wanted words
+    → (status ≡ statuses.Words → ⊥) → AnswersWords (wanted words) status a b rest_old rest_new
+some_words words what status a b rest_old rest_new is h = subst (λ (q : Option Wanted). AnswersWords q status a b rest_old rest_new) is h

@@ -1,5 +1,5 @@
 -- What is written for a whole stream of which no line is refused.
-use Rattle.std.specs.Prelude.{◌≡◌, ℕ, ◌+◌, List, [], ◌∷◌, ◌++◌, Option, Some, Result, Ok, Err}
+use Rattle.std.specs.Prelude.{◌≡◌, ℕ, ◌+◌, List, [], ◌∷◌, ◌++◌, Some, None, Result, Ok, Err}
 use Rattle.tree_rows.specs.Forest.{Document}
 use Rattle.tree_edits.specs.Refusals as refusals
 use Rattle.tree_edits.specs.Tests.{edited}
@@ -11,24 +11,24 @@ use Rattle.edit_script.specs.declared.command.Command.{Command}
 use Rattle.edit_script.specs.declared.command.Command.TheVariants as commands
 use Rattle.edit_script.specs.declared.command.ScriptFault.{ScriptFault}
 use Rattle.assessment.specs.Assessment.{Entry}
-use Rattle.assessment.specs.Attribution.{SchemaSet}
 use Rattle.what_is_found.specs.IsFound.{IsFound}
 use Rattle.session_model.specs.State.{with_names, after_edit}
 use Rattle.plain_session.specs.Costs.{edit_cost}
-use Rattle.told.specs.Outcomes.{SetOutcome, accepted, broken, not_yet, IsOutcomeOf}
+use Rattle.told.specs.Outcomes.{SetOutcome, accepted, broken, IsOutcomeOf}
 use Rattle.told.specs.Told.{Said, free, silent, joined}
 use Rattle.open_document.specs.Answers.{opened, opening_cost, verdict}
-use Rattle.open_document.specs.Replies.{refusal, assess_reply, total_reply, made_said}
-use Rattle.open_document.specs.State.{OpenState, with_session}
+use Rattle.open_document.specs.Replies.{refusal, assess_reply, report_reply, total_reply, made_said}
+use Rattle.open_document.specs.State.{OpenState, with_documents, with_session}
 use Rattle.stream_sections.specs.Spelled.{Order}
 use Rattle.stream_sections.specs.declared.asked.Asked.{Asked}
 use Rattle.stream_sections.specs.declared.schemas.SchemaSection.{SchemaSection}
 use Rattle.stream_answers.specs.Faults.{fault_line, fault_ending}
-use Rattle.stream_answers.specs.Output.{schema_ok, not_yet_line, question_of, opening, end_line, ending_of}
+use Rattle.stream_answers.specs.Output.{schema_ok, inputs, question_of, opening, end_line, ending_of}
+use Rattle.stream_answers.specs.declared.wanted.Wanted.{Wanted}
 use Rattle.xsv_run.specs.Output.{Output}
 use Rattle.xsv_run.specs.Statuses.{status_of}
 use Rattle.xsv_run.specs.declared.status.Status.{Status}
-use Rattle.xsv_run.specs.declared.status.Status.TheVariants.{Valid, Unsupported}
+use Rattle.xsv_run.specs.declared.status.Status.TheVariants.{Valid}
 
 -- a text, the steps that it costs at most, and the status of a run that has ended
 abbrev pub answer : List ℕ → ℕ → Status → Output
@@ -47,6 +47,8 @@ IsEditReply s edit (Err e) own next = (own ≡ free (refusal (refusals.number_of
 abbrev pub IsReply : OpenState → Result Command ScriptFault → Said → OpenState → Type 0
 IsReply s (Ok (commands.Change edit)) own next = IsEditReply s edit (edited s.session.document edit) own next
 IsReply s (Ok (commands.Assess node)) own next = (own ≡ free (assess_reply s.session node)) × (next ≡ s)
+IsReply s (Ok commands.Errors) own next = (own ≡ free (report_reply (Some s.most) s.session)) × (next ≡ s)
+IsReply s (Ok commands.Report) own next = (own ≡ free (report_reply None s.session)) × (next ≡ s)
 IsReply s (Ok commands.Total) own next = (own ≡ free (total_reply s.session)) × (next ≡ s)
 IsReply s (Err fault) own next = (own ≡ free (refusal (faults.number_of fault) (faults.name_of fault))) × (next ≡ s)
 
@@ -63,20 +65,19 @@ abbrev pub answered_output : Asked → Document → OpenState → Said → OpenS
 answered_output a d first replies last =
     answer (schema_ok ++ (opening a first ++ (replies.text ++ end_line (verdict last)))) (opening_cost d + replies.cost) (status_of (ending_of (verdict last).validity))
 
--- What is written for a stream with a document where the schema documents come to this: the acceptance, the report or the first line of the document as it
--- is found by the set, the reply to each command and the last line; or the first broken constraint.
-abbrev pub IsStreamOutput : Asked → Document → List Order → SetOutcome → Output → Type 0
-IsStreamOutput a d orders (accepted set) out =
+-- What is written for a stream with a document where the schema documents of its sections come to this: the acceptance, the report or the first line of
+-- the document as it is found by the set, the reply to each command and the last line; or the first broken constraint.
+abbrev pub IsStreamOutput : Wanted → List SchemaSection → Document → List Order → SetOutcome → Output → Type 0
+IsStreamOutput w all d orders (accepted set) out =
     (found : List Entry) × IsFound (with_names set d.forest) d found
-    × (replies : Said) × (last : OpenState) × AreReplies (opened set d found) orders replies last × (out ≡ answered_output a d (opened set d found) replies last)
-IsStreamOutput a d orders (broken fault) out = out ≡ answer (fault_line fault) 0 (status_of (fault_ending fault))
-IsStreamOutput a d orders not_yet out = out ≡ answer not_yet_line 0 Unsupported
+    × (replies : Said) × (last : OpenState) × AreReplies (opened w.most (with_documents (inputs all) set) d found) orders replies last
+    × (out ≡ answered_output w.asked d (opened w.most (with_documents (inputs all) set) d found) replies last)
+IsStreamOutput w all d orders (broken fault) out = out ≡ answer (fault_line fault) 0 (status_of (fault_ending fault))
 
 -- what is written for `check` where the schema documents come to this
 abbrev pub IsCheckOutput : SetOutcome → Output → Type 0
 IsCheckOutput (accepted set) out = out ≡ answer schema_ok 0 Valid
 IsCheckOutput (broken fault) out = out ≡ answer (fault_line fault) 0 (status_of (fault_ending fault))
-IsCheckOutput not_yet out = out ≡ answer not_yet_line 0 Unsupported
 
 -- this is written where the schema documents of these sections come to one of their outcomes
 abbrev pub IsByOutcome : List SchemaSection → (SetOutcome → Output → Type 0) → Output → Type 0

@@ -11,12 +11,14 @@ use Rattle.told.specs.Going.{Trace, Goes, Breaks}
 use Rattle.told.specs.declared.break_off.BreakOff.TheVariants as breaks
 use Rattle.told.specs.declared.ending.Ending.{Ending}
 use Rattle.stream_answers.specs.Output.{sections_told}
+use Rattle.stream_answers.specs.declared.wanted.Wanted.{Wanted}
 use Rattle.stream_sections.specs.declared.asked.Asked.{Asked}
 use Rattle.stream_sections.specs.declared.asked.Asked.TheVariants.{Check, Assess, Session}
 use Rattle.xsv_run.specs.Requests.{request}
 use Rattle.xsv_run.specs.Statuses.{status_of}
 use Rattle.xsv_run.specs.declared.request.Request.{Request}
 use Rattle.xsv_run.specs.declared.request.Request.TheVariants.{Read, Generate, Trial}
+use Rattle.xsv_run.specs.declared.request.Task.{Task}
 use Rattle.xsv_run.specs.declared.request.Task.TheVariants as tasks
 use Rattle.xsv_run.specs.declared.status.Status.{Status}
 use Rattle.xsv_run.specs.declared.status.Status.TheVariants.{Words, ReadFault, WriteFault, Memory}
@@ -32,20 +34,23 @@ pub record Output : Type 0 where
 abbrev pub usage : List ℕ
 usage = codes "usage: xsv check|assess|session [--max-errors N] | xsv generate|trial NUMBER COUNT" ++ 10 ∷ []
 
--- what is asked for of what is built: a stream is read
-abbrev pub asked_by : Option Request → Option Asked
-asked_by None = None
-asked_by (Some (Read tasks.Check most)) = Some Check
-asked_by (Some (Read tasks.Assess most)) = Some Assess
-asked_by (Some (Read tasks.Session most)) = Some Session
-asked_by (Some (Generate start items)) = None
-asked_by (Some (Trial start items)) = None
+abbrev pub asked_of : Task → Asked
+asked_of tasks.Check = Check
+asked_of tasks.Assess = Assess
+asked_of tasks.Session = Session
 
-abbrev pub asked : List (List ℕ) → Option Asked
-asked words = asked_by (request words)
+-- what is wanted of what is built: a stream is read
+abbrev pub wanted_by : Option Request → Option Wanted
+wanted_by None = None
+wanted_by (Some (Read task most)) = Some (record { asked = asked_of task; most = most })
+wanted_by (Some (Generate start items)) = None
+wanted_by (Some (Trial start items)) = None
+
+abbrev pub wanted : List (List ℕ) → Option Wanted
+wanted words = wanted_by (request words)
 
 -- what is told of a stream by these bytes, with none after them if closed
-abbrev pub told_of : Asked → List ℕ → Bool → Told
+abbrev pub told_of : Wanted → List ℕ → Bool → Told
 told_of what bytes closed = sections_told what (listed unread bytes closed)
 
 abbrev pub output_of : Said → Option Ending → Output
@@ -63,12 +68,12 @@ abbrev pub refused_words : Output
 refused_words = record { text = usage; cost = 0; status = Some Words }
 
 -- what is written for what is asked and these bytes, with none after them if closed, the steps that it costs at most, and the status
-abbrev pub IsOutput : Option Asked → List ℕ → Bool → Output → Type 0
+abbrev pub IsOutput : Option Wanted → List ℕ → Bool → Output → Type 0
 IsOutput None bytes closed out = out ≡ refused_words
 IsOutput (Some what) bytes closed out = ComesTo (told_of what bytes closed) out
 
 -- the status is the output's, its text was written, and no more steps were counted than it costs
-pub record EndsAs (what : Option Asked) (bytes : List ℕ) (status : Status) (old new : Trace) : Type 0 where
+pub record EndsAs (what : Option Wanted) (bytes : List ℕ) (status : Status) (old new : Trace) : Type 0 where
   pub output : Output
   pub is_output : IsOutput what bytes true output
   pub status_is : output.status ≡ Some status
@@ -84,7 +89,7 @@ RefusesWords status old new = ⊥
 
 -- What was asked is answered for the bytes of a source to its end. The status is the output's, and its text was written; or a read failed, and what was
 -- written is what is told so far; or memory was wanting or a write failed, and a front was written. No more steps were counted than is told.
-abbrev pub Answers : Option Asked → List ℕ → Status → Trace → Trace → Type 0
+abbrev pub Answers : Option Wanted → List ℕ → Status → Trace → Trace → Type 0
 Answers None bytes status old new = RefusesWords status old new
 Answers (Some what) bytes Words old new = ⊥
 Answers (Some what) bytes ReadFault old new = (rest : Told) × Goes (told_of what bytes true) old new rest
@@ -93,13 +98,13 @@ Answers (Some what) bytes Memory old new = Breaks (told_of what bytes true) brea
 Answers (Some what) bytes status old new = EndsAs (Some what) bytes status old new
 
 -- Words that ask for nothing are answered by the usage line, and nothing is read, whatever the source and the sink tell. Only they are.
-abbrev pub AnswersWords : Option Asked → Status → Trace → Trace → Option (List ℕ) → Option (List ℕ) → Type 0
+abbrev pub AnswersWords : Option Wanted → Status → Trace → Trace → Option (List ℕ) → Option (List ℕ) → Type 0
 AnswersWords None status old new rest_old rest_new = RefusesWords status old new × (rest_new ≡ rest_old)
 AnswersWords (Some what) status old new rest_old rest_new = status ≡ Words → ⊥
 
 -- A read failed behind some bytes: what they tell was written, by the lines that end in them, and where they tell already that the begun
 -- line is refused; and it does not end the run.
-pub record BreaksOff (what : Option Asked) (rest_old rest_new taken_old taken_new : Option (List ℕ)) : Type 0 where
+pub record BreaksOff (what : Option Wanted) (rest_old rest_new taken_old taken_new : Option (List ℕ)) : Type 0 where
   pub bytes : List ℕ
   pub consumed : Consumes rest_old rest_new bytes
   pub output : Output

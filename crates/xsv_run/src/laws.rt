@@ -4,7 +4,7 @@ ghost use Rattle.item_listing.specs.State.{unread};
 ghost use Rattle.item_listing.specs.declared.item.Item.{Item};
 ghost use Rattle.tree_rows.specs.Forest.{Document};
 ghost use Rattle.stream_sections.specs.Spelled.{whole, Order, SpellsCheck, SpellsStream};
-ghost use Rattle.stream_sections.specs.declared.asked.Asked.{Asked};
+ghost use Rattle.stream_answers.specs.declared.wanted.Wanted.{Wanted};
 ghost use Rattle.stream_sections.specs.declared.asked.Asked.TheVariants.{Check};
 ghost use Rattle.stream_sections.specs.declared.schemas.SchemaSection.{SchemaSection};
 ghost use Rattle.xsv_run.specs.Output.{Output, IsOutput};
@@ -16,7 +16,7 @@ use what_is_found::what_is_found_is_the_only_one;
 
 /// For what is asked and the bytes of a source there is one output.
 pub fn outputs_are_one()
-    ensures only { (what : Option Asked) (bytes : List ℕ) (closed : Bool) (x y : Output) → IsOutput what bytes closed x → IsOutput what bytes closed y → x ≡ y }
+    ensures only { (what : Option Wanted) (bytes : List ℕ) (closed : Bool) (x y : Output) → IsOutput what bytes closed x → IsOutput what bytes closed y → x ≡ y }
 {
     what_is_found_is_the_only_one();
     outcomes_are_one();
@@ -25,16 +25,16 @@ pub fn outputs_are_one()
 /// Where no line of a stream is refused, its output goes by what its schema documents come to: a broken constraint is named; else `check` is answered Valid, and `assess` and
 /// `session` by the report or the replies and the record of the root of the last tree.
 pub fn streams_are_answered()
-    ensures check { (bytes : List ℕ) (its : List Item) (all : List SchemaSection) (out : Output) → listed unread bytes true ≡ whole its → SpellsCheck all its
-        → IsOutput (Some Check) bytes true out → IsByOutcome all IsCheckOutput out }
-    ensures checked { (bytes : List ℕ) (its : List Item) (all : List SchemaSection) (out : Output) → listed unread bytes true ≡ whole its → SpellsCheck all its
-        → IsByOutcome all IsCheckOutput out → IsOutput (Some Check) bytes true out }
-    ensures stream { (a : Asked) (bytes : List ℕ) (its : List Item) (all : List SchemaSection) (d : Document) (orders : List Order) (out : Output)
-        → listed unread bytes true ≡ whole its → SpellsStream a all d orders its
-        → IsOutput (Some a) bytes true out → IsByOutcome all (IsStreamOutput a d orders) out }
-    ensures streamed { (a : Asked) (bytes : List ℕ) (its : List Item) (all : List SchemaSection) (d : Document) (orders : List Order) (out : Output)
-        → listed unread bytes true ≡ whole its → SpellsStream a all d orders its
-        → IsByOutcome all (IsStreamOutput a d orders) out → IsOutput (Some a) bytes true out }
+    ensures check { (most : ℕ) (bytes : List ℕ) (its : List Item) (all : List SchemaSection) (out : Output) → listed unread bytes true ≡ whole its → SpellsCheck all its
+        → IsOutput (Some (record { asked = Check; most = most })) bytes true out → IsByOutcome all IsCheckOutput out }
+    ensures checked { (most : ℕ) (bytes : List ℕ) (its : List Item) (all : List SchemaSection) (out : Output) → listed unread bytes true ≡ whole its → SpellsCheck all its
+        → IsByOutcome all IsCheckOutput out → IsOutput (Some (record { asked = Check; most = most })) bytes true out }
+    ensures stream { (w : Wanted) (bytes : List ℕ) (its : List Item) (all : List SchemaSection) (d : Document) (orders : List Order) (out : Output)
+        → listed unread bytes true ≡ whole its → SpellsStream w.asked all d orders its
+        → IsOutput (Some w) bytes true out → IsByOutcome all (IsStreamOutput w all d orders) out }
+    ensures streamed { (w : Wanted) (bytes : List ℕ) (its : List Item) (all : List SchemaSection) (d : Document) (orders : List Order) (out : Output)
+        → listed unread bytes true ≡ whole its → SpellsStream w.asked all d orders its
+        → IsByOutcome all (IsStreamOutput w all d orders) out → IsOutput (Some w) bytes true out }
 {
     streams_are_read();
 }

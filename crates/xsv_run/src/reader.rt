@@ -11,8 +11,7 @@ ghost use Rattle.xsv_run.specs.inside.Progress.{TakesNext, Holds, Progresses, Pa
 use crate::next::{Next, next_of, refuse_line};
 use item_listing::Listing;
 use std::alloc::Global;
-use stream_answers::Stream;
-use stream_sections::Asked;
+use stream_answers::{Stream, Wanted};
 use told::{BreakOff, Ending};
 use xsv_io::Sink;
 use xsv_steps::{Ledger, Steps};
@@ -26,15 +25,15 @@ pub struct Reader {
 
 impl Reader {
     /// Nothing was read.
-    pub fn new(alloc: Global, asked: Asked) -> Self
-        ensures asked { result.stream.asked ≡ asked }
+    pub fn new(alloc: Global, wanted: Wanted) -> Self
+        ensures wanted { result.stream.wanted ≡ wanted }
         ensures unread { result.listing ≡ unread }
         ensures unbegun { stands result.stream ≡ unbegun }
         ensures open { IsStanding result.stream }
     {
         Reader {
             listing: Listing::new(alloc),
-            stream: Stream::new(alloc, asked),
+            stream: Stream::new(alloc, wanted),
         }
     }
 

@@ -2,7 +2,7 @@ ghost use Rattle.std.specs.Prelude.{◌≡◌, ℕ, ◌+◌, IfOk, IfSome};
 ghost use Rattle.item_listing.specs.declared.limits.TheConstants.{MOST_BYTES};
 ghost use Rattle.xsv_io.specs.Causes.{KeepsCount};
 ghost use Rattle.told.specs.Going.{trace};
-ghost use Rattle.xsv_run.specs.Output.{Answers, AnswersWords, AnswersUnread, BreaksOff, RefusesWords, asked};
+ghost use Rattle.xsv_run.specs.Output.{Answers, AnswersWords, AnswersUnread, BreaksOff, RefusesWords, wanted};
 ghost use Rattle.xsv_run.specs.Sides.{HasCauses};
 ghost use Rattle.xsv_run.specs.Taking.{TakesAtMost};
 
@@ -43,14 +43,14 @@ pub fn run<S: Source, W: Sink, L: Ledger>(
     // What is written and the status are the output of the definitions, and no more steps are counted than it costs. Where a read, a write
     // or memory failed, a front of it was written, and no more steps are counted than that front costs, and what would have been said next.
     ensures output { IfSome (S.rest source.old) (λ bytes.
-        Answers (asked words.now) bytes result (trace (W.taken sink.old) steps.old) (trace (W.taken sink.new) steps.new)) }
+        Answers (wanted words.now) bytes result (trace (W.taken sink.old) steps.old) (trace (W.taken sink.new) steps.new)) }
 
     // Where a read failed, what was written is what the bytes that were taken tell, and they do not end the run.
     ensures broken { result ≡ Status.ReadFault
-        → BreaksOff (asked words.now) (S.rest source.old) (S.rest source.new) (W.taken sink.old) (W.taken sink.new) }
+        → BreaksOff (wanted words.now) (S.rest source.old) (S.rest source.new) (W.taken sink.old) (W.taken sink.new) }
 
     // Words that ask for nothing are answered by the usage line, and nothing is read. Only they are.
-    ensures words { AnswersWords (asked words.now) result (trace (W.taken sink.old) steps.old) (trace (W.taken sink.new) steps.new)
+    ensures words { AnswersWords (wanted words.now) result (trace (W.taken sink.old) steps.old) (trace (W.taken sink.new) steps.new)
         (S.rest source.old) (S.rest source.new) }
 
     // At most one byte more than the longest stream is taken.
@@ -60,7 +60,7 @@ pub fn run<S: Source, W: Sink, L: Ledger>(
     ensures causes { HasCauses S.faults S.fault_bound W.faults W.fault_bound source.old source.new sink.old sink.new steps.old steps.new result }
 {
     match read_words(words) {
-        Some(asked) => answer_stream(alloc, asked, source, sink, steps),
+        Some(wanted) => answer_stream(alloc, wanted, source, sink, steps),
         None => refuse_words(sink),
     }
 }
@@ -75,10 +75,10 @@ pub fn run_by<S: Source, W: Sink, L: Ledger>(
     steps: &mut Steps<L>,
 ) -> Status
     ensures output { IfOk words.entry (λ read. IfSome (S.rest source.old) (λ bytes.
-        Answers (asked read.now) bytes result (trace (W.taken sink.old) steps.old) (trace (W.taken sink.new) steps.new))) }
+        Answers (wanted read.now) bytes result (trace (W.taken sink.old) steps.old) (trace (W.taken sink.new) steps.new))) }
     ensures broken { IfOk words.entry (λ read. result ≡ Status.ReadFault
-        → BreaksOff (asked read.now) (S.rest source.old) (S.rest source.new) (W.taken sink.old) (W.taken sink.new)) }
-    ensures words { IfOk words.entry (λ read. AnswersWords (asked read.now) result (trace (W.taken sink.old) steps.old) (trace (W.taken sink.new) steps.new)
+        → BreaksOff (wanted read.now) (S.rest source.old) (S.rest source.new) (W.taken sink.old) (W.taken sink.new)) }
+    ensures words { IfOk words.entry (λ read. AnswersWords (wanted read.now) result (trace (W.taken sink.old) steps.old) (trace (W.taken sink.new) steps.new)
         (S.rest source.old) (S.rest source.new)) }
     ensures unread { AnswersUnread words.entry result (trace (W.taken sink.old) steps.old) (trace (W.taken sink.new) steps.new) (S.rest source.old) (S.rest source.new) }
     ensures few { TakesAtMost (MOST_BYTES + 1) (S.rest source.old) (S.rest source.new) }

@@ -15,7 +15,7 @@ pub enum Status {
     ListingRefused,
     /// A limit is passed.
     Limit,
-    /// A schema names what is not supported, or a schema or the document has what is not accepted so far.
+    /// A schema names what is not supported.
     Unsupported,
     /// The words are none of the program's.
     Words,

@@ -1,4 +1,4 @@
-ghost use Rattle.std.specs.Prelude.{◌≡◌, ◌≤◌, ◌+◌, Some, IfSome};
+ghost use Rattle.std.specs.Prelude.{◌≡◌, ◌+◌, Some, IfSome};
 ghost use Rattle.item_listing.specs.declared.limits.TheConstants.{MOST_BYTES};
 ghost use Rattle.item_listing.specs.State.{unread};
 ghost use Rattle.told.specs.Going.{trace};
@@ -12,8 +12,7 @@ use crate::Status;
 use crate::piece::{ENOUGH, Piece, take_piece};
 use crate::reader::Reader;
 use std::alloc::Global;
-use stream_answers::places_answer_sections;
-use stream_sections::Asked;
+use stream_answers::{Wanted, places_answer_sections};
 use xsv_io::{Sink, Source};
 use xsv_steps::{Ledger, Steps};
 
@@ -28,8 +27,8 @@ fn take_pieces<S: Source, W: Sink, L: Ledger>(
     requires unread { reader.old.listing ≡ unread }
     requires unbegun { stands reader.old.stream ≡ unbegun }
     requires open { IsStanding reader.old.stream }
-    ensures output { IfSome (S.rest source.old) (λ bytes. Answers (Some reader.old.stream.asked) bytes result (trace (W.taken sink.old) steps.old) (trace (W.taken sink.new) steps.new)) }
-    ensures broken { result ≡ Status.ReadFault → BreaksOff (Some reader.old.stream.asked) (S.rest source.old) (S.rest source.new) (W.taken sink.old) (W.taken sink.new) }
+    ensures output { IfSome (S.rest source.old) (λ bytes. Answers (Some reader.old.stream.wanted) bytes result (trace (W.taken sink.old) steps.old) (trace (W.taken sink.new) steps.new)) }
+    ensures broken { result ≡ Status.ReadFault → BreaksOff (Some reader.old.stream.wanted) (S.rest source.old) (S.rest source.new) (W.taken sink.old) (W.taken sink.new) }
     ensures answered { result ≡ Status.Words → ⊥ }
     ensures few { TakesAtMost (MOST_BYTES + 1) (S.rest source.old) (S.rest source.new) }
     ensures causes { HasCauses S.faults S.fault_bound W.faults W.fault_bound source.old source.new sink.old sink.new steps.old steps.new result }
@@ -50,19 +49,19 @@ fn take_pieces<S: Source, W: Sink, L: Ledger>(
 /// Answers a stream, line by line.
 pub fn answer_stream<S: Source, W: Sink, L: Ledger>(
     alloc: Global,
-    asked: Asked,
+    wanted: Wanted,
     source: &mut S,
     sink: &mut W,
     steps: &mut Steps<L>,
 ) -> Status
-    ensures output { IfSome (S.rest source.old) (λ bytes. Answers (Some asked) bytes result (trace (W.taken sink.old) steps.old) (trace (W.taken sink.new) steps.new)) }
-    ensures broken { result ≡ Status.ReadFault → BreaksOff (Some asked) (S.rest source.old) (S.rest source.new) (W.taken sink.old) (W.taken sink.new) }
+    ensures output { IfSome (S.rest source.old) (λ bytes. Answers (Some wanted) bytes result (trace (W.taken sink.old) steps.old) (trace (W.taken sink.new) steps.new)) }
+    ensures broken { result ≡ Status.ReadFault → BreaksOff (Some wanted) (S.rest source.old) (S.rest source.new) (W.taken sink.old) (W.taken sink.new) }
     ensures answered { result ≡ Status.Words → ⊥ }
     ensures few { TakesAtMost (MOST_BYTES + 1) (S.rest source.old) (S.rest source.new) }
     ensures causes { HasCauses S.faults S.fault_bound W.faults W.fault_bound source.old source.new sink.old sink.new steps.old steps.new result }
 {
     // The reader is held here, where there is one way out, and the loop only changes it.
-    let mut reader = Reader::new(alloc, asked);
+    let mut reader = Reader::new(alloc, wanted);
     let status = take_pieces(alloc, source, &mut reader, sink, steps);
     reader.close();
     status

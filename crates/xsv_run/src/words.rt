@@ -1,7 +1,8 @@
 ghost use Rattle.std.specs.Prelude.{◌≡◌};
-ghost use Rattle.xsv_run.specs.Output.{asked};
+ghost use Rattle.xsv_run.specs.Output as output;
 
 use crate::{Request, Task};
+use stream_answers::Wanted;
 use stream_sections::Asked;
 use xs_names::Text;
 
@@ -14,14 +15,26 @@ pub enum WordsFault {
     NotText,
 }
 
+/// What a stream is read for.
+fn asked_of(task: Task) -> Asked
+    ensures { result ≡ output.asked_of task }
+{
+    match task {
+        Task::Check => Asked::Check,
+        Task::Assess => Asked::Assess,
+        Task::Session => Asked::Session,
+    }
+}
+
 /// What the words ask for, `None` where they are none of the program's or ask for what is not built.
-pub fn read_words(words: &[Text]) -> Option<Asked>
-    ensures { result ≡ asked words.now }
+pub fn read_words(words: &[Text]) -> Option<Wanted>
+    ensures { result ≡ output.wanted words.now }
 {
     match crate::read_words(words) {
-        Some(Request::Read(Task::Check, _)) => Some(Asked::Check),
-        Some(Request::Read(Task::Assess, _)) => Some(Asked::Assess),
-        Some(Request::Read(Task::Session, _)) => Some(Asked::Session),
+        Some(Request::Read(task, most)) => Some(Wanted {
+            asked: asked_of(task),
+            most,
+        }),
         Some(Request::Generate(_, _)) => None,
         Some(Request::Trial(_, _)) => None,
         None => None,

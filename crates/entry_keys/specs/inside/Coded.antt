@@ -1,5 +1,5 @@
 -- Entries with the codes of identity constraints, from the last to the first.
-use Rattle.std.specs.Prelude.{◌≡◌, ℕ, List, [], ◌∷◌, ◌++◌, take, drop}
+use Rattle.std.specs.Prelude.{ℕ, zero, suc, List, [], ◌∷◌}
 use Rattle.xs_names.specs.Names.{NameTable}
 use Rattle.xs_codes.specs.declared.fault.Found.{Found}
 use Rattle.xs_components.specs.Tables.{Tables}
@@ -31,9 +31,14 @@ module _ (names : NameTable) (t : Tables) (identities : List IdentityPaths) wher
   coded [] = []
   coded (e ∷ es) = coded_first e (coded es) ∷ coded es
 
-  -- so the entry of a place has
-  pub record IsCodedAt (place : ℕ) (old new : List ElementEntry) : Type 0 where
-    pub own : ElementEntry
-    pub rest : List ElementEntry
-    pub old_is : old ≡ take place old ++ own ∷ rest
-    pub new_is : new ≡ take place old ++ coded_first own rest ∷ rest
+  -- the entry of a place has its codes, where those behind it have theirs
+  abbrev pub coded_at : ℕ → List ElementEntry → List ElementEntry
+  coded_at n [] = []
+  coded_at zero (e ∷ es) = coded_first e es ∷ es
+  coded_at (suc n) (e ∷ es) = e ∷ coded_at n es
+
+  -- so many at the front are as they were, and those behind them have their codes
+  abbrev pub coded_from : ℕ → List ElementEntry → List ElementEntry
+  coded_from zero es = coded es
+  coded_from (suc n) [] = []
+  coded_from (suc n) (e ∷ es) = e ∷ coded_from n es

@@ -1,9 +1,9 @@
 -- How often tuples are there.
-use Rattle.std.specs.Prelude.{◌≡◌, ℕ, ◌+◌, ◌&&◌, ◌||◌, ◌==◌, not, Bool, List, [], ◌∷◌, if◌then◌else◌}
+use Rattle.std.specs.Prelude.{◌≡◌, ℕ, ◌+◌, ◌&&◌, ◌||◌, ◌==◌, not, Bool, false, List, [], ◌∷◌, if◌then◌else◌}
 use Rattle.simple_values.specs.declared.key.Key.{Key}
 use Rattle.identity_tables.specs.Tuple.{same_tuple}
 use Rattle.identity_tables.specs.KeyTables.{own_count}
-use Rattle.identity_constraints.specs.Satisfied.{has_tuple, is_held}
+use Rattle.identity_constraints.specs.Satisfied.{has_tuple, has_repeated, is_held}
 use Rattle.key_codes.specs.declared.repeated.Bag.{Bag}
 use Rattle.key_codes.specs.declared.holding.Sources.{Sources}
 
@@ -23,6 +23,12 @@ IsBag tuples bag = (tuple : List Key) → count_in bag tuple ≡ times tuple tup
 abbrev pub IsOneMore : List Key → Bag → Bag → Type 0
 IsOneMore added old new = (tuple : List Key) → count_in new tuple ≡ count_in old tuple + (if same_tuple added tuple then 1 else 0)
 
+-- Whether two of all these tuples are equal; where none are, the bag has all of them.
+pub record AreJoined (all : List (List Key)) (repeated : Bool) (bag : Bag) : Type 0 where
+  pub told : repeated ≡ has_repeated all
+  pub kept : repeated ≡ false → IsBag all bag
+
+-- the bags have the own tuples and those below
 pub record AreSources (own below : List (List Key)) (s : Sources) : Type 0 where
   pub own_are : IsBag own s.own
   pub below_are : IsBag below s.below

@@ -1,5 +1,5 @@
 -- What a turn of the code has done.
-use Rattle.std.specs.Prelude.{◌≡◌, ◌<◌, ℕ, List, Option, Some, None, length}
+use Rattle.std.specs.Prelude.{◌≡◌, ◌<◌, ℕ, Option, Some, None, length}
 use Rattle.told.specs.Told.{Told, over}
 use Rattle.told.specs.declared.ending.Ending.{Ending}
 use Rattle.open_document.specs.State.{WorkState, empty, ready, working, IsReady, IsOpen as IsDocumentOpen}
@@ -26,10 +26,10 @@ IsOpen (places.Ended verdict) work = Unit {0}
 abbrev pub spot_of : Place → WorkState → Spot
 spot_of (places.Schemas r) work = schemas r
 spot_of (places.Document r) empty = ended None
-spot_of (places.Document r) (ready set) = document set r
+spot_of (places.Document r) (ready basis) = document basis r
 spot_of (places.Document r) (working s) = ended None
 spot_of (places.Commands r) empty = ended None
-spot_of (places.Commands r) (ready set) = ended None
+spot_of (places.Commands r) (ready basis) = ended None
 spot_of (places.Commands r) (working s) = commands s r
 spot_of (places.Ended verdict) work = ended verdict
 

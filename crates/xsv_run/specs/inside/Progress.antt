@@ -11,7 +11,7 @@ use Rattle.told.specs.declared.break_off.BreakOff.{BreakOff}
 use Rattle.told.specs.declared.ending.Ending.{Ending}
 use Rattle.stream_answers.specs.inside.Turns.{told}
 use Rattle.stream_answers.specs.inside.Turning.{IsStanding, stands}
-use Rattle.stream_sections.specs.declared.asked.Asked.{Asked}
+use Rattle.stream_answers.specs.declared.wanted.Wanted.{Wanted}
 use Rattle.xsv_run.specs.Output.{told_of}
 use Rattle.xsv_run.specs.declared.next.Next.{Next}
 use Rattle.xsv_run.specs.declared.next.Next.TheVariants as nexts
@@ -21,7 +21,7 @@ use Rattle.xsv_run.specs.declared.reader.Reader.{Reader}
 
 -- what is still to be told when these bytes come, with none after them if closed
 abbrev pub to_tell : Reader → List ℕ → Bool → Told
-to_tell r more closed = told r.stream.asked r.listing.past.lines (stands r.stream) (listed r.listing more closed)
+to_tell r more closed = told r.stream.wanted r.listing.past.lines (stands r.stream) (listed r.listing more closed)
 
 -- some text was written, and whatever comes, what was to be told is that text and what is still to be told
 abbrev pub GoesOn : Reader → Trace → Reader → Trace → Type 0
@@ -134,8 +134,8 @@ FailsRead pieces.Failed = Unit {0}
 FailsRead (pieces.Ends ended) = ⊥
 
 -- so many bytes were taken, and a text was written that they tell; the stream stands here
-pub record StandsAt (a : Asked) (rest_old rest_new : Option (List ℕ)) (old new : Trace) (r : Reader) : Type 0 where
+pub record StandsAt (w : Wanted) (rest_old rest_new : Option (List ℕ)) (old new : Trace) (r : Reader) : Type 0 where
   pub bytes : List ℕ
   pub consumed : Consumes rest_old rest_new bytes
   pub counted : bytes_taken r.listing ≡ length bytes
-  pub goes : (more : List ℕ) (closed : Bool) → Goes (told_of a (bytes ++ more) closed) old new (to_tell r more closed)
+  pub goes : (more : List ℕ) (closed : Bool) → Goes (told_of w (bytes ++ more) closed) old new (to_tell r more closed)

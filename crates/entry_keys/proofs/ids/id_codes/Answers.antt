@@ -1,7 +1,7 @@
 use Rattle.identity_tables.specs.Table.{IsTableOf}
 use Rattle.std.proofs.Common.{◌++◌, ◌∙◌, subst, ap, take}
 use Rattle.identity_tables.specs.Ids.{borne_in, borne_in_all}
-use Rattle.entry_keys.proofs.Joining.{atoms_in, atoms_next}
+use Rattle.entry_keys.proofs.Together.{atoms_in, atoms_next}
 use Rattle.entry_keys.proofs.ids.id_codes.Goals as goal
 
 pub loop-entry-preserved : goal.loop-entry-preserved

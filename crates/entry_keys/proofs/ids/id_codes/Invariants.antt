@@ -1,6 +1,6 @@
 use Rattle.std.proofs.Common.{take}
 use Rattle.identity_tables.specs.Table.{IsTableOf}
-use Rattle.entry_keys.proofs.Joining.{atoms_in}
+use Rattle.entry_keys.proofs.Together.{atoms_in}
 use Rattle.entry_keys.proofs.ids.id_codes.Given as goal
 
 abbrev pub invariant-loop-entry : goal.invariant-loop-entry

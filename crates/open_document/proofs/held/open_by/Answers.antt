@@ -1,13 +1,12 @@
-use Rattle.compiled_schema.specs.Usable.{set_of}
-use Rattle.open_document.specs.Held.{work_of}
+use Rattle.open_document.specs.Held.{basis_of, work_of}
 use Rattle.open_document.proofs.Accepted.{opened_open, opened_by}
 use Rattle.open_document.proofs.held.open_by.Goals as goal
 
 pub returns-in-Ok-clause-opened : goal.returns-in-Ok-clause-opened
 returns-in-Ok-clause-opened g c =
-    opened_by c.work_on.result (set_of c.args.set.value) c.args.tree (work_of c.work_on.new.held) c.in-Ok.session c.in-Ok.ensures.opened c.work_on.ensures.working
+    opened_by c.work_on.result c.args.most (basis_of c.args.basis) c.args.tree (work_of c.work_on.new.held) c.in-Ok.session c.in-Ok.ensures.opened c.work_on.ensures.working
 
 pub returns-in-Ok-clause-open : goal.returns-in-Ok-clause-open
 returns-in-Ok-clause-open g c =
-    opened_open c.work_on.result (set_of c.args.set.value) c.args.tree (work_of c.work_on.new.held)
-    (opened_by c.work_on.result (set_of c.args.set.value) c.args.tree (work_of c.work_on.new.held) c.in-Ok.session c.in-Ok.ensures.opened c.work_on.ensures.working)
+    opened_open c.work_on.result c.args.most (basis_of c.args.basis) c.args.tree (work_of c.work_on.new.held)
+    (opened_by c.work_on.result c.args.most (basis_of c.args.basis) c.args.tree (work_of c.work_on.new.held) c.in-Ok.session c.in-Ok.ensures.opened c.work_on.ensures.working)

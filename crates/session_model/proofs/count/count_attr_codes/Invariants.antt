@@ -1,9 +1,6 @@
-use Rattle.std.proofs.Common.{◌≡◌, ◌+◌, length}
+use Rattle.std.proofs.Common.{◌≡◌, ◌+◌, drop}
 use Rattle.session_model.specs.Asking.{attr_total}
 use Rattle.session_model.proofs.count.count_attr_codes.Given as goal
 
-abbrev pub invariant-attrs : goal.invariant-attrs
-invariant-attrs l = l.total + attr_total l.left ≡ attr_total l.attrs
-
-abbrev pub decreases-attrs : goal.decreases-attrs
-decreases-attrs l = length l.left
+abbrev pub invariant-loop-record : goal.invariant-loop-record
+invariant-loop-record l = l.total + attr_total (drop l.record-index l.attrs) ≡ attr_total l.attrs

@@ -1,11 +1,10 @@
-use Rattle.std.proofs.Common.{◌≡◌, Some, ap, sym, ◌∙◌}
+use Rattle.std.proofs.Common.{Some, ap, sym, ◌∙◌}
 use Rattle.told.proofs.Going.{goes_same}
 use Rattle.told.proofs.Saying.{memory_breaks}
 use Rattle.open_document.specs.declared.verdict.Verdict.{Verdict}
 use Rattle.stream_answers.specs.inside.Turns.{ended}
 use Rattle.stream_answers.specs.inside.Turning.{spot_of}
 use Rattle.stream_answers.specs.declared.place.Place.{Place}
-use Rattle.stream_answers.specs.declared.place.Place.TheVariants as places
 use Rattle.stream_answers.proofs.commands.end_commands.Goals as goal
 
 pub returns-in-Ok-clause-takes : goal.returns-in-Ok-clause-takes

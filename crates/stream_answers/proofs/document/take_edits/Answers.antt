@@ -1,7 +1,4 @@
 use Rattle.std.proofs.Common.{◌≡◌, refl, sym, subst}
-use Rattle.told.specs.Told.{Told}
-use Rattle.open_document.specs.Answers.{verdict}
-use Rattle.open_document.specs.State.{OpenState, working}
 use Rattle.stream_answers.specs.inside.Turns.{commands, no_block}
 use Rattle.stream_answers.specs.inside.Turning.{spot_of, moved}
 use Rattle.stream_answers.specs.declared.place.Place.TheVariants as places
@@ -10,13 +7,13 @@ use Rattle.stream_answers.proofs.Opening.{opening_answers, opening_breaks}
 use Rattle.stream_answers.proofs.document.take_edits.Goals as goal
 
 pub returns-in-Ok-clause-takes : goal.returns-in-Ok-clause-takes
-returns-in-Ok-clause-takes g c set next stood e =
-    let h = c.in-Ok.ensures.opened set e in
-    opening_answers c.args.asked set c.args.tree (λ s. next (commands s no_block)) c.open.new.self h c.begin_edits.result _ _ _ _ _
+returns-in-Ok-clause-takes g c basis next stood e =
+    let h = c.in-Ok.ensures.opened basis e in
+    opening_answers c.args.wanted basis c.args.tree (λ s. next (commands s no_block)) c.open.new.self h c.begin_edits.result _ _ _ _ _
     (c.begin_edits.ensures.wrote h.document h.work_is) c.in-Ok.ensures.steps.later c.in-Ok.ensures.steps.few
     (if_goes next stood c.open.new.self c.begin_edits.result (places.Commands no_block) (commands h.document no_block)
     (subst (λ w. spot_of (places.Commands no_block) w ≡ commands h.document no_block) (sym h.work_is) refl) c.begin_edits.ensures.goes)
 
 pub returns-in-Err-clause-takes : goal.returns-in-Err-clause-takes
-returns-in-Err-clause-takes g c set next stood e =
-    opening_breaks c.args.asked set c.args.tree (λ s. next (commands s no_block)) _ _ _ (moved next stood c.open.new.self) c.in-Err.ensures.steps.later c.in-Err.ensures.steps.few
+returns-in-Err-clause-takes g c basis next stood e =
+    opening_breaks c.args.wanted basis c.args.tree (λ s. next (commands s no_block)) _ _ _ (moved next stood c.open.new.self) c.in-Err.ensures.steps.later c.in-Err.ensures.steps.few

@@ -1,4 +1,4 @@
-use Rattle.std.proofs.Common.{◌≡◌, ◌≤◌, arith, refl, sym, subst, ◌∙◌}
+use Rattle.std.proofs.Common.{◌≤◌, arith, refl, sym, subst, ◌∙◌}
 use Rattle.item_listing.specs.Listed.{Waits}
 use Rattle.told.specs.Going.{trace}
 use Rattle.xsv_run.proofs.Telling.{answers_by, answers_broken, not_words, not_read, write_failed, rose_later}
@@ -24,7 +24,7 @@ pub pieces-preserved : goal.pieces-preserved
 pieces-preserved g c =
     let old = c.pieces.invariant in
     let two = c.in-Goes.ensures.takes in
-    let a = c.args.reader.now.stream.asked in
+    let a = c.args.reader.now.stream.wanted in
     let room = room_further a (g.S.Source.rest c.args.source.now) (g.S.Source.rest c.pieces.source) (g.S.Source.rest c.take_piece.new.source)
     (trace (g.W.Sink.taken c.args.sink.now) c.args.steps.now) (trace (g.W.Sink.taken c.pieces.sink) c.pieces.steps) (trace (g.W.Sink.taken c.take_piece.new.sink) c.take_piece.new.steps)
     c.pieces.reader c.take_piece.new.reader c.in-Goes.count c.pieces.room two old.room in
@@ -46,7 +46,7 @@ pieces-preserved g c =
 
 pub returns-in-Ends-clause-output : goal.returns-in-Ends-clause-output
 returns-in-Ends-clause-output g c =
-    answers_by c.args.reader.now.stream.asked _ c.in-Ends.ended _ _ c.of_stream-in-Ends.result c.of_stream-in-Ends.ensures
+    answers_by c.args.reader.now.stream.wanted _ c.in-Ends.ended _ _ c.of_stream-in-Ends.result c.of_stream-in-Ends.ensures
     (output_ends _ _ _ _ _ _ _ _ c.in-Ends.ended c.pieces.invariant.stands c.in-Ends.ensures.takes)
 
 pub returns-in-Ends-clause-few : goal.returns-in-Ends-clause-few
@@ -75,12 +75,12 @@ returns-in-Ends-clause-causes g c = record {
 
 pub returns-in-AtEnd-clause-output : goal.returns-in-AtEnd-clause-output
 returns-in-AtEnd-clause-output g c =
-    answers_by c.args.reader.now.stream.asked _ c.finish.result _ _ c.of_stream.result c.of_stream.ensures
+    answers_by c.args.reader.now.stream.wanted _ c.finish.result _ _ c.of_stream.result c.of_stream.ensures
     (output_last _ _ _ _ _ _ _ _ _ _ c.pieces.invariant.stands c.in-AtEnd.ensures.takes c.finish.result c.finish.ensures.ends)
 
 pub returns-in-AtEnd-clause-few : goal.returns-in-AtEnd-clause-few
 returns-in-AtEnd-clause-few g c =
-    few_last c.args.reader.now.stream.asked _ _ _ _ _ _ (trace (g.W.Sink.taken c.take_piece.new.sink) c.take_piece.new.steps) _ _ c.pieces.invariant.stands c.in-AtEnd.ensures.takes c.pieces.room c.pieces.invariant.room
+    few_last c.args.reader.now.stream.wanted _ _ _ _ _ _ (trace (g.W.Sink.taken c.take_piece.new.sink) c.take_piece.new.steps) _ _ c.pieces.invariant.stands c.in-AtEnd.ensures.takes c.pieces.room c.pieces.invariant.room
 
 pub returns-in-AtEnd-clause-broken : goal.returns-in-AtEnd-clause-broken
 returns-in-AtEnd-clause-broken g c = λ is. absurd (not_read c.finish.result c.of_stream.result c.of_stream.ensures is)
@@ -107,12 +107,12 @@ returns-in-AtEnd-clause-causes g c =
 
 pub returns-in-Failed-clause-output : goal.returns-in-Failed-clause-output
 returns-in-Failed-clause-output g c =
-    answers_broken c.args.reader.now.stream.asked _ _ _ (output_broken _ _ _ _ _ _ _ c.pieces.invariant.stands c.in-Failed.ensures.takes.1)
+    answers_broken c.args.reader.now.stream.wanted _ _ _ (output_broken _ _ _ _ _ _ _ c.pieces.invariant.stands c.in-Failed.ensures.takes.1)
 
 pub returns-in-Failed-clause-broken : goal.returns-in-Failed-clause-broken
 returns-in-Failed-clause-broken g c = λ is.
-    stops_broken c.args.reader.now.stream.asked _ _ _ _ _ _ _ c.pieces.invariant.stands c.pieces.invariant.waits c.pieces.invariant.going c.in-Failed.ensures.takes.1 c.in-Failed.ensures.takes.2
+    stops_broken c.args.reader.now.stream.wanted _ _ _ _ _ _ _ c.pieces.invariant.stands c.pieces.invariant.waits c.pieces.invariant.going c.in-Failed.ensures.takes.1 c.in-Failed.ensures.takes.2
 
 pub returns-in-Failed-clause-few : goal.returns-in-Failed-clause-few
 returns-in-Failed-clause-few g c =
-    few_failed c.args.reader.now.stream.asked _ _ _ _ _ (trace (g.W.Sink.taken c.take_piece.new.sink) c.take_piece.new.steps) _ c.pieces.invariant.stands (omega (arith, c.pieces.invariant.room)) c.in-Failed.ensures.takes.2
+    few_failed c.args.reader.now.stream.wanted _ _ _ _ _ (trace (g.W.Sink.taken c.take_piece.new.sink) c.take_piece.new.steps) _ c.pieces.invariant.stands (omega (arith, c.pieces.invariant.room)) c.in-Failed.ensures.takes.2

@@ -9,7 +9,7 @@ use Rattle.xsv_run.proofs.stream.take_pieces.Given as goal
 
 abbrev pub invariant-pieces : goal.invariant-pieces
 invariant-pieces g l = record {
-  stands : StandsAt l.fn.reader.stream.asked (g.S.Source.rest l.fn.source) (g.S.Source.rest l.source) (trace (g.W.Sink.taken l.fn.sink) l.fn.steps) (trace (g.W.Sink.taken l.sink) l.steps) l.reader;
+  stands : StandsAt l.fn.reader.stream.wanted (g.S.Source.rest l.fn.source) (g.S.Source.rest l.source) (trace (g.W.Sink.taken l.fn.sink) l.fn.steps) (trace (g.W.Sink.taken l.sink) l.steps) l.reader;
   is_open : IsStanding l.reader.stream;
   waits : Waits l.reader.listing;
   going : l.reader.listing.finished ≡ false;

@@ -1,4 +1,4 @@
-use Rattle.std.proofs.Common.{sym, subst}
+use Rattle.std.proofs.Common.{subst}
 use Rattle.told.specs.Told.{Told}
 use Rattle.told.specs.Going.{Goes, trace}
 use Rattle.stream_answers.specs.inside.Turns.{turned}
@@ -8,7 +8,7 @@ use Rattle.stream_answers.proofs.stream.Stream.answer.Goals as goal
 
 pub returns-in-Ok-clause-takes : goal.returns-in-Ok-clause-takes
 returns-in-Ok-clause-takes g c next =
-    let x = turned c.args.self.now.asked c.args.line (stands c.args.self.now) c.args.item next in
+    let x = turned c.args.self.now.wanted c.args.line (stands c.args.self.now) c.args.item next in
     let a = trace (g.W.Sink.taken c.args.sink.now) c.args.steps.now in
     let b = trace (g.W.Sink.taken c.take.new.sink) c.take.new.steps in
     subst (λ (t : Told). Goes x a b t)

@@ -1,7 +1,6 @@
-use Rattle.std.proofs.Common.{Ok, Err, refl, ap, ◌∙◌, arith}
+use Rattle.std.proofs.Common.{Ok, Err, refl, ap, ◌∙◌}
 use Rattle.item_listing.specs.State.{Reading}
 use Rattle.xsv_run.proofs.Going.{ends_last, finished_last}
-use Rattle.xsv_run.proofs.Telling.{rose_later}
 use Rattle.xsv_run.specs.declared.reader.Reader.{Reader}
 use Rattle.xsv_run.proofs.reader.Reader.finish.Goals as goal
 

@@ -1,5 +1,4 @@
 use Rattle.std.proofs.Common.{Ok, ap, ◌∙◌}
-use Rattle.told.specs.Going.{trace}
 use Rattle.xsv_run.proofs.Items.{item_read, item_holds, none_read, none_pauses, fault_read, memory_ends}
 use Rattle.xsv_run.specs.declared.reader.Reader.{Reader}
 use Rattle.xsv_run.proofs.reader.Reader.take_next.Goals as goal
@@ -12,7 +11,7 @@ returns-in-Ok-Ok-Some-clause-takes g c =
     let s : Reader = record { listing = c.next_item.new.self; stream = c.answer.new.self } in
     item_read c.args.self.now s _ c.in-Ok-Ok-Some.item c.line_count-line.result _ _ c.answer.result c.next_of.result
     (c.in-Ok-Ok-Some.field-0-is ∙ ap Ok c.in-Ok-Ok-Some.field-0-0-is) c.in-Ok-Ok-Some.ensures.listed c.in-Ok-Ok-Some.ensures.leaves c.line_count-line.ensures
-    c.answer.ensures.asked c.answer.ensures.takes c.next_of.ensures
+    c.answer.ensures.wanted c.answer.ensures.takes c.next_of.ensures
 
 pub returns-in-Ok-Ok-Some-clause-holds : goal.returns-in-Ok-Ok-Some-clause-holds
 returns-in-Ok-Ok-Some-clause-holds g c =
