@@ -1,9 +1,9 @@
 -- What nodes hold is what their heads and names show.
-use Rattle.std.proofs.Common.{◌≡◌, ℕ, ◌+◌, ◌<◌, List, [], ◌∷◌, ◌++◌, length, map, take, get_or, Bool, true, false, Option, Some, None, refl, sym, ap, ◌∙◌}
+use Rattle.std.proofs.Common.{◌≡◌, ℕ, ◌+◌, ◌<◌, List, [], ◌∷◌, ◌++◌, length, map, take, get_or, Bool, true, false, Option, Some, None, Result, Ok, Err, IfOk, refl, sym, ap, ◌∙◌}
 use Rattle.std.specs.Prelude.{filter, reverse, unwrap_or}
 use Rattle.std.specs.Option.{option_map, option_and_then}
 use Rattle.std.proofs.lemmas.List.Elements.{filter-append}
-use Rattle.std.proofs.lemmas.List.{map-append, take_more}
+use Rattle.std.proofs.lemmas.List.{append-nil, map-append, take_more}
 use Rattle.std.proofs.lemmas.Option.{same_Some, none-some}
 use Rattle.assess_records.specs.Numbered.{Scope}
 use Rattle.elem_governing.specs.declared.head.ElementHead.{ElementHead}
@@ -80,3 +80,15 @@ more_named f p xs i l =
     sym (ap (λ ys. map f (filter p ys)) (take_more xs i 0 l)
     ∙ ap (map f) (filter-append p (take i xs) (get_or xs i 0 ∷ []))
     ∙ map-append f (filter p (take i xs)) (filter p (get_or xs i 0 ∷ [])))
+
+-- a name more, or none
+pub some_more : (f : ℕ → ℕ) (p : ℕ → Bool) (old new : List ℕ) (n name : ℕ) → map f (filter p (n ∷ [])) ≡ name ∷ [] → new ≡ old ++ name ∷ [] → new ≡ old ++ map f (filter p (n ∷ []))
+some_more f p old new n name one is = is ∙ ap (λ l. old ++ l) (sym one)
+
+pub none_more : (f : ℕ → ℕ) (p : ℕ → Bool) (old : List ℕ) (n : ℕ) → map f (filter p (n ∷ [])) ≡ [] → old ≡ old ++ map f (filter p (n ∷ []))
+none_more f p old n none = sym (ap (λ l. old ++ l) none ∙ append-nil old)
+
+-- what three clauses say together
+pub ok_all : {T E : Type 0} (r : Result T E) (P Q R S : T → Type 0) → IfOk r P → IfOk r Q → IfOk r R → ((x : T) → P x → Q x → R x → S x) → IfOk r S
+ok_all (Ok x) P Q R S p q o f = f x p q o
+ok_all (Err e) P Q R S p q o f = tt
