@@ -16,7 +16,7 @@ use Rattle.tree_edits.specs.Tests.{width_of, depth_of, is_element, made, with_no
 use Rattle.tree_edits.specs.declared.edit.Edit.TheVariants as edits
 use Rattle.tree_edits.specs.declared.edit.EditError.{EditError}
 use Rattle.tree_edits.specs.declared.edit.EditError.TheVariants.{UnknownNode, NotElement, NotText, RootFixed, BadIndex, TooManyNodes, TooDeep}
-use Rattle.tree_edits.proofs.Spotting.{missing}
+use Rattle.tree_edits.proofs.Standing.{missing}
 use Rattle.tree_edits.proofs.Testing.{edit_tested}
 use Rattle.tree_edits.proofs.Lying.{lies, deepest_here}
 use Rattle.doc_nodes.specs.Nodes.{Node, Nodes, node, IsNode, IsSound, Has, depth_by, children_by}
