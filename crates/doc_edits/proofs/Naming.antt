@@ -139,7 +139,7 @@ module _ (t : NameTable) (ns : Nodes) (d : Document) (z : StandsFor t ns d) (n :
       }
 
   pub full_here : (name : Expanded) → has_attribute d n name ≡ false → 256 ≤ length (attributes_at ns n) + length (bindings_at ns n) → is_full d n name ≡ true
-  full_here name none much = let size = sizes_here in no_room name (bindings_of (found n 1 d.forest)) (attributes_of (found n 1 d.forest)) none (omega (arith, much, size))
+  full_here name lacks much = let size = sizes_here in no_room name (bindings_of (found n 1 d.forest)) (attributes_of (found n 1 d.forest)) lacks (omega (arith, much, size))
 
   -- it has at most 256 of both
   pub few_here : length (attributes_at ns n) + length (bindings_at ns n) ≤ 256

@@ -2,6 +2,7 @@
 use Rattle.std.proofs.Common.{◌≡◌, ◌≢◌, ℕ, ◌+◌, ◌<◌, ◌≤◌, List, [], ◌∷◌, length, Bool, true, false, ◌==◌, if◌then◌else◌, Option, Some, None, Result, Ok, Err, sym, ap, ◌∙◌, subst, refl, arith}
 use Rattle.std.specs.Prelude.{not}
 use Rattle.std.proofs.lemmas.Bool.{false_from_ne_true}
+use Rattle.std.proofs.lemmas.Bool.Decides.{nat_tests}
 use Rattle.xs_names.specs.Names.{NameTable, IsSound}
 use Rattle.item_listing.specs.declared.item.Item.{Item}
 use Rattle.tree_rows.specs.Forest.{Forest, none, text, element, Document, count}
@@ -57,9 +58,12 @@ pub attribute_is : (scope : List Binding) (name : List ℕ) (own : Expanded) →
 attribute_is scope name own is = resolved_is (is_no_qname name) (is_unbound scope (prefix_of name)) (binds name) (attribute_name scope name) own is
 
 -- it has no empty namespace
+named_if : (name : List ℕ) (t : Bool) → (length name == 0) ≡ t → IsNamespace (if t then None else Some name)
+named_if name true e = tt
+named_if name false e = grind (arith, nat_tests, e)
+
 named_space : (name : List ℕ) → IsNamespace (namespace_named name)
-named_space [] = tt
-named_space (c ∷ cs) = omega arith
+named_space name = named_if name (length name == 0) refl
 
 space_by : (o : Option (List ℕ)) → IsNamespace (namespace_by o)
 space_by None = tt
@@ -96,8 +100,8 @@ insert_refused d parent place its e p why =
 
 pub insert_misplaced : (d : Document) (parent place : ℕ) (its : List Item) (e : EditError)
     → ((change : ℕ → Result Document EditError) → put d.forest parent place change ≡ Err e) → IsWhy (edited d (edits.Insert parent place its)) e
-insert_misplaced d parent place its e no =
-    why_is (edited d (edits.Insert parent place its)) e (sym (edit_tested d (edits.Insert parent place its)) ∙ no (insert_within d parent place (names_scope d parent) its))
+insert_misplaced d parent place its e refused =
+    why_is (edited d (edits.Insert parent place its)) e (sym (edit_tested d (edits.Insert parent place its)) ∙ refused (insert_within d parent place (names_scope d parent) its))
 
 pub insert_prepared : (t u : NameTable) (ns : Nodes) (d : Document) (parent place : ℕ) (its : List Item) (part : Document) → IsPart d parent place its part → u ≡ document_table t part.forest
     → IsPrepared t u ns d (edits.Insert parent place its) (changes.Insert parent place part)
@@ -118,13 +122,13 @@ text_prepared t ns d parent place chars p room = record {
 
 pub text_misplaced : (d : Document) (parent place : ℕ) (chars : List ℕ) (e : EditError)
     → ((change : ℕ → Result Document EditError) → put d.forest parent place change ≡ Err e) → IsWhy (edited d (edits.AddText parent place chars)) e
-text_misplaced d parent place chars e no =
-    why_is (edited d (edits.AddText parent place chars)) e (sym (edit_tested d (edits.AddText parent place chars)) ∙ no (put_within d parent place (text 0 chars none)))
+text_misplaced d parent place chars e refused =
+    why_is (edited d (edits.AddText parent place chars)) e (sym (edit_tested d (edits.AddText parent place chars)) ∙ refused (put_within d parent place (text 0 chars none)))
 
 pub text_refused : (d : Document) (parent place : ℕ) (chars : List ℕ) (e : EditError) → HasPlace d parent place
     → put_within d parent place (text 0 chars none) (depth_of (found parent 1 d.forest)) ≡ Err e → IsWhy (edited d (edits.AddText parent place chars)) e
-text_refused d parent place chars e p no =
-    why_is (edited d (edits.AddText parent place chars)) e (sym (edit_tested d (edits.AddText parent place chars)) ∙ p.puts (put_within d parent place (text 0 chars none)) ∙ no)
+text_refused d parent place chars e p refused =
+    why_is (edited d (edits.AddText parent place chars)) e (sym (edit_tested d (edits.AddText parent place chars)) ∙ p.puts (put_within d parent place (text 0 chars none)) ∙ refused)
 
 -- a name is refused
 by_reason : (change : Expanded → Result Document EditError) (r : Result Expanded NameReason) (e : EditError) → IsReason r e → e ≢ Memory → by_name change r ≡ Err e
@@ -197,10 +201,10 @@ module _ (t : NameTable) (ns : Nodes) (d : Document) (z : StandsFor t ns d) (n :
 -- an element that is missing
 pub none_changed : (d : Document) (n : ℕ) (e : EditError) → IsNoElement d n e
     → ((name : List ℕ) → edited d (edits.Rename n name) ≡ Err e) × ((name value : List ℕ) → edited d (edits.SetAttr n name value) ≡ Err e) × ((name : List ℕ) → edited d (edits.UnsetAttr n name) ≡ Err e)
-none_changed d n e no = (
-  λ name. sym (edit_tested d (edits.Rename n name)) ∙ no.changes (rename d n name),
-  λ name value. sym (edit_tested d (edits.SetAttr n name value)) ∙ no.changes (set_attribute d n name value),
-  λ name. sym (edit_tested d (edits.UnsetAttr n name)) ∙ no.changes (unset_attribute d n name),
+none_changed d n e refused = (
+  λ name. sym (edit_tested d (edits.Rename n name)) ∙ refused.changes (rename d n name),
+  λ name value. sym (edit_tested d (edits.SetAttr n name value)) ∙ refused.changes (set_attribute d n name value),
+  λ name. sym (edit_tested d (edits.UnsetAttr n name)) ∙ refused.changes (unset_attribute d n name),
 )
 
 -- other characters

@@ -11,7 +11,7 @@ use Rattle.doc_edits.proofs.Inserting.{room_refused, late_refused, inserted, par
 use Rattle.doc_edits.proofs.blocks.block_part.Goals as goal
 
 pub returns-in_err-judged-clause-err : goal.returns-in_err-judged-clause-err
-returns-in_err-judged-clause-err c = err_same c.from_residual-in_err-judged.result Memory _ c.from_residual-in_err-judged.ensures.1 (λ t d place z. tt)
+returns-in_err-judged-clause-err c = err_same c.from_residual.result Memory _ c.from_residual.ensures.1 (λ t d place z. tt)
 
 pub returns-in_err-early-clause-err : goal.returns-in_err-early-clause-err
 returns-in_err-early-clause-err c =

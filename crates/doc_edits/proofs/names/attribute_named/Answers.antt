@@ -7,7 +7,7 @@ use Rattle.tree_edits.proofs.Outcomes.{err_same}
 use Rattle.doc_edits.proofs.names.attribute_named.Goals as goal
 
 pub returns-in_err-scope-clause-err : goal.returns-in_err-scope-clause-err
-returns-in_err-scope-clause-err c = err_same c.from_residual-in_err-scope.result Memory _ c.from_residual-in_err-scope.ensures.1 (λ d z never. absurd (never refl))
+returns-in_err-scope-clause-err c = err_same c.from_residual.result Memory _ c.from_residual.ensures.1 (λ d z never. absurd (never refl))
 
 pub returns-in_err-resolved-clause-err : goal.returns-in_err-resolved-clause-err
 returns-in_err-resolved-clause-err c = err_same c.from_residual-in_err-resolved.result Memory _ c.from_residual-in_err-resolved.ensures.1 (λ d z never. absurd (never refl))

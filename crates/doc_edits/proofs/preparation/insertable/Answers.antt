@@ -7,7 +7,7 @@ use Rattle.doc_edits.proofs.preparation.insertable.Goals as goal
 
 pub returns-in_err-place_here-clause-err : goal.returns-in_err-place_here-clause-err
 returns-in_err-place_here-clause-err c =
-    err_same c.from_residual-in_err-place_here.result c.in_err-place_here.field-0.0 _ c.from_residual-in_err-place_here.ensures.1
+    err_same c.from_residual.result c.in_err-place_here.field-0.0 _ c.from_residual.ensures.1
     (λ d z. insert_misplaced d c.args.parent c.args.index c.args.items.now c.in_err-place_here.field-0.0 (c.in_err-place_here.ensures.err c.args.names.now d z))
 
 pub returns-in_err-scope-clause-err : goal.returns-in_err-scope-clause-err

@@ -7,7 +7,7 @@ use Rattle.doc_edits.proofs.preparation.prepare_chars.Goals as goal
 
 pub returns-in_err-text_here-clause-err : goal.returns-in_err-text_here-clause-err
 returns-in_err-text_here-clause-err c =
-    err_same c.from_residual-in_err-text_here.result c.in_err-text_here.field-0.0 _ c.from_residual-in_err-text_here.ensures.1
+    err_same c.from_residual.result c.in_err-text_here.field-0.0 _ c.from_residual.ensures.1
     (λ t d z. why_is _ c.in_err-text_here.field-0.0 (c.in_err-text_here.ensures.err t d c.args.text.now z))
 
 pub returns-in_err-text-clause-err : goal.returns-in_err-text-clause-err

@@ -7,16 +7,13 @@ use Rattle.doc_edits.proofs.preparation.prepare_insert.Goals as goal
 
 pub returns-in_err-part-clause-err : goal.returns-in_err-part-clause-err
 returns-in_err-part-clause-err c =
-    err_same c.from_residual-in_err-part.result c.in_err-part.field-0.0 _ c.from_residual-in_err-part.ensures.1 (record { why = c.in_err-part.ensures.err; same = λ never. refl })
+    err_same c.from_residual.result c.in_err-part.field-0.0 _ c.from_residual.ensures.1 (record { why = c.in_err-part.ensures.err; same = λ never. refl })
 
 pub returns-in_err-part-clause-grown : goal.returns-in_err-part-clause-grown
 returns-in_err-part-clause-grown c = Grown-refl c.args.names.now
 
 pub returns-in_err-part-clause-sound : goal.returns-in_err-part-clause-sound
 returns-in_err-part-clause-sound c = c.requires.stands.1.table
-
-pub add_names-requires : goal.add_names-requires
-add_names-requires c = c.requires.stands.1.table
 
 pub returns-in_err-add_names-clause-err : goal.returns-in_err-add_names-clause-err
 returns-in_err-add_names-clause-err c =

@@ -8,7 +8,7 @@ use Rattle.doc_edits.proofs.preparation.prepare_text.Goals as goal
 
 pub returns-in_err-place_here-clause-err : goal.returns-in_err-place_here-clause-err
 returns-in_err-place_here-clause-err c =
-    err_same c.from_residual-in_err-place_here.result c.in_err-place_here.field-0.0 _ c.from_residual-in_err-place_here.ensures.1
+    err_same c.from_residual.result c.in_err-place_here.field-0.0 _ c.from_residual.ensures.1
     (λ t d z. text_misplaced d c.args.parent c.args.index c.args.text.now c.in_err-place_here.field-0.0 (c.in_err-place_here.ensures.err t d z))
 
 pub returns-in_err-fit-clause-err : goal.returns-in_err-fit-clause-err

@@ -6,7 +6,7 @@ use Rattle.doc_edits.proofs.preparation.prepare_unset.Goals as goal
 
 pub returns-in_err-element_here-clause-err : goal.returns-in_err-element_here-clause-err
 returns-in_err-element_here-clause-err c =
-    err_same c.from_residual-in_err-element_here.result c.in_err-element_here.field-0.0 _ c.from_residual-in_err-element_here.ensures.1
+    err_same c.from_residual.result c.in_err-element_here.field-0.0 _ c.from_residual.ensures.1
     (λ d z. why_is _ c.in_err-element_here.field-0.0 ((none_changed d c.args.node c.in_err-element_here.field-0.0 (c.in_err-element_here.ensures.err c.args.names.now d z)).2 c.args.name.now))
 
 pub returns-in_err-own-clause-err : goal.returns-in_err-own-clause-err

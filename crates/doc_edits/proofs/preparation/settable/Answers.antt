@@ -29,9 +29,6 @@ returns-in_err-one_more-in-None-clause-grown c = Grown-refl c.args.names.now
 pub returns-in_err-one_more-in-None-clause-sound : goal.returns-in_err-one_more-in-None-clause-sound
 returns-in_err-one_more-in-None-clause-sound c = c.requires.stands.1.table
 
-pub add_name-requires : goal.add_name-requires
-add_name-requires c = c.requires.stands.1.table
-
 pub returns-in_err-name-in-None-clause-err : goal.returns-in_err-name-in-None-clause-err
 returns-in_err-name-in-None-clause-err c =
     err_same c.from_residual-in_err-name-in-None.result Memory _ c.from_residual-in_err-name-in-None.ensures.1 (λ never. absurd (never refl))
