@@ -33,7 +33,7 @@ pub returns-in_err-name-in-None-clause-err : goal.returns-in_err-name-in-None-cl
 returns-in_err-name-in-None-clause-err c =
     err_same c.from_residual-in_err-name-in-None.result Memory _ c.from_residual-in_err-name-in-None.ensures.1 (λ never. absurd (never refl))
 
-pub returns-in-None-clause-ok : goal.returns-in-None-clause-ok
-returns-in-None-clause-ok c = λ d z.
+pub returns-in_ok-name-in-None-clause-ok : goal.returns-in_ok-name-in-None-clause-ok
+returns-in_ok-name-in-None-clause-ok c = λ d z.
     set_more c.args.names.now c.args.doc.now d z c.args.node c.requires.element c.add_name.new.names c.args.own.now c.in_ok-name-in-None.name
     c.requires.namespace c.add_name.ensures.sound c.in_ok-one_more-in-None.ensures.ok c.in_ok-name-in-None.ensures.table c.in_ok-name-in-None.ensures.number
