@@ -1,10 +1,10 @@
 -- The insertion of a block, step by step.
-use Rattle.std.proofs.Common.{◌≡◌, ℕ, ◌+◌, ◌≤◌, List, [], length, Bool, true, false, ◌||◌, if◌then◌else◌, nat_lt, Option, Some, None, Result, Ok, Err, sym, ap, ◌∙◌, refl, arith}
+use Rattle.std.proofs.Common.{◌≡◌, ℕ, ◌+◌, ◌≤◌, List, [], length, Bool, true, false, if◌then◌else◌, nat_lt, Option, Some, None, Result, Ok, Err, sym, ap, ◌∙◌, refl, arith}
 use Rattle.std.specs.List.{list_any}
 use Rattle.std.proofs.lemmas.Bool.{or_parts}
 use Rattle.std.proofs.lemmas.Bool.Decides.{nat_tests}
 use Rattle.item_listing.specs.declared.item.Item.{Item}
-use Rattle.tree_rows.specs.Forest.{Forest, Document, count, deepest_of}
+use Rattle.tree_rows.specs.Forest.{Document, count, deepest_of}
 use Rattle.tree_rows.specs.Whole.{IsTree}
 use Rattle.tree_rows.specs.declared.row.Binding.{Binding}
 use Rattle.tree_building.specs.Blocks.{one_element}
@@ -15,8 +15,7 @@ use Rattle.tree_rows.specs.Rows.{siblings}
 use Rattle.tree_rows.specs.declared.row.Row.{Row}
 use Rattle.tree_edits.proofs.Putting.{deep-whole}
 use Rattle.tree_edits.specs.Blocks.{tags_in, judged, early, late, has_too_many, has_double}
-use Rattle.tree_edits.specs.Edits.{found, put_within, insert_within, unless, then_unless, too_many_more}
-use Rattle.tree_edits.specs.Tests.{depth_of}
+use Rattle.tree_edits.specs.Edits.{put_within, insert_within, unless, then_unless, too_many_more}
 use Rattle.tree_edits.specs.Refusals.{IsWhy}
 use Rattle.tree_edits.specs.declared.edit.EditError.{EditError}
 use Rattle.tree_edits.specs.declared.edit.EditError.TheVariants.{TooManyAttributes, DoubleAttribute}

@@ -1,11 +1,11 @@
 -- The names of elements and attributes by the numbers of a table.
-use Rattle.std.proofs.Common.{◌≡◌, ◌≢◌, ℕ, zero, suc, drop, ◌+◌, ◌<◌, ◌≤◌, List, [], ◌∷◌, length, map, sym, ap, ◌∙◌, subst, Bool, true, false, ◌==◌, ◌||◌, if◌then◌else◌, Option, Some, None, Result, Ok, Err, refl, inl, inr, arith, All}
-use Rattle.std.specs.Prelude.{slice_get, slice_index_or, bytes_eq, MatchOption, IsSome, not, ◌&&◌, nat_le}
+use Rattle.std.proofs.Common.{◌≡◌, ◌≢◌, ℕ, ◌+◌, ◌<◌, ◌≤◌, List, [], ◌∷◌, length, map, sym, ap, ◌∙◌, subst, true, false, ◌==◌, if◌then◌else◌, Option, Some, None, refl, inl, inr, arith, All}
+use Rattle.std.specs.Prelude.{slice_get, slice_index_or, bytes_eq}
 use Rattle.std.specs.List.{list_any}
 use Rattle.std.specs.Option.{option_map}
-use Rattle.std.proofs.lemmas.Bool.{eqb-true, eq-eqb, ne_eqb, or_cases, or_left, or_right, true≢false}
+use Rattle.std.proofs.lemmas.Bool.{eqb-true, ne_eqb, or_cases, or_left, or_right, true≢false}
 use Rattle.std.proofs.lemmas.List.{length-map}
-use Rattle.std.proofs.lemmas.Option.{same_Some, none-some, slice_get_past, get_or_from_slice_get}
+use Rattle.std.proofs.lemmas.Option.{same_Some, none-some, get_or_from_slice_get}
 use Rattle.std.proofs.lemmas.Slice.Eq.{bytes_eq-Decides}
 use Rattle.xs_names.specs.Names as names
 use Rattle.xs_names.specs.Names.{NameTable, IsSound, absent_space, space_number, name_number}
@@ -16,7 +16,7 @@ use Rattle.tree_rows.specs.Whole.{IsNamespace, AreNodes}
 use Rattle.tree_rows.specs.declared.name.Expanded.{Expanded}
 use Rattle.tree_rows.specs.declared.row.Attribute.{Attribute}
 use Rattle.tree_rows.specs.declared.row.NodeKind.TheVariants as kinds
-use Rattle.tree_edits.specs.Changes.{has_name, has_no_room}
+use Rattle.tree_edits.specs.Changes.{has_name}
 use Rattle.tree_edits.specs.Edits.{Found, found}
 use Rattle.tree_edits.proofs.Lying.{Lies, lies}
 use Rattle.tree_edits.specs.Tests.{attributes_of, bindings_of, has_attribute, is_full}
@@ -26,12 +26,11 @@ use Rattle.tree_names.specs.Found.{HasSpace, HasName}
 use Rattle.tree_names.specs.Table.{with_expanded}
 use Rattle.tree_names.proofs.Numbers.{number_there, else_number, name_within, has_expanded}
 use Rattle.tree_names.proofs.Staying.{expanded_stays}
-use Rattle.doc_nodes.specs.Nodes.{Node, Nodes, node}
+use Rattle.doc_nodes.specs.Nodes.{Node, Nodes}
 use Rattle.doc_nodes.specs.declared.content.Content.{Content}
 use Rattle.doc_nodes.specs.declared.content.NameAttribute.{NameAttribute}
 use Rattle.doc_changes.specs.Stands.{StandsFor, namespace_of, expanded_of, attribute_of, binding_of}
 use Rattle.doc_changes.specs.Held.{kind_at, attributes_at, attributes_by, attributes_in, bindings_at, bindings_by, bindings_in, has_number}
-use Rattle.doc_changes.specs.Held as held
 use Rattle.doc_documents.proofs.Named.{has_number as number_has_name}
 use Rattle.doc_edits.specs.inside.Tested.{IsAmong, IsThere, IsSettable}
 use Rattle.doc_edits.proofs.Placing.{own}

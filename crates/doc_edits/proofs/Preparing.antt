@@ -1,26 +1,24 @@
 -- An edit that no test refuses is the change that it was turned into.
-use Rattle.std.proofs.Common.{◌≡◌, ◌≢◌, ℕ, ◌+◌, ◌<◌, ◌≤◌, List, [], ◌∷◌, length, Bool, true, false, ◌==◌, if◌then◌else◌, Option, Some, None, Result, Ok, Err, sym, ap, ◌∙◌, subst, refl, arith}
-use Rattle.std.specs.Prelude.{not}
-use Rattle.std.proofs.lemmas.Bool.{false_from_ne_true}
+use Rattle.std.proofs.Common.{◌≡◌, ◌≢◌, ℕ, ◌<◌, List, [], length, Bool, true, false, ◌==◌, if◌then◌else◌, Option, Some, None, Result, Ok, Err, sym, ap, ◌∙◌, subst, refl, arith}
 use Rattle.std.proofs.lemmas.Bool.Decides.{nat_tests}
 use Rattle.xs_names.specs.Names.{NameTable, IsSound}
 use Rattle.item_listing.specs.declared.item.Item.{Item}
-use Rattle.tree_rows.specs.Forest.{Forest, none, text, element, Document, count}
+use Rattle.tree_rows.specs.Forest.{none, text, Document}
 use Rattle.tree_rows.specs.Whole.{IsNamespace}
 use Rattle.tree_rows.specs.declared.name.Expanded.{Expanded}
 use Rattle.tree_rows.specs.declared.row.Binding.{Binding}
 use Rattle.tree_rows.specs.declared.row.NodeKind.TheVariants as kinds
 use Rattle.tag_names.specs.Faults.{is_no_qname, is_unbound, is_xmlns}
 use Rattle.tag_names.specs.Resolving.{binds, element_resolved, attribute_resolved}
-use Rattle.tag_names.specs.Scopes.{first_scope, namespace_by, namespace_named, of_prefix, element_space, attribute_space}
+use Rattle.tag_names.specs.Scopes.{namespace_by, namespace_named, of_prefix, element_space, attribute_space}
 use Rattle.tag_names.specs.Tags.{prefix_of, element_name, attribute_name}
 use Rattle.tag_names.specs.declared.fault.NameReason.{NameReason}
 use Rattle.tag_names.specs.declared.fault.NameReason.TheVariants as reasons
 use Rattle.tree_building.specs.Building.{block}
 use Rattle.tree_edits.specs.Changes.{has_name, has_no_room}
-use Rattle.tree_edits.specs.Edits.{found, put, scope_in, put_within, insert_within, names_scope, by_name, renamed, attribute_set, attribute_unset, rename, set_attribute, unset_attribute, change_element}
-use Rattle.tree_edits.specs.Tests.{depth_of, attributes_of, bindings_of, with_nodes, made, new_name, attribute_named, is_full, has_attribute, edited}
-use Rattle.tree_edits.specs.Refusals.{IsWhy, refusal_of}
+use Rattle.tree_edits.specs.Edits.{found, put, put_within, insert_within, names_scope, by_name, renamed, attribute_set, attribute_unset, rename, set_attribute, unset_attribute}
+use Rattle.tree_edits.specs.Tests.{depth_of, attributes_of, bindings_of, with_nodes, made, is_full, has_attribute, edited}
+use Rattle.tree_edits.specs.Refusals.{IsWhy}
 use Rattle.tree_edits.specs.declared.edit.Edit.TheVariants as edits
 use Rattle.tree_edits.specs.declared.edit.EditError.{EditError}
 use Rattle.tree_edits.specs.declared.edit.EditError.TheVariants.{Memory, NoSuchAttribute, TooManyAttributes}
@@ -33,11 +31,8 @@ use Rattle.tree_names.proofs.Numbers.{has_expanded, name_within}
 use Rattle.tree_names.proofs.Tables.{found as names_found}
 use Rattle.doc_nodes.specs.Nodes.{Nodes}
 use Rattle.doc_changes.specs.Stands.{StandsFor, expanded_of}
-use Rattle.doc_changes.specs.Held.{kind_at, attributes_at, has_number}
-use Rattle.doc_changes.specs.Held as held
-use Rattle.doc_planting.specs.Fits.{Fits}
-use Rattle.edit_names.specs.Names.{table_with}
-use Rattle.doc_edits.specs.Changes.{changed, IsPrepared, IsRefused}
+use Rattle.doc_changes.specs.Held.{kind_at}
+use Rattle.doc_edits.specs.Changes.{IsPrepared}
 use Rattle.doc_edits.specs.inside.Tested.{IsNoElement, HasPlace, HasRoomFor, IsReason, IsPart, IsThere, IsSettable}
 use Rattle.doc_edits.specs.declared.change.Change.TheVariants as changes
 use Rattle.doc_edits.proofs.Placing.{own, changed_here, put_room, text_made}

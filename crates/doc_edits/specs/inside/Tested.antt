@@ -14,7 +14,7 @@ use Rattle.tag_names.specs.declared.fault.NameReason.{NameReason}
 use Rattle.tree_building.specs.Building.{block}
 use Rattle.tree_edits.specs.Edits.{found, scope_in, put, put_within, change_element, too_many_more}
 use Rattle.tree_edits.specs.Tests.{is_element, width_of, depth_of, with_nodes, edited, is_full, has_attribute}
-use Rattle.tree_edits.specs.Refusals.{IsWhy, refusal_of}
+use Rattle.tree_edits.specs.Refusals.{refusal_of}
 use Rattle.tree_edits.specs.declared.edit.Edit.TheVariants as edits
 use Rattle.tree_edits.specs.declared.edit.EditError.{EditError}
 use Rattle.tree_edits.specs.declared.edit.EditError.TheVariants.{Memory}

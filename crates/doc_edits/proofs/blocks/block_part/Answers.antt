@@ -1,4 +1,4 @@
-use Rattle.std.proofs.Common.{refl, sym, ap, ◌∙◌}
+use Rattle.std.proofs.Common.{sym, ap, ◌∙◌}
 use Rattle.tree_rows.specs.Forest.{count, deepest_of}
 use Rattle.tree_building.specs.Building.{block}
 use Rattle.tree_edits.specs.Edits.{found}

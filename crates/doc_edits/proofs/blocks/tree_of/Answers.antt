@@ -1,5 +1,4 @@
-use Rattle.std.proofs.Common.{◌≡◌, ap, ◌∙◌, subst, sym, arith}
-use Rattle.tree_rows.specs.Forest.{count}
+use Rattle.std.proofs.Common.{subst, arith}
 use Rattle.tree_rows.specs.Rows.{siblings}
 use Rattle.tree_rows.specs.Whole.{IsTree}
 use Rattle.doc_edits.proofs.Inserting.{rows_sound}

@@ -1,4 +1,4 @@
-use Rattle.std.proofs.Common.{◌≡◌, Ok, Err, sym, ap, ◌∙◌, refl}
+use Rattle.std.proofs.Common.{sym, ap, ◌∙◌, refl}
 use Rattle.tag_names.specs.Resolving.{element_resolved}
 use Rattle.tree_edits.specs.Edits.{names_scope}
 use Rattle.tree_edits.specs.Refusals.{refusal_of}

@@ -1,4 +1,4 @@
-use Rattle.std.proofs.Common.{None, sym, ◌∙◌}
+use Rattle.std.proofs.Common.{sym, ◌∙◌}
 use Rattle.std.proofs.lemmas.Option.{none-some}
 use Rattle.doc_edits.proofs.Placing.{unknown_removed, root_stays, node_there}
 use Rattle.doc_edits.proofs.places.child_here.Goals as goal

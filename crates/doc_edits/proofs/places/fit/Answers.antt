@@ -1,4 +1,4 @@
-use Rattle.std.proofs.Common.{◌≡◌, ◌≤◌, ◌<◌, ◌+◌, sym, ◌∙◌, arith}
+use Rattle.std.proofs.Common.{sym, ◌∙◌, arith}
 use Rattle.doc_edits.proofs.Placing.{many, deep, depth_here, shallow_here}
 use Rattle.doc_edits.proofs.places.fit.Goals as goal
 

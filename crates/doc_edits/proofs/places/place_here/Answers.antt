@@ -1,4 +1,4 @@
-use Rattle.std.proofs.Common.{arith, ◌∙◌}
+use Rattle.std.proofs.Common.{arith}
 use Rattle.tree_edits.proofs.Outcomes.{err_same}
 use Rattle.doc_edits.proofs.Placing.{bad_place, has_place}
 use Rattle.doc_edits.proofs.places.place_here.Goals as goal

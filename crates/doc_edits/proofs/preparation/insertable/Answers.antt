@@ -2,7 +2,6 @@ use Rattle.tree_edits.specs.declared.edit.EditError.TheVariants.{Memory}
 use Rattle.tree_edits.proofs.Outcomes.{err_same, err_map}
 use Rattle.doc_edits.proofs.Outcomes.{ok_all}
 use Rattle.doc_edits.proofs.Preparing.{part_made, insert_refused, insert_misplaced}
-use Rattle.std.proofs.Common.{subst, sym, ap, ◌∙◌}
 use Rattle.doc_edits.proofs.preparation.insertable.Goals as goal
 
 pub returns-in_err-place_here-clause-err : goal.returns-in_err-place_here-clause-err

@@ -4,6 +4,15 @@ use Rattle.tree_edits.proofs.Inserting.{why_is}
 use Rattle.tree_edits.proofs.Outcomes.{ok_map, err_map}
 use Rattle.doc_edits.proofs.preparation.prepare.Goals as goal
 
+pub returns-in-Insert-clause-ok : goal.returns-in-Insert-clause-ok
+returns-in-Insert-clause-ok c = rw c.in-Insert.is (rw c.as_slice.ensures at c.prepare_insert.ensures.ok)
+
+pub returns-in-Rename-clause-ok : goal.returns-in-Rename-clause-ok
+returns-in-Rename-clause-ok c = rw c.in-Rename.is c.prepare_name.ensures.ok
+
+pub returns-in-SetAttr-clause-ok : goal.returns-in-SetAttr-clause-ok
+returns-in-SetAttr-clause-ok c = rw c.in-SetAttr.is c.prepare_value.ensures.ok
+
 pub returns-in-AddText-clause-ok : goal.returns-in-AddText-clause-ok
 returns-in-AddText-clause-ok c = rw c.in-AddText.is (ok_map c.prepare_text.result _ _ c.prepare_text.ensures.ok (λ change p d z. p c.args.names.now d z))
 

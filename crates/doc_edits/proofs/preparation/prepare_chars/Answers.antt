@@ -1,4 +1,3 @@
-use Rattle.std.proofs.Common.{refl, ap, ◌∙◌, sym, ◌≡◌, Ok}
 use Rattle.tree_edits.specs.declared.edit.EditError.TheVariants.{Memory}
 use Rattle.tree_edits.proofs.Inserting.{why_is}
 use Rattle.tree_edits.proofs.Outcomes.{err_same}

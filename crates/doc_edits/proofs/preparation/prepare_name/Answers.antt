@@ -1,5 +1,4 @@
-use Rattle.std.proofs.Common.{refl, ◌∙◌, ap, sym}
-use Rattle.xs_names.proofs.GrownLaws.{Grown-refl}
+use Rattle.std.proofs.Common.{refl}
 use Rattle.tree_edits.specs.declared.edit.EditError.TheVariants.{Memory}
 use Rattle.tree_edits.proofs.Inserting.{why_is}
 use Rattle.tree_edits.proofs.Outcomes.{err_same}

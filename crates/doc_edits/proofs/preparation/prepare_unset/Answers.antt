@@ -1,4 +1,3 @@
-use Rattle.std.proofs.Common.{refl}
 use Rattle.tree_edits.proofs.Inserting.{why_is}
 use Rattle.tree_edits.proofs.Outcomes.{err_same}
 use Rattle.doc_edits.proofs.Preparing.{none_changed, unset_refused, unset_missing, unset_prepared}
@@ -18,6 +17,6 @@ pub returns-in-Some-clause-ok : goal.returns-in-Some-clause-ok
 returns-in-Some-clause-ok c = λ d z.
     unset_prepared c.args.names.now c.args.doc.now d z c.args.node c.in_ok-element_here.ensures.ok c.args.name.now c.in_ok-own.own c.in-Some.name (c.in_ok-own.ensures.ok d z) (c.in-Some.ensures d z)
 
-pub returns-in-None-clause-err : goal.returns-in-None-clause-err
-returns-in-None-clause-err c = λ d z.
+pub returns-clause-err : goal.returns-clause-err
+returns-clause-err c = λ d z.
     unset_missing c.args.names.now c.args.doc.now d z c.args.node c.in_ok-element_here.ensures.ok c.args.name.now c.in_ok-own.own (c.in_ok-own.ensures.ok d z) (c.in-None.ensures d z)
