@@ -61,10 +61,10 @@ unnamed None is = refl
 unnamed (Some it) is = no_content it.content is
 
 one_kept : (f : ℕ → ℕ) (p : ℕ → Bool) (n name : ℕ) → p n ≡ true → f n ≡ name → map f (filter p (n ∷ [])) ≡ name ∷ []
-one_kept f p n name yes is = rw yes (ap (λ x. x ∷ []) is)
+one_kept f p n name kept is = rw kept (ap (λ x. x ∷ []) is)
 
 none_kept : (f : ℕ → ℕ) (p : ℕ → Bool) (n : ℕ) → p n ≡ false → map f (filter p (n ∷ [])) ≡ []
-none_kept f p n no = rw no refl
+none_kept f p n out = rw out refl
 
 module _ (ns : Nodes) (n : ℕ) where
   pub one_named : (name : ℕ) → Some name ≡ option_and_then (λ (it : Node). name_in it.content) (node ns n) → map (name_at ns) (filter (is_element_at ns) (n ∷ [])) ≡ name ∷ []

@@ -82,7 +82,10 @@ fn push_name(names: &mut Vec<NameId>, doc: &DocTree, node: u32) -> Result<(), Al
 {
     match doc.name(node) {
         None => Ok(()),
-        Some(name) => names.push(name),
+        Some(name) => {
+            names.push(name)?;
+            Ok(())
+        }
     }
 }
 

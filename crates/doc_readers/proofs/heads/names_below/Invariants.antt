@@ -5,4 +5,4 @@ use Rattle.doc_documents.specs.Readers.{name_at}
 use Rattle.doc_readers.proofs.heads.names_below.Given as goal
 
 abbrev pub invariant-loop-child : goal.invariant-loop-child
-invariant-loop-child l = l.names.items ≡ map (name_at l.doc) (filter (is_element_at l.doc) (take l.child-index l.children.items))
+invariant-loop-child l = l.names.items ≡ map (name_at l.doc) (filter (is_element_at l.doc) (take l.child-index l.child-items))

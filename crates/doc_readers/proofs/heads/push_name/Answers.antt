@@ -1,4 +1,3 @@
-use Rattle.std.proofs.lemmas.Result.{on_ok_weaker}
 use Rattle.doc_nodes.specs.Nodes.{is_element_at}
 use Rattle.doc_documents.specs.Readers.{name_at}
 use Rattle.doc_readers.proofs.Shown.{one_named, none_named, some_more, none_more}
@@ -9,9 +8,8 @@ returns-in-None c =
     let ns = c.args.doc.now in
     none_more (name_at ns) (is_element_at ns) c.args.names.now.items c.args.node (none_named ns c.args.node c.in-None.ensures.name)
 
-pub returns-in-Some : goal.returns-in-Some
-returns-in-Some c =
+pub returns-in_ok-push-in-Some : goal.returns-in_ok-push-in-Some
+returns-in_ok-push-in-Some c =
     let ns = c.args.doc.now in
-    on_ok_weaker c.push.result
-    (λ e. some_more (name_at ns) (is_element_at ns) c.args.names.now.items c.push.new.self.items c.args.node c.in-Some.name (one_named ns c.args.node c.in-Some.name c.in-Some.ensures.name) e)
-    c.push.ensures.items
+    some_more (name_at ns) (is_element_at ns) c.args.names.now.items c.push.new.self.items c.args.node c.in-Some.name
+    (one_named ns c.args.node c.in-Some.name c.in-Some.ensures.name) c.in_ok-push-in-Some.ensures.items
