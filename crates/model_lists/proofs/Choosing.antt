@@ -13,9 +13,6 @@ use Rattle.model_terms.proofs.Naming.{one-of}
 use Rattle.model_terms.proofs.Stuck.{stuck-is, before-begins, begins-before}
 
 module _ {X : Type 0} (x y : X) where
-  first-false : (b c : Bool) → b ≡ false → (if b && c then x else y) ≡ y
-  first-false b c e = ap (λ b. if b && c then x else y) e
-
   second-false : (b c : Bool) → c ≡ false → (if b && c then x else y) ≡ y
   second-false true c e = ap (λ c. if c then x else y) e
   second-false false c e = refl
@@ -39,21 +36,21 @@ module _ (a : ContentAutomaton) (symbols : List ℕ) (place n : ℕ) (of : AreSy
     are = sym front-is ∙ (ap (take (suc place)) of.are ∙ take-map (symbol_of of.set.names (symbols_of a)) (suc place) of.names);
   }
 
-  -- an unambivalent one has the first
-  pub term-plain : is_ambivalent_symbol a n ≡ false → first_term a n ≡ term_in (Some a) symbols place
-  term-plain e =
-      subst (λ k. first_term a n ≡ (if is_ambivalent_symbol a k && begins a (take (suc place) symbols) then term_after a (take place symbols) k else first_term a k)) (sym at)
-      (sym (first-false (term_after a (take place symbols) n) (first_term a n) (is_ambivalent_symbol a n) (begins a (take (suc place) symbols)) e))
-
   late : (IsBefore (stuck_in (Some a) symbols) place → ⊥) → (b : Bool) → begins a (take (suc place) symbols) ≡ b → b ≡ false
-  late no_more true e = absurd (no_more (begins-before a symbols (stuck_in (Some a) symbols) (stuck-is a symbols) place l e))
-  late no_more false e = refl
+  late past true e = absurd (past (begins-before a symbols (stuck_in (Some a) symbols) (stuck-is a symbols) place l e))
+  late past false e = refl
 
-  -- so has one at or past the place
-  pub term-late : (IsBefore (stuck_in (Some a) symbols) place → ⊥) → first_term a n ≡ term_in (Some a) symbols place
-  term-late no_more =
+  first-by : (is_ambivalent_symbol a n ≡ true → IsBefore (stuck_in (Some a) symbols) place → ⊥) → (b : Bool) → is_ambivalent_symbol a n ≡ b →
+      (if b && begins a (take (suc place) symbols) then term_after a (take place symbols) n else first_term a n) ≡ first_term a n
+  first-by other false e = refl
+  first-by other true e =
+      second-false (term_after a (take place symbols) n) (first_term a n) true (begins a (take (suc place) symbols)) (late (other e) (begins a (take (suc place) symbols)) refl)
+
+  -- an unambivalent child has the first term that accepts its name, and so has one at or past the place where they get stuck
+  pub term-first : (is_ambivalent_symbol a n ≡ true → IsBefore (stuck_in (Some a) symbols) place → ⊥) → first_term a n ≡ term_in (Some a) symbols place
+  term-first other =
       subst (λ k. first_term a n ≡ (if is_ambivalent_symbol a k && begins a (take (suc place) symbols) then term_after a (take place symbols) k else first_term a k)) (sym at)
-      (sym (second-false (term_after a (take place symbols) n) (first_term a n) (is_ambivalent_symbol a n) (begins a (take (suc place) symbols)) (late no_more (begins a (take (suc place) symbols)) refl)))
+      (sym (first-by other (is_ambivalent_symbol a n) refl))
 
   pub begun : IsBefore (stuck_in (Some a) symbols) place → begins a (take place symbols ++ n ∷ []) ≡ true
   begun b = subst (λ xs. begins a xs ≡ true) front-is (before-begins a symbols (stuck_in (Some a) symbols) (stuck-is a symbols) place l b)

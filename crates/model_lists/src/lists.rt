@@ -1,6 +1,6 @@
 //! The lists.
 
-ghost use Rattle.std.specs.Prelude.{◌≡◌, ◌+◌, ◌*◌, ◌<◌, ◌≤◌, ◌↔◌, ℕ, Bool, false, IsTrue, List, [], ◌∷◌, ◌++◌, Some, length, insert, remove, take, drop, slice_get, slice_set, slice_index, IfOk, OnOk, OnErr};
+ghost use Rattle.std.specs.Prelude.{◌≡◌, ◌+◌, ◌*◌, ◌<◌, ◌≤◌, ◌↔◌, ℕ, true, false, IsTrue, List, [], ◌∷◌, ◌++◌, Some, length, insert, remove, take, drop, slice_get, slice_set, slice_index, IfOk, OnOk, OnErr};
 ghost use Rattle.child_trees.specs.Bits.{bits};
 ghost use Rattle.content_models.specs.declared.automaton.ContentAutomaton.{ContentAutomaton as ContentAutomatonData};
 ghost use Rattle.model_terms.specs.Symbols.{AreSymbolsBy};
@@ -217,7 +217,7 @@ impl ModelLists {
         ensures steps { (symbols : List ℕ) → IsListOf self.now list automaton.now symbols → steps.new ≤ steps.old + 8 * (bits (length symbols + 1) + 1) }
         ensures none { is_ambivalent_symbol automaton.now child.symbol ≡ false → steps.new ≡ steps.old }
     {
-        if !is_ambivalent_symbol(automaton, child.symbol) || !is_before(child.place, stuck) {
+        if !goes_by_place(automaton, child, stuck) {
             return first_term(automaton, child.symbol);
         }
         match list.kind {
@@ -285,12 +285,17 @@ impl ModelLists {
     }
 }
 
-// Whether a place is before the one where child elements get stuck.
-fn is_before(place: u32, stuck: Option<u32>) -> bool
-    ensures { IsTrue result ↔ IsBefore stuck place }
+// Whether the term of a child is the one at its place, and not the first that accepts its name: its symbol is ambivalent, and it is
+// before the place where the child elements get stuck.
+fn goes_by_place(automaton: &ContentAutomaton, child: ListedChild, stuck: Option<u32>) -> bool
+    requires { AreSymbolsBy automaton.now (child.symbol ∷ []) }
+    ensures { IsTrue result ↔ ((is_ambivalent_symbol automaton.now child.symbol ≡ true) × IsBefore stuck child.place) }
 {
+    if !is_ambivalent_symbol(automaton, child.symbol) {
+        return false;
+    }
     match stuck {
-        Some(stuck) => place < stuck,
+        Some(stuck) => child.place < stuck,
         None => true,
     }
 }
