@@ -131,7 +131,7 @@ module _ (v : RowLists) (list : ℕ) where
   rows-from (States m) before symbols s place after l (shape, h) e =
       let within : s ≤ dead_of m.machine = (let w = run-within m.machine (start_of m.machine) before (start-within m symbols h.entries h.maps) in omega arith) in
       let maps : map (λ (e : Entry (List ℕ)). e.act) (drop place h.entries) ≡ map (leaf_of m) (drop place symbols) =
-          sym (drop-map (λ (e : Entry (List ℕ)). e.act) place h.entries) ∙ (ap (drop place) h.maps ∙ drop-map (leaf_of m) place symbols) in
+      sym (drop-map (λ (e : Entry (List ℕ)). e.act) place h.entries) ∙ (ap (drop place) h.maps ∙ drop-map (leaf_of m) place symbols) in
       e h.entries h.list_is ∙ (rows_are m (drop place symbols) s (drop place h.entries) within maps ∙
       (ap (λ s. run m.machine s (drop place symbols)) l ∙ sym (run-append m.machine (start_of m.machine) before (drop place symbols))))
   rows-from (All m) before symbols s place after l h e = absurd h
@@ -166,7 +166,7 @@ module _ (a : ContentAutomaton) (m : AllModel) (a_is : a ≡ All m) (v : MemberL
     pub members-upto : (k : ℕ) (state : AllState) → ((xs : List (Entry AllMap)) → get v list ≡ Some xs → state ≡ acts_along acts start (take k xs)) → LeadIn a (take k symbols) (Seen state)
     members-upto k state e =
         let own : state ≡ alls.state_of m.machine (map (letter_of m) (take k symbols)) =
-            e leaves.entries leaves.list_is ∙ (ap (λ (s : AllState). acts_along acts s (take k leaves.entries)) start_is ∙ all-led m symbols leaves.entries leaves.maps k) in
+        e leaves.entries leaves.list_is ∙ (ap (λ (s : AllState). acts_along acts s (take k leaves.entries)) start_is ∙ all-led m symbols leaves.entries leaves.maps k) in
         subst (λ (a : ContentAutomaton). LeadIn a (take k symbols) (Seen state)) (sym a_is) own
 
 pub seen-members : (a : ContentAutomaton) (before : List ℕ) (s : AllState) → LeadIn a before (Seen s) → (m : AllModel) × (a ≡ All m)
@@ -211,6 +211,6 @@ module _ (v : MemberLists) (list : ℕ) where
   members-from (States m) before symbols s after place l h e = absurd h
   members-from (All m) before symbols s after place l h e =
       let maps : map (λ (e : Entry AllMap). e.act) (drop place h.entries) ≡ map of_letter (map (letter_of m) (drop place symbols)) =
-          sym (drop-map (λ (e : Entry AllMap). e.act) place h.entries) ∙ (ap (drop place) h.maps ∙ (drop-map (member_of m) place symbols ∙ sym (map-twice (letter_of m) of_letter (drop place symbols)))) in
+      sym (drop-map (λ (e : Entry AllMap). e.act) place h.entries) ∙ (ap (drop place) h.maps ∙ (drop-map (member_of m) place symbols ∙ sym (map-twice (letter_of m) of_letter (drop place symbols)))) in
       e h.entries h.list_is ∙ (letters_are (map (letter_of m) (drop place symbols)) s (drop place h.entries) maps ∙
       (ap (λ (s : AllState). alls.run s (map (letter_of m) (drop place symbols))) l ∙ all-more m before (drop place symbols)))

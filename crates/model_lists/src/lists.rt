@@ -14,7 +14,9 @@ use crate::around::ChildState;
 use crate::automata::members_of;
 use crate::handle::{Kind, ListedChild, ModelList};
 use crate::leaves::{marked_place, remove_at};
-use crate::members::{build_member, insert_member, member_from, member_upto, set_member, stuck_member};
+use crate::members::{
+    build_member, insert_member, member_from, member_upto, set_member, stuck_member,
+};
 use crate::rows::{build_row, grow, insert_row, row_from, row_upto, set_row, stuck_row, term_row};
 use all_summary::AllSummary;
 use child_trees::Seqs;
