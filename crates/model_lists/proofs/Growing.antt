@@ -28,3 +28,10 @@ shaped-more xs x h e dead lists there = elim (cases_lt dead (length xs)) [
 
 pub grown-more : (old xs : List RowLists) (x : RowLists) → GrowTo old xs → length old ≤ length xs → GrowTo old (xs ++ x ∷ [])
 grown-more old xs x h few dead l = get-first xs x dead (omega arith) ∙ h dead l
+
+length-more : (xs : List RowLists) (x : RowLists) → length (xs ++ x ∷ []) ≡ suc (length xs)
+length-more [] x = refl
+length-more (y ∷ xs) x = ap suc (length-more xs x)
+
+pub more-many : (old xs : List RowLists) (x : RowLists) (now : List RowLists) → now ≡ xs ++ x ∷ [] → length old ≤ length xs → length old ≤ length now
+more-many old xs x now e few = let n = ap length e ∙ length-more xs x in omega (arith, n, few)

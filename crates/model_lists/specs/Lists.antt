@@ -1,5 +1,5 @@
 -- What contracts see of the lists of child elements.
-use Rattle.std.specs.Prelude.{◌≡◌, ℕ, suc, ◌<◌, ◌≤◌, Bool, true, List, [], ◌∷◌, None, Some, length, map, slice_get, if◌then◌else◌}
+use Rattle.std.specs.Prelude.{◌≡◌, ℕ, suc, ◌<◌, ◌≤◌, Bool, true, List, [], ◌∷◌, Option, None, Some, length, map, slice_get, if◌then◌else◌}
 use Rattle.child_trees.specs.Lists.{Lists, Entry, get}
 use Rattle.content_models.specs.Modelled.{AllModel, letter_of}
 use Rattle.content_models.specs.declared.automaton.ContentAutomaton.{ContentAutomaton}
@@ -9,8 +9,6 @@ use Rattle.all_summary.specs.Masks.{of_letter}
 use Rattle.model_rows.specs.Maps.{width_of, leaf_of}
 use Rattle.model_terms.specs.Terms.{is_ambivalent_symbol}
 use Rattle.model_lists.specs.declared.handle.ModelList.{ModelList}
-use Rattle.model_lists.specs.declared.handle.Kind.{Kind}
-use Rattle.model_lists.specs.declared.handle.Kind.TheVariants.{Rows, Members}
 
 -- many lists by automata over states, and by those of alls
 abbrev pub RowLists : Type 0
@@ -45,13 +43,15 @@ pub record ListsView : Type 0 where
   pub rows : List RowLists
   pub alls : MemberLists
 
-abbrev pub IsListIn : ListsView → Kind → ContentAutomaton → List ℕ → Type 0
-IsListIn v (Rows dead list) a symbols = (lists : RowLists) × (slice_get v.rows dead ≡ Some lists) × IsRowList lists list a symbols
-IsListIn v (Members list) a symbols = IsMemberList v.alls list a symbols
+-- the list of this number is that of child elements with these symbols, by this automaton: among those with the dead state, or with
+-- none among those of alls
+abbrev pub IsListIn : ListsView → Option ℕ → ℕ → ContentAutomaton → List ℕ → Type 0
+IsListIn v (Some dead) list a symbols = (lists : RowLists) × (slice_get v.rows dead ≡ Some lists) × IsRowList lists list a symbols
+IsListIn v None list a symbols = IsMemberList v.alls list a symbols
 
 -- the list under this handle is that of child elements with these symbols, by this automaton
 abbrev pub IsListOf : ListsView → ModelList → ContentAutomaton → List ℕ → Type 0
-IsListOf v h a symbols = IsListIn v h.kind a symbols
+IsListOf v h a symbols = IsListIn v h.dead h.list a symbols
 
 -- the handle is that of a list
 abbrev pub IsLive : ListsView → ModelList → Type 0

@@ -5,16 +5,9 @@ use child_trees::SeqId;
 /// The handle of a list of child elements.
 #[derive(Clone, Copy, Debug, PartialEq, Eq)]
 pub struct ModelList {
-    pub(crate) kind: Kind,
-}
-
-/// Where a list is kept.
-#[derive(Clone, Copy, Debug, PartialEq, Eq)]
-pub(crate) enum Kind {
-    /// Among those of automata with this dead state.
-    Rows { dead: u16, list: SeqId },
-    /// Among those of `all`s.
-    Members(SeqId),
+    /// The dead state of the automaton, among whose lists this one is kept; none where it is that of an `all`.
+    pub(crate) dead: Option<u16>,
+    pub(crate) list: SeqId,
 }
 
 /// A child element in a list: its place among the child elements of its parent, and the symbol of its name.

@@ -12,7 +12,7 @@ ghost use Rattle.model_lists.specs.Around.{LeadTo};
 
 use crate::around::ChildState;
 use crate::automata::members_of;
-use crate::handle::{Kind, ListedChild, ModelList};
+use crate::handle::{ListedChild, ModelList};
 use crate::leaves::{marked_place, remove_at};
 use crate::members::{
     build_member, insert_member, member_from, member_upto, set_member, stuck_member,
@@ -88,14 +88,13 @@ impl ModelLists {
                 let lists = &mut self.rows[dead as usize];
                 let list = build_row(self.alloc, lists, automaton, symbols, steps)?;
                 Ok(ModelList {
-                    kind: Kind::Rows { dead, list },
+                    dead: Some(dead),
+                    list,
                 })
             }
             ContentAutomaton::All(_) => {
                 let list = build_member(self.alloc, &mut self.alls, automaton, symbols, steps)?;
-                Ok(ModelList {
-                    kind: Kind::Members(list),
-                })
+                Ok(ModelList { dead: None, list })
             }
         }
     }
@@ -120,11 +119,11 @@ impl ModelLists {
         ensures least { steps.old ≤ steps.new }
         ensures steps { (symbols : List ℕ) → IsListOf self.old list automaton.now symbols → steps.new ≤ steps.old + 16 * (bits (length symbols + 2) + 1) }
     {
-        match list.kind {
-            Kind::Rows { dead, list } => {
-                insert_row(&mut self.rows[dead as usize], list, automaton, child, steps)
+        match list.dead {
+            Some(dead) => {
+                insert_row(&mut self.rows[dead as usize], list.list, automaton, child, steps)
             }
-            Kind::Members(list) => insert_member(&mut self.alls, list, automaton, child, steps),
+            None => insert_member(&mut self.alls, list.list, automaton, child, steps),
         }
     }
 
@@ -137,11 +136,11 @@ impl ModelLists {
         ensures least { steps.old ≤ steps.new }
         ensures steps { (a : ContentAutomatonData) (symbols : List ℕ) → IsListOf self.old list a symbols → steps.new ≤ steps.old + 16 * (bits (length symbols + 1) + 1) }
     {
-        match list.kind {
-            Kind::Rows { dead, list } => {
-                remove_at(&mut self.rows[dead as usize], list, place, steps);
+        match list.dead {
+            Some(dead) => {
+                remove_at(&mut self.rows[dead as usize], list.list, place, steps);
             }
-            Kind::Members(list) => remove_at(&mut self.alls, list, place, steps),
+            None => remove_at(&mut self.alls, list.list, place, steps),
         }
     }
 
@@ -161,11 +160,11 @@ impl ModelLists {
         ensures least { steps.old ≤ steps.new }
         ensures steps { (symbols : List ℕ) → IsListOf self.old list automaton.now symbols → steps.new ≤ steps.old + 16 * (bits (length symbols + 1) + 1) }
     {
-        match list.kind {
-            Kind::Rows { dead, list } => {
-                set_row(&mut self.rows[dead as usize], list, automaton, child, steps);
+        match list.dead {
+            Some(dead) => {
+                set_row(&mut self.rows[dead as usize], list.list, automaton, child, steps);
             }
-            Kind::Members(list) => set_member(&mut self.alls, list, automaton, child, steps),
+            None => set_member(&mut self.alls, list.list, automaton, child, steps),
         }
     }
 
@@ -183,11 +182,11 @@ impl ModelLists {
         ensures least { steps.old ≤ steps.new }
         ensures steps { (symbols : List ℕ) → IsListOf self.now list automaton.now symbols → steps.new ≤ steps.old + (8 * (bits (length symbols + 1) + 1) + 1) }
     {
-        match list.kind {
-            Kind::Rows { dead, list } => {
-                stuck_row(&self.rows[dead as usize], list, automaton, count, steps)
+        match list.dead {
+            Some(dead) => {
+                stuck_row(&self.rows[dead as usize], list.list, automaton, count, steps)
             }
-            Kind::Members(list) => stuck_member(&self.alls, list, automaton, count, steps),
+            None => stuck_member(&self.alls, list.list, automaton, count, steps),
         }
     }
 
@@ -196,9 +195,9 @@ impl ModelLists {
         requires { IsLive self.now list }
         ensures { (a : ContentAutomatonData) (symbols : List ℕ) → IsListOf self.now list a symbols → result ≡ slice_get (ambivalent_places a symbols) number }
     {
-        match list.kind {
-            Kind::Rows { dead, list } => marked_place(&self.rows[dead as usize], list, number),
-            Kind::Members(list) => marked_place(&self.alls, list, number),
+        match list.dead {
+            Some(dead) => marked_place(&self.rows[dead as usize], list.list, number),
+            None => marked_place(&self.alls, list.list, number),
         }
     }
 
@@ -222,11 +221,11 @@ impl ModelLists {
         if !goes_by_place(automaton, child, stuck) {
             return first_term(automaton, child.symbol);
         }
-        match list.kind {
-            Kind::Rows { dead, list } => {
-                term_row(&self.rows[dead as usize], list, automaton, child, steps)
+        match list.dead {
+            Some(dead) => {
+                term_row(&self.rows[dead as usize], list.list, automaton, child, steps)
             }
-            Kind::Members(_) => member_term(members_of(automaton), child.symbol),
+            None => member_term(members_of(automaton), child.symbol),
         }
     }
 
@@ -244,11 +243,11 @@ impl ModelLists {
         ensures least { steps.old ≤ steps.new }
         ensures steps { (symbols : List ℕ) → IsListOf self.now list automaton.now symbols → steps.new ≤ steps.old + 8 * (bits (length symbols + 1) + 1) }
     {
-        match list.kind {
-            Kind::Rows { dead, list } => {
-                row_upto(&self.rows[dead as usize], list, automaton, place, steps)
+        match list.dead {
+            Some(dead) => {
+                row_upto(&self.rows[dead as usize], list.list, automaton, place, steps)
             }
-            Kind::Members(list) => member_upto(&self.alls, list, automaton, place, steps),
+            None => member_upto(&self.alls, list.list, automaton, place, steps),
         }
     }
 
@@ -266,11 +265,11 @@ impl ModelLists {
         ensures least { steps.old ≤ steps.new }
         ensures steps { (a : ContentAutomatonData) (symbols : List ℕ) → IsListOf self.now list a symbols → steps.new ≤ steps.old + 8 * (bits (length symbols + 1) + 1) }
     {
-        match list.kind {
-            Kind::Rows { dead, list } => {
-                row_from(&self.rows[dead as usize], list, place, state, steps)
+        match list.dead {
+            Some(dead) => {
+                row_from(&self.rows[dead as usize], list.list, place, state, steps)
             }
-            Kind::Members(list) => member_from(&self.alls, list, place, state, steps),
+            None => member_from(&self.alls, list.list, place, state, steps),
         }
     }
 
@@ -280,9 +279,9 @@ impl ModelLists {
         ensures gone { ¬ IsLive self.new list }
         ensures others { KeepLists self.old self.new (λ g. g ≡ list) }
     {
-        match list.kind {
-            Kind::Rows { dead, list } => self.rows[dead as usize].drop_seq(list),
-            Kind::Members(list) => self.alls.drop_seq(list),
+        match list.dead {
+            Some(dead) => self.rows[dead as usize].drop_seq(list.list),
+            None => self.alls.drop_seq(list.list),
         }
     }
 }

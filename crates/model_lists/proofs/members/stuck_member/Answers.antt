@@ -26,15 +26,15 @@ returns-in-Some-clause-steps g c =
     let d = counted c.args.steps.now c.descend.new.steps 8 1 _ _ l.2 (c.descend.ensures.steps l.0 l.1) in
     omega arith
 
-pub whole-requires-clause-live : goal.whole-requires-clause-live
-whole-requires-clause-live g c =
+pub whole-end-requires-clause-live : goal.whole-end-requires-clause-live
+whole-end-requires-clause-live g c =
     let q = c.requires in
     let l = member-live c.args.lists.now c.args.list c.args.automaton.now q.0 q.1 in
     (l.0, l.1)
 
 pub returns-then-all_accepting-clause-stuck : goal.returns-then-all_accepting-clause-stuck
 returns-then-all_accepting-clause-stuck g c =
-    λ symbols h. members-none c.args.automaton.now c.members_of-members.result.now c.members_of-members.ensures c.args.lists.now c.args.list c.all_start-start.result c.all_start-start.ensures symbols h c.in_default.ensures.place c.whole.result c.whole.ensures.value (sym c.all_accepting.ensures ∙ c.if-all_accepting.true)
+    λ symbols h. members-none c.args.automaton.now c.members_of-members.result.now c.members_of-members.ensures c.args.lists.now c.args.list c.all_start-start.result c.all_start-start.ensures symbols h c.in_default.ensures.place c.whole-end.result c.whole-end.ensures.value (sym c.all_accepting.ensures ∙ c.if-all_accepting.true)
 
 pub returns-else-all_accepting-clause-stuck : goal.returns-else-all_accepting-clause-stuck
 returns-else-all_accepting-clause-stuck g c =
@@ -42,14 +42,14 @@ returns-else-all_accepting-clause-stuck g c =
     let q = c.requires in
     let l = member-live c.args.lists.now c.args.list c.args.automaton.now q.0 q.1 in
     let many = member-many c.args.lists.now c.args.list c.args.automaton.now symbols h l.0 l.1 in
-    members-end c.args.automaton.now c.members_of-members.result.now c.members_of-members.ensures c.args.lists.now c.args.list c.all_start-start.result c.all_start-start.ensures symbols h c.in_default.ensures.place c.whole.result c.whole.ensures.value c.args.count (q.2 ∙ (sym l.2 ∙ many)) (sym c.all_accepting.ensures ∙ c.if-all_accepting.false)
+    members-end c.args.automaton.now c.members_of-members.result.now c.members_of-members.ensures c.args.lists.now c.args.list c.all_start-start.result c.all_start-start.ensures symbols h c.in_default.ensures.place c.whole-end.result c.whole-end.ensures.value c.args.count (q.2 ∙ (sym l.2 ∙ many)) (sym c.all_accepting.ensures ∙ c.if-all_accepting.false)
 
 pub returns-then-all_accepting-clause-steps : goal.returns-then-all_accepting-clause-steps
 returns-then-all_accepting-clause-steps g c =
     λ symbols h.
     let l = member-live c.args.lists.now c.args.list c.args.automaton.now symbols h in
     let d = counted c.args.steps.now c.descend.new.steps 8 1 _ _ l.2 (c.descend.ensures.steps l.0 l.1) in
-    let w = c.whole.ensures.steps in
+    let w = c.whole-end.ensures.steps in
     omega arith
 
 pub returns-else-all_accepting-clause-steps : goal.returns-else-all_accepting-clause-steps
@@ -57,5 +57,5 @@ returns-else-all_accepting-clause-steps g c =
     λ symbols h.
     let l = member-live c.args.lists.now c.args.list c.args.automaton.now symbols h in
     let d = counted c.args.steps.now c.descend.new.steps 8 1 _ _ l.2 (c.descend.ensures.steps l.0 l.1) in
-    let w = c.whole.ensures.steps in
+    let w = c.whole-end.ensures.steps in
     omega arith

@@ -18,11 +18,11 @@ descend-requires-clause-live g c =
 pub descend-requires-clause-state : goal.descend-requires-clause-state
 descend-requires-clause-state g c =
     let q = c.requires in
-    row-state c.args.automaton.now c.states_of-states.result.now c.states_of-states.ensures c.args.lists.now c.args.list q.0 q.1 c.start.result c.start.ensures.below
+    row-state c.args.automaton.now c.states_of-states.result.now c.states_of-states.ensures c.args.lists.now c.args.list q.0 q.1 c.start-start.result c.start-start.ensures.below
 
 pub returns-in-Some-clause-stuck : goal.returns-in-Some-clause-stuck
 returns-in-Some-clause-stuck g c =
-    λ symbols h. rows-first c.args.automaton.now c.states_of-states.result.now c.states_of-states.ensures c.args.lists.now c.args.list c.start.result c.start.ensures.state symbols h c.in-Some.place c.in-Some.ensures.place
+    λ symbols h. rows-first c.args.automaton.now c.states_of-states.result.now c.states_of-states.ensures c.args.lists.now c.args.list c.start-start.result c.start-start.ensures.state symbols h c.in-Some.place c.in-Some.ensures.place
 
 pub returns-in-Some-clause-steps : goal.returns-in-Some-clause-steps
 returns-in-Some-clause-steps g c =
@@ -31,20 +31,20 @@ returns-in-Some-clause-steps g c =
     let d = counted c.args.steps.now c.descend.new.steps 8 1 _ _ l.2 (c.descend.ensures.steps l.0 l.1) in
     omega arith
 
-pub whole-requires-clause-live : goal.whole-requires-clause-live
-whole-requires-clause-live g c =
+pub whole-end-requires-clause-live : goal.whole-end-requires-clause-live
+whole-end-requires-clause-live g c =
     let q = c.requires in
     let l = row-live c.args.lists.now c.args.list c.args.automaton.now q.0 q.1 in
     (l.0, l.1)
 
-pub whole-requires-clause-state : goal.whole-requires-clause-state
-whole-requires-clause-state g c =
+pub whole-end-requires-clause-state : goal.whole-end-requires-clause-state
+whole-end-requires-clause-state g c =
     let q = c.requires in
-    row-state c.args.automaton.now c.states_of-states.result.now c.states_of-states.ensures c.args.lists.now c.args.list q.0 q.1 c.start.result c.start.ensures.below
+    row-state c.args.automaton.now c.states_of-states.result.now c.states_of-states.ensures c.args.lists.now c.args.list q.0 q.1 c.start-start.result c.start-start.ensures.below
 
 pub returns-then-accepting-clause-stuck : goal.returns-then-accepting-clause-stuck
 returns-then-accepting-clause-stuck g c =
-    λ symbols h. rows-none c.args.automaton.now c.states_of-states.result.now c.states_of-states.ensures c.args.lists.now c.args.list c.start.result c.start.ensures.state symbols h c.in_default.ensures.place c.whole.result c.whole.ensures.value (sym c.accepting.ensures ∙ c.if-accepting.true)
+    λ symbols h. rows-none c.args.automaton.now c.states_of-states.result.now c.states_of-states.ensures c.args.lists.now c.args.list c.start-start.result c.start-start.ensures.state symbols h c.in_default.ensures.place c.whole-end.result c.whole-end.ensures.value (sym c.accepting.ensures ∙ c.if-accepting.true)
 
 pub returns-else-accepting-clause-stuck : goal.returns-else-accepting-clause-stuck
 returns-else-accepting-clause-stuck g c =
@@ -52,14 +52,14 @@ returns-else-accepting-clause-stuck g c =
     let q = c.requires in
     let l = row-live c.args.lists.now c.args.list c.args.automaton.now q.0 q.1 in
     let many = row-many c.args.lists.now c.args.list c.args.automaton.now symbols h l.0 l.1 in
-    rows-end c.args.automaton.now c.states_of-states.result.now c.states_of-states.ensures c.args.lists.now c.args.list c.start.result c.start.ensures.state symbols h c.in_default.ensures.place c.whole.result c.whole.ensures.value c.args.count (q.2 ∙ (sym l.2 ∙ many)) (sym c.accepting.ensures ∙ c.if-accepting.false)
+    rows-end c.args.automaton.now c.states_of-states.result.now c.states_of-states.ensures c.args.lists.now c.args.list c.start-start.result c.start-start.ensures.state symbols h c.in_default.ensures.place c.whole-end.result c.whole-end.ensures.value c.args.count (q.2 ∙ (sym l.2 ∙ many)) (sym c.accepting.ensures ∙ c.if-accepting.false)
 
 pub returns-then-accepting-clause-steps : goal.returns-then-accepting-clause-steps
 returns-then-accepting-clause-steps g c =
     λ symbols h.
     let l = row-live c.args.lists.now c.args.list c.args.automaton.now symbols h in
     let d = counted c.args.steps.now c.descend.new.steps 8 1 _ _ l.2 (c.descend.ensures.steps l.0 l.1) in
-    let w = c.whole.ensures.steps in
+    let w = c.whole-end.ensures.steps in
     omega arith
 
 pub returns-else-accepting-clause-steps : goal.returns-else-accepting-clause-steps
@@ -67,5 +67,5 @@ returns-else-accepting-clause-steps g c =
     λ symbols h.
     let l = row-live c.args.lists.now c.args.list c.args.automaton.now symbols h in
     let d = counted c.args.steps.now c.descend.new.steps 8 1 _ _ l.2 (c.descend.ensures.steps l.0 l.1) in
-    let w = c.whole.ensures.steps in
+    let w = c.whole-end.ensures.steps in
     omega arith
