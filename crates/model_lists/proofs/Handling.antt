@@ -1,8 +1,8 @@
 -- Lists under handles, through a change of one of them.
-use Rattle.std.proofs.Common.{◌≡◌, ◌≢◌, ℕ, zero, suc, ◌<◌, Bool, List, [], ◌∷◌, Option, None, Some, map, length, set, get_or, slice_get, refl, sym, ap, subst, ◌∙◌, inl, inr, arith}
+use Rattle.std.proofs.Common.{◌≡◌, ◌≢◌, ℕ, zero, suc, ◌<◌, List, [], ◌∷◌, Option, None, Some, length, set, get_or, slice_get, refl, sym, ap, subst, ◌∙◌, inl, inr, arith}
 use Rattle.std.proofs.lemmas.Bool.{cases_eq}
 use Rattle.std.proofs.lemmas.Option.{slice_get_within, slice_get-get_or, same_Some, none-some}
-use Rattle.child_trees.specs.Lists.{Entry, get, IsLive as IsLiveIn}
+use Rattle.child_trees.specs.Lists.{get, IsLive as IsLiveIn}
 use Rattle.content_models.specs.declared.automaton.ContentAutomaton.{ContentAutomaton}
 use Rattle.model_lists.specs.declared.handle.ModelList.{ModelList}
 use Rattle.model_lists.specs.Lists.{RowLists, MemberLists, ListsView, IsRowList, IsMemberList, IsListIn, IsListOf, IsLive, KeepLists}

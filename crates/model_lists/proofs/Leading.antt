@@ -1,17 +1,15 @@
 -- What the states along a list say of the symbols of its children.
-use Rattle.std.proofs.Common.{◌≡◌, ℕ, suc, ◌+◌, ◌*◌, ◌<◌, ◌≤◌, ◌==◌, Bool, true, false, List, [], ◌∷◌, ◌++◌, Option, None, Some, map, take, drop, length, add-one, refl, sym, ap, subst, ◌∙◌, arith}
+use Rattle.std.proofs.Common.{◌≡◌, ℕ, ◌+◌, ◌<◌, ◌≤◌, ◌==◌, Bool, true, false, List, [], ◌∷◌, ◌++◌, Option, None, Some, map, take, drop, length, refl, sym, ap, subst, ◌∙◌, arith}
 use Rattle.std.specs.Prelude.{slice_index, nat_lt, not}
 use Rattle.std.specs.Option.{ForSome}
-use Rattle.std.proofs.Math.Seq.{take-suc}
-use Rattle.std.proofs.lemmas.List.{take-map, drop-map, map-append}
+use Rattle.std.proofs.lemmas.List.{drop-map, map-append}
 use Rattle.std.proofs.lemmas.Option.{same_Some}
 use Rattle.child_trees.specs.declared.leaf.Leaf.{Leaf}
 use Rattle.child_trees.specs.Lists.{Entry, get, acts_along, IsFirstDead, NoneIsDead}
-use Rattle.content_automaton.specs.Symbols.{count_of, symbol_of}
+use Rattle.content_automaton.specs.Symbols.{count_of}
 use Rattle.content_automaton.specs.Automaton.{start_of, state_of, run, step_of, dead_of, accepts_at}
 use Rattle.content_automaton.specs.Modelled.{ModelAutomaton}
 use Rattle.content_models.specs.States as alls
-use Rattle.content_models.specs.Built.{symbols_of}
 use Rattle.content_models.specs.Modelled.{AllModel, letter_of}
 use Rattle.content_models.specs.declared.state.AllState.{AllState}
 use Rattle.content_models.specs.declared.automaton.ContentAutomaton.{ContentAutomaton}

@@ -1,5 +1,5 @@
 -- Lists by the automata of alls.
-use Rattle.std.proofs.Common.{◌≡◌, ◌≢◌, ℕ, ◌+◌, ◌*◌, ◌<◌, ◌≤◌, Bool, true, List, None, Some, Result, Ok, Err, map, length, refl, sym, ap, subst, ◌∙◌, arith}
+use Rattle.std.proofs.Common.{◌≡◌, ℕ, ◌≤◌, Bool, true, List, Some, Result, Ok, Err, map, length, refl, sym, ap, subst, ◌∙◌, arith}
 use Rattle.std.specs.Prelude.{insert, remove, slice_set, IfOk}
 use Rattle.std.proofs.lemmas.Option.{same_Some}
 use Rattle.child_trees.specs.declared.leaf.Leaf.{Leaf}

@@ -1,5 +1,5 @@
 -- What a change of one list leaves.
-use Rattle.std.proofs.Common.{◌≡◌, ◌≢◌, ℕ, Option, Some, Result, Ok, Err, List, subst, ap}
+use Rattle.std.proofs.Common.{◌≡◌, ℕ, Option, Some, Result, Ok, Err, List, subst, ap}
 use Rattle.std.specs.Prelude.{IfOk, OnOk, OnErr}
 use Rattle.child_trees.specs.declared.leaf.Leaf.{Leaf}
 use Rattle.child_trees.specs.Lists.{Lists, Entry, get, IsLive, Updates, AreEntries, AreNew}

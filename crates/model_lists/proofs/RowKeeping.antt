@@ -1,16 +1,16 @@
 -- Lists by automata over states.
-use Rattle.std.proofs.Common.{◌≡◌, ◌≢◌, ℕ, ◌+◌, ◌*◌, ◌<◌, ◌≤◌, Bool, true, List, None, Some, Result, Ok, Err, map, length, refl, sym, ap, subst, ◌∙◌, arith}
-use Rattle.std.specs.Prelude.{insert, remove, slice_set, IfOk, OnErr}
+use Rattle.std.proofs.Common.{◌≡◌, ℕ, ◌≤◌, Bool, true, List, Some, Result, Ok, Err, map, length, refl, sym, ap, subst, ◌∙◌, arith}
+use Rattle.std.specs.Prelude.{insert, remove, slice_set, IfOk}
 use Rattle.std.proofs.lemmas.Option.{same_Some}
 use Rattle.child_trees.specs.declared.leaf.Leaf.{Leaf}
-use Rattle.child_trees.specs.Lists.{Entry, get, IsLive, Updates, AreEntries, AreNew, entry}
+use Rattle.child_trees.specs.Lists.{Entry, get, Updates, AreEntries, AreNew, entry}
 use Rattle.content_automaton.specs.Modelled.{ModelAutomaton}
 use Rattle.content_models.specs.declared.automaton.ContentAutomaton.{ContentAutomaton}
 use Rattle.content_models.specs.declared.automaton.ContentAutomaton.TheVariants.{States, All}
 use Rattle.model_rows.specs.Maps.{width_of, leaf_of}
 use Rattle.model_terms.specs.Terms.{is_ambivalent_symbol}
 use Rattle.model_lists.specs.Lists.{RowLists, HasLeaves, IsRowList}
-use Rattle.model_lists.specs.Inside.{KeepsOthers, KeepsLive, leaf_for}
+use Rattle.model_lists.specs.Inside.{leaf_for}
 use Rattle.model_lists.proofs.Entries.{many, kept, removed, made, inserted-leaf, written-leaf}
 
 abbrev RowEntry : Type 0

@@ -1,5 +1,5 @@
 -- What contracts see of the lists of child elements.
-use Rattle.std.specs.Prelude.{◌≡◌, ℕ, suc, ◌<◌, ◌≤◌, Bool, true, List, [], ◌∷◌, Option, None, Some, length, map, slice_get, if◌then◌else◌}
+use Rattle.std.specs.Prelude.{◌≡◌, ℕ, suc, Bool, List, [], ◌∷◌, Option, None, Some, map, slice_get, if◌then◌else◌}
 use Rattle.child_trees.specs.Lists.{Lists, Entry, get}
 use Rattle.content_models.specs.Modelled.{AllModel, letter_of}
 use Rattle.content_models.specs.declared.automaton.ContentAutomaton.{ContentAutomaton}

@@ -121,7 +121,13 @@ impl ModelLists {
     {
         match list.dead {
             Some(dead) => {
-                insert_row(&mut self.rows[dead as usize], list.list, automaton, child, steps)
+                insert_row(
+                    &mut self.rows[dead as usize],
+                    list.list,
+                    automaton,
+                    child,
+                    steps,
+                )
             }
             None => insert_member(&mut self.alls, list.list, automaton, child, steps),
         }
@@ -162,7 +168,13 @@ impl ModelLists {
     {
         match list.dead {
             Some(dead) => {
-                set_row(&mut self.rows[dead as usize], list.list, automaton, child, steps);
+                set_row(
+                    &mut self.rows[dead as usize],
+                    list.list,
+                    automaton,
+                    child,
+                    steps,
+                );
             }
             None => set_member(&mut self.alls, list.list, automaton, child, steps),
         }
@@ -184,7 +196,13 @@ impl ModelLists {
     {
         match list.dead {
             Some(dead) => {
-                stuck_row(&self.rows[dead as usize], list.list, automaton, count, steps)
+                stuck_row(
+                    &self.rows[dead as usize],
+                    list.list,
+                    automaton,
+                    count,
+                    steps,
+                )
             }
             None => stuck_member(&self.alls, list.list, automaton, count, steps),
         }
@@ -223,7 +241,13 @@ impl ModelLists {
         }
         match list.dead {
             Some(dead) => {
-                term_row(&self.rows[dead as usize], list.list, automaton, child, steps)
+                term_row(
+                    &self.rows[dead as usize],
+                    list.list,
+                    automaton,
+                    child,
+                    steps,
+                )
             }
             None => member_term(members_of(automaton), child.symbol),
         }
@@ -245,7 +269,13 @@ impl ModelLists {
     {
         match list.dead {
             Some(dead) => {
-                row_upto(&self.rows[dead as usize], list.list, automaton, place, steps)
+                row_upto(
+                    &self.rows[dead as usize],
+                    list.list,
+                    automaton,
+                    place,
+                    steps,
+                )
             }
             None => member_upto(&self.alls, list.list, automaton, place, steps),
         }
@@ -266,9 +296,7 @@ impl ModelLists {
         ensures steps { (a : ContentAutomatonData) (symbols : List ℕ) → IsListOf self.now list a symbols → steps.new ≤ steps.old + 8 * (bits (length symbols + 1) + 1) }
     {
         match list.dead {
-            Some(dead) => {
-                row_from(&self.rows[dead as usize], list.list, place, state, steps)
-            }
+            Some(dead) => { row_from(&self.rows[dead as usize], list.list, place, state, steps) }
             None => member_from(&self.alls, list.list, place, state, steps),
         }
     }

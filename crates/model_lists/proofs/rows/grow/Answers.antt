@@ -1,4 +1,4 @@
-use Rattle.std.proofs.Common.{◌≡◌, ◌≤◌, ◌+◌, ◌++◌, ◌∷◌, [], suc, length, sym, ap, subst, ◌∙◌, arith}
+use Rattle.std.proofs.Common.{◌≡◌, suc, length, sym, subst, ◌∙◌, arith}
 use Rattle.model_lists.specs.Lists.{RowLists}
 use Rattle.model_lists.specs.Inside.{AreShaped, GrowTo}
 use Rattle.model_lists.proofs.Growing.{shaped-more, grown-more, more-many}
@@ -7,10 +7,10 @@ use Rattle.model_lists.proofs.rows.grow.Goals as goal
 pub more-preserved : goal.more-preserved
 more-preserved c =
     let xs = c.more.rows.items in
-    let x : RowLists = c.new.result in
+    let x : RowLists = c.new-in-more.result in
     let now = c.in_ok-push.ensures.items in
-    let width : c.in_ok-summary.summary.width ≡ suc (length xs) = ap (λ s. s.width) c.in_ok-summary.ensures ∙ (let n = c.more.rows.ok.0 in omega arith) in
-    let shape : x.shape ≡ suc (length xs) = ap (λ (l : RowLists). l.shape) c.new.ensures ∙ width in
+    let shape : x.shape ≡ suc (length xs) =
+    (λ i. (c.new-in-more.ensures i).shape) ∙ ((λ i. (c.in_ok-summary.ensures i).width) ∙ omega (arith, c.len-in-more.ensures, c.more.rows.ok.0)) in
     record {
       shaped = subst AreShaped (sym now) (shaped-more xs x c.more.invariant.shaped shape);
       grown = subst (GrowTo c.args.rows.now.items) (sym now) (grown-more c.args.rows.now.items xs x c.more.invariant.grown c.more.invariant.more);

@@ -1,4 +1,4 @@
-use Rattle.std.proofs.Common.{◌<◌, length, arith}
+use Rattle.std.proofs.Common.{arith}
 use Rattle.model_lists.proofs.Entries.{counted}
 use Rattle.model_lists.proofs.Others.{by-update}
 use Rattle.model_lists.proofs.RowKeeping.{over-states, row-live, row-written}

@@ -1,4 +1,4 @@
-use Rattle.std.proofs.Common.{◌<◌, arith}
+use Rattle.std.proofs.Common.{arith}
 use Rattle.std.specs.Prelude.{remove}
 use Rattle.model_lists.proofs.Entries.{counted}
 use Rattle.model_lists.proofs.Others.{by-update}
