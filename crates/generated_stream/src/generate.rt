@@ -13,7 +13,7 @@ const FRONT: &str =
 /// # Errors
 ///
 /// `Failed` where the sink failed; a front was then written.
-pub(crate) fn write_piece<W: Sink>(sink: &mut W, piece: Piece) -> Result<(), Failed>
+pub fn write_piece<W: Sink>(sink: &mut W, piece: Piece) -> Result<(), Failed>
     ensures written { Written W.taken W.faults W.fault_bound sink.old sink.new result (lines_text (piece_lines piece)) }
 {
     match piece {

@@ -6,6 +6,6 @@ mod generate;
 mod piece;
 mod pieces;
 
-pub use generate::{generate_stream, generated_lines};
+pub use generate::{generate_stream, generated_lines, write_piece};
 pub use piece::Piece;
 pub use pieces::Pieces;

@@ -1,0 +1,6 @@
+pub mod Placing
+pub mod Outcomes
+pub mod Naming
+pub mod Inserting
+pub mod Preparing
+pub mod Making

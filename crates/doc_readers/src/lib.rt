@@ -1,0 +1,6 @@
+//! What the elements of a document that is edited in place have to show before they are governed.
+#![tactic(auto)]
+
+mod heads;
+
+pub use heads::{head_at, names_below};
