@@ -82,3 +82,7 @@ write_failed (Ok endings.Limit) status is fault = cc
 write_failed (Ok endings.Unsupported) status is fault = cc
 write_failed (Err breaks.Memory) status is fault = cc
 write_failed (Err breaks.WriteFault) status is fault = tt
+
+-- a count that rose later
+pub rose_later : {before between now : ℕ} → before ≤ between → Rose between now → Rose before now
+rose_later {before} {between} {now} later rose = omega (arith, later, rose)
