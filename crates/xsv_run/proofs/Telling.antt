@@ -10,7 +10,7 @@ use Rattle.told.specs.declared.ending.Ending.{Ending}
 use Rattle.told.specs.declared.ending.Ending.TheVariants as endings
 use Rattle.stream_answers.specs.declared.wanted.Wanted.{Wanted}
 use Rattle.xsv_run.specs.Statuses.{status_of, status_by}
-use Rattle.xsv_run.specs.Output.{Answers, AnswersWords, BreaksOff, EndsAs, RefusesWords, wanted, output_of, told_of}
+use Rattle.xsv_run.specs.Output.{Answers, EndsAs, output_of, told_of}
 use Rattle.xsv_run.specs.declared.status.Status.{Status}
 use Rattle.xsv_run.specs.declared.status.Status.TheVariants as statuses
 
@@ -86,28 +86,3 @@ write_failed (Err breaks.WriteFault) status is fault = tt
 -- a count that rose later
 pub rose_later : {before between now : ℕ} → before ≤ between → Rose between now → Rose before now
 rose_later {before} {between} {now} later rose = omega (arith, later, rose)
-
-pub whatever_rest : {P : List ℕ → Type 0} (rest : Option (List ℕ)) → ((whole : List ℕ) → P whole) → IfSome rest P
-whatever_rest None h = tt
-whatever_rest (Some whole) h = h whole
-
--- words that ask for nothing
-pub none_wanted : (words : List (List ℕ)) (rest : Option (List ℕ)) (a b : Trace) (status : Status) → wanted words ≡ None → RefusesWords status a b
-    → IfSome rest (λ whole. Answers (wanted words) whole status a b)
-none_wanted words rest a b status is h = whatever_rest rest (λ whole. subst (λ (q : Option Wanted). Answers q whole status a b) (sym is) h)
-
-pub none_words : (q : Option Wanted) (rest : Option (List ℕ)) (a b : Trace) (status : Status) → q ≡ None → RefusesWords status a b → AnswersWords q status a b rest rest
-none_words q rest a b status is h = subst (λ (x : Option Wanted). AnswersWords x status a b rest rest) (sym is) (h, refl)
-
--- words that ask for a stream
-pub some_wanted : (words : List (List ℕ)) (what : Wanted) (rest : Option (List ℕ)) (status : Status) (a b : Trace) → Some what ≡ wanted words
-    → IfSome rest (λ whole. Answers (Some what) whole status a b) → IfSome rest (λ whole. Answers (wanted words) whole status a b)
-some_wanted words what rest status a b is h = subst (λ (q : Option Wanted). IfSome rest (λ whole. Answers q whole status a b)) is h
-
-pub some_broken : (words : List (List ℕ)) (what : Wanted) (status : Status) (rest_old rest_new o n : Option (List ℕ)) → Some what ≡ wanted words
-    → (status ≡ statuses.ReadFault → BreaksOff (Some what) rest_old rest_new o n) → status ≡ statuses.ReadFault → BreaksOff (wanted words) rest_old rest_new o n
-some_broken words what status rest_old rest_new o n is h fault = subst (λ (q : Option Wanted). BreaksOff q rest_old rest_new o n) is (h fault)
-
-pub some_words : (words : List (List ℕ)) (what : Wanted) (status : Status) (a b : Trace) (rest_old rest_new : Option (List ℕ)) → Some what ≡ wanted words
-    → (status ≡ statuses.Words → ⊥) → AnswersWords (wanted words) status a b rest_old rest_new
-some_words words what status a b rest_old rest_new is h = subst (λ (q : Option Wanted). AnswersWords q status a b rest_old rest_new) is h

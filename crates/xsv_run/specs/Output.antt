@@ -10,6 +10,7 @@ use Rattle.told.specs.Told.{Said, Told, over, Leads}
 use Rattle.told.specs.Going.{Trace, Goes, Breaks}
 use Rattle.told.specs.declared.break_off.BreakOff.TheVariants as breaks
 use Rattle.told.specs.declared.ending.Ending.{Ending}
+use Rattle.generated_stream.specs.Lines.{stream_text}
 use Rattle.stream_answers.specs.Output.{sections_told}
 use Rattle.stream_answers.specs.declared.wanted.Wanted.{Wanted}
 use Rattle.stream_sections.specs.declared.asked.Asked.{Asked}
@@ -21,7 +22,7 @@ use Rattle.xsv_run.specs.declared.request.Request.TheVariants.{Read, Generate, T
 use Rattle.xsv_run.specs.declared.request.Task.{Task}
 use Rattle.xsv_run.specs.declared.request.Task.TheVariants as tasks
 use Rattle.xsv_run.specs.declared.status.Status.{Status}
-use Rattle.xsv_run.specs.declared.status.Status.TheVariants.{Words, ReadFault, WriteFault, Memory}
+use Rattle.xsv_run.specs.declared.status.Status.TheVariants.{Valid, Words, ReadFault, WriteFault, Memory}
 use Rattle.xsv_run.specs.declared.words.WordsFault.{WordsFault}
 use Rattle.xsv_run.specs.declared.words.WordsFault.TheVariants as faults
 
@@ -39,10 +40,13 @@ asked_of tasks.Check = Check
 asked_of tasks.Assess = Assess
 asked_of tasks.Session = Session
 
--- what is wanted of what is built: a stream is read
+abbrev pub wanted_of : Task → ℕ → Wanted
+wanted_of task most = record { asked = asked_of task; most = most }
+
+-- what is wanted of a stream that is read
 abbrev pub wanted_by : Option Request → Option Wanted
 wanted_by None = None
-wanted_by (Some (Read task most)) = Some (record { asked = asked_of task; most = most })
+wanted_by (Some (Read task most)) = Some (wanted_of task most)
 wanted_by (Some (Generate start items)) = None
 wanted_by (Some (Trial start items)) = None
 
@@ -97,10 +101,27 @@ Answers (Some what) bytes WriteFault old new = Breaks (told_of what bytes true) 
 Answers (Some what) bytes Memory old new = Breaks (told_of what bytes true) breaks.Memory old new
 Answers (Some what) bytes status old new = EndsAs (Some what) bytes status old new
 
--- Words that ask for nothing are answered by the usage line, and nothing is read, whatever the source and the sink tell. Only they are.
-abbrev pub AnswersWords : Option Wanted → Status → Trace → Trace → Option (List ℕ) → Option (List ℕ) → Type 0
-AnswersWords None status old new rest_old rest_new = RefusesWords status old new × (rest_new ≡ rest_old)
-AnswersWords (Some what) status old new rest_old rest_new = status ≡ Words → ⊥
+-- the stream of a number and a count of items was written, or a front of it where a write failed, and no step was counted
+abbrev pub Generates : ℕ → ℕ → Status → Trace → Trace → Type 0
+Generates start items Valid old new = Appends old.taken new.taken (stream_text start items) × (new.steps ≡ old.steps)
+Generates start items WriteFault old new = AppendsFront old.taken new.taken (stream_text start items) × (new.steps ≡ old.steps)
+Generates start items status old new = ⊥
+
+-- What was asked for is answered, where these are the bytes of a source to its end: a stream is answered, or one is generated; words that ask for
+-- nothing, or for what is not built, are refused.
+abbrev pub Does : Option Request → List ℕ → Status → Trace → Trace → Type 0
+Does None bytes status old new = RefusesWords status old new
+Does (Some (Read task most)) bytes status old new = Answers (Some (wanted_of task most)) bytes status old new
+Does (Some (Generate start items)) bytes status old new = Generates start items status old new
+Does (Some (Trial start items)) bytes status old new = RefusesWords status old new
+
+-- Whatever the source and the sink tell: a stream is generated, or words are refused by the usage line, and nothing is read. The status Words comes
+-- for no words that ask for a stream to be read.
+abbrev pub DoesUnread : Option Request → Status → Trace → Trace → Option (List ℕ) → Option (List ℕ) → Type 0
+DoesUnread None status old new rest_old rest_new = RefusesWords status old new × (rest_new ≡ rest_old)
+DoesUnread (Some (Read task most)) status old new rest_old rest_new = status ≡ Words → ⊥
+DoesUnread (Some (Generate start items)) status old new rest_old rest_new = Generates start items status old new × (rest_new ≡ rest_old)
+DoesUnread (Some (Trial start items)) status old new rest_old rest_new = RefusesWords status old new × (rest_new ≡ rest_old)
 
 -- A read failed behind some bytes: what they tell was written, by the lines that end in them, and where they tell already that the begun
 -- line is refused; and it does not end the run.
@@ -116,4 +137,4 @@ pub record BreaksOff (what : Option Wanted) (rest_old rest_new taken_old taken_n
 abbrev pub AnswersUnread : {T : Type 0} → Result T WordsFault → Status → Trace → Trace → Option (List ℕ) → Option (List ℕ) → Type 0
 AnswersUnread (Ok read) status old new rest_old rest_new = Unit {0}
 AnswersUnread (Err faults.Memory) status old new rest_old rest_new = (status ≡ Memory) × (new ≡ old) × (rest_new ≡ rest_old)
-AnswersUnread (Err faults.NotText) status old new rest_old rest_new = AnswersWords None status old new rest_old rest_new
+AnswersUnread (Err faults.NotText) status old new rest_old rest_new = DoesUnread None status old new rest_old rest_new

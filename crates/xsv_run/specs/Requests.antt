@@ -1,5 +1,5 @@
 -- What the words of a command line ask for.
-use Rattle.std.specs.Prelude.{ℕ, List, [], ◌∷◌, Bool, ◌==◌, nat_lt, length, Option, Some, None, codes, if◌then◌else◌}
+use Rattle.std.specs.Prelude.{ℕ, ◌≤◌, List, [], ◌∷◌, Bool, ◌==◌, nat_lt, length, Option, Some, None, codes, if◌then◌else◌}
 use Rattle.std.specs.List.{before_first, after_first, position_or_len}
 use Rattle.std.specs.Str.{bytes_eq}
 use Rattle.xsv_run.specs.Numbers.{number, between}
@@ -73,3 +73,9 @@ request (first ∷ []) = read_plain first
 request (first ∷ second ∷ []) = two first second
 request (first ∷ second ∷ third ∷ []) = three first second third
 request (first ∷ second ∷ third ∷ fourth ∷ more) = None
+
+-- a stream is generated of one item at least
+abbrev pub HasCount : Request → Type 0
+HasCount (Read task most) = Unit {0}
+HasCount (Generate start items) = 1 ≤ items
+HasCount (Trial start items) = 1 ≤ items

@@ -1,4 +1,4 @@
-ghost use Rattle.std.specs.Prelude.{◌≡◌};
+ghost use Rattle.std.specs.Prelude.{◌≡◌, ◌≤◌, IfSome};
 ghost use Rattle.std.specs.Char.{is_ascii_digit};
 ghost use Rattle.std.specs.List.{list_all};
 ghost use Rattle.xsv_run.specs.Numbers as numbers;
@@ -32,7 +32,8 @@ pub fn read_number(text: &str) -> Option<u64>
 
 /// The number that a text writes, where it is from `least` to `most`.
 pub fn read_between(text: &str, least: u64, most: u32) -> Option<u32>
-    ensures { result ≡ numbers.between least most text.now }
+    ensures read { result ≡ numbers.between least most text.now }
+    ensures least { IfSome result (λ n. least ≤ n) }
 {
     match read_number(text) {
         Some(number) if least <= number && number <= most as u64 => Some(number as u32),

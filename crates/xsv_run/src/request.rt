@@ -1,5 +1,6 @@
-ghost use Rattle.std.specs.Prelude.{◌≡◌, Some, None, MatchOption};
+ghost use Rattle.std.specs.Prelude.{◌≡◌, Some, None, MatchOption, IfSome};
 ghost use Rattle.xsv_run.specs.Requests as requests;
+ghost use Rattle.xsv_run.specs.Requests.{HasCount};
 
 use crate::number::{read_between, read_number};
 use xs_names::Text;
@@ -65,7 +66,8 @@ fn read_task(word: &str) -> Option<Task>
 
 /// A stream is read, and the option has this value.
 fn read_with(word: &str, value: &str) -> Option<Request>
-    ensures { result ≡ requests.read_with word.now value.now }
+    ensures asked { result ≡ requests.read_with word.now value.now }
+    ensures counted { IfSome result HasCount }
 {
     match read_task(word) {
         Some(task) => match read_between(value, 0, u32::MAX) {
@@ -78,7 +80,8 @@ fn read_with(word: &str, value: &str) -> Option<Request>
 
 /// A stream is read, without the option.
 fn read_plain(word: &str) -> Option<Request>
-    ensures { result ≡ requests.read_plain word.now }
+    ensures asked { result ≡ requests.read_plain word.now }
+    ensures counted { IfSome result HasCount }
 {
     match read_task(word) {
         Some(task) => Some(Request::Read(task, USUAL_MOST)),
@@ -88,7 +91,8 @@ fn read_plain(word: &str) -> Option<Request>
 
 /// A stream is generated.
 fn read_generated(word: &str, number: &str, count: &str) -> Option<Request>
-    ensures { result ≡ requests.generated word.now number.now count.now }
+    ensures asked { result ≡ requests.generated word.now number.now count.now }
+    ensures counted { IfSome result HasCount }
 {
     let number = read_number(number)?;
     let count = read_between(count, 1, MOST_ITEMS)?;
@@ -103,7 +107,8 @@ fn read_generated(word: &str, number: &str, count: &str) -> Option<Request>
 
 /// Two words, of which one is the option with its value.
 fn read_two(first: &str, second: &str) -> Option<Request>
-    ensures { result ≡ requests.two first.now second.now }
+    ensures asked { result ≡ requests.two first.now second.now }
+    ensures counted { IfSome result HasCount }
 {
     match value_within(first) {
         Some(value) => read_with(second, value),
@@ -116,7 +121,8 @@ fn read_two(first: &str, second: &str) -> Option<Request>
 
 /// Three words, of which two are the option and its value, or none is.
 fn read_three(first: &str, second: &str, third: &str) -> Option<Request>
-    ensures { result ≡ requests.three first.now second.now third.now }
+    ensures asked { result ≡ requests.three first.now second.now third.now }
+    ensures counted { IfSome result HasCount }
 {
     if is_option(first) {
         read_with(third, second)
@@ -133,7 +139,8 @@ fn read_three(first: &str, second: &str, third: &str) -> Option<Request>
 ///   equals sign, in the same;
 /// - `generate` or `trial`, a number, and a count from 1 to 100,000.
 pub fn read_words(words: &[Text]) -> Option<Request>
-    ensures { result ≡ requests.request words.now }
+    ensures asked { result ≡ requests.request words.now }
+    ensures counted { IfSome result HasCount }
 {
     match words {
         [word] => read_plain(word.as_str()),

@@ -1,14 +1,16 @@
-ghost use Rattle.std.specs.Prelude.{◌≡◌, ℕ, ◌+◌, IfOk, IfSome};
+ghost use Rattle.std.specs.Prelude.{◌≡◌, ℕ, ◌+◌, ◌≤◌, IfOk, IfSome};
 ghost use Rattle.item_listing.specs.declared.limits.TheConstants.{MOST_BYTES};
 ghost use Rattle.xsv_io.specs.Causes.{KeepsCount};
 ghost use Rattle.told.specs.Going.{trace};
-ghost use Rattle.xsv_run.specs.Output.{Answers, AnswersWords, AnswersUnread, BreaksOff, RefusesWords, wanted};
+ghost use Rattle.xsv_run.specs.Output.{AnswersUnread, BreaksOff, Does, DoesUnread, Generates, RefusesWords, wanted};
+ghost use Rattle.xsv_run.specs.Requests.{request};
 ghost use Rattle.xsv_run.specs.Sides.{HasCauses};
 ghost use Rattle.xsv_run.specs.Taking.{TakesAtMost};
 
 use crate::stream::answer_stream;
-use crate::words::read_words;
-use crate::{Status, WordsFault};
+use crate::words::wanted_of;
+use crate::{Request, Status, WordsFault, read_words};
+use generated_stream::generate_stream;
 use std::alloc::Global;
 use xs_names::Text;
 use xsv_io::{Sink, Source, write_text};
@@ -29,6 +31,19 @@ fn refuse_words<W: Sink>(sink: &mut W) -> Status
     }
 }
 
+/// Writes the stream of a number and a count of items.
+fn generate<W: Sink>(start: u64, items: u32, sink: &mut W) -> Status
+    requires { 1 ≤ items }
+    ensures generates { (n : ℕ) → Generates start items result (trace (W.taken sink.old) n) (trace (W.taken sink.new) n) }
+    ensures not_read { result ≡ Status.ReadFault → ⊥ }
+    ensures writes { KeepsCount W.faults W.fault_bound sink.old sink.new (result ≡ Status.WriteFault) }
+{
+    match generate_stream(start, items, sink) {
+        Ok(()) => Status::Valid,
+        Err(_) => Status::WriteFault,
+    }
+}
+
 /// Answers a stream by what the words ask for: whether its schema is accepted, a report on its document, or
 /// the replies to its edits. Each line is answered before the next is looked at.
 ///
@@ -43,14 +58,14 @@ pub fn run<S: Source, W: Sink, L: Ledger>(
     // What is written and the status are the output of the definitions, and no more steps are counted than it costs. Where a read, a write
     // or memory failed, a front of it was written, and no more steps are counted than that front costs, and what would have been said next.
     ensures output { IfSome (S.rest source.old) (λ bytes.
-        Answers (wanted words.now) bytes result (trace (W.taken sink.old) steps.old) (trace (W.taken sink.new) steps.new)) }
+        Does (request words.now) bytes result (trace (W.taken sink.old) steps.old) (trace (W.taken sink.new) steps.new)) }
 
     // Where a read failed, what was written is what the bytes that were taken tell, and they do not end the run.
     ensures broken { result ≡ Status.ReadFault
         → BreaksOff (wanted words.now) (S.rest source.old) (S.rest source.new) (W.taken sink.old) (W.taken sink.new) }
 
-    // Words that ask for nothing are answered by the usage line, and nothing is read. Only they are.
-    ensures words { AnswersWords (wanted words.now) result (trace (W.taken sink.old) steps.old) (trace (W.taken sink.new) steps.new)
+    // A stream is generated, or words that ask for nothing are answered by the usage line, and nothing is read, whatever the source tells.
+    ensures words { DoesUnread (request words.now) result (trace (W.taken sink.old) steps.old) (trace (W.taken sink.new) steps.new)
         (S.rest source.old) (S.rest source.new) }
 
     // At most one byte more than the longest stream is taken.
@@ -60,8 +75,13 @@ pub fn run<S: Source, W: Sink, L: Ledger>(
     ensures causes { HasCauses S.faults S.fault_bound W.faults W.fault_bound source.old source.new sink.old sink.new steps.old steps.new result }
 {
     match read_words(words) {
-        Some(wanted) => answer_stream(alloc, wanted, source, sink, steps),
         None => refuse_words(sink),
+        Some(Request::Read(task, most)) => {
+            let wanted = wanted_of(task, most);
+            answer_stream(alloc, wanted, source, sink, steps)
+        }
+        Some(Request::Generate(start, items)) => generate(start, items, sink),
+        Some(Request::Trial(_, _)) => refuse_words(sink),
     }
 }
 
@@ -75,10 +95,10 @@ pub fn run_by<S: Source, W: Sink, L: Ledger>(
     steps: &mut Steps<L>,
 ) -> Status
     ensures output { IfOk words.entry (λ read. IfSome (S.rest source.old) (λ bytes.
-        Answers (wanted read.now) bytes result (trace (W.taken sink.old) steps.old) (trace (W.taken sink.new) steps.new))) }
+        Does (request read.now) bytes result (trace (W.taken sink.old) steps.old) (trace (W.taken sink.new) steps.new))) }
     ensures broken { IfOk words.entry (λ read. result ≡ Status.ReadFault
         → BreaksOff (wanted read.now) (S.rest source.old) (S.rest source.new) (W.taken sink.old) (W.taken sink.new)) }
-    ensures words { IfOk words.entry (λ read. AnswersWords (wanted read.now) result (trace (W.taken sink.old) steps.old) (trace (W.taken sink.new) steps.new)
+    ensures words { IfOk words.entry (λ read. DoesUnread (request read.now) result (trace (W.taken sink.old) steps.old) (trace (W.taken sink.new) steps.new)
         (S.rest source.old) (S.rest source.new)) }
     ensures unread { AnswersUnread words.entry result (trace (W.taken sink.old) steps.old) (trace (W.taken sink.new) steps.new) (S.rest source.old) (S.rest source.new) }
     ensures few { TakesAtMost (MOST_BYTES + 1) (S.rest source.old) (S.rest source.new) }

@@ -1,10 +1,9 @@
 ghost use Rattle.std.specs.Prelude.{◌≡◌};
 ghost use Rattle.xsv_run.specs.Output as output;
 
-use crate::{Request, Task};
+use crate::Task;
 use stream_answers::Wanted;
 use stream_sections::Asked;
-use xs_names::Text;
 
 /// Why the words of a command line were not read.
 #[derive(Clone, Copy, Debug, PartialEq, Eq)]
@@ -26,17 +25,12 @@ fn asked_of(task: Task) -> Asked
     }
 }
 
-/// What the words ask for, `None` where they are none of the program's or ask for what is not built.
-pub fn read_words(words: &[Text]) -> Option<Wanted>
-    ensures { result ≡ output.wanted words.now }
+/// What is wanted of a stream that is read for this.
+pub fn wanted_of(task: Task, most: u32) -> Wanted
+    ensures { result ≡ output.wanted_of task most }
 {
-    match crate::read_words(words) {
-        Some(Request::Read(task, most)) => Some(Wanted {
-            asked: asked_of(task),
-            most,
-        }),
-        Some(Request::Generate(_, _)) => None,
-        Some(Request::Trial(_, _)) => None,
-        None => None,
+    Wanted {
+        asked: asked_of(task),
+        most,
     }
 }
