@@ -51,13 +51,15 @@ class Documents(Case):
         places = [line.split(' ')[0] for line in self.lines('a.xsd', 'a.xml', status=1)[:-1]]
         self.assertEqual(places, ['a.xml:3:3:', 'a.xml:3:10:', 'a.xml:3:10:'])
 
-    def test_what_is_not_assessed_yet(self):
-        self.schema('a.xsd', '<xs:element name="a">\n <xs:unique name="u"><xs:selector xpath="b"/><xs:field xpath="c"/></xs:unique></xs:element>')
-        self.put('a.xml', '<a/>')
-        status, written, _ = self.tool('validate', 'a.xsd', 'a.xml')
-        # A program that assesses identity constraints says that it is valid.
-        if status:
-            self.assertTrue(written.startswith('a.xsd:3:2: error: NotYet: '))
+    def test_a_key_that_is_there_twice(self):
+        self.schema('a.xsd', '<xs:element name="a"><xs:complexType><xs:sequence>\n'
+                             '<xs:element name="b" type="xs:string" maxOccurs="unbounded"/></xs:sequence></xs:complexType>\n'
+                             '<xs:key name="k"><xs:selector xpath="b"/><xs:field xpath="."/></xs:key></xs:element>')
+        self.put('a.xml', '<a><b>1</b><b>2</b></a>')
+        self.assertEqual(self.tool('validate', 'a.xsd', 'a.xml')[0], 0)
+        self.put('a.xml', '<a><b>1</b><b>1</b></a>')
+        lines = self.lines('a.xsd', 'a.xml', status=1)
+        self.assertTrue(lines[0].startswith('a.xml:1:1: error: cvc-identity-constraint.4.2.2: two elements have the same key'), lines)
 
     def test_an_element_that_is_not_declared(self):
         self.schema('a.xsd', '')

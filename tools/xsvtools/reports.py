@@ -93,9 +93,6 @@ class Reading:
             elif word in ('listing', 'limit') and len(fields) == 3:
                 errors.append(self.of_line(int(fields[1]), fields[2]))
                 understood = True
-            elif word == 'unsupported' and len(fields) == 2:
-                errors.append(self.error(*self.unassessed(), 'answer', fields[1]))
-                understood = True
             elif word == 'end':
                 verdict = fields[1]
         if not understood:
@@ -107,14 +104,6 @@ class Reading:
         node = listing.node(number)
         line, column = place or (node.line, node.column)
         return Error(listing.name, line, column, row.code, row.words + detail, row.section)
-
-    def unassessed(self):
-        """The first element of the schemas that is not assessed yet, or else their first root."""
-        for section in self.schemas.sections:
-            for number, node in enumerate(section.listing.nodes, 1):
-                if node.tag and node.tag.rpartition(':')[2] in ('unique', 'key', 'keyref'):
-                    return section.listing, number
-        return self.schemas.sections[0].listing, 1
 
     def of_record(self, word, line):
         """The errors of a record of an element or an attribute: one for each code."""
