@@ -13,7 +13,7 @@ use Rattle.elem_assess.specs.Source.{IsSource}
 use Rattle.attr_assess.specs.Schema.{IsAttrSet}
 use Rattle.attr_assess.specs.Types.{IsTypeSet}
 use Rattle.attr_assess.specs.Added.{AreNamed as AreAttrsNamed}
-use Rattle.component_tables.specs.Classes.{AreClassesOf}
+use Rattle.element_classes.specs.Classes.{AreClassesOf}
 use Rattle.content_models.specs.Built.{IsBuilt}
 use Rattle.content_models.specs.declared.automaton.ContentAutomaton.{ContentAutomaton}
 use Rattle.model_checks.specs.Checks.{IsAmbiguousModel}

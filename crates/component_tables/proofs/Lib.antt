@@ -1,5 +1,5 @@
 pub mod FirstLaws
 pub mod NameLaws
 pub mod TypeLaws
-mod ClassLaws
 pub mod ContentLaws
+pub mod DeclaredLaws

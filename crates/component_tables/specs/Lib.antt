@@ -2,6 +2,5 @@ pub mod Symbols
 pub mod Named
 pub mod Types
 pub mod Found
-pub mod Classes
 pub mod ContentTypes
 pub mod inside

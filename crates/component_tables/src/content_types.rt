@@ -110,8 +110,8 @@ fn base_content(table: &[ContentType], of: TypeId) -> ContentType
     }
 }
 
-// The content type of a complex type, by its form and the content type of its base.
-fn form_content(by_extension: bool, form: &ContentForm, base: ContentType) -> ContentType
+/// The content type of a complex type (Structures 3.4.2), by its form and the content type of its base.
+pub fn form_content(by_extension: bool, form: &ContentForm, base: ContentType) -> ContentType
     ensures { result ≡ spec.form_content by_extension form.now base }
 {
     match form {

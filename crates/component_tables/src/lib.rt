@@ -1,17 +1,14 @@
 //! The components of a symbol space by their names (Structures 2.5).
 #![tactic(auto)]
 
-mod classes;
 mod content_types;
 mod declarations;
 mod globals;
 mod named;
 mod own;
-mod properties;
 mod symbols;
 
-pub use classes::classes_of;
-pub use content_types::{ContentType, ContentTypes};
+pub use content_types::{ContentType, ContentTypes, form_content};
 pub use declarations::Declarations;
 pub use named::ComponentNames;
 pub use symbols::Symbols;

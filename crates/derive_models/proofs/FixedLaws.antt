@@ -17,8 +17,9 @@ use Rattle.simple_types.specs.Trees.{type_tree}
 use Rattle.simple_types.specs.SimpleTypes.{IsValueOf, IsWhole}
 use Rattle.simple_types.specs.declared.types.SimpleTypes.{SimpleTypes}
 use Rattle.simple_types.proofs.Valid.{one-outcome}
-use Rattle.derive_models.specs.Fixed.{text_type, HasFixed}
-use Rattle.derive_models.specs.inside.Numbered.{AreRead, outcome_key, IsTextKey, IsFixedKey}
+use Rattle.element_classes.specs.Values.{text_type, outcome_key, IsTextKey}
+use Rattle.derive_models.specs.Fixed.{HasFixed}
+use Rattle.derive_models.specs.inside.Numbered.{AreRead, IsFixedKey}
 
 same-ok : (x y : Value) (r : Result Value Code) → r ≡ Ok x → r ≡ Ok y → x ≡ y
 same-ok x y r e f = cc

@@ -1,69 +1,24 @@
 //! The fixed value of an element declaration.
 
 ghost use Rattle.std.specs.Prelude.{◌≡◌, ◌<◌, length, IfOk};
-ghost use Rattle.xs_components.specs.Tables.{Tables};
-ghost use Rattle.component_references.specs.Ranked.{IsRanked};
-ghost use Rattle.component_tables.specs.ContentTypes.{content_of};
-ghost use Rattle.component_tables.specs.Types.{type_of};
-ghost use Rattle.simple_types.specs.SimpleTypes.{AreTypesOf, IsWhole};
-ghost use Rattle.derive_models.specs.Fixed as spec;
+ghost use Rattle.element_classes.specs.Values.{read_type};
 ghost use Rattle.derive_models.specs.inside.Numbered as inside;
 
 use crate::set::ElementSet;
-use component_tables::ContentType;
+use element_classes::{read_by, text_key};
 use simple_types::SimpleTypes;
-use simple_values::{Key, Value, key_of};
+use simple_values::Key;
 use std::alloc::{AllocError, Global};
-use xs_codes::{Builtin, Code};
-use xs_components::{ElementId, TypeId, ValueConstraint};
-
-// The type by which the text of a constraint is read, by what the type of the element contains.
-fn read_by(of: &TypeId, content: ContentType) -> TypeId
-    ensures { result ≡ spec.text_type of.now content }
-{
-    match content {
-        ContentType::SimpleType | ContentType::SimpleContent => *of,
-        ContentType::Empty | ContentType::ElementOnly | ContentType::Mixed => {
-            TypeId::Builtin(Builtin::String)
-        }
-    }
-}
+use xs_components::{ElementId, TypeId};
 
 // The type by which the text of a constraint on an element is read.
 fn text_type(set: &ElementSet<'_>, id: ElementId) -> TypeId
     requires found { inside.IsFound set.now }
-    ensures { result ≡ spec.text_type (type_of set.now.parts.now id) (content_of set.now.parts.now (type_of set.now.parts.now id)) }
+    ensures { result ≡ read_type set.now.parts.now id }
 {
     let of = set.declarations.type_of(id);
     let content = set.contents.content_of(of);
     read_by(&of, content)
-}
-
-// The key of what a text comes to.
-fn outcome_key(alloc: Global, outcome: &Result<Value, Code>) -> Result<Option<Key>, AllocError>
-    ensures { IfOk result (λ key. key ≡ inside.outcome_key outcome.now) }
-{
-    match outcome {
-        Ok(value) => {
-            let key = key_of(alloc, value)?;
-            Ok(Some(key))
-        }
-        Err(_) => Ok(None),
-    }
-}
-
-// The key of the text of a constraint, where it is valid by a type.
-fn text_key(
-    alloc: Global,
-    types: &mut SimpleTypes,
-    of: TypeId,
-    constraint: &ValueConstraint,
-) -> Result<Option<Key>, AllocError>
-    ensures key { (t : Tables) → IsRanked t → AreTypesOf t types.old → IsWhole types.old of → IfOk result (inside.IsTextKey t of constraint.now) }
-    ensures same { types.new ≡ types.old }
-{
-    let outcome = types.validate(alloc, of, constraint.text.as_str(), &constraint.scope)?;
-    outcome_key(alloc, &outcome)
 }
 
 /// The key of the fixed value of an element declaration, if it has one: its text is read in the scope of the schema element that

@@ -13,9 +13,8 @@ use Rattle.component_references.specs.Heights.{first_height, IsType, IsLower}
 use Rattle.component_references.specs.Ranked.{IsRanked}
 use Rattle.type_derivation.specs.Within.{AreSimple}
 use Rattle.type_derivation.specs.Bases.{IsWrongBase, base_code, base_fault}
-use Rattle.type_derivation.specs.Contents.{HasContent, of_any, of_built_in, of_simple, own, inherited, form_kind}
-use Rattle.type_derivation.specs.declared.kinds.ContentKind.{ContentKind}
-use Rattle.type_derivation.specs.declared.kinds.ContentKind.TheVariants as kinds
+use Rattle.type_derivation.specs.Contents.{HasContent}
+use Rattle.type_derivation.proofs.ContentTypeLaws.{has-content}
 use Rattle.simple_types.specs.Trees.{simple_tree, content_form, content_part, type_tree}
 use Rattle.simple_types.proofs.TreeLaws.{type_tree_is}
 use Rattle.simple_types.specs.SimpleTypes.{AreWhole, IsWhole, IsSimpleTree}
@@ -28,78 +27,27 @@ use Rattle.elem_assess.specs.Texts.{is_simple_content}
 use Rattle.elem_assess.specs.Own.{AreOwnSimple}
 use Rattle.elem_assess.proofs.SimpleTrees.{there-none, type-simple}
 
-kind_in : ContentType → ContentKind
-kind_in SimpleType = kinds.SimpleType
-kind_in Empty = kinds.Unmixed
-kind_in SimpleContent = kinds.SimpleContent
-kind_in ElementOnly = kinds.Unmixed
-kind_in Mixed = kinds.Mixed
-
 module _ (t : Tables) where
-  -- the kind of a content, by that of the base
-  form-has : (id : ℕ) (part : ComplexType) → slice_get t.complexes.parts id ≡ Some part → (by_extension : Bool) → part.by_extension ≡ by_extension → (form : ContentForm) → part.content ≡ form →
-      (base : ContentType) → HasContent t part.base (kind_in base) → HasContent t (types.Complex id) (kind_in (form_content by_extension form base))
-  unfolding kind_in
-  form-has id part at b e (forms.Simple inner step) f base has =
-      own id part kinds.SimpleContent at (ap (λ x. form_kind x part.content) e ∙ ap (form_kind b) f)
-  form-has id part at b e (forms.Complex (Some p) true) f base has =
-      own id part kinds.Mixed at (ap (λ x. form_kind x part.content) e ∙ ap (form_kind b) f)
-  form-has id part at b e (forms.Complex (Some p) false) f base has =
-      own id part kinds.Unmixed at (ap (λ x. form_kind x part.content) e ∙ ap (form_kind b) f)
-  form-has id part at false e (forms.Complex None mixed) f base has =
-      own id part kinds.Unmixed at (ap (λ x. form_kind x part.content) e ∙ ap (form_kind false) f)
-  form-has id part at true e (forms.Complex None mixed) f SimpleType has =
-      inherited id part kinds.SimpleType at (ap (λ x. form_kind x part.content) e ∙ ap (form_kind true) f) has
-  form-has id part at true e (forms.Complex None mixed) f Empty has =
-      inherited id part kinds.Unmixed at (ap (λ x. form_kind x part.content) e ∙ ap (form_kind true) f) has
-  form-has id part at true e (forms.Complex None mixed) f SimpleContent has =
-      inherited id part kinds.SimpleContent at (ap (λ x. form_kind x part.content) e ∙ ap (form_kind true) f) has
-  form-has id part at true e (forms.Complex None mixed) f ElementOnly has =
-      inherited id part kinds.Unmixed at (ap (λ x. form_kind x part.content) e ∙ ap (form_kind true) f) has
-  form-has id part at true e (forms.Complex None mixed) f Mixed has =
-      inherited id part kinds.Mixed at (ap (λ x. form_kind x part.content) e ∙ ap (form_kind true) f) has
-
-  module _ (ranked : IsRanked t) where
-    lower-has : (bound : ℕ) → ((n : ℕ) → slice_index t.complexes.ranks n < bound → n < length t.complexes.parts → HasContent t (types.Complex n) (kind_in (complex_content t n))) →
-        (of : TypeId) → IsLower t (first_height + bound) of → HasContent t of (kind_in (content_of t of))
-    unfolding kind_in
-    lower-has bound rec types.AnyType low = of_any
-    lower-has bound rec (types.Builtin kind) low = of_built_in kind
-    lower-has bound rec (types.Simple id) low = of_simple id
-    lower-has bound rec (types.Complex id) low = rec id (let l = low.lower in omega arith) low.there
-
-    entry-has : (bound n : ℕ) → slice_index t.complexes.ranks n < bound → n < length t.complexes.parts → HasContent t (types.Complex n) (kind_in (complex_content t n))
-    entry-has zero n low there = absurd (omega arith)
-    entry-has (suc bound) n low there = of (slice_get t.complexes.parts n) refl (λ of lower. lower-has bound (λ m lower there. entry-has bound m lower there) of lower)
-      where
-        of : (o : Option ComplexType) → slice_get t.complexes.parts n ≡ o → ((of : TypeId) → IsLower t (first_height + bound) of → HasContent t of (kind_in (content_of t of))) → HasContent t (types.Complex n) (kind_in (complex_content t n))
-        of None e rec = absurd (there-none t.complexes.parts n there e)
-        of (Some part) e rec =
-            let l = ranked.complexes n part e in
-            subst (λ (content : ContentType). HasContent t (types.Complex n) (kind_in content)) (sym (complex_content_is t ranked n ∙ ap (part_content (complex_content t)) e))
-            (form-has n part e part.by_extension refl part.content refl (content_of t part.base) (rec part.base (record { there = l.there; lower = (let m = l.lower in omega arith) })))
-
   module _ (ranked : IsRanked t) (simple : AreSimple t) (owns : AreOwnSimple t) (right : (fault : Fault) → IsWrongBase t fault → ⊥) where
     -- a base of the wrong kind
     wrong : (n : ℕ) (part : ComplexType) → slice_get t.complexes.parts n ≡ Some part → (by_extension : Bool) → part.by_extension ≡ by_extension → (form : ContentForm) → part.content ≡ form →
-        (kind : ContentKind) → HasContent t part.base kind → base_code by_extension form kind ≡ Some SrcCt2 → ⊥
+        (kind : ContentType) → HasContent t part.base kind → base_code by_extension form kind ≡ Some SrcCt2 → ⊥
     wrong n part at b e form f kind has code =
         right (base_fault part.at SrcCt2) (n, part, kind, SrcCt2, at, has, ap (λ x. base_code x part.content kind) e ∙ (ap (λ x. base_code b x kind) f ∙ code), refl)
 
     form-simple : (n : ℕ) (part : ComplexType) → slice_get t.complexes.parts n ≡ Some part → (by_extension : Bool) → part.by_extension ≡ by_extension → (form : ContentForm) → part.content ≡ form →
-        (base : ContentType) → HasContent t part.base (kind_in base) → (is_simple_content base ≡ true → IsSimpleTree (type_tree t part.base)) →
+        (base : ContentType) → HasContent t part.base base → (is_simple_content base ≡ true → IsSimpleTree (type_tree t part.base)) →
         is_simple_content (form_content by_extension form base) ≡ true → IsSimpleTree (content_form (simple_tree t) (type_tree t) by_extension part.base form)
-    unfolding kind_in
     form-simple n part at true e (forms.Simple inner step) f SimpleType has rec is = rec refl
     form-simple n part at true e (forms.Simple inner step) f SimpleContent has rec is = rec refl
-    form-simple n part at true e (forms.Simple inner step) f Empty has rec is = absurd (wrong n part at true e (forms.Simple inner step) f kinds.Unmixed has refl)
-    form-simple n part at true e (forms.Simple inner step) f ElementOnly has rec is = absurd (wrong n part at true e (forms.Simple inner step) f kinds.Unmixed has refl)
-    form-simple n part at true e (forms.Simple inner step) f Mixed has rec is = absurd (wrong n part at true e (forms.Simple inner step) f kinds.Mixed has refl)
+    form-simple n part at true e (forms.Simple inner step) f Empty has rec is = absurd (wrong n part at true e (forms.Simple inner step) f Empty has refl)
+    form-simple n part at true e (forms.Simple inner step) f ElementOnly has rec is = absurd (wrong n part at true e (forms.Simple inner step) f ElementOnly has refl)
+    form-simple n part at true e (forms.Simple inner step) f Mixed has rec is = absurd (wrong n part at true e (forms.Simple inner step) f Mixed has refl)
     form-simple n part at false e (forms.Simple None step) f SimpleContent has rec is = rec refl
-    form-simple n part at false e (forms.Simple None step) f SimpleType has rec is = absurd (wrong n part at false e (forms.Simple None step) f kinds.SimpleType has refl)
-    form-simple n part at false e (forms.Simple None step) f Empty has rec is = absurd (wrong n part at false e (forms.Simple None step) f kinds.Unmixed has refl)
-    form-simple n part at false e (forms.Simple None step) f ElementOnly has rec is = absurd (wrong n part at false e (forms.Simple None step) f kinds.Unmixed has refl)
-    form-simple n part at false e (forms.Simple None step) f Mixed has rec is = absurd (wrong n part at false e (forms.Simple None step) f kinds.Mixed has refl)
+    form-simple n part at false e (forms.Simple None step) f SimpleType has rec is = absurd (wrong n part at false e (forms.Simple None step) f SimpleType has refl)
+    form-simple n part at false e (forms.Simple None step) f Empty has rec is = absurd (wrong n part at false e (forms.Simple None step) f Empty has refl)
+    form-simple n part at false e (forms.Simple None step) f ElementOnly has rec is = absurd (wrong n part at false e (forms.Simple None step) f ElementOnly has refl)
+    form-simple n part at false e (forms.Simple None step) f Mixed has rec is = absurd (wrong n part at false e (forms.Simple None step) f Mixed has refl)
     form-simple n part at false e (forms.Simple (Some inner) step) f base has rec is =
         let it = owns n part inner step at f in type-simple t ranked simple inner it.there it.simple
     form-simple n part at b e (forms.Complex (Some p) true) f base has rec is = absurd (false≢true is)
@@ -124,17 +72,17 @@ module _ (t : Tables) where
     entry-read : (bound n : ℕ) → slice_index t.complexes.ranks n < bound → n < length t.complexes.parts → is_simple_content (complex_content t n) ≡ true → IsSimpleTree (type_tree t (types.Complex n))
     entry-read zero n low there is = absurd (omega arith)
     entry-read (suc bound) n low there is =
-        of (slice_get t.complexes.parts n) refl (λ of lower. lower-has ranked bound (λ m lower there. entry-has ranked bound m lower there) of lower)
+        of (slice_get t.complexes.parts n) refl
         (λ of lower. lower-read bound (λ m lower there. entry-read bound m lower there) of lower)
       where
-        of : (o : Option ComplexType) → slice_get t.complexes.parts n ≡ o → ((of : TypeId) → IsLower t (first_height + bound) of → HasContent t of (kind_in (content_of t of))) →
+        of : (o : Option ComplexType) → slice_get t.complexes.parts n ≡ o →
             ((of : TypeId) → IsLower t (first_height + bound) of → is_simple_content (content_of t of) ≡ true → IsSimpleTree (type_tree t of)) → IsSimpleTree (type_tree t (types.Complex n))
-        of None e kind rec = absurd (there-none t.complexes.parts n there e)
-        of (Some part) e kind rec =
+        of None e rec = absurd (there-none t.complexes.parts n there e)
+        of (Some part) e rec =
             let l = ranked.complexes n part e in
             let base : IsLower t (first_height + bound) part.base = record { there = l.there; lower = (let m = l.lower in omega arith) } in
             subst IsSimpleTree (sym (type_tree_is t ranked (types.Complex n) ∙ ap (content_part (simple_tree t) (type_tree t)) e))
-            (form-simple n part e part.by_extension refl part.content refl (content_of t part.base) (kind part.base base) (rec part.base base)
+            (form-simple n part e part.by_extension refl part.content refl (content_of t part.base) (has-content t ranked part.base l.there) (rec part.base base)
             (subst (λ (content : ContentType). is_simple_content content ≡ true) (complex_content_is t ranked n ∙ ap (part_content (complex_content t)) e) is))
 
     type-read : (of : TypeId) → IsType t of → is_simple_content (content_of t of) ≡ true → IsSimpleTree (type_tree t of)

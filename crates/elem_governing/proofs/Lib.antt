@@ -1,6 +1,5 @@
 pub mod SameLaws
 pub mod DerivedLaws
-pub mod DeclaredLaws
 pub mod ScopeLaws
 pub mod There
 mod Known

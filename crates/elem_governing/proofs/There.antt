@@ -21,7 +21,7 @@ use Rattle.elem_governing.specs.declared.pairs.Mode.{Mode}
 use Rattle.elem_governing.specs.declared.pairs.Mode.TheVariants.{Strict, Lax, Skip}
 use Rattle.elem_governing.specs.declared.local_types.XsiType.{XsiType}
 use Rattle.elem_governing.specs.declared.local_types.XsiType.TheVariants.{Absent, NotQName, Unresolved, NotDerived, Governs}
-use Rattle.elem_governing.proofs.DeclaredLaws.{type-there}
+use Rattle.component_tables.proofs.DeclaredLaws.{type-there}
 
 module _ (t : Tables) where
   complex-there : (number : ℕ) → IfSome (complex_at t number) (IsType t)

@@ -12,7 +12,7 @@ use Rattle.xs_components.specs.declared.common.TypeId.{TypeId}
 use Rattle.particle_restrict.specs.declared.terms.Term.{Term}
 use Rattle.redefine_names.specs.declared.pairs.RedefinedPair.{RedefinedPair}
 use Rattle.subst_groups.specs.Groups.{AreGroups}
-use Rattle.component_tables.specs.Classes.{AreClassesOf}
+use Rattle.element_classes.specs.Classes.{AreClassesOf}
 use Rattle.derive_faults.specs.AttrFaults.{AreIdMarks}
 use Rattle.schema_models.specs.SetModels.{IsBroken}
 use Rattle.derive_restriction.specs.DerivationFaults.{IsDerivationFault}

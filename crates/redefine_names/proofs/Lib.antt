@@ -9,3 +9,4 @@ pub mod PairLaws
 pub mod BehindLaws
 pub mod SharedLaws
 pub mod MetLaws
+pub mod SpaceLaws

@@ -37,3 +37,14 @@ module _ (spaces : SymbolSpaces) (kinds : Kinds) where
   resolves (ToGroup name) = is_named spaces.groups name
   resolves (ToAttributeGroup name) = is_named spaces.attr_groups name
   resolves (ToKey name) = is_named kinds.keys name
+
+-- the first place that has the name that is referred to, in the symbol space of its kind
+abbrev pub place_of : SymbolSpaces → Reference → Option ℕ
+place_of spaces (ToElement name) = first_place spaces.elements name
+place_of spaces (ToAttribute name) = first_place spaces.attributes name
+place_of spaces (ToType name) = first_place spaces.types name
+place_of spaces (ToSimpleType name) = first_place spaces.types name
+place_of spaces ToAnyTypeAsSimple = None
+place_of spaces (ToGroup name) = first_place spaces.groups name
+place_of spaces (ToAttributeGroup name) = first_place spaces.attr_groups name
+place_of spaces (ToKey name) = first_place spaces.constraints name

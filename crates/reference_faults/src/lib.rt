@@ -5,9 +5,11 @@ mod attributes;
 mod doubles;
 mod faults;
 mod imports;
+mod laws;
 mod limit;
 mod lookup;
 mod reference;
 
 pub use faults::first_fault;
+pub use laws::references_are_found;
 pub use limit::MAX_COMPONENTS;

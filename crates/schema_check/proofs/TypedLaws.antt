@@ -11,22 +11,23 @@ use Rattle.type_derivation.specs.Filled.{IsAfter}
 use Rattle.type_derivation.specs.Particles.{AreContentsSet}
 use Rattle.simple_types.specs.declared.types.SimpleTypes.{SimpleTypes}
 use Rattle.simple_types.specs.SimpleTypes.{IsBuilt}
+use Rattle.type_laws.proofs.BrokenLaws.{built-first}
 use Rattle.schema_check.specs.SetPhases.{AreRanked}
 use Rattle.schema_check.specs.inside.Typed.{IsTyped}
 
 module _ (old new : Tables) (same : AreRanked old new) where
   types-made : (types : SimpleTypes) → IsLeast (IsBroken old) None → IsRanked new → AreContentsSet new → IsBuilt new (Ok types) → IsTyped old new (Ok types)
   types-made types least ranked contents built = (
-    (least, ((new, same, types, built.0, built.1), tt)),
+    (least, ((new, same, built-first new (Ok types) ranked built), tt)),
     record { same = same; ranked = ranked; contents = contents; judged = built.0; whole = built.2 },
   )
 
-  types-refused : (fault : Fault) → IsLeast (IsBroken old) None → IsBuilt new (Err fault) → IsTyped old new (Err fault)
-  types-refused fault least built = inr (least, inl (new, same, built.0, built.1, built.2))
+  types-refused : (fault : Fault) → IsLeast (IsBroken old) None → IsRanked new → IsBuilt new (Err fault) → IsTyped old new (Err fault)
+  types-refused fault least ranked built = inr (least, inl (new, same, built-first new (Err fault) ranked built))
 
 -- what the answers of both calls come to
 pub types-judged : (old new : Tables) (found : Option Fault) → found ≡ None → IsLeast (IsBroken old) found → IfNone found (IsRanked new) → IfNone found (AreContentsSet new)
     → ((ranks : Ranks) × IsAfter found (with_all_ranks old ranks) new) → (answer : Result SimpleTypes Fault) → IsBuilt new answer → IsTyped old new answer
 types-judged old new None none least ranked contents after (Ok types) built = types-made old new after types least ranked contents built
-types-judged old new None none least ranked contents after (Err fault) built = types-refused old new after fault least built
+types-judged old new None none least ranked contents after (Err fault) built = types-refused old new after fault least ranked built
 types-judged old new (Some fault) none least ranked contents after answer built = absurd (let s : Some fault ≡ None = none in cc)

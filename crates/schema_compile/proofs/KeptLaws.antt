@@ -13,10 +13,10 @@ use Rattle.xs_components.specs.declared.element.ElementDecl.{ElementDecl}
 use Rattle.xs_components.specs.declared.simple.FacetItem.{FacetItem}
 use Rattle.xs_components.specs.declared.simple.SimpleType.{SimpleType}
 use Rattle.component_references.specs.Heights.{IsType}
+use Rattle.component_tables.specs.declared.content_types.ContentType.{ContentType}
 use Rattle.type_derivation.specs.Derives.{is_simple}
 use Rattle.type_derivation.specs.Bases.{IsWrongBase}
 use Rattle.type_derivation.specs.Contents.{HasContent, of_any, of_built_in, of_simple, own, inherited}
-use Rattle.type_derivation.specs.declared.kinds.ContentKind.{ContentKind}
 use Rattle.component_references.specs.Circles.{Ranks, with_all_ranks}
 use Rattle.type_derivation.specs.Cycles.{IsGrown}
 use Rattle.build_components.specs.There.{AreThere, own_type}
@@ -59,12 +59,12 @@ module _ (old new : Tables) (alike : AreAlike old new) where
   complex-was n part at = sym (ap (λ (xs : List ComplexType). slice_get xs n) alike.complexes) ∙ at
 
   -- a base of the wrong kind was one before
-  content-was : (of : TypeId) (kind : ContentKind) → HasContent new of kind → HasContent old of kind
+  content-was : (of : TypeId) (content : ContentType) → HasContent new of content → HasContent old of content
   content-was _ _ of_any = of_any
   content-was _ _ (of_built_in kind) = of_built_in kind
   content-was _ _ (of_simple id) = of_simple id
-  content-was _ _ (own id part kind at is) = own id part kind (complex-was id part at) is
-  content-was _ _ (inherited id part kind at is below) = inherited id part kind (complex-was id part at) is (content-was part.base kind below)
+  content-was _ _ (own id part content at told) = own id part content (complex-was id part at) told
+  content-was _ _ (inherited id part base at below) = inherited id part base (complex-was id part at) (content-was part.base base below)
 
   pub wrong-was : (fault : Fault) → IsWrongBase new fault → IsWrongBase old fault
   wrong-was fault is = (is.0, is.1, is.2, is.3, complex-was is.0 is.1 is.4, content-was is.1.base is.2 is.5, is.6, is.7)

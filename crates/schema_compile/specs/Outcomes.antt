@@ -9,7 +9,7 @@ use Rattle.derive_restriction.specs.DerivationFaults.{IsDerivationFault}
 use Rattle.derive_models.specs.ModelFaults.{IsFirstModelFault}
 use Rattle.derive_values.specs.ValueFaults.{IsValueFault}
 use Rattle.identity_faults.specs.Faults.{IsIdentityFault}
-use Rattle.component_tables.specs.Classes.{AreClassesOf}
+use Rattle.element_classes.specs.Classes.{AreClassesOf}
 use Rattle.schema_models.specs.SetModels.{IsBroken}
 use Rattle.schema_check.specs.Compilation.{IsCompilation}
 use Rattle.schema_check.specs.Phases.{IsFirstOfPhases}

@@ -1,12 +1,16 @@
 //! What is found of the components of a set, for content models and for assessing.
 
-ghost use Rattle.std.specs.Prelude.{IfOk};
+ghost use Rattle.std.specs.Prelude.{◌≡◌, IfOk};
+ghost use Rattle.component_tables.specs.ContentTypes.{AreContentsOf};
+ghost use Rattle.component_tables.specs.Types.{AreDeclarationsOf};
+ghost use Rattle.element_classes.specs.Classes.{AreClassesOf};
 ghost use Rattle.schema_compile.specs.Fit.{IsFit};
 ghost use Rattle.schema_compile.specs.inside.Finding as spec;
 
 use attr_uses::AttrTables;
-use component_tables::{ComponentNames, ContentTypes, Declarations, classes_of};
+use component_tables::{ComponentNames, ContentTypes, Declarations};
 use derive_faults::id_marks;
+use element_classes::classes_of;
 use identity_paths::IdentityPaths;
 use schema_check::CompiledSet;
 use schema_models::Models;
@@ -42,17 +46,34 @@ fn find_uses(alloc: Global, set: &CompiledSet) -> Result<AttrTables, AllocError>
     AttrTables::of(alloc, &set.parts, ids.as_slice())
 }
 
+// The classes of element declarations.
+fn find_classes(
+    alloc: Global,
+    set: &mut CompiledSet,
+    declarations: &Declarations,
+    contents: &ContentTypes,
+) -> Result<Vec<u32>, AllocError>
+    requires fit { IsFit set.old }
+    requires declarations { AreDeclarationsOf set.old.parts declarations.now }
+    requires contents { AreContentsOf set.old.parts contents.now }
+    ensures classes { IfOk result (λ classes. AreClassesOf set.old.parts classes.items) }
+    ensures same { set.new ≡ set.old }
+{
+    classes_of(alloc, &set.parts, declarations, contents, &mut set.types)
+}
+
 /// Finds it.
-pub(crate) fn find(alloc: Global, set: &CompiledSet) -> Result<Found, AllocError>
-    requires fit { IsFit set.now }
-    ensures found { IfOk result (spec.IsFound set.now.parts) }
+pub(crate) fn find(alloc: Global, set: &mut CompiledSet) -> Result<Found, AllocError>
+    requires fit { IsFit set.old }
+    ensures found { IfOk result (spec.IsFound set.old.parts) }
+    ensures same { set.new ≡ set.old }
 {
     let declarations = Declarations::of(alloc, &set.parts)?;
     let members = groups(alloc, &set.parts, &declarations)?;
-    let classes = classes_of(alloc, &set.parts, &declarations)?;
     let named = ComponentNames::of(alloc, &set.parts)?;
     let attr_uses = find_uses(alloc, set)?;
     let contents = ContentTypes::of(alloc, &set.parts)?;
+    let classes = find_classes(alloc, set, &declarations, &contents)?;
     Ok(Found {
         declarations,
         members,

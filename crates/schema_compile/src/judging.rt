@@ -131,6 +131,25 @@ fn with_models(
     }
 }
 
+// What is found of a set, the automata of its content models, and the paths of its identity constraints; or the first fault of
+// phases 6 to 10.
+fn judge_found(
+    alloc: Global,
+    set: &mut CompiledSet,
+    found: Found,
+) -> Result<Result<Faultless, Fault>, AllocError>
+    requires fit { IsFit set.old }
+    requires found { spec.IsFound set.old.parts found }
+    requires there { spec.AreContentsThere set.old.parts }
+    ensures judged { IfOk result (spec.IsJudged set.old) }
+    ensures same { set.new ≡ set.old }
+{
+    match first_fault(alloc, set, &found)? {
+        Some(fault) => Ok(Err(fault)),
+        None => with_models(alloc, set, found),
+    }
+}
+
 /// What is found of a set, the automata of its content models, and the paths of its identity constraints; or the first fault of
 /// phases 6 to 10.
 pub(crate) fn judge(
@@ -143,8 +162,5 @@ pub(crate) fn judge(
 {
     contents_are_there(set);
     let found = find(alloc, set)?;
-    match first_fault(alloc, set, &found)? {
-        Some(fault) => Ok(Err(fault)),
-        None => with_models(alloc, set, found),
-    }
+    judge_found(alloc, set, found)
 }

@@ -177,6 +177,21 @@ module _ (t : Tables) (ranked : IsRanked t) (simples complexes : List JudgedType
           (content_in_force (looked_up simples) (content_of simples complexes) (simple_tree t) (type_tree t) part.by_extension part.base part.content made
           (own_in_force t ranked simples are part.content) (rec part.base base) is)
 
+  -- any type's simple content, by tables that are judged
+  pub content-of-in-force : (of : TypeId) → AreInForce (type_tree t of) (content_of simples complexes of).facets (content_of simples complexes of).known
+  content-of-in-force types.AnyType = subst (λ tree. IsInForce tree unknown) (sym (type_tree_is t ranked types.AnyType)) (simple_in_force t ranked simples are types.AnyType)
+  content-of-in-force (types.Builtin kind) =
+      subst (λ tree. IsInForce tree (looked_up simples (types.Builtin kind))) (sym (type_tree_is t ranked (types.Builtin kind))) (simple_in_force t ranked simples are (types.Builtin kind))
+  content-of-in-force (types.Simple id) =
+      subst (λ tree. IsInForce tree (looked_up simples (types.Simple id))) (sym (type_tree_is t ranked (types.Simple id))) (simple_in_force t ranked simples are (types.Simple id))
+  content-of-in-force (types.Complex id) = elim (cases_lt id (length t.complexes.parts)) [
+    | inl there ↦ content_entry_in_force (suc (slice_index t.complexes.ranks id)) id (omega arith) there
+    | inr past ↦ (let gone : slice_get t.complexes.parts id ≡ None = slice_get_past t.complexes.parts id past in
+        let none : slice_get complexes id ≡ None = slice_get_past complexes id (rw contents_are.alike past) in
+        subst (λ tree. IsInForce tree (entry_at complexes id)) (sym (type_tree_is t ranked (types.Complex id) ∙ ap (content_part (simple_tree t) (type_tree t)) gone))
+        (subst (λ entry. IsInForce not_simple (entry_of entry)) (sym none) (refl, refl)))
+  ]
+
 -- any type whose literals are known, by tables that are judged
 module _ (t : Tables) (ranked : IsRanked t) (types_of : SimpleTypes) (are : AreTypesOf t types_of) where
   pub type_is_made : (of : TypeId) → IsWhole types_of of → IsMade (type_tree t of) (content_of types_of.simples types_of.complexes of).facets

@@ -38,13 +38,13 @@ not_past a b c x y z p q r =
 not_trans : (a b c x y z p q r : ℕ) → before a b c x y z ≡ false → before x y z p q r ≡ false → before a b c p q r ≡ false
 not_trans a b c x y z p q r first second = grind (arith, nat_tests)
 
-fault_not_itself : (f : Fault) → is_before f f ≡ false
+pub fault_not_itself : (f : Fault) → is_before f f ≡ false
 fault_not_itself f = not_itself f.document f.item (code_place f.code)
 
 fault_not_past : (f b m : Fault) → is_before f b ≡ true → is_before f m ≡ false → is_before b m ≡ false
 fault_not_past f b m = not_past f.document f.item (code_place f.code) b.document b.item (code_place b.code) m.document m.item (code_place m.code)
 
-fault_not_trans : (f b m : Fault) → is_before f b ≡ false → is_before b m ≡ false → is_before f m ≡ false
+pub fault_not_trans : (f b m : Fault) → is_before f b ≡ false → is_before b m ≡ false → is_before f m ≡ false
 fault_not_trans f b m = not_trans f.document f.item (code_place f.code) b.document b.item (code_place b.code) m.document m.item (code_place m.code)
 
 -- the least of some faults and of one that is known
@@ -102,6 +102,10 @@ least-append (x ∷ xs) ys best = least-append xs ys (sooner best x)
 
 pub rules_are_least : (rules : List Rule) → IsLeast (faults_of_rules rules) (first_fault rules)
 rules_are_least rules = subst (IsLeast (faults_of_rules rules)) (sym (rules-least rules None)) (least-is (faults_of_rules rules) None)
+
+-- with a fault that is known
+pub rules_from_least : (rules : List Rule) (best : Option Fault) → IsLeast (with_fault best (faults_of_rules rules)) (first_from best rules)
+rules_from_least rules best = subst (IsLeast (with_fault best (faults_of_rules rules))) (sym (rules-least rules best)) (least-is (faults_of_rules rules) best)
 
 pub types_are_least : (types : SimpleTypes) → IsLeast (faults_of_types types) (first_fault_of types)
 types_are_least types =

@@ -13,3 +13,4 @@ pub mod Whole
 pub mod Tried
 pub mod Steps
 pub mod Valid
+pub mod HoldingLaws

@@ -1,11 +1,13 @@
 pub mod SimpleValidity
 pub mod Trees
 pub mod TypeTree
+pub mod Holding
 pub mod Forms
 pub mod Judging
 pub mod Least
 pub mod Lookup
 pub mod SimpleTypes
 pub mod TypeRules
+pub mod Broken
 pub mod Determined
 pub mod inside

@@ -14,7 +14,7 @@ mod validity;
 mod validity_laws;
 
 pub use judged::{JudgedType, TypeFacets};
-pub use laws::first_is_least;
+pub use laws::{enumerations_are_judged_by_validity, first_is_least, lists_are_of_what_holds_none};
 pub use types::{Built, SimpleTypes};
 pub use validity::validated;
 pub use validity_laws::simple_validity_has_one_outcome;

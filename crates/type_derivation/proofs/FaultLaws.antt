@@ -12,14 +12,14 @@ use Rattle.xs_codes.proofs.LeastLaws.{fault_not_itself, least-sum, least-same}
 use Rattle.type_derivation.specs.Contents.{HasContent}
 use Rattle.type_derivation.specs.Bases.{base_fault, base_code, IsWrongBase}
 use Rattle.type_derivation.specs.inside.Kinds.{kind_in, fault_of_code, fault_of_kind, fault_in, IsFaultIn}
-use Rattle.type_derivation.specs.declared.kinds.ContentKind.{ContentKind}
+use Rattle.component_tables.specs.declared.content_types.ContentType.{ContentType}
 
 -- one fault, or none
 one-fault : (o : Option Fault) → IsLeast (λ f. o ≡ Some f) o
 one-fault None = λ f e. let g : None ≡ Some f = e in cc
 one-fault (Some g) = (refl, λ h e. let same : g ≡ h = (let s : Some g ≡ Some h = e in cc) in rw (← same) (fault_not_itself g))
 
-module _ (types : List ComplexType) (table : List (Option ContentKind)) where
+module _ (types : List ComplexType) (table : List (Option ContentType)) where
   -- a fault of one of the first types
   abbrev pub FaultBelow : ℕ → Fault → Type 0
   FaultBelow i fault = (n : ℕ) × (n < i) × (part : ComplexType) × (slice_get types n ≡ Some part) × (fault_in table part ≡ Some fault)
@@ -50,15 +50,15 @@ module _ (types : List ComplexType) (table : List (Option ContentKind)) where
       least-same (FaultBelow i) (IsFaultIn types table) (λ f c. (c.0, c.2, c.3, c.4)) (λ f c. (c.0, omega (arith, e, slice_get_within types c.0 c.1 c.2), c.1, c.2, c.3)) best least
 
 -- faults by a table of all kinds are those of bases of the wrong kind
-module _ (t : Tables) (table : List (Option ContentKind)) (to : (x : TypeId) (kind : ContentKind) → kind_in table x ≡ Some kind → HasContent t x kind) (from : (x : TypeId) (kind : ContentKind) → HasContent t x kind → kind_in table x ≡ Some kind) where
+module _ (t : Tables) (table : List (Option ContentType)) (to : (x : TypeId) (kind : ContentType) → kind_in table x ≡ Some kind → HasContent t x kind) (from : (x : TypeId) (kind : ContentType) → HasContent t x kind → kind_in table x ≡ Some kind) where
   wrong : (f : Fault) → IsFaultIn t.complexes.parts table f → IsWrongBase t f
   wrong f c = on (kind_in table c.1.base) refl c.3
     where
-      code : (kind : ContentKind) → kind_in table c.1.base ≡ Some kind → (o : Option Code) → base_code c.1.by_extension c.1.content kind ≡ o → fault_of_code c.1.at o ≡ Some f → IsWrongBase t f
+      code : (kind : ContentType) → kind_in table c.1.base ≡ Some kind → (o : Option Code) → base_code c.1.by_extension c.1.content kind ≡ o → fault_of_code c.1.at o ≡ Some f → IsWrongBase t f
       code kind k None b e = absurd (let g : None ≡ Some f = e in cc)
       code kind k (Some found) b e = (c.0, c.1, kind, found, c.2, to c.1.base kind k, b, (let g : Some (base_fault c.1.at found) ≡ Some f = e in cc))
 
-      on : (o : Option ContentKind) → kind_in table c.1.base ≡ o → fault_of_kind c.1 o ≡ Some f → IsWrongBase t f
+      on : (o : Option ContentType) → kind_in table c.1.base ≡ o → fault_of_kind c.1 o ≡ Some f → IsWrongBase t f
       on None k e = absurd (let g : None ≡ Some f = e in cc)
       on (Some kind) k e = code kind k (base_code c.1.by_extension c.1.content kind) refl e
 

@@ -1,4 +1,5 @@
 pub mod KindLaws
+pub mod ContentTypeLaws
 pub mod FaultLaws
 pub mod GrowLaws
 pub mod TypeOrderLaws

@@ -3,8 +3,9 @@ ghost use Rattle.xs_codes.specs.Least.{IsLeast};
 ghost use Rattle.type_derivation.specs.Bases as spec;
 ghost use Rattle.type_derivation.specs.inside.Kinds.{fault_in, IsFaultIn};
 
-use crate::kinds::{ContentKind, kind_of};
+use crate::kinds::kind_of;
 use crate::rounds::kinds;
+use component_tables::ContentType;
 use std::alloc::{AllocError, Global};
 use xs_codes::{Code, Fault, sooner};
 use xs_components::{ComplexType, Components, ContentForm, Place};
@@ -13,31 +14,33 @@ use xs_components::{ComplexType, Components, ContentForm, Place};
 const PHASE: u8 = 4;
 
 // The code of a type with complex content over a base.
-fn complex_code(base: ContentKind) -> Option<Code>
+fn complex_code(base: ContentType) -> Option<Code>
     ensures { result ≡ spec.complex_code base }
 {
     match base {
-        ContentKind::SimpleType => Some(Code::SrcCt1),
-        ContentKind::SimpleContent => None,
-        ContentKind::Mixed => None,
-        ContentKind::Unmixed => None,
+        ContentType::SimpleType => Some(Code::SrcCt1),
+        ContentType::Empty => None,
+        ContentType::SimpleContent => None,
+        ContentType::ElementOnly => None,
+        ContentType::Mixed => None,
     }
 }
 
 // Whether a type with simple content may stand over a base.
-fn fits(by_extension: bool, has_own: bool, base: ContentKind) -> bool
+fn fits(by_extension: bool, has_own: bool, base: ContentType) -> bool
     ensures { result ≡ spec.fits by_extension has_own base }
 {
     match base {
-        ContentKind::SimpleType => by_extension,
-        ContentKind::SimpleContent => true,
-        ContentKind::Mixed => !by_extension && has_own,
-        ContentKind::Unmixed => false,
+        ContentType::SimpleType => by_extension,
+        ContentType::Empty => false,
+        ContentType::SimpleContent => true,
+        ContentType::ElementOnly => false,
+        ContentType::Mixed => !by_extension && has_own,
     }
 }
 
 // The code of a type with simple content over a base.
-fn simple_code(by_extension: bool, has_own: bool, base: ContentKind) -> Option<Code>
+fn simple_code(by_extension: bool, has_own: bool, base: ContentType) -> Option<Code>
     ensures { result ≡ spec.simple_code by_extension has_own base }
 {
     if fits(by_extension, has_own, base) {
@@ -47,8 +50,8 @@ fn simple_code(by_extension: bool, has_own: bool, base: ContentKind) -> Option<C
     }
 }
 
-// The code of a type over a base of a kind.
-fn base_code(by_extension: bool, content: &ContentForm, base: ContentKind) -> Option<Code>
+// The code of a type over a base of this content type.
+fn base_code(by_extension: bool, content: &ContentForm, base: ContentType) -> Option<Code>
     ensures { result ≡ spec.base_code by_extension content.now base }
 {
     match content {
@@ -69,8 +72,8 @@ fn base_fault(at: Place, code: Code) -> Fault
     }
 }
 
-// The fault of a type, by what is known of the kinds of contents.
-fn fault_of(known: &[Option<ContentKind>], part: &ComplexType) -> Option<Fault>
+// The fault of a type, by the content types that are known.
+fn fault_of(known: &[Option<ContentType>], part: &ComplexType) -> Option<Fault>
     ensures { result ≡ fault_in known.now part.now }
 {
     let Some(base) = kind_of(known, part.base) else {
@@ -83,7 +86,7 @@ fn fault_of(known: &[Option<ContentKind>], part: &ComplexType) -> Option<Fault>
 }
 
 // The first fault of these types.
-fn first_of(types: &[ComplexType], known: &[Option<ContentKind>]) -> Option<Fault>
+fn first_of(types: &[ComplexType], known: &[Option<ContentType>]) -> Option<Fault>
     ensures least { IsLeast (IsFaultIn types.now known.now) result }
 {
     let mut best = None;

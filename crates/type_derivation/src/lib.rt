@@ -1,4 +1,4 @@
-//! The kinds of the contents of complex types, and bases of the wrong kind (Structures 3.4.2, 3.4.3).
+//! The content types of complex types, and bases of the wrong kind (Structures 3.4.2, 3.4.3).
 #![tactic(auto)]
 
 mod adding;
@@ -7,6 +7,7 @@ mod chains;
 mod contents;
 mod cycling;
 mod kinds;
+mod laws;
 mod rounds;
 mod setting;
 mod steps;
@@ -16,6 +17,6 @@ mod within;
 pub use bases::first_base;
 pub use chains::{derives, derives_from_member};
 pub use cycling::cycles;
-pub use kinds::ContentKind;
+pub use laws::content_types_are_one;
 pub use steps::{above, members_of};
 pub use within::Within;

@@ -1,17 +1,18 @@
 ghost use Rattle.std.specs.Prelude.{◌≡◌, ◌<◌, ◌^◌, ◌↔◌, ℕ, true, false, Some, All, Contains, length, IfOk};
 ghost use Rattle.xs_components.specs.declared.common.TypeId.{TypeId as TypeIdValue};
+ghost use Rattle.component_tables.specs.declared.content_types.ContentType.{ContentType as Kind};
 ghost use Rattle.type_derivation.specs.Contents.{HasContent};
-ghost use Rattle.type_derivation.specs.declared.kinds.ContentKind.{ContentKind as Kind};
 ghost use Rattle.type_derivation.specs.inside.Kinds.{IsSound, LacksAt, unknown, kind_in};
 
-use crate::kinds::{ContentKind, kind_by};
+use crate::kinds::kind_by;
 use component_references::{levels, order_of};
+use component_tables::ContentType;
 use std::alloc::{AllocError, Global};
 use xs_components::{ComplexType, Components, TypeId};
 use xs_lists::Listed;
 
-// Puts kinds into the table that form and table tell. Answers whether there were some.
-fn round(parts: &Components, order: &[u32], known: &mut [Option<ContentKind>]) -> bool
+// Puts content types into the table that form and table tell. Answers whether there were some.
+fn round(parts: &Components, order: &[u32], known: &mut [Option<ContentType>]) -> bool
     requires len { length known.old ≡ length parts.now.complexes.parts }
     requires order { All (λ x. x < length parts.now.complexes.parts) order.now }
     requires sound { IsSound parts.now known.old }
@@ -35,8 +36,8 @@ fn round(parts: &Components, order: &[u32], known: &mut [Option<ContentKind>]) -
     found
 }
 
-// Puts kinds into the table until no more are told.
-fn rounds(parts: &Components, order: &[u32], known: &mut [Option<ContentKind>])
+// Puts content types into the table until no more are told.
+fn rounds(parts: &Components, order: &[u32], known: &mut [Option<ContentType>])
     requires len { length known.old ≡ length parts.now.complexes.parts }
     requires order { All (λ x. x < length parts.now.complexes.parts) order.now }
     requires sound { IsSound parts.now known.old }
@@ -78,11 +79,11 @@ fn bases_first(alloc: Global, parts: &Components) -> Result<Vec<u32>, AllocError
     }
 }
 
-/// The kinds of the contents of all complex types, as far as they have one.
+/// The content types of all complex types, as far as they have one.
 pub(crate) fn kinds(
     alloc: Global,
     parts: &Components,
-) -> Result<Vec<Option<ContentKind>>, AllocError>
+) -> Result<Vec<Option<ContentType>>, AllocError>
     ensures exact { IfOk result (λ known. (of : TypeIdValue) (kind : Kind) → (kind_in known.items of ≡ Some kind) ↔ HasContent parts.now of kind) }
 {
     let order = bases_first(alloc, parts)?;

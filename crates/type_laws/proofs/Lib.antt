@@ -3,3 +3,4 @@ pub mod RankedLaws
 pub mod PatternLaws
 pub mod StepLaws
 pub mod TypesLaws
+pub mod BrokenLaws

@@ -41,7 +41,7 @@ module _ (base : Facets) (known : Known) where
   read-one true item a b p q = fit-one (is_read_by_base known item.kind) item a b p q
   read-one false item a b p q = p ∙ sym q
 
-  behind-one : (items : List FacetItem) (front s t : ReadStep) → IsReadBehind base known front items s → IsReadBehind base known front items t → s ≡ t
+  pub behind-one : (items : List FacetItem) (front s t : ReadStep) → IsReadBehind base known front items s → IsReadBehind base known front items t → s ≡ t
   behind-one [] front s t p q = p ∙ sym q
   behind-one (item ∷ items) front s t p q =
       let one : p.0 ≡ q.0 = read-one (fits (family base) item.kind) item p.0 q.0 p.1 q.1 in

@@ -1,16 +1,15 @@
 -- Components that were completed: ranks are heights, and contents are set.
-use Rattle.std.specs.Prelude.{◌≡◌, Option}
+use Rattle.std.specs.Prelude.{Option}
 use Rattle.xs_codes.specs.declared.fault.Fault.{Fault}
 use Rattle.xs_components.specs.Tables.{Tables}
 use Rattle.component_references.specs.Circles.{Ranks, with_all_ranks}
-use Rattle.simple_types.specs.SimpleTypes.{AreTypesOf, first_fault_of}
-use Rattle.simple_types.specs.declared.types.SimpleTypes.{SimpleTypes}
+use Rattle.simple_types.specs.Broken.{IsBroken, IsFirst}
 use Rattle.type_derivation.specs.Filled.{IsCompleted}
 
 -- these are the components as they are completed
 abbrev pub AreCompleted : Tables → Tables → Type 0
 AreCompleted parts new = (ranks : Ranks) × IsCompleted (with_all_ranks parts ranks) new
 
--- the first fault of the simple types of the completed components, or none
+-- the first of what the simple types of the completed components and their facets break, or nothing
 abbrev pub IsFirstTypeFault : Tables → Option Fault → Type 0
-IsFirstTypeFault parts found = (new : Tables) × AreCompleted parts new × (types : SimpleTypes) × AreTypesOf new types × (first_fault_of types ≡ found)
+IsFirstTypeFault parts found = (new : Tables) × AreCompleted parts new × IsFirst (IsBroken new) found

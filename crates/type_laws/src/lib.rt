@@ -4,5 +4,6 @@
 mod laws;
 
 pub use laws::{
-    patterns_are_read_in_one_way, ranks_and_contents_are_one, the_first_type_fault_is_the_only_one,
+    patterns_are_read_in_one_way, ranks_and_contents_are_one, the_first_type_fault_is_the_least,
+    the_first_type_fault_is_the_only_one,
 };

@@ -1,9 +1,7 @@
 -- The fixed values of element declarations by keys, one declaration after another.
-use Rattle.std.specs.Prelude.{◌≡◌, ℕ, ◌<◌, ◌⊎◌, List, Option, None, Some, Result, Ok, Err, IfSome, length, slice_get}
-use Rattle.xs_codes.specs.declared.code.Code.{Code}
+use Rattle.std.specs.Prelude.{◌≡◌, ℕ, ◌<◌, ◌⊎◌, List, Option, None, Some, IfSome, length, slice_get}
 use Rattle.xs_components.specs.Tables.{Tables}
 use Rattle.xs_components.specs.declared.common.TypeId.{TypeId}
-use Rattle.xs_components.specs.declared.common.ValueConstraint.{ValueConstraint}
 use Rattle.xs_components.specs.declared.element.ElementDecl.{ElementDecl}
 use Rattle.xs_names.specs.Numbering.{Begins, HasNoRepeats}
 use Rattle.component_references.specs.Heights.{IsType}
@@ -14,8 +12,7 @@ use Rattle.component_tables.specs.Types.{AreDeclarationsOf}
 use Rattle.simple_values.specs.Same.{key_value}
 use Rattle.simple_values.specs.declared.key.Key.{Key}
 use Rattle.simple_values.specs.declared.value.Value.{Value}
-use Rattle.simple_types.specs.Trees.{type_tree}
-use Rattle.simple_types.specs.SimpleTypes.{AreTypesOf, IsValueOf, IsWhole}
+use Rattle.simple_types.specs.SimpleTypes.{AreTypesOf, IsWhole}
 use Rattle.simple_types.specs.declared.types.SimpleTypes.{SimpleTypes}
 use Rattle.derive_models.specs.Fixed.{HasFixed, number_of}
 use Rattle.derive_models.specs.declared.set.ElementSet.{ElementSet}
@@ -31,15 +28,6 @@ pub record IsFound (set : ElementSet) : Type 0 where
 pub record AreRead (t : Tables) (types : SimpleTypes) : Type 0 where
   pub judged : AreTypesOf t types
   pub whole : (of : TypeId) → IsType t of → (content_of t of ≡ SimpleType) ⊎ (content_of t of ≡ SimpleContent) → IsWhole types of
-
--- the key of what a text comes to
-abbrev pub outcome_key : Result Value Code → Option Key
-outcome_key (Ok value) = Some (key_value value)
-outcome_key (Err code) = None
-
--- the key of the text of a constraint, where it is valid by a type
-abbrev pub IsTextKey : Tables → TypeId → ValueConstraint → Option Key → Type 0
-IsTextKey t of constraint key = (outcome : Result Value Code) × IsValueOf (type_tree t of) constraint.scope constraint.text outcome × (key ≡ outcome_key outcome)
 
 -- the key of the fixed value of a declaration, if it has one
 abbrev pub IsFixedKey : Tables → ℕ → Option Key → Type 0

@@ -8,7 +8,7 @@ use Rattle.attr_uses.specs.Tables.{AreTablesOf}
 use Rattle.attr_uses.specs.declared.tables.AttrTables.{AttrTables}
 use Rattle.component_tables.specs.Types.{AreDeclarationsOf}
 use Rattle.subst_groups.specs.Groups.{AreGroups}
-use Rattle.component_tables.specs.Classes.{AreClassesOf}
+use Rattle.element_classes.specs.Classes.{AreClassesOf}
 use Rattle.component_tables.specs.Named.{spaces_of}
 use Rattle.component_tables.specs.ContentTypes.{AreContentsOf}
 use Rattle.content_models.specs.declared.automaton.ContentAutomaton.{ContentAutomaton}

@@ -1,6 +1,6 @@
 use Rattle.std.proofs.Common.{sym, subst}
 use Rattle.component_references.specs.Heights.{IsType}
-use Rattle.subst_groups.proofs.StandLaws.{type-there}
+use Rattle.component_tables.proofs.DeclaredLaws.{type-there}
 use Rattle.derive_faults.proofs.exclusions.is_derived.Goals as goal
 
 pub derives-requires-clause-sub : goal.derives-requires-clause-sub

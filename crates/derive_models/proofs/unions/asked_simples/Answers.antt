@@ -1,7 +1,7 @@
 use Rattle.std.proofs.Common.{◌+◌, sym, ap, ◌∙◌, subst, arith}
 use Rattle.component_references.specs.Heights.{IsType}
 use Rattle.component_tables.specs.Types.{type_of}
-use Rattle.elem_governing.proofs.DeclaredLaws.{type-there}
+use Rattle.component_tables.proofs.DeclaredLaws.{type-there}
 use Rattle.derive_models.specs.inside.Asked.{AreAsked}
 use Rattle.derive_models.proofs.UnionLaws.{has-place, asked-more}
 use Rattle.derive_models.proofs.unions.asked_simples.Goals as goal

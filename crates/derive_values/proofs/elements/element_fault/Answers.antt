@@ -3,7 +3,7 @@ use Rattle.xs_components.specs.declared.common.TypeId.{TypeId}
 use Rattle.xs_components.specs.declared.element.ElementDecl.{ElementDecl}
 use Rattle.component_references.specs.Heights.{IsType}
 use Rattle.component_tables.specs.Types.{type_of}
-use Rattle.subst_groups.proofs.StandLaws.{type-there}
+use Rattle.component_tables.proofs.DeclaredLaws.{type-there}
 use Rattle.derive_faults.specs.TypeFaults.{IsFirstCode}
 use Rattle.derive_values.specs.Elements.{BreaksDecl}
 use Rattle.derive_values.proofs.PartLaws.{coded-in}

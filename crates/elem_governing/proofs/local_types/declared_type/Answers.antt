@@ -1,7 +1,7 @@
 use Rattle.std.proofs.Common.{◌≡◌, sym, subst}
 use Rattle.component_references.specs.Heights.{IsType}
 use Rattle.component_tables.specs.Types.{type_of}
-use Rattle.elem_governing.proofs.DeclaredLaws.{type-there}
+use Rattle.component_tables.proofs.DeclaredLaws.{type-there}
 use Rattle.elem_governing.proofs.local_types.declared_type.Goals as goal
 
 pub returns : goal.returns

@@ -1,6 +1,7 @@
 use Rattle.std.proofs.Common.{◌∙◌, sym, subst, ap}
 use Rattle.component_references.specs.Heights.{IsType}
-use Rattle.subst_groups.proofs.StandLaws.{answered, disallowed-is, type-there}
+use Rattle.component_tables.proofs.DeclaredLaws.{type-there}
+use Rattle.subst_groups.proofs.StandLaws.{answered, disallowed-is}
 use Rattle.subst_groups.proofs.standing.may_stand.Goals as goal
 
 pub blocked-blocked-requires-clause-sub_there : goal.blocked-blocked-requires-clause-sub_there

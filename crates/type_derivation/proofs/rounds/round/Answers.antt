@@ -5,11 +5,11 @@ use Rattle.std.proofs.lemmas.Option.{slice_get_read}
 use Rattle.std.proofs.lemmas.List.{take_all}
 use Rattle.std.proofs.lemmas.List.Elements.{All-more}
 use Rattle.type_derivation.specs.inside.Kinds.{entry, LacksAt, unknown}
-use Rattle.type_derivation.specs.declared.kinds.ContentKind.{ContentKind}
+use Rattle.component_tables.specs.declared.content_types.ContentType.{ContentType}
 use Rattle.type_derivation.proofs.KindLaws.{lacks-at, next-sound, sound-more, fewer}
 use Rattle.type_derivation.proofs.rounds.round.Goals as goal
 
-none-known : (o : Option ContentKind) → is_some o ≡ false → o ≡ None
+none-known : (o : Option ContentType) → is_some o ≡ false → o ≡ None
 none-known None e = refl
 none-known (Some k) e = absurd (true≢false e)
 

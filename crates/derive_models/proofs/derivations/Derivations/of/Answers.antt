@@ -1,6 +1,6 @@
 use Rattle.std.proofs.Common.{Bool, List, length, refl, subst}
 use Rattle.component_tables.specs.Types.{type_of}
-use Rattle.elem_governing.proofs.DeclaredLaws.{type-there}
+use Rattle.component_tables.proofs.DeclaredLaws.{type-there}
 use Rattle.elem_governing.proofs.DerivedLaws.{derives-told}
 use Rattle.derive_models.specs.Derivation.{excluded}
 use Rattle.derive_models.specs.inside.Asked.{AreLooked}

@@ -1,0 +1,3 @@
+mod ClassLaws
+mod Deciding
+mod KeyLaws
