@@ -4,8 +4,7 @@ use Rattle.std.specs.Prelude.{nat_lt}
 use Rattle.std.proofs.lemmas.Bool.{false≢true}
 use Rattle.std.proofs.lemmas.Bool.Decides.{nat_tests}
 use Rattle.xs_codes.specs.declared.fault.Fault.{Fault}
-use Rattle.xs_codes.specs.Codes.{order_of}
-use Rattle.xs_codes.specs.Least.{is_before, sooner, IsLeast, comes_first}
+use Rattle.xs_codes.specs.Least.{place_in, is_before, sooner, IsLeast, comes_first}
 
 -- by a number, and then otherwise
 abbrev first_by : ℕ → ℕ → Bool → Bool
@@ -36,13 +35,13 @@ not_trans : (a b c x y z p q r : ℕ) → before a b c x y z ≡ false → befor
 not_trans a b c x y z p q r first second = grind (arith, nat_tests)
 
 pub fault_not_itself : (f : Fault) → is_before f f ≡ false
-fault_not_itself f = not_itself f.document f.item (order_of f.code)
+fault_not_itself f = not_itself f.document f.item (place_in f.phase f.code)
 
 pub fault_not_past : (f b m : Fault) → is_before f b ≡ true → is_before f m ≡ false → is_before b m ≡ false
-fault_not_past f b m = not_past f.document f.item (order_of f.code) b.document b.item (order_of b.code) m.document m.item (order_of m.code)
+fault_not_past f b m = not_past f.document f.item (place_in f.phase f.code) b.document b.item (place_in b.phase b.code) m.document m.item (place_in m.phase m.code)
 
 pub fault_not_trans : (f b m : Fault) → is_before f b ≡ false → is_before b m ≡ false → is_before f m ≡ false
-fault_not_trans f b m = not_trans f.document f.item (order_of f.code) b.document b.item (order_of b.code) m.document m.item (order_of m.code)
+fault_not_trans f b m = not_trans f.document f.item (place_in f.phase f.code) b.document b.item (place_in b.phase b.code) m.document m.item (place_in m.phase m.code)
 
 -- what is not before the later of two is not before the sooner
 sooner_first : (f b : Fault) → is_before f b ≡ true → (g : Fault) → is_before g b ≡ false → is_before g f ≡ false

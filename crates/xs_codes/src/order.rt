@@ -1,9 +1,28 @@
 ghost use Rattle.std.specs.Prelude.{◌≡◌};
 ghost use Rattle.xs_codes.specs.Least as spec;
 
-use crate::{Fault, code_order};
+use crate::{Code, Fault, code_order};
 
-/// Whether a fault comes before another: by document, then item, then the place of its code in the list of all.
+// The phase of compiling that judges simple types.
+const TYPES: u8 = 5;
+
+// The place of a code among those of a phase: that in the list of all, but for the limit on values, which the phase of simple types tries
+// behind that on patterns.
+fn place_in(phase: u8, code: Code) -> u32
+    ensures { result ≡ spec.place_in phase code }
+{
+    let order = code_order(code) as u32;
+    if phase != TYPES {
+        return order;
+    }
+    if order == code_order(Code::XLimitValue) as u32 {
+        2 * (code_order(Code::XLimitPattern) as u32) + 1
+    } else {
+        2 * order
+    }
+}
+
+/// Whether a fault comes before another: by document, then item, then the place of its code in the phase.
 pub fn is_before(a: Fault, b: Fault) -> bool
     ensures before { result ≡ spec.is_before a b }
 {
@@ -13,7 +32,7 @@ pub fn is_before(a: Fault, b: Fault) -> bool
     if a.item != b.item {
         return a.item < b.item;
     }
-    code_order(a.code) < code_order(b.code)
+    place_in(a.phase, a.code) < place_in(b.phase, b.code)
 }
 
 /// Whether a fault comes before the first that is known, if one is.
