@@ -1,25 +1,12 @@
 -- The first of the faults of a step of restriction.
-use Rattle.std.specs.Prelude.{ℕ, ◌+◌, ◌*◌, ◌==◌, nat_lt, Bool, true, false, if◌then◌else◌, List, [], ◌∷◌, Option, None, Some}
+use Rattle.std.specs.Prelude.{Bool, true, false, if◌then◌else◌, List, [], ◌∷◌, Option, None, Some}
 use Rattle.xs_codes.specs.declared.code.Code.{Code}
-use Rattle.xs_codes.specs.declared.code.Code.TheVariants.{XLimitValue, XLimitPattern}
 use Rattle.xs_codes.specs.declared.fault.Fault.{Fault}
-use Rattle.xs_codes.specs.Codes.{order_of}
+use Rattle.xs_codes.specs.Least.{is_before}
 use Rattle.xs_components.specs.declared.common.Place.{Place}
 
 abbrev pub fault_at : Place → Code → Fault
 fault_at at code = record { phase = 5; document = at.document; item = at.item; code = code }
-
--- the place of a code among those of simple types: x-limit.value, which is tried in other phases too, is behind
--- x-limit.pattern
-abbrev pub code_place : Code → ℕ
-code_place code = if order_of code == order_of XLimitValue then 2 * order_of XLimitPattern + 1 else 2 * order_of code
-
--- by document, then item, then the place of the code
-abbrev pub is_before : Fault → Fault → Bool
-is_before a b =
-    if a.document == b.document
-    then (if a.item == b.item then nat_lt (code_place a.code) (code_place b.code) else nat_lt a.item b.item)
-    else nat_lt a.document b.document
 
 abbrev pub sooner : Option Fault → Fault → Option Fault
 sooner None fault = Some fault

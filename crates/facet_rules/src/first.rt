@@ -2,7 +2,7 @@
 ghost use Rattle.std.specs.Prelude.{◌≡◌};
 ghost use Rattle.facet_rules.specs.First as spec;
 
-use xs_codes::{Code, Fault, code_order};
+use xs_codes::{Code, Fault, is_before};
 use xs_components::Place;
 
 // The phase of compiling that judges simple types.
@@ -18,32 +18,6 @@ pub(crate) fn fault_at(at: Place, code: Code) -> Fault
         item: at.item,
         code,
     }
-}
-
-// The place of a code among those of simple types. The limit of values, which other phases try too, is behind that of
-// patterns.
-fn code_place(code: Code) -> u32
-    ensures { result ≡ spec.code_place code }
-{
-    let order = code_order(code) as u32;
-    if order == code_order(Code::XLimitValue) as u32 {
-        2 * (code_order(Code::XLimitPattern) as u32) + 1
-    } else {
-        2 * order
-    }
-}
-
-// Whether a fault comes before another: by document, then item, then the place of its code.
-fn is_before(a: Fault, b: Fault) -> bool
-    ensures { result ≡ spec.is_before a b }
-{
-    if a.document != b.document {
-        return a.document < b.document;
-    }
-    if a.item != b.item {
-        return a.item < b.item;
-    }
-    code_place(a.code) < code_place(b.code)
 }
 
 /// The first of these faults.
