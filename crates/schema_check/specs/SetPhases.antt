@@ -10,7 +10,7 @@ use Rattle.type_derivation.specs.Cycles.{IsBroken}
 use Rattle.type_derivation.specs.Filled.{IsCompleted}
 use Rattle.type_derivation.specs.Particles.{AreContentsSet}
 use Rattle.simple_types.specs.declared.types.SimpleTypes.{SimpleTypes}
-use Rattle.simple_types.specs.Broken.{IsBroken as IsTypeBroken, IsFirst}
+use Rattle.simple_types.specs.Broken.{IsBroken as IsTypeBroken}
 use Rattle.simple_types.specs.SimpleTypes.{AreTypesOf, AreWhole}
 use Rattle.redefine_names.specs.declared.groups.RedefinedGroups.{RedefinedGroups}
 use Rattle.schema_set.specs.declared.documents.SetDocument.{SetDocument}
@@ -29,7 +29,7 @@ AreRanked parts new = (ranks : Ranks) × IsCompleted (with_all_ranks parts ranks
 
 -- phase 5, of the components that phase 4 leaves: simple types and facets (Structures 3.14.6; Datatypes 4.3)
 abbrev pub type_phase : Tables → Option Fault → Type 0
-type_phase parts found = (new : Tables) × AreRanked parts new × IsFirst (IsTypeBroken new) found
+type_phase parts found = (new : Tables) × AreRanked parts new × IsLeast (IsTypeBroken new) found
 
 abbrev pub part_phases : Tables → List (Option Fault → Type 0)
 part_phases parts = base_phase parts ∷ type_phase parts ∷ []
