@@ -33,7 +33,7 @@ module _ (A : Fault → Type 0) (f : Fault) where
   parted fs g (inr (inr more)) = inr more
 
 least-is : (fs : List Fault) (A : Fault → Type 0) (best : Option Fault) → IsLeast A best → IsLeast (λ f. A f ⊎ IsAmong f fs) (least best fs)
-least-is [] A best is = least-same A (λ f. A f ⊎ ⊥) (λ f a. inl a) (λ f either. elim either [ inl a ↦ a | inr no ↦ absurd no ]) best is
+least-is [] A best is = least-same A (λ f. A f ⊎ ⊥) (λ f a. inl a) (λ f either. elim either [ inl a ↦ a | inr never ↦ absurd never ]) best is
 least-is (f ∷ fs) A best is =
     least-same (λ g. (A g ⊎ (g ≡ f)) ⊎ IsAmong g fs) (λ g. A g ⊎ IsAmong g (f ∷ fs)) (gathered A f fs) (parted A f fs) (least (sooner best f) fs)
     (least-is fs (λ g. A g ⊎ (g ≡ f)) (sooner best f) (one-more A f best is))
@@ -41,8 +41,8 @@ least-is (f ∷ fs) A best is =
 -- where nothing is known
 least-alone : (fs : List Fault) → IsLeast (λ f. IsAmong f fs) (least None fs)
 least-alone fs =
-    least-same (λ f. ⊥ ⊎ IsAmong f fs) (λ f. IsAmong f fs) (λ f either. elim either [ inl no ↦ absurd no | inr among ↦ among ]) (λ f among. inr among) (least None fs)
-    (least-is fs (λ f. ⊥) None (λ f no. no))
+    least-same (λ f. ⊥ ⊎ IsAmong f fs) (λ f. IsAmong f fs) (λ f either. elim either [ inl never ↦ absurd never | inr among ↦ among ]) (λ f among. inr among) (least None fs)
+    (least-is fs (λ f. ⊥) None (λ f never. never))
 
 rules-least : (rules : List Rule) (best : Option Fault) → first_from best rules ≡ least best (faults_of_rules rules)
 rules-least [] best = refl
