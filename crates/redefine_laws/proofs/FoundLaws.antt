@@ -1,0 +1,112 @@
+-- Where no constraint on redefines is broken, each redefining component has an original among the elements of the set.
+use Rattle.std.proofs.Common.{◌≡◌, ℕ, zero, suc, ◌+◌, ◌-◌, ◌==◌, ◌&&◌, ◌⊎◌, inl, inr, Bool, true, false, cond, List, [], ◌∷◌, ◌++◌, Option, None, Some, if◌then◌else◌, length, slice_get, refl, sym, ap, subst, ◌∙◌, eq-eqb, arith}
+use Rattle.std.specs.Prelude.{Contains, All}
+use Rattle.std.specs.List.{find, position_from}
+use Rattle.std.specs.Option.{option_and_then, option_to_list}
+use Rattle.std.proofs.lemmas.List.Elements.{All-contains, Contains-append_cases}
+use Rattle.std.proofs.lemmas.Option.{none-some, same_Some, get_or_from_slice_get}
+use Rattle.xs_codes.specs.declared.code.Code.TheVariants as code
+use Rattle.xs_codes.specs.declared.fault.Fault.{Fault}
+use Rattle.schema_shape.specs.declared.forms.Form.{Form}
+use Rattle.schema_shape.specs.declared.forms.Form.TheVariants as forms
+use Rattle.schema_shape.specs.declared.forms.Shape.{Shape}
+use Rattle.schema_shape.specs.declared.forms.ShapedSchema.{ShapedSchema}
+use Rattle.schema_set.specs.EffectiveSet.{document_at, IsInclusion, Says, InSet, included as by-inclusion, IsDocument, IsEffectiveSet}
+use Rattle.schema_set.specs.Order.{same_target}
+use Rattle.schema_set.specs.declared.documents.Available.{Available}
+use Rattle.schema_set.specs.declared.documents.SetDocument.{SetDocument}
+use Rattle.schema_set.proofs.ReachLaws.{in-filter_map}
+use Rattle.redefine_originals.specs.declared.versions.Redefinable.{Redefinable}
+use Rattle.redefine_originals.specs.Versions.{Child, Version, redefined, redefining, declared_as, included, shapes_of as available_shapes, shapes_at, version_at, inclusions, Finds, nowhere, again, here, further, IsOriginal}
+use Rattle.redefine_originals.specs.Originals.{shapes_of, elements, version_place, child_of, IsPlaceOf, IsChildPlace, IsOriginalPlace, AreOriginals}
+use Rattle.redefine_originals.proofs.InsideLaws.{contains-first, contains-rest, contains-cases}
+use Rattle.redefine_originals.proofs.VersionLaws.{version-is, original-is}
+use Rattle.redefine_faults.specs.Redefinitions.{IsRedefineFault, lost}
+use Rattle.redefine_names.specs.VersionNames.{original_at}
+use Rattle.redefine_laws.proofs.ListLaws.{position-at}
+use Rattle.redefine_laws.proofs.TreeLaws.{AreElements}
+use Rattle.redefine_laws.proofs.PlaceLaws.{Slot, slots, pair_of, stands}
+use Rattle.redefine_laws.proofs.FormLaws.{target-refl}
+use Rattle.redefine_laws.proofs.AroundLaws.{contains-at, at-contains}
+use Rattle.redefine_laws.proofs.OriginalLaws.{zip-at, element-at, IsInRedefine, redefining-from, version-there, shapes-same, child-is}
+
+-- ---- documents that are included and redefined
+included-is : (form : Form) (location : List ℕ) → included form ≡ Some location → IsInclusion form location
+included-is (forms.Include other) location is = inl (ap (λ (l : List ℕ). forms.Include l) (same_Some other location is))
+included-is (forms.Redefine other) location is = inr (ap (λ (l : List ℕ). forms.Redefine l) (same_Some other location is))
+included-is _ location is = absurd (none-some location is)
+
+redefined-is : (form : Form) (location : List ℕ) → redefined form ≡ Some location → IsInclusion form location
+redefined-is (forms.Redefine other) location is = inr (ap (λ (l : List ℕ). forms.Redefine l) (same_Some other location is))
+redefined-is _ location is = absurd (none-some location is)
+
+module _ (sources : List Available) (set : List SetDocument) (effective : IsEffectiveSet sources set) where
+  -- a document of the set says what one of its elements does
+  says : (document : ℕ) (target : Option (List ℕ)) → InSet sources document target → (s : Shape) → Contains (shapes_at sources document) s → (location : List ℕ) → IsInclusion s.form location
+      → Says sources document (λ form. IsInclusion form location)
+  says document target within s has location is =
+      let d = effective.each document target within in
+      let own = All-contains (IsDocument sources) set d.0 effective.there d.1 in
+      let before : own.0 ≡ document - 1 = omega (arith, own.2, d.2) in
+      let same : shapes_at sources document ≡ own.1.shaped.shapes = ap available_shapes (ap (λ (n : ℕ). slice_get sources n) (sym before) ∙ own.3) in
+      (own.0, own.1, s, own.2 ∙ d.2, own.3, subst (λ (xs : List Shape). Contains xs s) same has, is)
+
+  module _ (target : Option (List ℕ)) where
+    abbrev AreIn : List ℕ → Type 0
+    AreIn left = (document : ℕ) → Contains left document → InSet sources document target
+
+    inclusions-in : (document : ℕ) → InSet sources document target → AreIn (inclusions sources document)
+    inclusions-in document within other has =
+        let from = in-filter_map (λ (s : Shape). option_and_then (document_at sources) (included s.form)) (shapes_at sources document) other has in
+        by from.0 from.1 (included from.0.form) refl from.2
+      where
+        by : (s : Shape) → Contains (shapes_at sources document) s → (o : Option (List ℕ)) → included s.form ≡ o → option_and_then (document_at sources) o ≡ Some other → InSet sources other target
+        by s has None e is = absurd (none-some other is)
+        by s has (Some location) e is = by-inclusion document other target location within (says document target within s has location (included-is s.form location e)) is
+
+    finds-in : (of : Redefinable) (name : List ℕ) (left seen : List ℕ) (found : Option Version) → Finds sources of name left seen found → AreIn left → (w : Version) → found ≡ Some w → InSet sources w.document target
+    finds-in of name _ _ _ (nowhere seen) all w e = absurd (none-some w e)
+    finds-in of name _ _ _ (again d left seen found c f) all w e = finds-in of name left seen found f (λ x has. all x (contains-rest d x left has)) w e
+    finds-in of name _ _ _ (here d left seen v out is) all w e =
+        let own = version-is of name d (shapes_at sources d) v is in
+        subst (λ (x : Version). InSet sources x.document target) (same_Some v w e) (subst (λ (n : ℕ). InSet sources n target) (sym own.place) (all d (contains-first d left)))
+    finds-in of name _ _ _ (further d left seen found out none f) all w e =
+        finds-in of name (inclusions sources d ++ left) (d ∷ seen) found f
+        (λ x has. elim (Contains-append_cases (inclusions sources d) left x has) [
+          | inl own ↦ inclusions-in d (all d (contains-first d left)) x own
+          | inr other ↦ all x (contains-rest d x left other)
+        ]) w e
+
+    -- the document of a location that a document of the set redefines
+    located-in : (document : ℕ) → InSet sources document target → (location : List ℕ) → Says sources document (λ form. IsInclusion form location) → AreIn (option_to_list (document_at sources location))
+    located-in document within location said = by (document_at sources location) refl
+      where
+        by : (o : Option ℕ) → document_at sources location ≡ o → AreIn (option_to_list o)
+        by None e other has = absurd (omega (arith, has.1))
+        by (Some found) e other has = elim (contains-cases found other [] has) [
+          | inl same ↦ subst (λ (n : ℕ). InSet sources n target) same (by-inclusion document found target location within said e)
+          | inr more ↦ absurd (omega (arith, more.1))
+        ]
+
+-- ---- the place of a version
+module _ (target : Option (List ℕ)) (document item : ℕ) where
+  abbrev IsThe : SetDocument → Type 0
+  IsThe d = (d.number == document && same_target d.target target) ≡ true
+
+  abbrev HasItem : SetDocument → Type 0
+  HasItem d = (n : ℕ) × (s : Shape) × (slice_get (shapes_of d) n ≡ Some s) × ((s.item == item) ≡ true)
+
+  place-found : (start : ℕ) (ds : List SetDocument) (i : ℕ) (e : SetDocument) → slice_get ds i ≡ Some e → IsThe e → ((k : ℕ) (d : SetDocument) → slice_get ds k ≡ Some d → IsThe d → HasItem d)
+      → (place : ℕ) × (version_place start ds target document item ≡ Some place)
+  place-found start [] i e at is each = absurd (none-some e at)
+  place-found start (d ∷ ds) i e at is each = by (d.number == document && same_target d.target target) refl i at
+    where
+      by : (b : Bool) → (d.number == document && same_target d.target target) ≡ b → (i : ℕ) → slice_get (d ∷ ds) i ≡ Some e → (place : ℕ) × (version_place start (d ∷ ds) target document item ≡ Some place)
+      by true t i at =
+          let has = each 0 d refl t in
+          let found = position-at (λ (s : Shape). s.item == item) start (shapes_of d) has.0 has.1 has.2 has.3 in
+          (start + found.0, ap (λ (b : Bool). if b then position_from (λ (s : Shape). s.item == item) start (shapes_of d) else version_place (start + length (shapes_of d)) ds target document item) t ∙ found.2)
+      by false t zero at = absurd (Rattle.redefine_laws.proofs.ListLaws.not-both (ap (λ (x : SetDocument). x.number == document && same_target x.target target) (same_Some d e at) ∙ is) t)
+      by false t (suc i) at =
+          let rest = place-found (start + length (shapes_of d)) ds i e at is (λ k x there the. each (suc k) x there the) in
+          (rest.0, ap (λ (b : Bool). if b then position_from (λ (s : Shape). s.item == item) start (shapes_of d) else version_place (start + length (shapes_of d)) ds target document item) t ∙ rest.1)

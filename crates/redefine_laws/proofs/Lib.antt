@@ -1,0 +1,10 @@
+pub mod ListLaws
+pub mod KindLaws
+pub mod TreeLaws
+pub mod TableLaws
+pub mod PlaceLaws
+pub mod FormLaws
+pub mod AroundLaws
+pub mod OriginalLaws
+pub mod BelowLaws
+pub mod SelfLaws
