@@ -6,5 +6,8 @@ pub mod PlaceLaws
 pub mod FormLaws
 pub mod AroundLaws
 pub mod OriginalLaws
+pub mod FoundLaws
 pub mod BelowLaws
+pub mod HiddenLaws
 pub mod SelfLaws
+pub mod SameLaws

@@ -35,7 +35,7 @@ in-flat-map f (x ∷ xs) n y at = elim (split (f x) (flat_map f xs) n y at) [
   | inr later ↦ (let rest = in-flat-map f xs later.0 y later.2 in (suc rest.0, rest.1, rest.2, rest.3, rest.4))
 ]
 
-found-at : {X : Type 0} (test : X → Bool) (xs : List X) (x : X) → find test xs ≡ Some x → (n : ℕ) × (slice_get xs n ≡ Some x)
+pub found-at : {X : Type 0} (test : X → Bool) (xs : List X) (x : X) → find test xs ≡ Some x → (n : ℕ) × (slice_get xs n ≡ Some x)
 found-at test [] x is = absurd (none-some x is)
 found-at {X} test (y ∷ xs) x is = by (test y) is (found-at test xs x)
   where
@@ -49,7 +49,7 @@ mapped-from f (x ∷ xs) zero y at = (x, refl, same_Some (f x) y at)
 mapped-from f (x ∷ xs) (suc n) y at = mapped-from f xs n y at
 
 module _ {A B : Type 0} (R : A → B → Type 0) where
-  zip-at : (xs : List A) (ys : List B) (n : ℕ) (x : A) → AllZip R xs ys → slice_get xs n ≡ Some x → (y : B) × (slice_get ys n ≡ Some y) × R x y
+  pub zip-at : (xs : List A) (ys : List B) (n : ℕ) (x : A) → AllZip R xs ys → slice_get xs n ≡ Some x → (y : B) × (slice_get ys n ≡ Some y) × R x y
   zip-at [] ys n x all at = absurd (none-some x at)
   zip-at (a ∷ xs) [] n x all at = absurd all
   zip-at (a ∷ xs) (b ∷ ys) zero x all at = (b, refl, subst (λ (z : A). R z b) (same_Some a x at) all.0)
@@ -162,13 +162,13 @@ module _ (available : List Available) (set : List SetDocument) (originals : List
       pub declared : declared_as other.shape.form ≡ Some (of, name)
       pub target : other.document.target ≡ slot.document.target
 
-    index-some : (xs : List (Option ℕ)) (n o : ℕ) → slice_index_or xs n None ≡ Some o → slice_get xs n ≡ Some (Some o)
+    pub index-some : (xs : List (Option ℕ)) (n o : ℕ) → slice_index_or xs n None ≡ Some o → slice_get xs n ≡ Some (Some o)
     index-some [] n o is = absurd (none-some o is)
     index-some (x ∷ xs) zero o is = ap (λ (y : Option ℕ). Some y) is
     index-some (x ∷ xs) (suc n) o is = index-some xs n o is
 
     -- the elements of a document by its number
-    shapes-same : (d : SetDocument) (document : ℕ) → IsDocument available d → d.number ≡ document → shapes_of d ≡ shapes_at available document
+    pub shapes-same : (d : SetDocument) (document : ℕ) → IsDocument available d → d.number ≡ document → shapes_of d ≡ shapes_at available document
     shapes-same d document is same =
         let before : is.0 ≡ document - 1 = omega (arith, is.2, same) in
         ap (λ (schema : ShapedSchema). schema.shapes) is.4
@@ -225,3 +225,19 @@ module _ (available : List Available) (set : List SetDocument) (originals : List
               let found = child-is own.i own.m slot.document slot.shape own.document own.shape c e in
               declared slot at c.location (declared_as slot.shape.form) refl
               (subst (λ (s : Shape). IsPlaceOf available set slot.document.target c.location (declared_as s.form) (Some original)) found.1 place)
+
+      -- it stands in a redefine
+      pub version-child : (version original : ℕ) → original_at originals version ≡ Some original → (slot : Slot) → slice_get (slots 0 set) version ≡ Some slot
+          → (c : Child) × Contains (redefining (shapes_of slot.document)) c × (c.shape ≡ slot.shape)
+      version-child version original is slot at =
+          let found = zip-at (IsOriginalPlace available set) (elements set) originals version (pair_of slot) are (element-at version slot at) in
+          let same : found.0 ≡ Some original = sym (get_or_from_slice_get originals version found.0 None found.1) ∙ is in
+          by (stands 0 set version slot at) (child_of (shapes_of slot.document) slot.shape.item) refl (subst (λ (o : Option ℕ). IsOriginalPlace available set (pair_of slot) o) same found.2)
+        where
+          by : Stands 0 set version slot → (o : Option Child) → child_of (shapes_of slot.document) slot.shape.item ≡ o → IsChildPlace available set slot.document.target o (Some original)
+              → (c : Child) × Contains (redefining (shapes_of slot.document)) c × (c.shape ≡ slot.shape)
+          by own None e place = absurd (none-some original (sym place))
+          by own (Some c) e place =
+              let list = redefining (shapes_of slot.document) in
+              let found = found-at (λ (x : Child). x.shape.item == slot.shape.item) list c e in
+              (c, at-contains list found.0 c found.1, (child-is own.i own.m slot.document slot.shape own.document own.shape c e).1)

@@ -7,6 +7,7 @@ use Rattle.std.proofs.lemmas.Option.{none-some, same_Some, slice_get-map}
 use Rattle.tree_rows.specs.Whole.{IsTree}
 use Rattle.tree_rows.specs.declared.name.Expanded.{Expanded}
 use Rattle.xs_names.specs.Names.{NameTable}
+use Rattle.xs_names.proofs.GrownLaws.{within-name_number}
 use Rattle.schema_shape.specs.Shaped.{constructs_of}
 use Rattle.schema_shape.specs.Shapes.{shapes}
 use Rattle.schema_shape.specs.declared.forms.Form.{Form}
@@ -36,12 +37,13 @@ use Rattle.redefine_names.specs.declared.declared.Declared.{Declared}
 use Rattle.redefine_laws.specs.SelfReferences.{RefersToItself}
 use Rattle.redefine_laws.proofs.KindLaws.{is_plain, IsSpace, refers, IsWritten}
 use Rattle.redefine_laws.proofs.TreeLaws.{BeginsWithSchema, AreElements, elements-of, target-space}
-use Rattle.redefine_laws.proofs.TableLaws.{HasName, name-later, number-is, one-name, in-set, reference-put, declaration-put}
+use Rattle.redefine_laws.proofs.TableLaws.{HasName, name-later, number-is, name-at, one-name, in-set, reference-put, declaration-put}
 use Rattle.redefine_laws.proofs.PlaceLaws.{Slot, slots, pair_of, Stands, stands, begin, Represents, represented-at, slot-of}
 use Rattle.redefine_laws.proofs.FormLaws.{kind_of, kind-one, reference_of, declaration_of, refers-to, declares-it, not-declared, declared-plain, naming-target, space-meant, space-one, IsTo, self-from, self-to}
 use Rattle.redefine_laws.proofs.AroundLaws.{at-contains, Together, Encloses, reps, above-encloses}
 use Rattle.redefine_laws.proofs.BelowLaws.{below-in, below-above}
-use Rattle.redefine_laws.proofs.OriginalLaws.{element-at, element-from, IsVersionOf, version-of}
+use Rattle.redefine_laws.proofs.HiddenLaws.{IsPlain, ArePlain}
+use Rattle.redefine_laws.proofs.OriginalLaws.{element-at, element-from, IsVersionOf, version-of, version-child}
 
 -- ---- the documents of a set of documents' trees
 module _ (inputs : List SchemaInput) (trees : All (λ (input : SchemaInput). IsTree input.tree) inputs) where
@@ -62,10 +64,10 @@ module _ (inputs : List SchemaInput) (trees : All (λ (input : SchemaInput). IsT
   in-space _ _ (imported document n target location b within says is at) = own-space n b at
 
   module _ (set : List SetDocument) (is : IsEffectiveSet (available inputs) set) where
-    set-space : (i : ℕ) (d : SetDocument) → slice_get set i ≡ Some d → IsSpace d.target
+    pub set-space : (i : ℕ) (d : SetDocument) → slice_get set i ≡ Some d → IsSpace d.target
     set-space i d at = in-space d.number d.target (All-contains (λ (x : SetDocument). InSet (available inputs) x.number x.target) set d is.only (at-contains set i d at))
 
-    set-elements : (i : ℕ) (d : SetDocument) → slice_get set i ≡ Some d → AreElements (shapes_of d)
+    pub set-elements : (i : ℕ) (d : SetDocument) → slice_get set i ≡ Some d → AreElements (shapes_of d)
     set-elements i d at =
         let document = All-contains (IsDocument (available inputs)) set d is.there (at-contains set i d at) in
         let from = input-of document.0 document.1 document.3 in
@@ -150,26 +152,80 @@ module _ (base : NameTable) (sources : List Available) (set : List SetDocument) 
         → reference_number t (naming_at slot) to ≡ name_in t slot.document.target name
     names-same name meant local = ap (λ (s : Option (List ℕ)). name_in t s to.local) (meant-is ∙ meant) ∙ ap (name_in t slot.document.target) local
 
+  -- the names of references can be written
+  pub references-plain : ArePlain t (reps t set) originals
+  references-plain place rep to at is = by (refers slot.shape.form) refl found
+    where
+      slot : Slot
+      slot = (slot-of t 0 1 set place rep at).0
+
+      there : slice_get (slots 0 set) place ≡ Some slot
+      there = (slot-of t 0 1 set place rep at).1
+
+      naming : Naming
+      naming = naming_at slot
+
+      found : option_map (reference_of t naming (defaults_of (shapes_of slot.document))) (refers slot.shape.form) ≡ Some to
+      found =
+          let made = rep-at place slot there in
+          let same : made.0 ≡ rep = same_Some made.0 rep (sym made.1 ∙ at) in
+          sym (refers-to t naming (defaults_of (shapes_of slot.document)) slot.shape.form) ∙ (ap referred (sym made.2) ∙ (ap (λ (r : Representation). referred r.form) same ∙ is))
+
+      by : (o : Option (Redefinable × Expanded)) → refers slot.shape.form ≡ o → option_map (reference_of t naming (defaults_of (shapes_of slot.document))) o ≡ Some to → IsPlain t (reps t set) originals to.name
+      by None e found = absurd (none-some to found)
+      by (Some (of, name)) e found =
+          let own = stands 0 set place slot there in
+          let meant = referred_space naming name.namespace in
+          let named = referred-name place slot there of name e in
+          let number : to.name ≡ named.number =
+          ap (λ (d : Declared). d.name) (sym (same_Some (reference_of t naming (defaults_of (shapes_of slot.document)) (of, name)) to found)) ∙ number-is meant name.local t named in
+          record {
+            ns = named.ns;
+            local = name.local;
+            at = ap (λ (n : ℕ). slice_get t.names n) number ∙ name-at meant name.local t named;
+            plain = ((all own.i slot.document own.document).written own.m slot.shape of name own.shape e).local;
+          }
+
   -- what a redefining component's original declares
   module _ (version original : ℕ) (has : original_at originals version ≡ Some original) where
-    abbrev v : IsVersionOf sources set originals are all version original
+    abbrev pub v : IsVersionOf sources set originals are all version original
     v = version-of sources set originals are all effective.there version original has
 
-    abbrev declares_it : Declared
+    abbrev pub declares_it : Declared
     declares_it = record { kind = kind_of v.of; name = name_in t v.slot.document.target v.name }
 
-    redefined-is : redefined_by (reps t set) originals version ≡ Some declares_it
-    redefined-is =
+    pub own-declared : declared_at (reps t set) version ≡ Some declares_it
+    own-declared =
+        let made = rep-at version v.slot v.at in
+        let naming = naming_at v.slot in
+        let defaults = defaults_of (shapes_of v.slot.document) in
+        ap declared_in made.1
+        ∙ (ap declared_by made.2
+        ∙ (declares-it t naming defaults v.slot.shape.form
+        ∙ (ap (option_map (declaration_of t naming defaults)) v.declares
+        ∙ ap (λ (s : Option (List ℕ)). Some (record { kind = kind_of v.of; name = name_in t s v.name })) (naming-target v.slot.document.target (shapes_of v.slot.document)))))
+
+    pub original-declared : declared_at (reps t set) original ≡ Some declares_it
+    original-declared =
         let made = rep-at original v.other v.there in
         let naming = naming_at v.other in
         let defaults = defaults_of (shapes_of v.other.document) in
         let target : naming.target ≡ v.slot.document.target = naming-target v.other.document.target (shapes_of v.other.document) ∙ v.target in
-        ap (option_and_then (declared_at (reps t set))) has
-        ∙ (ap declared_in made.1
+        ap declared_in made.1
         ∙ (ap declared_by made.2
         ∙ (declares-it t naming defaults v.other.shape.form
         ∙ (ap (option_map (declaration_of t naming defaults)) v.declared
-        ∙ ap (λ (s : Option (List ℕ)). Some (record { kind = kind_of v.of; name = name_in t s v.name })) target))))
+        ∙ ap (λ (s : Option (List ℕ)). Some (record { kind = kind_of v.of; name = name_in t s v.name })) target)))
+
+    redefined-is : redefined_by (reps t set) originals version ≡ Some declares_it
+    redefined-is = ap (option_and_then (declared_at (reps t set))) has ∙ original-declared
+
+    pub name-within : declares_it.name < length t.names
+    name-within =
+        let named = declared-name version v.slot v.at v.of v.name v.declares in
+        let is = number-is v.slot.document.target v.name t named in
+        let within = within-name_number t named.ns v.name named.number named.of_name in
+        omega (arith, is, within)
 
     -- a reference of the kind, to the name by its number, is one to the component in its document
     refer : (place : ℕ) (slot : Slot) (at : slice_get (slots 0 set) place ≡ Some slot) → slot.document ≡ v.slot.document → (to : Redefinable × Expanded) → refers slot.shape.form ≡ Some to
@@ -221,34 +277,34 @@ module _ (base : NameTable) (sources : List Available) (set : List SetDocument) 
             let one : around.both.one ≡ v.slot = same_Some around.both.one v.slot (sym around.both.at ∙ v.at) in
             let other : around.both.other ≡ slot = same_Some around.both.other slot (sym around.both.there ∙ at) in
             let document : slot.document ≡ v.slot.document = ap (λ (x : Slot). x.document) (sym other) ∙ (around.both.document ∙ ap (λ (x : Slot). x.document) one) in
+            let child = version-child sources set originals are all effective.there version original has v.slot v.at in
+            let below = subst (λ (x : Slot). IsBelow (shapes_of v.slot.document) v.slot.shape x.shape) other (subst (λ (x : Slot). IsBelow (shapes_of x.document) x.shape around.both.other.shape) one around.below) in
             record {
               document = v.slot.document;
-              child = v.slot.shape;
+              child = child.0;
               reference = slot.shape;
               of = v.of;
               name = v.name;
-              at = element-at sources set originals are all version v.slot v.at;
+              redefines = child.1;
+              declares = ap (λ (s : Shape). declared_as s.form) child.2 ∙ v.declares;
+              at = element-at sources set originals are all version v.slot v.at ∙ ap (λ (s : Shape). Some (v.slot.document, s)) (sym child.2);
               there = element-at sources set originals are all place slot at ∙ ap (λ (d : SetDocument). Some (d, slot.shape)) document;
-              declares = v.declares;
-              refers = record {
-                below = subst (λ (x : Slot). IsBelow (shapes_of v.slot.document) v.slot.shape x.shape) other (subst (λ (x : Slot). IsBelow (shapes_of x.document) x.shape around.both.other.shape) one around.below);
-                to = refer place slot at document found e same;
-              };
+              refers = record { below = subst (λ (s : Shape). IsBelow (shapes_of v.slot.document) s slot.shape) (sym child.2) below; to = refer place slot at document found e same };
             }
 
     pub from-elements : (place : ℕ) → RefersToItself set version place → IsSelfReference (reps t set) originals version place
     from-elements place is =
-        let outer = element-from sources set originals are all version is.document is.child is.at in
+        let outer = element-from sources set originals are all version is.document is.child.shape is.at in
         let inner = element-from sources set originals are all place is.document is.reference is.there in
         let slot = inner.0 in
         let at = inner.1 in
         let one : outer.0 ≡ v.slot = same_Some outer.0 v.slot (sym outer.1 ∙ v.at) in
-        let pair : pair_of v.slot ≡ (is.document, is.child) = ap pair_of (sym one) ∙ outer.2 in
+        let pair : pair_of v.slot ≡ (is.document, is.child.shape) = ap pair_of (sym one) ∙ outer.2 in
         let own : v.slot.document ≡ is.document = ap (λ (p : SetDocument × Shape). p.0) pair in
         let its : slot.document ≡ is.document = ap (λ (p : SetDocument × Shape). p.0) inner.2 in
         let document : slot.document ≡ v.slot.document = its ∙ sym own in
         let shape : slot.shape ≡ is.reference = ap (λ (p : SetDocument × Shape). p.1) inner.2 in
-        let child : v.slot.shape ≡ is.child = ap (λ (p : SetDocument × Shape). p.1) pair in
+        let child : v.slot.shape ≡ is.child.shape = ap (λ (p : SetDocument × Shape). p.1) pair in
         let here = stands 0 set version v.slot v.at in
         let there = stands 0 set place slot at in
         let index : there.i ≡ here.i =
@@ -256,7 +312,7 @@ module _ (base : NameTable) (sources : List Available) (set : List SetDocument) 
         let start : slot.start ≡ v.slot.start = there.begins ∙ (ap (λ (i : ℕ). begin 0 i set) index ∙ sym here.begins) in
         let below : IsBelow (shapes_of v.slot.document) v.slot.shape slot.shape =
         subst (λ (x : Shape). IsBelow (shapes_of v.slot.document) v.slot.shape x) (sym shape)
-        (subst (λ (x : Shape). IsBelow (shapes_of v.slot.document) x is.reference) (sym child) (subst (λ (d : SetDocument). IsBelow (shapes_of d) is.child is.reference) (sym own) is.refers.below)) in
+        (subst (λ (x : Shape). IsBelow (shapes_of v.slot.document) x is.reference) (sym child) (subst (λ (d : SetDocument). IsBelow (shapes_of d) is.child.shape is.reference) (sym own) is.refers.below)) in
         let within = below-above t sources set originals are all version original v.slot v.at has (declared-plain v.slot.shape.form (v.of, v.name) v.declares) slot.shape below place slot at start document refl in
         let declared : (is.of, is.name) ≡ (v.of, v.name) = same_Some (is.of, is.name) (v.of, v.name) (sym is.declares ∙ (ap (λ (x : Shape). declared_as x.form) (sym child) ∙ v.declares)) in
         let of : is.of ≡ v.of = ap (λ (d : Redefinable × List ℕ). d.0) declared in
