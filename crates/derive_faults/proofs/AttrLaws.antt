@@ -65,7 +65,7 @@ module _ (t : Tables) (ids : List Bool) (n : ℕ) where
       (λ g x. (slice_get_within t.complexes.parts n part is, inr x))
       (λ g x. elim x.1 [ inl refusal ↦ absurd (not-Err value g _ e refusal) | inr y ↦ y ])
       found
-      (coded-least 6 t (BreaksType t ids) n part is code found f
+      (coded-least 6 t (BreaksType t ids) refl n part is code found f
       (first-same (BreaksProps t ids CtPropsCorrect4 CtPropsCorrect5 value) (BreaksType t ids n part)
       (λ c x. (value, e, x))
       (λ c x. subst (λ (v : AttrUses). BreaksProps t ids CtPropsCorrect4 CtPropsCorrect5 v c) (same_Ok x.0 value _ x.1 e) x.2)
@@ -87,7 +87,7 @@ module _ (t : Tables) (ids : List Bool) (n : ℕ) where
         | inl refusal ↦ absurd (not-Err value g _ e refusal)
         | inr y ↦ (y.1, subst (λ (v : AttrUses). BreaksProps t ids AgPropsCorrect2 AgPropsCorrect3 v y.1) (same_Ok y.3.0 value _ y.3.1 e) y.3.2, subst (λ (p : AttrGroupDef). g ≡ type_fault 6 p.at y.1) (same_Some y.0 part (sym y.2 ∙ is)) y.4)
       ])
-      found (place-least 6 part.at (BreaksProps t ids AgPropsCorrect2 AgPropsCorrect3 value) code found f first)
+      found (place-least 6 refl part.at (BreaksProps t ids AgPropsCorrect2 AgPropsCorrect3 value) code found f first)
 
 -- one mark more
 pub marked-more : (t : Tables) (marks : List Bool) (mark : Bool) (decl : AttributeDecl) → slice_get t.attributes.parts (length marks) ≡ Some decl → IsTrue mark ↔ Derives t no_methods decl.of (Builtin Id) →

@@ -73,22 +73,22 @@ module _ (A B : Code → Type 0) where
   first-same to from None is = λ c y. is c (from c y)
   first-same to from (Some code) is = (to code is.0, λ c y. is.1 c (from c y))
 
--- faults of one place come by their codes
-same-place : (phase : ℕ) (at : Place) (a b : Code) → stands_before a b ≡ false → is_before (type_fault phase at a) (type_fault phase at b) ≡ false
-same-place phase at a b e = rw (same at.document, same at.item) e
+-- faults of one place come by their codes, but for the phase of simple types
+same-place : (phase : ℕ) → (phase == 5) ≡ false → (at : Place) (a b : Code) → stands_before a b ≡ false → is_before (type_fault phase at a) (type_fault phase at b) ≡ false
+same-place phase later at a b e = rw (same at.document, same at.item, later) e
   where
     same : (x : ℕ) → (x == x) ≡ true
     same x = grind (arith, nat_tests)
 
 -- the first fault of one place
-pub place-least : (phase : ℕ) (at : Place) (Broken : Code → Type 0) (code : Option Code) (found : Option Fault) → found ≡ option_map (type_fault phase at) code → IsFirstCode Broken code → IsLeast (λ f. (c : Code) × Broken c × (f ≡ type_fault phase at c)) found
-place-least phase at Broken code found e first = subst (IsLeast (λ f. (c : Code) × Broken c × (f ≡ type_fault phase at c))) (sym e) (by code first)
+pub place-least : (phase : ℕ) → (phase == 5) ≡ false → (at : Place) (Broken : Code → Type 0) (code : Option Code) (found : Option Fault) → found ≡ option_map (type_fault phase at) code → IsFirstCode Broken code → IsLeast (λ f. (c : Code) × Broken c × (f ≡ type_fault phase at c)) found
+place-least phase later at Broken code found e first = subst (IsLeast (λ f. (c : Code) × Broken c × (f ≡ type_fault phase at c))) (sym e) (by code first)
   where
     by : (code : Option Code) → IsFirstCode Broken code → IsLeast (λ f. (c : Code) × Broken c × (f ≡ type_fault phase at c)) (option_map (type_fault phase at) code)
     by None first = λ f x. first x.0 x.1
     by (Some code) first = (
       (code, first.0, refl),
-      λ g x. subst (λ f. is_before f (type_fault phase at code) ≡ false) (sym x.2) (same-place phase at x.0 code (first.1 x.0 x.1)),
+      λ g x. subst (λ f. is_before f (type_fault phase at code) ≡ false) (sym x.2) (same-place phase later at x.0 code (first.1 x.0 x.1)),
     )
 
 -- the faults of components one after another
@@ -117,12 +117,12 @@ module _ (Is : ℕ → Fault → Type 0) where
 
 module _ (phase : ℕ) (t : Tables) (Breaks : ℕ → ComplexType → Code → Type 0) where
   -- the first fault of one complex type
-  pub coded-least : (n : ℕ) (part : ComplexType) → slice_get t.complexes.parts n ≡ Some part → (code : Option Code) (found : Option Fault) → found ≡ option_map (type_fault phase part.at) code → IsFirstCode (Breaks n part) code → IsLeast (IsFaultAt phase t Breaks n) found
-  coded-least n part is code found e first =
+  pub coded-least : (phase == 5) ≡ false → (n : ℕ) (part : ComplexType) → slice_get t.complexes.parts n ≡ Some part → (code : Option Code) (found : Option Fault) → found ≡ option_map (type_fault phase part.at) code → IsFirstCode (Breaks n part) code → IsLeast (IsFaultAt phase t Breaks n) found
+  coded-least later n part is code found e first =
       least-same (λ f. (c : Code) × Breaks n part c × (f ≡ type_fault phase part.at c)) (IsFaultAt phase t Breaks n)
       (λ f x. (part, x.0, is, x.1, x.2))
       (λ f x. subst (λ (p : ComplexType). (c : Code) × Breaks n p c × (f ≡ type_fault phase p.at c)) (same_Some x.0 part (sym x.2 ∙ is)) (x.1, x.3, x.4))
-      found (place-least phase part.at (Breaks n part) code found e first)
+      found (place-least phase later part.at (Breaks n part) code found e first)
 
   -- a turn of a loop over all complex types
   pub next-one : (n id : ℕ) (best found new : Option Fault) → (id ≡ n) × (n < length t.complexes.parts) → new ≡ sooner best found → IsLeast (IsFaultBelow phase t Breaks n) best → IsLeast (IsFaultAt phase t Breaks id) found →

@@ -51,7 +51,7 @@ module _ (t : Tables) (members : List (List ℕ)) (terms : List Term) (derives :
       least-same (λ f. (c : Code) × BreaksGroup t members terms derives pair c × (f ≡ type_fault 9 part.at c)) (IsPairFault t members terms derives pair)
       (λ f x. (part, x.0, is, x.1, x.2))
       (λ f x. subst (λ (p : GroupDef). (c : Code) × BreaksGroup t members terms derives pair c × (f ≡ type_fault 9 p.at c)) (same_Some x.0 part (sym x.2 ∙ is)) (x.1, x.3, x.4))
-      found (place-least 9 part.at (BreaksGroup t members terms derives pair) code found e first)
+      found (place-least 9 refl part.at (BreaksGroup t members terms derives pair) code found e first)
 
   -- a number of no group
   pub pair-none : slice_get t.groups.parts pair.own ≡ None → IsLeast (IsPairFault t members terms derives pair) None

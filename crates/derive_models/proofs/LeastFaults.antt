@@ -26,7 +26,7 @@ use Rattle.derive_models.specs.ModelRestrictions.{BreaksForms, BreaksContent, Is
 use Rattle.redefine_names.specs.declared.pairs.RedefinedPair.{RedefinedPair}
 use Rattle.derive_models.specs.GroupRestrictions.{group_form, IsPairFault, IsRestrictionFault}
 use Rattle.derive_models.specs.ModelFaults.{IsReading, IsFirstModelFault}
-use Rattle.derive_models.proofs.Firsts.{least-one}
+use Rattle.xs_codes.proofs.Firsts.{least-one}
 use Rattle.derive_models.proofs.Numbered.{kept-too}
 use Rattle.derive_models.proofs.StandingParts.{Stands, all-stand}
 use Rattle.derive_models.proofs.Inside.{FormInside, formed-inside}

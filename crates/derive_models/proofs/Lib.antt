@@ -9,7 +9,6 @@ pub mod UnionLaws
 pub mod FixedLaws
 pub mod NumberLaws
 pub mod FaultLaws
-pub mod Firsts
 pub mod Numbered
 pub mod StandingParts
 pub mod Inside

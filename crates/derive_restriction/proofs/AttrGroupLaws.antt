@@ -65,7 +65,7 @@ module _ (t : Tables) (names : NameTable) (pair : RedefinedPair) where
       least-same (λ f. (c : Code) × BreaksGroup t names pair.own pair.original c × (f ≡ type_fault 7 part.at c)) (IsPairFault t names pair)
       (λ f x. (part, under, x.0, is, other, x.1, x.2))
       (λ f x. subst (λ (p : AttrGroupDef). (c : Code) × BreaksGroup t names pair.own pair.original c × (f ≡ type_fault 7 p.at c)) (same_Some x.0 part (sym x.3 ∙ is)) (x.2, x.5, x.6))
-      found (place-least 7 part.at (BreaksGroup t names pair.own pair.original) code found e first)
+      found (place-least 7 refl part.at (BreaksGroup t names pair.own pair.original) code found e first)
 
   -- the same by numbers that are those of the pair
   pub found-least : (own original : ℕ) (part : AttrGroupDef) → own ≡ pair.own → (original ≡ pair.original) × (pair.original < length t.attr_groups.parts) → slice_get t.attr_groups.parts own ≡ Some part → (code : Option Code) (found : Option Fault) →

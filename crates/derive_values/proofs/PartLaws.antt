@@ -1,5 +1,5 @@
 -- The first fault of one part of a list.
-use Rattle.std.proofs.Common.{◌≡◌, ℕ, List, Option, Some, slice_get, sym, ◌∙◌, subst}
+use Rattle.std.proofs.Common.{◌≡◌, ℕ, List, Option, Some, slice_get, refl, sym, ◌∙◌, subst}
 use Rattle.std.specs.Option.{option_map}
 use Rattle.std.proofs.lemmas.Option.{same_Some}
 use Rattle.xs_codes.specs.declared.code.Code.{Code}
@@ -20,4 +20,4 @@ module _ {T : Type 0} (parts : List T) where
   -- of the codes of a part
   pub coded-in : (at : T → Place) (Breaks : T → Code → Type 0) (n : ℕ) (part : T) → slice_get parts n ≡ Some part → (code : Option Code) (found : Option Fault) → found ≡ option_map (type_fault 6 (at part)) code → IsFirstCode (Breaks part) code →
       IsLeast (λ f. (p : T) × (slice_get parts n ≡ Some p) × IsCoded (at p) (Breaks p) f) found
-  coded-in at Breaks n part is code found e first = part-in (λ p. IsCoded (at p) (Breaks p)) n part is found (place-least 6 (at part) (Breaks part) code found e first)
+  coded-in at Breaks n part is code found e first = part-in (λ p. IsCoded (at p) (Breaks p)) n part is found (place-least 6 refl (at part) (Breaks part) code found e first)

@@ -11,7 +11,7 @@ use Rattle.component_tables.specs.ContentTypes.{content_of}
 use Rattle.component_tables.specs.declared.content_types.ContentType.{ContentType}
 use Rattle.component_tables.specs.declared.content_types.ContentType.TheVariants.{SimpleType, Empty, SimpleContent, ElementOnly, Mixed}
 use Rattle.component_tables.specs.Types.{type_of}
-use Rattle.simple_values.specs.Same.{same, key_value}
+use Rattle.simple_values.specs.Same.{key_value}
 use Rattle.simple_values.specs.declared.key.Key.{Key}
 use Rattle.simple_values.specs.declared.value.Value.{Value}
 use Rattle.simple_values.proofs.Keys.{key_is, key_back}

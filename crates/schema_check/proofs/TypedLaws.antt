@@ -11,11 +11,11 @@ use Rattle.type_derivation.specs.Filled.{IsAfter}
 use Rattle.type_derivation.specs.Particles.{AreContentsSet}
 use Rattle.simple_types.specs.declared.types.SimpleTypes.{SimpleTypes}
 use Rattle.simple_types.specs.SimpleTypes.{IsBuilt}
+use Rattle.type_laws.specs.Completed.{AreCompleted}
 use Rattle.type_laws.proofs.BrokenLaws.{built-first}
-use Rattle.schema_check.specs.SetPhases.{AreRanked}
 use Rattle.schema_check.specs.inside.Typed.{IsTyped}
 
-module _ (old new : Tables) (same : AreRanked old new) where
+module _ (old new : Tables) (same : AreCompleted old new) where
   types-made : (types : SimpleTypes) → IsLeast (IsBroken old) None → IsRanked new → AreContentsSet new → IsBuilt new (Ok types) → IsTyped old new (Ok types)
   types-made types least ranked contents built = (
     (least, ((new, same, built-first new (Ok types) ranked built), tt)),

@@ -5,13 +5,11 @@ use Rattle.xs_names.specs.Names.{NameTable, no_names}
 use Rattle.xs_components.specs.Tables.{Tables}
 use Rattle.xs_codes.specs.Least.{IsLeast}
 use Rattle.component_references.specs.Ranked.{IsRanked}
-use Rattle.component_references.specs.Circles.{Ranks, with_all_ranks}
 use Rattle.type_derivation.specs.Cycles.{IsBroken}
-use Rattle.type_derivation.specs.Filled.{IsCompleted}
 use Rattle.type_derivation.specs.Particles.{AreContentsSet}
 use Rattle.simple_types.specs.declared.types.SimpleTypes.{SimpleTypes}
-use Rattle.simple_types.specs.Broken.{IsBroken as IsTypeBroken, IsFirst}
 use Rattle.simple_types.specs.SimpleTypes.{AreTypesOf, AreWhole}
+use Rattle.type_laws.specs.Completed.{AreCompleted, IsFirstTypeFault}
 use Rattle.redefine_names.specs.declared.groups.RedefinedGroups.{RedefinedGroups}
 use Rattle.schema_set.specs.declared.documents.SetDocument.{SetDocument}
 use Rattle.set_representations.specs.Documents.{set_table}
@@ -23,20 +21,16 @@ use Rattle.schema_check.specs.Phases.{IsFirstOfPhases}
 abbrev pub base_phase : Tables → Option Fault → Type 0
 base_phase parts found = IsLeast (IsBroken parts) found
 
--- the components as phase 4 leaves them: with their heights as ranks, with contents, and the particles that these add
-abbrev pub AreRanked : Tables → Tables → Type 0
-AreRanked parts new = (ranks : Ranks) × IsCompleted (with_all_ranks parts ranks) new
-
 -- phase 5, of the components that phase 4 leaves: simple types and facets (Structures 3.14.6; Datatypes 4.3)
 abbrev pub type_phase : Tables → Option Fault → Type 0
-type_phase parts found = (new : Tables) × AreRanked parts new × IsFirst (IsTypeBroken new) found
+type_phase parts found = IsFirstTypeFault parts found
 
 abbrev pub part_phases : Tables → List (Option Fault → Type 0)
 part_phases parts = base_phase parts ∷ type_phase parts ∷ []
 
--- components with ranks and the particles of contents, and their simple types
+-- the components as phase 4 leaves them, with their heights as ranks, contents, and the particles that these add; and their simple types
 pub record IsReady (parts new : Tables) (types : SimpleTypes) : Type 0 where
-  pub same : AreRanked parts new
+  pub same : AreCompleted parts new
   pub ranked : IsRanked new
   pub contents : AreContentsSet new
   pub judged : AreTypesOf new types

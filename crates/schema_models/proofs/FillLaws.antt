@@ -12,7 +12,7 @@ use Rattle.xs_codes.specs.declared.code.Code.{Code}
 use Rattle.xs_codes.specs.declared.code.Code.TheVariants.{XLimitTable}
 use Rattle.xs_codes.specs.declared.fault.Fault.{Fault}
 use Rattle.xs_codes.specs.Codes.{order_of}
-use Rattle.xs_codes.specs.Least.{sooner, is_before}
+use Rattle.xs_codes.specs.Least.{place_in, sooner, is_before}
 use Rattle.xs_names.specs.Names.{NameTable}
 use Rattle.xs_components.specs.Tables.{Tables}
 use Rattle.particle_models.specs.Unrolled.{positions_of}
@@ -103,7 +103,7 @@ module _ (names : NameTable) (t : Tables) (members : List (List ℕ)) (classes :
     here-behind : (r : Option Fault) → IfSome r (IsOf done) → is_elsewhere r (place_of t type) ≡ false → (r ≡ None → ⊥) → (c : Code) → order_of XLimitTable ≤ order_of c → IsNotBefore r (type_fault t type c)
     here-behind None is e some c l = absurd (some refl)
     here-behind (Some f) (k, c', over) e some c l =
-        let a : order_of f.code ≤ order_of XLimitTable = subst (λ (x : Fault). order_of x.code ≤ order_of XLimitTable) (sym over.4) (limit-first over.1 over.5) in
+        let a : place_in f.phase f.code ≤ order_of XLimitTable = subst (λ (x : Fault). place_in x.phase x.code ≤ order_of XLimitTable) (sym over.4) (limit-first over.1 over.5) in
         one-place t f type c e (omega (arith, a, l))
 
     pub skipped : is_elsewhere first (place_of t type) ≡ true → IsSoFar names t members classes (done ++ type ∷ []) models left first

@@ -11,7 +11,7 @@ use Rattle.std.proofs.lemmas.Option.{none-some}
 use Rattle.xs_codes.specs.declared.code.Code.{Code}
 use Rattle.xs_codes.specs.declared.fault.Fault.{Fault}
 use Rattle.xs_codes.specs.Codes.{order_of}
-use Rattle.xs_codes.specs.Least.{is_before, sooner, IsLeast}
+use Rattle.xs_codes.specs.Least.{place_in, is_before, sooner, IsLeast}
 use Rattle.xs_codes.proofs.LeastLaws.{fault_not_past, fault_not_trans}
 use Rattle.xs_components.specs.Tables.{Tables}
 use Rattle.model_checks.specs.declared.fault.ModelFault.{ModelFault}
@@ -103,8 +103,8 @@ module _ (t : Tables) where
   one-type type c d l = at-one (place_of t type).document (place_of t type).item (order_of c) (order_of d) l
 
   -- at the place of a fault
-  pub one-place : (f : Fault) (type : ℕ) (c : Code) → is_elsewhere (Some f) (place_of t type) ≡ false → order_of f.code ≤ order_of c → is_before (type_fault t type c) f ≡ false
-  one-place f type c e l = at-other (place_of t type).document (place_of t type).item (order_of c) f.document f.item (order_of f.code) e l
+  pub one-place : (f : Fault) (type : ℕ) (c : Code) → is_elsewhere (Some f) (place_of t type) ≡ false → place_in f.phase f.code ≤ order_of c → is_before (type_fault t type c) f ≡ false
+  one-place f type c e l = at-other (place_of t type).document (place_of t type).item (order_of c) f.document f.item (place_in f.phase f.code) e l
 
   -- behind the place of a fault
   pub later-place : (f : Fault) (known type : ℕ) (c d : Code) → f ≡ type_fault t known d → by_place t known type ≡ Less → is_elsewhere (Some f) (place_of t type) ≡ true → is_before (type_fault t type c) f ≡ false

@@ -1,15 +1,13 @@
 -- The faults of shape of a set, by what was read of all documents.
-use Rattle.std.proofs.Common.{◌≡◌, ℕ, zero, suc, ◌+◌, ◌-◌, ◌<◌, List, [], ◌∷◌, false, if◌then◌else◌, ◌==◌, Option, None, Some, inl, inr, refl, sym, ap, ◌∙◌, subst, arith}
-use Rattle.std.specs.Prelude.{Contains, slice_get, nat_lt}
+use Rattle.std.proofs.Common.{◌≡◌, ℕ, zero, suc, ◌+◌, ◌-◌, ◌<◌, List, [], ◌∷◌, false, Option, None, Some, inl, inr, refl, sym, ap, ◌∙◌, subst, arith}
+use Rattle.std.specs.Prelude.{Contains, slice_get}
 use Rattle.std.specs.List.{flat_map}
 use Rattle.std.specs.Option.{option_and_then, option_to_list}
-use Rattle.std.proofs.lemmas.Bool.Decides.{nat_tests}
 use Rattle.std.proofs.lemmas.Option.{same_Some}
 use Rattle.std.proofs.lemmas.List.Elements.{All-contains, Contains-push, Contains-push_cases}
-use Rattle.xs_codes.specs.Codes.{order_of}
 use Rattle.xs_codes.specs.declared.fault.Fault.{Fault}
 use Rattle.xs_codes.specs.Least.{IsLeast, is_before}
-use Rattle.xs_codes.proofs.LeastLaws.{least-same}
+use Rattle.xs_codes.proofs.LeastLaws.{fault_not_itself, least-same}
 use Rattle.schema_faults.specs.declared.broken.Broken.{Broken}
 use Rattle.schema_faults.specs.Faults.{least_fault}
 use Rattle.schema_shape.specs.Shaped.{constructs_of, fault_at, shape_fault}
@@ -21,9 +19,6 @@ use Rattle.schema_set.specs.Documents.{available, IsSet, shape_faults, shape_fau
 use Rattle.schema_set.specs.inside.Reads.{faults_from, fault_in, document_faults}
 
 -- ---- the fault of one document
-not-before : (d i o : ℕ) → (if d == d then (if i == i then nat_lt o o else nat_lt i i) else nat_lt d d) ≡ false
-not-before d i o = grind (arith, nat_tests)
-
 pub option-least : (o : Option Fault) → IsLeast (Contains (option_to_list o)) o
 option-least None = λ f c. absurd (omega (arith, c.1))
 option-least (Some f) = (Contains-push [] f, on)
@@ -31,7 +26,7 @@ option-least (Some f) = (Contains-push [] f, on)
     on : (g : Fault) → Contains (f ∷ []) g → is_before g f ≡ false
     on g in' = elim (Contains-push_cases [] f g in') [
       | inl none ↦ absurd (omega (arith, none.1))
-      | inr same ↦ subst (λ (h : Fault). is_before h f ≡ false) same (not-before f.document f.item (order_of f.code))
+      | inr same ↦ subst (λ (h : Fault). is_before h f ≡ false) same (fault_not_itself f)
     ]
 
 in-option : (o : Option Fault) (f : Fault) → Contains (option_to_list o) f → o ≡ Some f

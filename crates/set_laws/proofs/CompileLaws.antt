@@ -14,12 +14,13 @@ use Rattle.schema_set.specs.declared.inputs.SchemaInput.{SchemaInput}
 use Rattle.schema_set.specs.Documents.{available}
 use Rattle.schema_check.specs.Components.{versions, AreRedefining}
 use Rattle.schema_check.specs.Phases.{IsFirstOfPhases}
-use Rattle.schema_check.specs.SetPhases.{AreRanked, AreRedefiningGroups, IsSetCompiled}
+use Rattle.schema_check.specs.SetPhases.{AreRedefiningGroups, IsSetCompiled}
 use Rattle.schema_check.specs.Compilation.{phases, IsCompilation}
 use Rattle.schema_check.specs.declared.documents.CompiledSet.{CompiledSet}
 use Rattle.set_laws.specs.Same.{AreSamePairs, IsSameMade, IsSameCompilation}
 use Rattle.set_laws.proofs.BareLaws.{bare, set-originals-same}
 use Rattle.set_laws.proofs.PhaseLaws.{HasOne, first-one, sets-bare, names-same, own-bare, versions-bare, set-parts-same, each-one}
+use Rattle.type_laws.specs.Completed.{AreCompleted}
 use Rattle.type_laws.proofs.RankedLaws.{ranked-same}
 
 -- ---- the components that redefine others
@@ -54,7 +55,7 @@ module _ (a b : List SetDocument) (xs ys : List (Option ℕ)) (same : map bare a
       let pairs = redefined-same made.redefined other.redefined p.1.4 q.1.4 in
       record {
         names = p.1.0 ∙ (names-same a b xs ys same originals ∙ sym q.1.0);
-        parts = ranked-same q.1.1 made.parts other.parts (subst (λ (t : Tables). AreRanked t made.parts) old p.1.3.same) q.1.3.same;
+        parts = ranked-same q.1.1 made.parts other.parts (subst (λ (t : Tables). AreCompleted t made.parts) old p.1.3.same) q.1.3.same;
         groups = pairs.0;
         attr_groups = pairs.1;
       }

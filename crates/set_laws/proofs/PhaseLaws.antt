@@ -6,7 +6,7 @@ use Rattle.xs_codes.specs.declared.fault.Fault.{Fault}
 use Rattle.xs_codes.specs.Least.{IsLeast}
 use Rattle.xs_names.specs.Names.{NameTable, no_names}
 use Rattle.xs_components.specs.Tables.{Tables}
-use Rattle.set_laws.proofs.Firsts.{least-one}
+use Rattle.xs_codes.proofs.Firsts.{least-one}
 use Rattle.representations.specs.declared.parts.Representation.{Representation}
 use Rattle.representations.specs.declared.source.Source.{Source}
 use Rattle.set_representations.specs.Documents.{representations, scopes, origins, set_table}

@@ -1,43 +1,27 @@
 -- The unions among the members of another lie within them.
-use Rattle.std.proofs.Common.{◌≡◌, ℕ, ◌+◌, ◌<◌, ◌≤◌, Bool, true, false, ◌||◌, List, [], ◌∷◌, ◌++◌, length, map, Option, None, Some, Result, Ok, Err, refl, sym, ap, subst, ◌∙◌, arith, rules, append_assoc, length-append}
+use Rattle.std.proofs.Common.{◌≡◌, ℕ, ◌+◌, ◌≤◌, List, [], ◌∷◌, ◌++◌, length, Option, None, Some, refl, sym, ap, subst, ◌∙◌, arith, append_assoc, length-append}
 use Rattle.std.specs.Option.{unwrap_or}
 use Rattle.std.proofs.lemmas.List.{append-nil}
-use Rattle.xs_names.specs.WhiteSpace.{normalized, items}
-use Rattle.xs_codes.specs.declared.builtin.Builtin.{Builtin}
-use Rattle.xs_codes.specs.declared.builtin.Builtin.TheVariants.{AnySimpleType}
-use Rattle.xs_codes.specs.declared.code.Code.{Code}
-use Rattle.xs_codes.specs.declared.code.Code.TheVariants.{CvcDatatypeValid1}
 use Rattle.xs_components.specs.declared.simple.FacetItem.{FacetItem}
-use Rattle.simple_values.specs.Grammar.{item_type}
-use Rattle.simple_values.specs.declared.atoms.TypedAtom.{TypedAtom}
-use Rattle.simple_values.specs.declared.value.Value.{Value}
 use Rattle.facet_checks.specs.declared.list.FacetList.{FacetList}
-use Rattle.facet_checks.specs.Check.{IsChecked, check_code}
-use Rattle.facets.specs.declared.atomic.Accepted.{Accepted}
 use Rattle.facets.specs.declared.facets.Facets.{Facets}
 use Rattle.facets.specs.declared.known.Judged.{Judged}
 use Rattle.facets.specs.declared.known.Known.{Known}
 use Rattle.facets.specs.declared.known.Known.TheVariants.{Whole, Facets as FacetsAlone, Neither}
 use Rattle.facets.specs.declared.members.Gate.{Gate}
-use Rattle.facets.specs.declared.members.Plain.{Plain}
 use Rattle.facets.specs.declared.members.Choices.{Choices}
-use Rattle.facets.specs.declared.members.Literals.{Literals}
-use Rattle.facets.specs.declared.members.Literals.TheVariants.{OfBuiltin, OfList}
 use Rattle.facets.specs.declared.members.Member.{Member}
 use Rattle.facets.specs.declared.members.Members.{Members}
 use Rattle.facets.specs.declared.members.Source.{Source}
 use Rattle.facets.specs.declared.members.Source.TheVariants.{Literals as OfLiterals, Union as OfUnion}
-use Rattle.facets.specs.declared.trying.Turn.{Turn}
-use Rattle.facets.specs.declared.trying.Turn.TheVariants.{Ends, From}
-use Rattle.facets.specs.Members.{moved_gate, moved_on}
-use Rattle.facets.specs.Atomic.{way_of}
+use Rattle.facets.specs.Members.{moved_on}
 use Rattle.facet_rules.specs.declared.step.ReadStep.{ReadStep}
 use Rattle.facet_rules.specs.Rules.{judged_of}
-use Rattle.facets.specs.Making.{list_facets, no_members, with_member, with_source, choices_of, gate}
-use Rattle.facets.specs.Source.{of_builtin, list_of, list_by, union_of}
+use Rattle.facets.specs.Making.{no_members, with_member, with_source, choices_of, gate}
+use Rattle.facets.specs.Source.{list_by}
 use Rattle.facets.specs.Facets.{IsStepJudged, judged_by, facets_by}
 use Rattle.simple_types.specs.TypeTree.{TypeTree, not_simple, built_in, restriction, list_type, union_type, MemberTrees, no_member, member}
-use Rattle.simple_types.specs.SimpleValidity.{AreInForce, AreMembers, IsListKnown, made_from, made_from_both, known_behind}
+use Rattle.simple_types.specs.SimpleValidity.{AreInForce, AreMembers, IsListKnown, made_from_both}
 use Rattle.simple_types.proofs.Trials.{EndBy, StartFrom}
 
 ends_more : (a b : ℕ) → a ≤ b → (gates : List Gate) → EndBy a gates → EndBy b gates

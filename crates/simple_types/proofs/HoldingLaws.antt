@@ -15,7 +15,6 @@ use Rattle.facets.specs.declared.facets.Facets.{Facets}
 use Rattle.facets.specs.declared.known.Known.{Known}
 use Rattle.facets.specs.declared.known.Known.TheVariants as knowns
 use Rattle.facets.specs.declared.members.Choices.{Choices}
-use Rattle.facets.specs.declared.members.Literals.{Literals}
 use Rattle.facets.specs.declared.members.Member.{Member}
 use Rattle.facets.specs.declared.members.Members.{Members}
 use Rattle.facets.specs.declared.members.Plain.{Plain}

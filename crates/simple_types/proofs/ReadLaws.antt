@@ -1,24 +1,18 @@
 -- What a type reads, its members laid out flat, is what it comes to by recursion on what it is made of.
-use Rattle.std.proofs.Common.{◌≡◌, ℕ, suc, ◌+◌, ◌<◌, ◌≤◌, Bool, true, false, ◌||◌, List, [], ◌∷◌, ◌++◌, length, drop, map, Option, None, Some, Result, Ok, Err, refl, sym, ap, subst, ◌∙◌, arith, rules, append_assoc, length-append}
+use Rattle.std.proofs.Common.{◌≡◌, ℕ, suc, ◌+◌, Bool, true, false, List, [], ◌∷◌, ◌++◌, length, drop, Option, None, Some, Result, Ok, Err, refl, sym, ap, subst, ◌∙◌, arith, append_assoc, length-append}
 use Rattle.std.specs.Prelude.{nat_lt, if◌then◌else◌}
-use Rattle.std.specs.Option.{unwrap_or}
 use Rattle.std.proofs.lemmas.List.{append-nil}
 use Rattle.std.proofs.lemmas.Option.{same_Some, none-some}
 use Rattle.std.proofs.Math.Seq.{drop-append_seam}
 use Rattle.xs_names.specs.WhiteSpace.{normalized, items}
 use Rattle.xs_codes.specs.declared.builtin.Builtin.{Builtin}
-use Rattle.xs_codes.specs.declared.builtin.Builtin.TheVariants.{AnySimpleType}
 use Rattle.xs_codes.specs.declared.code.Code.{Code}
 use Rattle.xs_codes.specs.declared.code.Code.TheVariants.{CvcDatatypeValid1}
-use Rattle.xs_components.specs.declared.simple.FacetItem.{FacetItem}
 use Rattle.simple_values.specs.Grammar.{item_type}
 use Rattle.simple_values.specs.declared.atoms.TypedAtom.{TypedAtom}
-use Rattle.simple_values.specs.declared.value.Value.{Value}
 use Rattle.facet_checks.specs.declared.list.FacetList.{FacetList}
-use Rattle.facet_checks.specs.Check.{IsChecked, check_code}
 use Rattle.facets.specs.declared.atomic.Accepted.{Accepted}
 use Rattle.facets.specs.declared.facets.Facets.{Facets}
-use Rattle.facets.specs.declared.known.Judged.{Judged}
 use Rattle.facets.specs.declared.known.Known.{Known}
 use Rattle.facets.specs.declared.known.Known.TheVariants.{Whole, Facets as FacetsAlone, Neither}
 use Rattle.facets.specs.declared.members.Gate.{Gate}
@@ -32,16 +26,15 @@ use Rattle.facets.specs.declared.members.Source.{Source}
 use Rattle.facets.specs.declared.members.Source.TheVariants.{Literals as OfLiterals, Union as OfUnion}
 use Rattle.facets.specs.declared.trying.Turn.{Turn}
 use Rattle.facets.specs.declared.trying.Turn.TheVariants.{Ends, From}
-use Rattle.facets.specs.Members.{moved_gate, moved_on}
+use Rattle.facets.specs.Members.{moved_on}
 use Rattle.facets.specs.Atomic.{way_of}
-use Rattle.facets.specs.Making.{no_members, with_member, with_source, with_union, choices_of, choices_by, choice_of_one, choice_if, choice_of_union, union_choice, plains_behind, plains_if, atomic_kind, atomic, atomic_if, gate}
-use Rattle.facets.specs.Source.{of_builtin, list_of, list_by, union_of, IsSourceRead, IsRead}
-use Rattle.facets.specs.Facets.{IsStepJudged, judged_by, facets_by}
-use Rattle.facets.specs.Trying.{Scope, is_limit, atoms_in, IsListJudged, IsLiteralRead, IsListRead, IsListReadIf, AreItemsRead, IsItemRead, IsItemThen, IsMemberRead, IsPlainRead, AreMembersTried, ArePlainsTried, IsUnionRead, AreTried as AreAllTried, IsTriedIf, IsTurn, IsTurned}
+use Rattle.facets.specs.Making.{no_members, with_member, with_source, with_union, choices_of, choices_by, choice_if, union_choice, plains_behind, plains_if, atomic_kind, atomic_if, gate}
+use Rattle.facets.specs.Source.{list_by, IsSourceRead, IsRead}
+use Rattle.facets.specs.Trying.{Scope, is_limit, atoms_in, IsListRead, IsListReadIf, AreItemsRead, IsItemRead, IsItemThen, IsMemberRead, IsPlainRead, AreMembersTried, ArePlainsTried, IsTriedIf, IsTurned}
 use Rattle.simple_types.specs.TypeTree.{TypeTree, not_simple, built_in, restriction, list_type, union_type, MemberTrees, no_member, member}
-use Rattle.simple_types.specs.SimpleValidity.{AreInForce, AreMembers, IsMade, IsListKnown, made_from, made_from_both, known_behind, item_code, IsItemThen as IsThen, AreItems, IsListIf, IsList, IsTrialIf, IsTrialThen, IsLiteral, AreTried, IsValid}
-use Rattle.simple_types.proofs.Trials.{EndBy, StartFrom, union_in_turn, one_in_turn}
-use Rattle.simple_types.proofs.Framing.{IsFramed, IsFramedSource, own_members, own_gates, members_with, gates_with, framed_with, same_source, framed, framed_members, Grown, grown}
+use Rattle.simple_types.specs.SimpleValidity.{AreInForce, AreMembers, IsMade, IsListKnown, made_from, made_from_both, known_behind, item_code, AreItems, IsListIf, IsList, IsTrialIf, IsTrialThen, IsLiteral, AreTried, IsValid}
+use Rattle.simple_types.proofs.Trials.{StartFrom, union_in_turn, one_in_turn}
+use Rattle.simple_types.proofs.Framing.{IsFramed, IsFramedSource, own_members, members_with, framed_with, same_source, framed, Grown, grown}
 
 abbrev Outcome : Type 0
 Outcome = Result Accepted Code

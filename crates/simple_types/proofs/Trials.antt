@@ -3,36 +3,17 @@ use Rattle.std.proofs.Common.{◌≡◌, ℕ, ◌+◌, ◌<◌, ◌≤◌, Bool,
 use Rattle.std.specs.Prelude.{nat_lt, nat_le, if◌then◌else◌}
 use Rattle.std.proofs.lemmas.Bool.{false≢true}
 use Rattle.simple_types.proofs.Codes.{IsNoLimit, checked-no_limit}
-use Rattle.xs_names.specs.WhiteSpace.{normalized, items}
-use Rattle.xs_codes.specs.declared.builtin.Builtin.{Builtin}
-use Rattle.xs_codes.specs.declared.builtin.Builtin.TheVariants.{AnySimpleType}
 use Rattle.xs_codes.specs.declared.code.Code.{Code}
 use Rattle.xs_codes.specs.declared.code.Code.TheVariants.{CvcDatatypeValid1}
-use Rattle.xs_components.specs.declared.simple.FacetItem.{FacetItem}
-use Rattle.simple_values.specs.Grammar.{item_type}
-use Rattle.simple_values.specs.declared.atoms.TypedAtom.{TypedAtom}
 use Rattle.simple_values.specs.declared.value.Value.{Value}
 use Rattle.facet_checks.specs.declared.list.FacetList.{FacetList}
-use Rattle.facet_checks.specs.Check.{IsChecked, check_code}
+use Rattle.facet_checks.specs.Check.{IsChecked}
 use Rattle.facets.specs.declared.atomic.Accepted.{Accepted}
-use Rattle.facets.specs.declared.facets.Facets.{Facets}
-use Rattle.facets.specs.declared.known.Judged.{Judged}
-use Rattle.facets.specs.declared.known.Known.{Known}
-use Rattle.facets.specs.declared.known.Known.TheVariants.{Whole, Facets as FacetsAlone, Neither}
 use Rattle.facets.specs.declared.members.Gate.{Gate}
-use Rattle.facets.specs.declared.members.Plain.{Plain}
-use Rattle.facets.specs.declared.members.Choices.{Choices}
-use Rattle.facets.specs.declared.members.Literals.{Literals}
-use Rattle.facets.specs.declared.members.Literals.TheVariants.{OfBuiltin, OfList}
-use Rattle.facets.specs.declared.members.Member.{Member}
-use Rattle.facets.specs.declared.members.Members.{Members}
-use Rattle.facets.specs.declared.members.Source.{Source}
-use Rattle.facets.specs.declared.members.Source.TheVariants.{Literals as OfLiterals, Union as OfUnion}
 use Rattle.facets.specs.declared.trying.Turn.{Turn}
 use Rattle.facets.specs.declared.trying.Turn.TheVariants.{Ends, From}
 use Rattle.facets.specs.Members.{moved_gate, moved_on}
-use Rattle.facets.specs.Atomic.{way_of}
-use Rattle.facets.specs.Trying.{Scope, is_limit, IsShutIf, IsShutAt, IsShutBy, IsShut, IsTurn, IsTurned, turn_by, end_if, AreTried, IsTriedIf}
+use Rattle.facets.specs.Trying.{is_limit, IsShutIf, IsShutAt, IsShutBy, IsShut, IsTurn, IsTurned, turn_by, end_if, AreTried, IsTriedIf}
 use Rattle.facets.specs.Source.{IsUnionJudged}
 use Rattle.simple_types.specs.SimpleValidity.{IsTrialIf, IsTrialThen}
 

@@ -5,6 +5,7 @@ use Rattle.std.proofs.lemmas.Bool.{false≢true, cases_lt}
 use Rattle.std.proofs.lemmas.Option.{none-some, slice_get_past}
 use Rattle.std.proofs.lemmas.List.Elements.{All-head, All-tail, All-weaker}
 use Rattle.xs_codes.specs.declared.fault.Fault.{Fault}
+use Rattle.xs_codes.specs.Least.{is_before}
 use Rattle.xs_codes.specs.declared.code.Code.TheVariants.{XSimpleFinal, CosListOfAtomic}
 use Rattle.xs_components.specs.Tables.{Tables}
 use Rattle.xs_components.specs.declared.common.Place.{Place}
@@ -19,7 +20,7 @@ use Rattle.xs_components.specs.declared.complex.ContentForm.TheVariants as conte
 use Rattle.xs_components.specs.declared.complex.ComplexType.{ComplexType}
 use Rattle.component_references.specs.Heights.{first_height, IsLower}
 use Rattle.component_references.specs.Ranked.{named_types, IsRanked}
-use Rattle.facet_rules.specs.First.{Rule, rule, sooner, noted, first_from, is_before, fault_at}
+use Rattle.facet_rules.specs.First.{Rule, rule, sooner, noted, first_from, fault_at}
 use Rattle.facets.specs.declared.facets.Facets.{Facets}
 use Rattle.facets.specs.declared.known.Judged.{Judged}
 use Rattle.facets.specs.declared.known.Known.{Known}

@@ -15,7 +15,7 @@ use Rattle.xs_components.specs.declared.complex.ContentForm.TheVariants as conte
 use Rattle.facet_checks.specs.declared.list.FacetList.{FacetList}
 use Rattle.facet_checks.specs.List.{no_facets}
 use Rattle.facet_rules.specs.declared.step.ReadStep.{ReadStep}
-use Rattle.facet_rules.specs.First.{Rule, fault_at, is_before}
+use Rattle.facet_rules.specs.First.{Rule, fault_at}
 use Rattle.facet_rules.specs.Rules.{step_rules}
 use Rattle.facets.specs.declared.facets.Facets.{Facets}
 use Rattle.facets.specs.declared.known.Known.{Known}
@@ -77,11 +77,6 @@ pub data IsBroken (t : Tables) (fault : Fault) : Type 0 where
   of_type : (n : ℕ) (part : SimpleType) → slice_get t.simples.parts n ≡ Some part → BreaksType t part fault → IsBroken t fault
   of_content : (n : ℕ) (part : ComplexType) → slice_get t.complexes.parts n ≡ Some part → BreaksContent t part.by_extension part.base part.content fault
       → IsBroken t fault
-
--- the first of what is broken, by document, item and place of the code in the phase; or nothing is
-abbrev pub IsFirst : (Fault → Type 0) → Option Fault → Type 0
-IsFirst Broken None = (fault : Fault) → Broken fault → ⊥
-IsFirst Broken (Some fault) = Broken fault × ((other : Fault) → Broken other → is_before other fault ≡ false)
 
 -- the fault at which building the types of a schema set ends
 abbrev pub ending : Result SimpleTypes Fault → Option Fault

@@ -1,7 +1,7 @@
--- What the first of some faults is: the least of them by document, item and place of the code.
-use Rattle.std.specs.Prelude.{◌≡◌, Bool, true, false, if◌then◌else◌, List, [], ◌∷◌, ◌++◌, ◌⊎◌, Option, None, Some}
+-- The faults of rules and of judged types.
+use Rattle.std.specs.Prelude.{◌≡◌, if◌then◌else◌, List, [], ◌∷◌, ◌++◌, ◌⊎◌, Option, None, Some}
 use Rattle.xs_codes.specs.declared.fault.Fault.{Fault}
-use Rattle.facet_rules.specs.First.{Rule, fault_at, is_before}
+use Rattle.facet_rules.specs.First.{Rule, fault_at}
 use Rattle.simple_types.specs.declared.judged.JudgedType.{JudgedType}
 use Rattle.simple_types.specs.declared.types.SimpleTypes.{SimpleTypes}
 
@@ -25,13 +25,3 @@ faults_of_types types = faults_in types.simples ++ faults_in types.complexes
 abbrev pub IsAmong : Fault → List Fault → Type 0
 IsAmong fault [] = ⊥
 IsAmong fault (other ∷ others) = (fault ≡ other) ⊎ IsAmong fault others
-
--- none of these is before the fault
-abbrev pub IsBehindNone : Fault → List Fault → Type 0
-IsBehindNone fault [] = Unit {0}
-IsBehindNone fault (other ∷ others) = (is_before other fault ≡ false) × IsBehindNone fault others
-
--- one of the faults, before which none of them is; or there are none
-abbrev pub IsLeast : List Fault → Option Fault → Type 0
-IsLeast faults None = faults ≡ []
-IsLeast faults (Some fault) = IsAmong fault faults × IsBehindNone fault faults

@@ -1,12 +1,11 @@
 -- The types of a schema set, unfolded: Structures 3.14.2, and 3.4.2 for simple content.
-use Rattle.std.specs.Prelude.{Bool, true, false, if◌then◌else◌, Option, None, Some, map, slice_get, List}
+use Rattle.std.specs.Prelude.{Bool, true, false, Option, None, Some, map, slice_get}
 use Rattle.xs_components.specs.Tables.{Tables}
 use Rattle.xs_components.specs.declared.common.TypeId.{TypeId}
 use Rattle.xs_components.specs.declared.common.TypeId.TheVariants as types
 use Rattle.xs_components.specs.declared.simple.SimpleForm.{SimpleForm}
 use Rattle.xs_components.specs.declared.simple.SimpleForm.TheVariants.{Restrict, ListOf, UnionOf}
 use Rattle.xs_components.specs.declared.simple.SimpleType.{SimpleType}
-use Rattle.xs_components.specs.declared.simple.FacetItem.{FacetItem}
 use Rattle.xs_components.specs.declared.complex.ContentForm.{ContentForm}
 use Rattle.xs_components.specs.declared.complex.ContentForm.TheVariants as contents
 use Rattle.xs_components.specs.declared.complex.ComplexType.{ComplexType}

@@ -1,5 +1,5 @@
 -- The rules of a simple type and of those that it is made of: Structures 3.14.6.
-use Rattle.std.specs.Prelude.{Bool, true, false, not, List, [], ◌∷◌, map, Option, None, Some, slice_get}
+use Rattle.std.specs.Prelude.{Bool, true, false, not, List, [], ◌∷◌, Option, None, Some, slice_get}
 use Rattle.xs_codes.specs.declared.builtin.Builtin.{Builtin}
 use Rattle.xs_codes.specs.declared.builtin.Builtin.TheVariants.{AnySimpleType}
 use Rattle.xs_codes.specs.declared.code.Code.TheVariants.{XSimpleBase, StPropsCorrect3, XSimpleFinal, CosListOfAtomic}

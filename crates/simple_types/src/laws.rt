@@ -1,5 +1,6 @@
 //! What the first of some faults is.
 ghost use Rattle.std.specs.Prelude.{◌≡◌, not, is_some, List, Result};
+ghost use Rattle.xs_codes.specs.Least.{IsLeast};
 ghost use Rattle.xs_codes.specs.declared.code.Code.{Code};
 ghost use Rattle.xs_components.specs.declared.simple.FacetItem.{FacetItem};
 ghost use Rattle.facet_rules.specs.First.{Rule, first_fault};
@@ -19,8 +20,8 @@ ghost use Rattle.simple_types.specs.declared.types.SimpleTypes.{SimpleTypes as A
 /// The first fault of some rules, or of all types, is the least of their faults, by document, item and place of the code;
 /// there is none exactly where no rule is broken.
 pub fn first_is_least()
-    ensures rules { (rules : List Rule) → spec.IsLeast (spec.faults_of_rules rules) (first_fault rules) }
-    ensures types { (types : AnyTypes) → spec.IsLeast (spec.faults_of_types types) (first_fault_of types) }
+    ensures rules { (rules : List Rule) → IsLeast (λ f. spec.IsAmong f (spec.faults_of_rules rules)) (first_fault rules) }
+    ensures types { (types : AnyTypes) → IsLeast (λ f. spec.IsAmong f (spec.faults_of_types types)) (first_fault_of types) }
 {}
 
 /// cos-list-of-atomic (Structures 3.14.6), by recursion on the type: there is a list of items of a type exactly where that is no list and

@@ -1,5 +1,5 @@
 -- Derivation from a member of a union, where what is within the union is known.
-use Rattle.std.proofs.Common.{◌≡◌, ◌≤◌, ◌↔◌, ◌⊎◌, inl, inr, Bool, true, false, None, Some, refl, sym, ap, ◌∙◌, subst, arith}
+use Rattle.std.proofs.Common.{◌≡◌, ◌≤◌, ◌↔◌, Bool, true, false, None, Some, refl, sym, ap, ◌∙◌, subst, arith}
 use Rattle.std.specs.Prelude.{Contains, IsTrue}
 use Rattle.std.proofs.lemmas.Bool.{true≢false}
 use Rattle.std.proofs.lemmas.List.Elements.{All-contains}
@@ -10,7 +10,7 @@ use Rattle.xs_components.specs.declared.common.TypeId.{TypeId}
 use Rattle.component_references.specs.Heights.{IsType, IsLower, type_height}
 use Rattle.component_references.specs.Ranked.{IsRanked}
 use Rattle.type_derivation.specs.Derives.{above, members_of, is_simple}
-use Rattle.type_derivation.specs.Chains.{Derives, same, by_base, by_member, DerivesFromMember}
+use Rattle.type_derivation.specs.Chains.{Derives, by_base, DerivesFromMember}
 use Rattle.type_derivation.specs.Within.{IsWithin, itself, inside, AreSimple, Marks, IsMarked, AreWithin}
 use Rattle.type_derivation.proofs.ChainLaws.{marked-simple, within-derives, up, Up}
 use Rattle.type_derivation.proofs.MemberLaws.{members-lower, member-simple}

@@ -6,6 +6,8 @@ use Rattle.std.proofs.lemmas.Option.{slice_get_within, same_Some}
 use Rattle.xs_codes.specs.declared.code.Code.{Code}
 use Rattle.xs_codes.specs.declared.code.Code.TheVariants.{XSimpleBase, StPropsCorrect3, XSimpleFinal, CosListOfAtomic}
 use Rattle.xs_codes.specs.declared.fault.Fault.{Fault}
+use Rattle.xs_codes.specs.Least.{is_before, IsLeast}
+use Rattle.xs_codes.proofs.LeastLaws.{fault_not_itself, fault_not_trans, least-same}
 use Rattle.xs_components.specs.Tables.{Tables}
 use Rattle.xs_components.specs.declared.common.Place.{Place}
 use Rattle.xs_components.specs.declared.common.TypeId.{TypeId}
@@ -17,7 +19,7 @@ use Rattle.xs_components.specs.declared.complex.ComplexType.{ComplexType}
 use Rattle.xs_components.specs.declared.complex.ContentForm.{ContentForm}
 use Rattle.xs_components.specs.declared.complex.ContentForm.TheVariants as contents
 use Rattle.component_references.specs.Ranked.{IsRanked}
-use Rattle.facet_rules.specs.First.{Rule, rule, fault_at, is_before, first_from, first_fault}
+use Rattle.facet_rules.specs.First.{Rule, rule, fault_at, first_from, first_fault}
 use Rattle.facet_rules.specs.Rules.{step_rules}
 use Rattle.facet_rules.specs.Read.{no_step}
 use Rattle.facet_rules.specs.declared.step.ReadStep.{ReadStep}
@@ -30,11 +32,11 @@ use Rattle.facets.specs.Facets.{judged_by, IsStepJudged}
 use Rattle.facets.specs.Making.{no_members, with_member}
 use Rattle.facets.specs.Reading.{IsStepReadBy}
 use Rattle.facets.specs.Source.{list_of, union_of}
-use Rattle.simple_types.specs.Broken.{Breaks, judging, BreaksStep, BreaksOwnStep, BreaksContent, BreaksType, IsBroken, of_type, of_content, IsFirst, ending}
+use Rattle.simple_types.specs.Broken.{Breaks, judging, BreaksStep, BreaksOwnStep, BreaksContent, BreaksType, IsBroken, of_type, of_content, ending}
 use Rattle.simple_types.specs.Forms.{IsStepMade, IsFormMade, IsContentMade}
 use Rattle.simple_types.specs.Holding.{holds_list}
 use Rattle.simple_types.specs.Judging.{Holds, IsSimpleAt, IsContentAt}
-use Rattle.simple_types.specs.Least.{faults_of_rules, with_fault, faults_in, faults_of_types, IsAmong, IsBehindNone, IsLeast}
+use Rattle.simple_types.specs.Least.{faults_of_rules, with_fault, faults_in, faults_of_types, IsAmong}
 use Rattle.simple_types.specs.Lookup.{looked_up, content_of}
 use Rattle.simple_types.specs.SimpleTypes.{AreTypesOf, IsBuilt, first_fault_of}
 use Rattle.simple_types.specs.SimpleValidity.{AreInForce, AreMembers, IsListKnown, made_from_both, known_behind}
@@ -46,7 +48,7 @@ use Rattle.simple_types.specs.declared.judged.TypeFacets.{TypeFacets}
 use Rattle.simple_types.specs.declared.types.SimpleTypes.{SimpleTypes}
 use Rattle.simple_types.proofs.HoldingLaws.{lists-of-atoms}
 use Rattle.simple_types.proofs.InForce.{simple_in_force, content-of-in-force}
-use Rattle.simple_types.proofs.LeastLaws.{fault_not_itself, fault_not_trans, rules_are_least, rules_from_least, types_are_least}
+use Rattle.simple_types.proofs.LeastLaws.{rules_are_least, rules_from_least, types_are_least}
 use Rattle.type_laws.proofs.StepLaws.{behind-one, step-one}
 
 -- ---- what is in force for a type is one
@@ -80,19 +82,14 @@ mutual
 
 -- ---- the first of a list
 
-behind-each : (f g : Fault) (fs : List Fault) → IsBehindNone f fs → IsAmong g fs → is_before g f ≡ false
-behind-each f g [] none among = absurd among
-behind-each f g (h ∷ hs) none (inl same) = subst (λ (x : Fault). is_before x f ≡ false) (sym same) none.0
-behind-each f g (h ∷ hs) none (inr more) = behind-each f g hs none.1 more
-
 -- one of these is not behind it
 abbrev IsReached : Fault → List Fault → Type 0
 IsReached fault faults = (f : Fault) × IsAmong f faults × (is_before fault f ≡ false)
 
-first-by-list : (P : Fault → Type 0) (fs : List Fault) (r : Option Fault) → IsLeast fs r → ((f : Fault) → IsAmong f fs → P f) → ((g : Fault) → P g → IsReached g fs) → IsFirst P r
-first-by-list P fs None least there reached = λ g p. let k = reached g p in subst (IsAmong k.0) least k.1
+first-by-list : (P : Fault → Type 0) (fs : List Fault) (r : Option Fault) → IsLeast (λ f. IsAmong f fs) r → ((f : Fault) → IsAmong f fs → P f) → ((g : Fault) → P g → IsReached g fs) → IsLeast P r
+first-by-list P fs None least there reached = λ g p. let k = reached g p in least k.0 k.1
 first-by-list P fs (Some f) least there reached =
-    (there f least.0, λ g p. let k = reached g p in fault_not_trans g k.0 f k.2 (behind-each f k.0 fs least.1 k.1))
+    (there f least.0, λ g p. let k = reached g p in fault_not_trans g k.0 f k.2 (least.1 k.0 k.1))
 
 -- ---- rules
 
@@ -153,12 +150,12 @@ module _ (tree : TypeTree) (look : TypeFacets) (in_force : AreInForce tree look.
         let among : Contains rules b.rule = subst (λ (xs : List Rule). Contains xs b.rule) (λ i. step_rules (judging (one.0 i) (one.1 i)) (same i).facets) b.among in
         subst (λ (x : Fault). IsReached x (faults_of_rules rules)) (sym b.is) (reached-itself (fault_at b.rule.at b.rule.code) (faults_of_rules rules) (told-among rules b.rule among b.broken))
 
-    first : IsFirst (BreaksStep tree step) (first_fault rules)
+    first : IsLeast (BreaksStep tree step) (first_fault rules)
     first = first-by-list (BreaksStep tree step) (faults_of_rules rules) (first_fault rules) (rules_are_least rules) there reached
 
-  step-first : (made : JudgedType) → IsStepMade look step made → IsFirst (BreaksStep tree step) made.fault
+  step-first : (made : JudgedType) → IsStepMade look step made → IsLeast (BreaksStep tree step) made.fault
   step-first made (judged, (read, reads, is), e) =
-      subst (IsFirst (BreaksStep tree step)) (sym (ap (λ (m : JudgedType). m.fault) e ∙ (ap (λ (j : Judged). j.fault) is ∙ judged-first look.facets look.known read))) (first read reads)
+      subst (IsLeast (BreaksStep tree step)) (sym (ap (λ (m : JudgedType). m.fault) e ∙ (ap (λ (j : Judged). j.fault) is ∙ judged-first look.facets look.known read))) (first read reads)
 
 -- ---- one type
 
@@ -167,22 +164,20 @@ among-known None f faults among = among
 among-known (Some b) f faults among = inr among
 
 -- what is known, and then rules
-first-with : (Earlier Own : Fault → Type 0) (best : Option Fault) (rules : List Rule) → IsFirst Earlier best → ((f : Fault) → IsAmong f (faults_of_rules rules) → Own f) → ((f : Fault) → Own f → IsAmong f (faults_of_rules rules)) →
-    IsFirst (λ f. Own f ⊎ Earlier f) (first_from best rules)
+first-with : (Earlier Own : Fault → Type 0) (best : Option Fault) (rules : List Rule) → IsLeast Earlier best → ((f : Fault) → IsAmong f (faults_of_rules rules) → Own f) → ((f : Fault) → Own f → IsAmong f (faults_of_rules rules)) →
+    IsLeast (λ f. Own f ⊎ Earlier f) (first_from best rules)
 first-with Earlier Own best rules known there back =
-    first-by-list (λ f. Own f ⊎ Earlier f) (with_fault best (faults_of_rules rules)) (first_from best rules) (rules_from_least rules best) (from best known) (to best known)
+    least-same (λ f. Earlier f ⊎ IsAmong f (faults_of_rules rules)) (λ f. Own f ⊎ Earlier f) from to (first_from best rules) (rules_from_least Earlier rules best known)
   where
-    from : (best : Option Fault) → IsFirst Earlier best → (f : Fault) → IsAmong f (with_fault best (faults_of_rules rules)) → Own f ⊎ Earlier f
-    from None known f among = inl (there f among)
-    from (Some b) known f (inl same) = inr (subst Earlier (sym same) known.0)
-    from (Some b) known f (inr more) = inl (there f more)
+    from : (f : Fault) → Earlier f ⊎ IsAmong f (faults_of_rules rules) → Own f ⊎ Earlier f
+    from f (inl earlier) = inr earlier
+    from f (inr among) = inl (there f among)
 
-    to : (best : Option Fault) → IsFirst Earlier best → (f : Fault) → Own f ⊎ Earlier f → IsReached f (with_fault best (faults_of_rules rules))
-    to best known f (inl own) = reached-itself f (with_fault best (faults_of_rules rules)) (among-known best f (faults_of_rules rules) (back f own))
-    to None known f (inr more) = absurd (known f more)
-    to (Some b) known f (inr more) = (b, inl refl, known.1 f more)
+    to : (f : Fault) → Own f ⊎ Earlier f → Earlier f ⊎ IsAmong f (faults_of_rules rules)
+    to f (inl own) = inr (back f own)
+    to f (inr earlier) = inl earlier
 
-none-first : IsFirst (λ f. ⊥) no_fault
+none-first : IsLeast (λ f. ⊥) no_fault
 none-first = λ f b. b
 
 not-not : (a b : Bool) → a ≡ not b → not a ≡ b
@@ -257,31 +252,31 @@ module _ (t : Tables) (at : Place) where
 
   -- a form, where what is in force for the types that it names is looked up
   form-first : (look : TypeId → TypeFacets) → ((of : TypeId) → AreInForce (simple_tree t of) (look of).facets (look of).known) → (form : SimpleForm) (made : JudgedType) → IsFormMade t look at form made →
-      IsFirst (λ f. Own form f ⊎ BreaksOwnStep t form f) made.fault
+      IsLeast (λ f. Own form f ⊎ BreaksOwnStep t form f) made.fault
   form-first look in_force (Restrict base step) made (judged, is, e) =
-      subst (IsFirst (λ f. Own (Restrict base step) f ⊎ BreaksStep (simple_tree t base) step f)) (sym (ap (λ (m : JudgedType). m.fault) e))
+      subst (IsLeast (λ f. Own (Restrict base step) f ⊎ BreaksStep (simple_tree t base) step f)) (sym (ap (λ (m : JudgedType). m.fault) e))
       (first-with (BreaksStep (simple_tree t base) step) (Own (Restrict base step)) judged.fault (base_rules t at base) (step-first (simple_tree t base) (look base) (in_force base) step judged is)
       (λ f among. base-there base step f (told (base_rules t at base) f among)) (base-back base step))
   form-first look in_force (ListOf item) made is =
       let atomic : Bool = is_some (list_of (look item).facets) in
       let holds = not-not atomic (holds_list (simple_tree t item)) (lists-of-atoms (simple_tree t item) (look item).facets (look item).known (in_force item)) in
-      subst (IsFirst (λ f. Own (ListOf item) f ⊎ ⊥)) (sym (ap (λ (m : JudgedType). m.fault) is))
+      subst (IsLeast (λ f. Own (ListOf item) f ⊎ ⊥)) (sym (ap (λ (m : JudgedType). m.fault) is))
       (first-with (λ f. ⊥) (Own (ListOf item)) no_fault (item_rules t at item atomic) none-first
       (λ f among. item-there item atomic holds f (told (item_rules t at item atomic) f among)) (item-back item atomic holds))
   form-first look in_force (UnionOf members) made is =
-      subst (IsFirst (λ f. Own (UnionOf members) f ⊎ ⊥)) (sym (ap (λ (m : JudgedType). m.fault) is))
+      subst (IsLeast (λ f. Own (UnionOf members) f ⊎ ⊥)) (sym (ap (λ (m : JudgedType). m.fault) is))
       (first-with (λ f. ⊥) (Own (UnionOf members)) no_fault (members_rules t at members) none-first (members-there members) (members-back members))
 
 module _ (t : Tables) (simple content : TypeId → TypeFacets) (simple_is : (of : TypeId) → AreInForce (simple_tree t of) (simple of).facets (simple of).known)
     (content_is : (of : TypeId) → AreInForce (type_tree t of) (content of).facets (content of).known) where
-  content-first : (by_extension : Bool) (base : TypeId) (form : ContentForm) (made : JudgedType) → IsContentMade simple content by_extension base form made → IsFirst (BreaksContent t by_extension base form) made.fault
-  content-first true base (contents.Simple own step) made is = subst (IsFirst (λ f. ⊥)) (sym (ap (λ (m : JudgedType). m.fault) is)) none-first
-  content-first true base (contents.Complex None mixed) made is = subst (IsFirst (λ f. ⊥)) (sym (ap (λ (m : JudgedType). m.fault) is)) none-first
-  content-first true base (contents.Complex (Some p) mixed) made is = subst (IsFirst (λ f. ⊥)) (sym (ap (λ (m : JudgedType). m.fault) is)) none-first
+  content-first : (by_extension : Bool) (base : TypeId) (form : ContentForm) (made : JudgedType) → IsContentMade simple content by_extension base form made → IsLeast (BreaksContent t by_extension base form) made.fault
+  content-first true base (contents.Simple own step) made is = subst (IsLeast (λ f. ⊥)) (sym (ap (λ (m : JudgedType). m.fault) is)) none-first
+  content-first true base (contents.Complex None mixed) made is = subst (IsLeast (λ f. ⊥)) (sym (ap (λ (m : JudgedType). m.fault) is)) none-first
+  content-first true base (contents.Complex (Some p) mixed) made is = subst (IsLeast (λ f. ⊥)) (sym (ap (λ (m : JudgedType). m.fault) is)) none-first
   content-first false base (contents.Simple None step) made is = step-first (type_tree t base) (content base) (content_is base) step made is
   content-first false base (contents.Simple (Some own) step) made is = step-first (simple_tree t own) (simple own) (simple_is own) step made is
-  content-first false base (contents.Complex None mixed) made is = subst (IsFirst (λ f. ⊥)) (sym (ap (λ (m : JudgedType). m.fault) is)) none-first
-  content-first false base (contents.Complex (Some p) mixed) made is = subst (IsFirst (λ f. ⊥)) (sym (ap (λ (m : JudgedType). m.fault) is)) none-first
+  content-first false base (contents.Complex None mixed) made is = subst (IsLeast (λ f. ⊥)) (sym (ap (λ (m : JudgedType). m.fault) is)) none-first
+  content-first false base (contents.Complex (Some p) mixed) made is = subst (IsLeast (λ f. ⊥)) (sym (ap (λ (m : JudgedType). m.fault) is)) none-first
 
 -- ---- all types
 
@@ -327,7 +322,7 @@ among-either f (x ∷ xs) ys (inl same) = inl (inl same)
 among-either f (x ∷ xs) ys (inr more) = elim (among-either f xs ys more) [ inl here ↦ inl (inr here) | inr there ↦ inr there ]
 
 -- what one of the judged breaks is reached by the fault that is known of it
-reached-at : (P : Fault → Type 0) (table : List JudgedType) (n : ℕ) (judged : JudgedType) (g : Fault) → slice_get table n ≡ Some judged → (o : Option Fault) → judged.fault ≡ o → IsFirst P o → P g → IsReached g (faults_in table)
+reached-at : (P : Fault → Type 0) (table : List JudgedType) (n : ℕ) (judged : JudgedType) (g : Fault) → slice_get table n ≡ Some judged → (o : Option Fault) → judged.fault ≡ o → IsLeast P o → P g → IsReached g (faults_in table)
 reached-at P table n judged g at None e first p = absurd (first g p)
 reached-at P table n judged g at (Some f) e first p = (f, judged-among table n judged f at e, first.1 g p)
 
@@ -339,14 +334,14 @@ module _ (t : Tables) (ranked : IsRanked t) (types : SimpleTypes) (are : AreType
   content_is = content-of-in-force t ranked types.simples types.complexes are.simples are.complexes
 
   -- the entry of a simple type has the first of what it breaks
-  entry-first : (n : ℕ) (part : SimpleType) (judged : JudgedType) → slice_get t.simples.parts n ≡ Some part → slice_get types.simples n ≡ Some judged → IsFirst (BreaksType t part) judged.fault
+  entry-first : (n : ℕ) (part : SimpleType) (judged : JudgedType) → slice_get t.simples.parts n ≡ Some part → slice_get types.simples n ≡ Some judged → IsLeast (BreaksType t part) judged.fault
   entry-first n part judged at is =
       let h = subst (Holds (IsSimpleAt t types.simples n)) is (are.simples.each n (slice_get_within t.simples.parts n part at)) in
       form-first t part.at (looked_up types.simples) simple_is part.form judged
       (subst (Holds (λ (p : SimpleType). IsFormMade t (looked_up types.simples) p.at p.form judged)) at h)
 
   content-entry-first : (n : ℕ) (part : ComplexType) (judged : JudgedType) → slice_get t.complexes.parts n ≡ Some part → slice_get types.complexes n ≡ Some judged →
-      IsFirst (BreaksContent t part.by_extension part.base part.content) judged.fault
+      IsLeast (BreaksContent t part.by_extension part.base part.content) judged.fault
   content-entry-first n part judged at is =
       let h = subst (Holds (IsContentAt t types.simples types.complexes n)) is (are.complexes.each n (slice_get_within t.complexes.parts n part at)) in
       content-first t (looked_up types.simples) (content_of types.simples types.complexes) simple_is content_is part.by_extension part.base part.content judged
@@ -355,8 +350,8 @@ module _ (t : Tables) (ranked : IsRanked t) (types : SimpleTypes) (are : AreType
   abbrev all : List Fault
   all = faults_of_types types
 
-  some-first : (P : Fault → Type 0) (o : Option Fault) (f : Fault) → IsFirst P o → o ≡ Some f → P f
-  some-first P o f first e = (subst (IsFirst P) e first).0
+  some-first : (P : Fault → Type 0) (o : Option Fault) (f : Fault) → IsLeast P o → o ≡ Some f → P f
+  some-first P o f first e = (subst (IsLeast P) e first).0
 
   there-simple : (f : Fault) → Judging types.simples f → IsBroken t f
   there-simple f k = by (slice_get t.simples.parts k.place) refl (subst (Holds (IsSimpleAt t types.simples k.place)) k.at (are.simples.each k.place within))
@@ -403,9 +398,9 @@ module _ (t : Tables) (ranked : IsRanked t) (types : SimpleTypes) (are : AreType
       by None e h = absurd h
       by (Some judged) e h = reached-at (BreaksContent t part.by_extension part.base part.content) types.complexes n judged g e judged.fault refl (content-entry-first n part judged at e) breaks
 
-  pub first-broken : IsFirst (IsBroken t) (first_fault_of types)
+  pub first-broken : IsLeast (IsBroken t) (first_fault_of types)
   first-broken = first-by-list (IsBroken t) all (first_fault_of types) (types_are_least types) all-there all-reached
 
-pub built-first : (t : Tables) (outcome : Result SimpleTypes Fault) → IsRanked t → IsBuilt t outcome → IsFirst (IsBroken t) (ending outcome)
-built-first t (Ok types) ranked is = subst (IsFirst (IsBroken t)) is.1 (first-broken t ranked types is.0)
-built-first t (Err fault) ranked is = subst (IsFirst (IsBroken t)) is.2 (first-broken t ranked is.0 is.1)
+pub built-first : (t : Tables) (outcome : Result SimpleTypes Fault) → IsRanked t → IsBuilt t outcome → IsLeast (IsBroken t) (ending outcome)
+built-first t (Ok types) ranked is = subst (IsLeast (IsBroken t)) is.1 (first-broken t ranked types is.0)
+built-first t (Err fault) ranked is = subst (IsLeast (IsBroken t)) is.2 (first-broken t ranked is.0 is.1)

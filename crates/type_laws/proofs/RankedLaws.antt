@@ -1,11 +1,9 @@
 -- The ranks of components are determined, and so are their contents and the particles that these add.
-use Rattle.std.proofs.Common.{◌≡◌, ℕ, ◌<◌, List, [], ◌∷◌, Some, length, take, drop, slice_get, slice_index, refl, sym, ap, ◌∙◌, subst, arith}
-use Rattle.std.specs.Prelude.{All, Contains}
+use Rattle.std.proofs.Common.{◌≡◌, ℕ, ◌<◌, List, [], ◌∷◌, length, take, drop, slice_index, refl, sym, ap, ◌∙◌, subst}
 use Rattle.std.specs.List.{AllZip}
 use Rattle.std.proofs.lemmas.Option.{slice_get_within, get_or_from_slice_get}
 use Rattle.std.proofs.lemmas.List.Elements.{All-contains}
 use Rattle.xs_components.specs.Tables.{Tables}
-use Rattle.component_references.specs.NumberedCircles.{IsRanking}
 use Rattle.component_references.specs.References.{type_references, element_references, attr_group_references, model_references}
 use Rattle.component_references.specs.Circles.{Ranks, with_all_ranks, AreBothHeights, HaveHeights}
 use Rattle.component_references.proofs.FirstLaws.{rankings-same}

@@ -1,5 +1,5 @@
 -- What a step of facets comes to is determined, whatever is known of the base (Datatypes 4.3).
-use Rattle.std.proofs.Common.{◌≡◌, Bool, true, false, List, [], ◌∷◌, Result, refl, sym, ap, ◌∙◌, subst}
+use Rattle.std.proofs.Common.{◌≡◌, Bool, true, false, List, [], ◌∷◌, sym, ap, ◌∙◌, subst}
 use Rattle.xs_codes.specs.declared.builtin.Builtin.{Builtin}
 use Rattle.xs_components.specs.declared.simple.FacetItem.{FacetItem}
 use Rattle.xs_components.specs.declared.simple.FacetKind.{FacetKind}

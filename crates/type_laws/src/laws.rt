@@ -5,10 +5,11 @@ ghost use Rattle.pattern_syntax.specs.Reading.{Reads};
 ghost use Rattle.pattern_syntax.specs.Regex.{Regex};
 ghost use Rattle.pattern_syntax.specs.declared.fault.PatternFault.{PatternFault};
 ghost use Rattle.component_references.specs.Ranked.{IsRanked};
-ghost use Rattle.simple_types.specs.Broken.{IsBroken, IsFirst, ending};
+ghost use Rattle.simple_types.specs.Broken.{IsBroken, ending};
 ghost use Rattle.simple_types.specs.SimpleTypes.{AreTypesOf, IsBuilt, first_fault_of};
 ghost use Rattle.simple_types.specs.declared.types.SimpleTypes.{SimpleTypes};
 ghost use Rattle.type_laws.specs.Completed.{AreCompleted, IsFirstTypeFault};
+ghost use Rattle.xs_codes.specs.Least.{IsLeast};
 ghost use Rattle.xs_codes.specs.declared.fault.Fault.{Fault};
 ghost use Rattle.xs_components.specs.Tables.{Tables};
 
@@ -30,6 +31,6 @@ pub fn the_first_type_fault_is_the_only_one()
 /// What judging finds of the simple types of components is the first of what they and their facets break, by document, item and place of the
 /// code (Structures 3.14.6; Datatypes 4.3); where it finds nothing, nothing is broken.
 pub fn the_first_type_fault_is_the_least()
-    ensures judged { (t : Tables) (types : SimpleTypes) → IsRanked t → AreTypesOf t types → IsFirst (IsBroken t) (first_fault_of types) }
-    ensures built { (t : Tables) (outcome : Result SimpleTypes Fault) → IsRanked t → IsBuilt t outcome → IsFirst (IsBroken t) (ending outcome) }
+    ensures judged { (t : Tables) (types : SimpleTypes) → IsRanked t → AreTypesOf t types → IsLeast (IsBroken t) (first_fault_of types) }
+    ensures built { (t : Tables) (outcome : Result SimpleTypes Fault) → IsRanked t → IsBuilt t outcome → IsLeast (IsBroken t) (ending outcome) }
 {}

@@ -1,10 +1,10 @@
-use Rattle.std.proofs.Common.{◌≡◌, ◌<◌, Bool, true, false, Option, None, Some, length, length-set, get_or, slice_get, slice_index_or, refl, sym, ap, ◌∙◌, subst, arith}
+use Rattle.std.proofs.Common.{◌≡◌, ◌<◌, false, Option, None, Some, length, length-set, slice_get, slice_index_or, refl, sym, ap, ◌∙◌, subst, arith}
 use Rattle.std.specs.Prelude.{All, is_some}
 use Rattle.std.proofs.lemmas.Bool.{true≢false}
 use Rattle.std.proofs.lemmas.Option.{slice_get_read}
 use Rattle.std.proofs.lemmas.List.{take_all}
 use Rattle.std.proofs.lemmas.List.Elements.{All-more}
-use Rattle.type_derivation.specs.inside.Kinds.{entry, LacksAt, unknown}
+use Rattle.type_derivation.specs.inside.Kinds.{entry, LacksAt}
 use Rattle.component_tables.specs.declared.content_types.ContentType.{ContentType}
 use Rattle.type_derivation.proofs.KindLaws.{lacks-at, next-sound, sound-more, fewer}
 use Rattle.type_derivation.proofs.rounds.round.Goals as goal

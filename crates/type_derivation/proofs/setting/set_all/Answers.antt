@@ -1,4 +1,4 @@
-use Rattle.std.proofs.Common.{◌≡◌, ◌<◌, length, get_or, slice_index_or, refl, ap, arith}
+use Rattle.std.proofs.Common.{◌<◌, length, get_or, slice_index_or, refl, ap, arith}
 use Rattle.std.proofs.lemmas.List.Elements.{All-get_or}
 use Rattle.type_derivation.proofs.GrowLaws.{grown-none, grown-on}
 use Rattle.type_derivation.proofs.TypeOrderLaws.{by-rank}
