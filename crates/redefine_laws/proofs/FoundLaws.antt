@@ -100,26 +100,28 @@ module _ (target : Option (List ℕ)) (document item : ℕ) where
   place-found : (start : ℕ) (ds : List SetDocument) (i : ℕ) (e : SetDocument) → slice_get ds i ≡ Some e → IsThe e → ((k : ℕ) (d : SetDocument) → slice_get ds k ≡ Some d → IsThe d → HasItem d)
       → (place : ℕ) × (version_place start ds target document item ≡ Some place)
   place-found start [] i e at is each = absurd (none-some e at)
-  place-found start (d ∷ ds) i e at is each = by (d.number == document && same_target d.target target) refl i at
+  place-found start (d ∷ ds) i e at is each =
+      by (d.number == document && same_target d.target target) refl i at (λ j there. place-found (start + length (shapes_of d)) ds j e there is (λ k x at_it the. each (suc k) x at_it the))
     where
-      by : (b : Bool) → (d.number == document && same_target d.target target) ≡ b → (i : ℕ) → slice_get (d ∷ ds) i ≡ Some e → (place : ℕ) × (version_place start (d ∷ ds) target document item ≡ Some place)
-      by true t i at =
+      by : (b : Bool) → (d.number == document && same_target d.target target) ≡ b → (i : ℕ) → slice_get (d ∷ ds) i ≡ Some e
+          → ((j : ℕ) → slice_get ds j ≡ Some e → (place : ℕ) × (version_place (start + length (shapes_of d)) ds target document item ≡ Some place)) → (place : ℕ) × (version_place start (d ∷ ds) target document item ≡ Some place)
+      by true t i at later =
           let has = each 0 d refl t in
           let found = position-at (λ (s : Shape). s.item == item) start (shapes_of d) has.0 has.1 has.2 has.3 in
           (start + found.0, ap (λ (b : Bool). if b then position_from (λ (s : Shape). s.item == item) start (shapes_of d) else version_place (start + length (shapes_of d)) ds target document item) t ∙ found.2)
-      by false t zero at = absurd (not-both (ap (λ (x : SetDocument). x.number == document && same_target x.target target) (same_Some d e at) ∙ is) t)
-      by false t (suc i) at =
-          let rest = place-found (start + length (shapes_of d)) ds i e at is (λ k x there the. each (suc k) x there the) in
+      by false t zero at later = absurd (not-both (ap (λ (x : SetDocument). x.number == document && same_target x.target target) (same_Some d e at) ∙ is) t)
+      by false t (suc i) at later =
+          let rest = later i at in
           (rest.0, ap (λ (b : Bool). if b then position_from (λ (s : Shape). s.item == item) start (shapes_of d) else version_place (start + length (shapes_of d)) ds target document item) t ∙ rest.1)
 
 found-some : {X : Type 0} (test : X → Bool) (xs : List X) (n : ℕ) (x : X) → slice_get xs n ≡ Some x → test x ≡ true → (y : X) × (find test xs ≡ Some y)
 found-some test [] n x at is = absurd (none-some x at)
-found-some {X} test (y ∷ xs) n x at is = by (test y) refl n at
+found-some {X} test (y ∷ xs) n x at is = by (test y) refl n at (λ k there. found-some test xs k x there is)
   where
-    by : (b : Bool) → test y ≡ b → (n : ℕ) → slice_get (y ∷ xs) n ≡ Some x → (z : X) × (find test (y ∷ xs) ≡ Some z)
-    by true e n at = (y, ap (λ (b : Bool). cond b (Some y) (find test xs)) e)
-    by false e zero at = absurd (not-both (ap test (same_Some y x at) ∙ is) e)
-    by false e (suc n) at = let rest = found-some test xs n x at is in (rest.0, ap (λ (b : Bool). cond b (Some y) (find test xs)) e ∙ rest.1)
+    by : (b : Bool) → test y ≡ b → (n : ℕ) → slice_get (y ∷ xs) n ≡ Some x → ((k : ℕ) → slice_get xs k ≡ Some x → (z : X) × (find test xs ≡ Some z)) → (z : X) × (find test (y ∷ xs) ≡ Some z)
+    by true e n at later = (y, ap (λ (b : Bool). cond b (Some y) (find test xs)) e)
+    by false e zero at later = absurd (not-both (ap test (same_Some y x at) ∙ is) e)
+    by false e (suc n) at later = let rest = later n at in (rest.0, ap (λ (b : Bool). cond b (Some y) (find test xs)) e ∙ rest.1)
 
 -- ---- each redefining component has an original
 module _ (sources : List Available) (set : List SetDocument) (effective : IsEffectiveSet sources set) (originals : List (Option ℕ)) (are : AreOriginals sources set originals)

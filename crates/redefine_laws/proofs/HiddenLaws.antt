@@ -51,6 +51,7 @@ module _ (r : Redirection) where
   by-refers _ = refl
 
   by-declares : (form : Represented) → declared_by (redirected_by r form) ≡ declared_by form
+  by-declares (forms.Element element) = refl
   by-declares _ = refl
 
 redirected-declares : (r : Option Redirection) (form : Represented) → declared_by (redirected r form) ≡ declared_by form

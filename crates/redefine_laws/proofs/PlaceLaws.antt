@@ -134,11 +134,13 @@ pub record IsVersionAt (start : ℕ) (ds : List SetDocument) (target : Option (L
 
 pub version-at : (start : ℕ) (ds : List SetDocument) (target : Option (List ℕ)) (document item place : ℕ) → version_place start ds target document item ≡ Some place → IsVersionAt start ds target document item place
 version-at start [] target document item place is = absurd (none-some place is)
-version-at start (d ∷ ds) target document item place is = by (d.number == document && same_target d.target target) refl is
+version-at start (d ∷ ds) target document item place is =
+    by (d.number == document && same_target d.target target) refl is (version-at (start + length (shapes_of d)) ds target document item place)
   where
     by : (b : Bool) → (d.number == document && same_target d.target target) ≡ b
-        → (if b then position_from (λ s. s.item == item) start (shapes_of d) else version_place (start + length (shapes_of d)) ds target document item) ≡ Some place → IsVersionAt start (d ∷ ds) target document item place
-    by true e is =
+        → (if b then position_from (λ s. s.item == item) start (shapes_of d) else version_place (start + length (shapes_of d)) ds target document item) ≡ Some place
+        → (version_place (start + length (shapes_of d)) ds target document item ≡ Some place → IsVersionAt (start + length (shapes_of d)) ds target document item place) → IsVersionAt start (d ∷ ds) target document item place
+    by true e is later =
         let found = position-is (λ (s : Shape). s.item == item) start place (shapes_of d) is in
         record {
           n = found.0;
@@ -149,8 +151,8 @@ version-at start (d ∷ ds) target document item place is = by (d.number == docu
           number = e;
           item_is = found.4;
         }
-    by false e is =
-        let rest = version-at (start + length (shapes_of d)) ds target document item place is in
+    by false e is later =
+        let rest = later is in
         let long = length-in start d (shapes_of d) in
         let on = rest.is in
         record {
