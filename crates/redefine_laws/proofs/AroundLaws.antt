@@ -1,27 +1,24 @@
 -- What stands in a redefining component, by the places of representations and by the elements of its document.
-use Rattle.std.proofs.Common.{◌≡◌, ℕ, zero, suc, ◌+◌, ◌-◌, ◌<◌, ◌==◌, ◌⊎◌, inl, inr, Bool, true, false, List, [], ◌∷◌, Option, None, Some, if◌then◌else◌, drop, length, get_or, slice_get, refl, sym, ap, subst, ◌∙◌, true≢false, eq-eqb, arith}
+use Rattle.std.proofs.Common.{◌≡◌, ℕ, zero, suc, ◌+◌, ◌-◌, ◌<◌, ◌==◌, Bool, true, false, List, Option, None, Some, if◌then◌else◌, drop, get_or, slice_get, refl, sym, ap, subst, ◌∙◌, true≢false, eq-eqb, arith}
 use Rattle.std.specs.Prelude.{Contains}
-use Rattle.std.specs.List.{list_any}
 use Rattle.std.proofs.lemmas.Bool.{eqb-true}
 use Rattle.std.proofs.lemmas.Bool.Decides.{nat_tests}
 use Rattle.std.proofs.lemmas.List.Folds.{list_any_at}
 use Rattle.std.proofs.lemmas.Option.{none-some, same_Some, slice_get_within, slice_get-get_or, get_or_from_slice_get}
 use Rattle.xs_names.specs.Names.{NameTable}
-use Rattle.schema_shape.specs.declared.forms.Form.{Form}
 use Rattle.schema_shape.specs.declared.forms.Shape.{Shape}
 use Rattle.schema_set.specs.declared.documents.SetDocument.{SetDocument}
 use Rattle.redefine_originals.specs.Versions.{inside}
 use Rattle.redefine_originals.proofs.InsideLaws.{inside-has, inside-from, any-from}
 use Rattle.redefine_faults.specs.Redefinitions.{IsBelow, child, deeper}
 use Rattle.representations.specs.declared.parts.Representation.{Representation}
-use Rattle.set_representations.specs.Documents.{representations, representations_of, shapes_of}
-use Rattle.set_representations.specs.Members.{place_from, places_of}
+use Rattle.set_representations.specs.Documents.{representations, shapes_of}
+use Rattle.set_representations.specs.Members.{place_from}
 use Rattle.redefine_names.specs.VersionNames.{original_at}
 use Rattle.redefine_names.specs.Redirections.{is_in, version_or, version_above}
 use Rattle.redefine_laws.proofs.ListLaws.{not-both, dropped, position-is, position-at, holds, looked, looks}
-use Rattle.redefine_laws.proofs.KindLaws.{is_plain}
 use Rattle.redefine_laws.proofs.TreeLaws.{is_item, has_member, AreElements, one-item, one-parent}
-use Rattle.redefine_laws.proofs.PlaceLaws.{Slot, slots, slot_of, begin, Stands, stands, placed, Represents, represented-at, slot-of}
+use Rattle.redefine_laws.proofs.PlaceLaws.{Slot, slots, slot_of, begin, stands, placed, Represents, represented-at, slot-of}
 
 pub contains-at : {X : Type 0} (xs : List X) (x : X) → Contains xs x → (n : ℕ) × (slice_get xs n ≡ Some x)
 contains-at xs x has = (has.0, slice_get-get_or xs has.0 x has.1 ∙ ap (λ y. Some y) has.2)

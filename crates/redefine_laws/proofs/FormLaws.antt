@@ -1,5 +1,5 @@
 -- What the representation of an element declares and refers to.
-use Rattle.std.proofs.Common.{◌≡◌, ℕ, Bool, true, false, not, ◌&&◌, List, [], ◌∷◌, Option, None, Some, if◌then◌else◌, slice_get, refl, sym, ap, subst, ◌∙◌, true≢false, bytes_eq}
+use Rattle.std.proofs.Common.{◌≡◌, ℕ, Bool, true, not, ◌&&◌, List, [], ◌∷◌, Option, None, Some, if◌then◌else◌, refl, sym, ap, subst, ◌∙◌, true≢false, bytes_eq}
 use Rattle.std.specs.Prelude.{is_some}
 use Rattle.std.specs.Option.{option_map}
 use Rattle.std.proofs.lemmas.Bool.{and_parts}
@@ -23,7 +23,6 @@ use Rattle.redefine_originals.specs.Versions.{declared_as}
 use Rattle.redefine_faults.specs.Redefinitions.{adopted, meant_space, is_to, is_self_reference}
 use Rattle.representations.specs.declared.naming.Naming.{Naming}
 use Rattle.representations.specs.Naming.{space_text, name_in, declared_number, reference_number, referred_space, naming_of, naming_in}
-use Rattle.representations.specs.declared.parts.Represented.{Represented}
 use Rattle.representation_forms.specs.declared.defaults.Defaults.{Defaults}
 use Rattle.representation_forms.specs.Forms.{represented, identity_of, model_group}
 use Rattle.redefine_names.specs.Components.{declared_by, declared_type}

@@ -1,6 +1,6 @@
 -- Where no constraint on redefines is broken, each redefining component has an original among the elements of the set.
-use Rattle.std.proofs.Common.{◌≡◌, ℕ, zero, suc, ◌+◌, ◌-◌, ◌==◌, ◌&&◌, ◌⊎◌, inl, inr, Bool, true, false, cond, List, [], ◌∷◌, ◌++◌, Option, None, Some, if◌then◌else◌, length, slice_get, refl, sym, ap, subst, ◌∙◌, eq-eqb, arith}
-use Rattle.std.specs.Prelude.{Contains, All}
+use Rattle.std.proofs.Common.{◌≡◌, ℕ, zero, suc, ◌+◌, ◌-◌, ◌==◌, ◌&&◌, inl, inr, Bool, true, false, cond, List, [], ◌∷◌, ◌++◌, Option, None, Some, if◌then◌else◌, length, slice_get, refl, sym, ap, subst, ◌∙◌, eq-eqb, arith}
+use Rattle.std.specs.Prelude.{Contains}
 use Rattle.std.specs.List.{find, position_from}
 use Rattle.std.specs.Option.{option_and_then, option_to_list}
 use Rattle.std.proofs.lemmas.Bool.{eqb-true, and_parts}
@@ -18,7 +18,7 @@ use Rattle.schema_set.specs.declared.documents.Available.{Available}
 use Rattle.schema_set.specs.declared.documents.SetDocument.{SetDocument}
 use Rattle.schema_set.proofs.ReachLaws.{in-filter_map}
 use Rattle.redefine_originals.specs.declared.versions.Redefinable.{Redefinable}
-use Rattle.redefine_originals.specs.Versions.{Child, Version, redefined, redefining, declared_as, included, shapes_of as available_shapes, shapes_at, version_at, inclusions, Finds, nowhere, again, here, further, IsOriginal}
+use Rattle.redefine_originals.specs.Versions.{Child, Version, redefined, redefining, declared_as, included, shapes_of as available_shapes, shapes_at, inclusions, Finds, nowhere, again, here, further, IsOriginal}
 use Rattle.redefine_originals.specs.Originals.{shapes_of, elements, version_place, child_of, IsPlaceOf, IsChildPlace, IsOriginalPlace, AreOriginals}
 use Rattle.redefine_originals.proofs.InsideLaws.{contains-first, contains-rest, contains-cases}
 use Rattle.redefine_originals.proofs.VersionLaws.{version-is, original-is}
@@ -127,87 +127,87 @@ found-some {X} test (y ∷ xs) n x at is = by (test y) refl n at (λ k there. fo
 module _ (sources : List Available) (set : List SetDocument) (effective : IsEffectiveSet sources set) (originals : List (Option ℕ)) (are : AreOriginals sources set originals)
     (all : (i : ℕ) (d : SetDocument) → slice_get set i ≡ Some d → AreElements (shapes_of d)) (sound : (f : Fault) → IsRedefineFault sources f → ⊥)
   where
-  module _ (version : ℕ) (slot : Slot) (at : slice_get (slots 0 set) version ≡ Some slot) (of : Redefinable) (name : List ℕ) (declares : declared_as slot.shape.form ≡ Some (of, name)) where
-    abbrev list : List Shape
-    list = shapes_of slot.document
+    module _ (version : ℕ) (slot : Slot) (at : slice_get (slots 0 set) version ≡ Some slot) (of : Redefinable) (name : List ℕ) (declares : declared_as slot.shape.form ≡ Some (of, name)) where
+      abbrev list : List Shape
+      list = shapes_of slot.document
 
-    abbrev target : Option (List ℕ)
-    target = slot.document.target
+      abbrev target : Option (List ℕ)
+      target = slot.document.target
 
-    own : Stands 0 set version slot
-    own = stands 0 set version slot at
+      own : Stands 0 set version slot
+      own = stands 0 set version slot at
 
-    is-document : IsDocument sources slot.document
-    is-document = All-contains (IsDocument sources) set slot.document effective.there (at-contains set own.i slot.document own.document)
+      is-document : IsDocument sources slot.document
+      is-document = All-contains (IsDocument sources) set slot.document effective.there (at-contains set own.i slot.document own.document)
 
-    is-within : InSet sources slot.document.number target
-    is-within = All-contains (λ (d : SetDocument). InSet sources d.number d.target) set slot.document effective.only (at-contains set own.i slot.document own.document)
+      is-within : InSet sources slot.document.number target
+      is-within = All-contains (λ (d : SetDocument). InSet sources d.number d.target) set slot.document effective.only (at-contains set own.i slot.document own.document)
 
-    module _ (c : Child) (found : child_of list slot.shape.item ≡ Some c) where
-      from : IsInRedefine list c × (c.shape ≡ slot.shape)
-      from = child-is sources set originals are all own.i own.m slot.document slot.shape own.document own.shape c found
+      module _ (c : Child) (found : child_of list slot.shape.item ≡ Some c) where
+        from : IsInRedefine list c × (c.shape ≡ slot.shape)
+        from = child-is sources set originals are all own.i own.m slot.document slot.shape own.document own.shape c found
 
-      -- it is not lost
-      never-lost : IsOriginal sources c.location of name None → ⊥
-      never-lost is =
-          let d = is-document in
-          let at_it = found-at (λ (x : Child). x.shape.item == slot.shape.item) (redefining list) c found in
-          let shapes : list ≡ d.1.shaped.shapes = ap (λ (s : ShapedSchema). s.shapes) d.4 in
-          sound (record { phase = 2; document = slot.document.number; item = slot.shape.item; code = code.SrcExpredef }) (record {
-            place = d.0;
-            document = d.1;
-            target = target;
-            child = c;
-            of = of;
-            name = name;
-            phase = refl;
-            number = d.2;
-            there = d.3;
-            within = is-within;
-            says = subst (λ (xs : List Shape). Contains (redefining xs) c) shapes (at-contains (redefining list) at_it.0 c at_it.1);
-            declares = ap (λ (s : Shape). declared_as s.form) from.1 ∙ declares;
-            item = ap (λ (s : Shape). s.item) from.1;
-            code = lost is;
-          })
+        -- it is not lost
+        never-lost : IsOriginal sources c.location of name None → ⊥
+        never-lost is =
+            let d = is-document in
+            let at_it = found-at (λ (x : Child). x.shape.item == slot.shape.item) (redefining list) c found in
+            let shapes : list ≡ d.1.shaped.shapes = ap (λ (s : ShapedSchema). s.shapes) d.4 in
+            sound (record { phase = 2; document = slot.document.number; item = slot.shape.item; code = code.SrcExpredef }) (record {
+              place = d.0;
+              document = d.1;
+              target = target;
+              child = c;
+              of = of;
+              name = name;
+              phase = refl;
+              number = d.2;
+              there = d.3;
+              within = is-within;
+              says = subst (λ (xs : List Shape). Contains (redefining xs) c) shapes (at-contains (redefining list) at_it.0 c at_it.1);
+              declares = ap (λ (s : Shape). declared_as s.form) from.1 ∙ declares;
+              item = ap (λ (s : Shape). s.item) from.1;
+              code = lost is;
+            })
 
-      -- it has a place
-      placed-at : (w : Version) → IsOriginal sources c.location of name (Some w) → (place : ℕ) × (version_place 0 set target w.document w.shape.item ≡ Some place)
-      placed-at w is =
-          let redefine = from.0 in
-          let before : is-document.0 ≡ slot.document.number - 1 = omega (arith, is-document.2) in
-          let same : list ≡ shapes_at sources slot.document.number = shapes-same sources set originals are all slot.document slot.document.number is-document refl in
-          let said = says sources set effective slot.document.number target is-within redefine.redefine
-          (subst (λ (xs : List Shape). Contains xs redefine.redefine) same (at-contains list redefine.at redefine.redefine redefine.is)) c.location (redefined-is redefine.redefine.form c.location redefine.location) in
-          let within : InSet sources w.document target =
-          finds-in sources set effective target of name (option_to_list (document_at sources c.location)) [] (Some w) is
-          (located-in sources set effective target slot.document.number is-within c.location said) w refl in
-          let e = effective.each w.document target within in
-          let there_it_is = contains-at set e.0 e.1 in
-          let own_version = original-is sources of name c.location w is in
-          let in_list = version-there w.document (shapes_at sources w.document) of name w own_version.version in
-          place-found target w.document w.shape.item 0 set there_it_is.0 e.0 there_it_is.1
-          (ap (λ (b : Bool). b && same_target e.0.target target) (eq-eqb e.0.number w.document e.2)
-          ∙ (ap (λ (t : Option (List ℕ)). same_target t target) e.3 ∙ target-refl target))
-          (λ k d at_it the.
-          let number = eqb-true d.number w.document (and_parts (d.number == w.document) (same_target d.target target) the).0 in
-          let document = All-contains (IsDocument sources) set d effective.there (at-contains set k d at_it) in
-          let shapes : shapes_of d ≡ shapes_at sources w.document = shapes-same sources set originals are all d w.document document number in
-          (in_list.0, w.shape, ap (λ (xs : List Shape). slice_get xs in_list.0) shapes ∙ in_list.1, eq-eqb w.shape.item w.shape.item refl))
+        -- it has a place
+        placed-at : (w : Version) → IsOriginal sources c.location of name (Some w) → (place : ℕ) × (version_place 0 set target w.document w.shape.item ≡ Some place)
+        placed-at w is =
+            let redefine = from.0 in
+            let before : is-document.0 ≡ slot.document.number - 1 = omega (arith, is-document.2) in
+            let same : list ≡ shapes_at sources slot.document.number = shapes-same sources set originals are all slot.document slot.document.number is-document refl in
+            let said = says sources set effective slot.document.number target is-within redefine.redefine
+            (subst (λ (xs : List Shape). Contains xs redefine.redefine) same (at-contains list redefine.at redefine.redefine redefine.is)) c.location (redefined-is redefine.redefine.form c.location redefine.location) in
+            let within : InSet sources w.document target =
+            finds-in sources set effective target of name (option_to_list (document_at sources c.location)) [] (Some w) is
+            (located-in sources set effective target slot.document.number is-within c.location said) w refl in
+            let e = effective.each w.document target within in
+            let there_it_is = contains-at set e.0 e.1 in
+            let own_version = original-is sources of name c.location w is in
+            let in_list = version-there w.document (shapes_at sources w.document) of name w own_version.version in
+            place-found target w.document w.shape.item 0 set there_it_is.0 e.0 there_it_is.1
+            (ap (λ (b : Bool). b && same_target e.0.target target) (eq-eqb e.0.number w.document e.2)
+            ∙ (ap (λ (t : Option (List ℕ)). same_target t target) e.3 ∙ target-refl target))
+            (λ k d at_it the.
+            let number = eqb-true d.number w.document (and_parts (d.number == w.document) (same_target d.target target) the).0 in
+            let document = All-contains (IsDocument sources) set d effective.there (at-contains set k d at_it) in
+            let shapes : shapes_of d ≡ shapes_at sources w.document = shapes-same sources set originals are all d w.document document number in
+            (in_list.0, w.shape, ap (λ (xs : List Shape). slice_get xs in_list.0) shapes ∙ in_list.1, eq-eqb w.shape.item w.shape.item refl))
 
-      has-place : (place : Option ℕ) → IsPlaceOf sources set target c.location (Some (of, name)) place → (o : ℕ) × (place ≡ Some o)
-      has-place place is = by is.0 is.1 is.2
-        where
-          by : (o : Option Version) → IsOriginal sources c.location of name o → place ≡ option_and_then (λ (v : Version). version_place 0 set target v.document v.shape.item) o → (p : ℕ) × (place ≡ Some p)
-          by None lost_it same = absurd (never-lost lost_it)
-          by (Some w) original same = let found_it = placed-at w original in (found_it.0, same ∙ found_it.1)
+        has-place : (place : Option ℕ) → IsPlaceOf sources set target c.location (Some (of, name)) place → (o : ℕ) × (place ≡ Some o)
+        has-place place is = by is.0 is.1 is.2
+          where
+            by : (o : Option Version) → IsOriginal sources c.location of name o → place ≡ option_and_then (λ (v : Version). version_place 0 set target v.document v.shape.item) o → (p : ℕ) × (place ≡ Some p)
+            by None lost_it same = absurd (never-lost lost_it)
+            by (Some w) original same = let found_it = placed-at w original in (found_it.0, same ∙ found_it.1)
 
-    pub original-found : (c : Child) → Contains (redefining list) c → c.shape ≡ slot.shape → (o : ℕ) × (original_at originals version ≡ Some o)
-    original-found c has same =
-        let place = zip-at (IsOriginalPlace sources set) (elements set) originals version (pair_of slot) are (element-at sources set originals are all version slot at) in
-        let there_it_is = contains-at (redefining list) c has in
-        let test : (c.shape.item == slot.shape.item) ≡ true = eq-eqb c.shape.item slot.shape.item (ap (λ (s : Shape). s.item) same) in
-        let found = found-some (λ (x : Child). x.shape.item == slot.shape.item) (redefining list) there_it_is.0 c there_it_is.1 test in
-        let in_it : IsChildPlace sources set target (Some found.0) place.0 = subst (λ (o : Option Child). IsChildPlace sources set target o place.0) found.1 place.2 in
-        let declared : declared_as found.0.shape.form ≡ Some (of, name) = ap (λ (s : Shape). declared_as s.form) (from found.0 found.1).1 ∙ declares in
-        let is = has-place found.0 found.1 place.0 (subst (λ (o : Option (Redefinable × List ℕ)). IsPlaceOf sources set target found.0.location o place.0) declared in_it) in
-        (is.0, get_or_from_slice_get originals version place.0 None place.1 ∙ is.1)
+      pub original-found : (c : Child) → Contains (redefining list) c → c.shape ≡ slot.shape → (o : ℕ) × (original_at originals version ≡ Some o)
+      original-found c has same =
+          let place = zip-at (IsOriginalPlace sources set) (elements set) originals version (pair_of slot) are (element-at sources set originals are all version slot at) in
+          let there_it_is = contains-at (redefining list) c has in
+          let test : (c.shape.item == slot.shape.item) ≡ true = eq-eqb c.shape.item slot.shape.item (ap (λ (s : Shape). s.item) same) in
+          let found = found-some (λ (x : Child). x.shape.item == slot.shape.item) (redefining list) there_it_is.0 c there_it_is.1 test in
+          let in_it : IsChildPlace sources set target (Some found.0) place.0 = subst (λ (o : Option Child). IsChildPlace sources set target o place.0) found.1 place.2 in
+          let declared : declared_as found.0.shape.form ≡ Some (of, name) = ap (λ (s : Shape). declared_as s.form) (from found.0 found.1).1 ∙ declares in
+          let is = has-place found.0 found.1 place.0 (subst (λ (o : Option (Redefinable × List ℕ)). IsPlaceOf sources set target found.0.location o place.0) declared in_it) in
+          (is.0, get_or_from_slice_get originals version place.0 None place.1 ∙ is.1)

@@ -1,13 +1,12 @@
 -- References of redefining components to themselves where originals have names of their own.
-use Rattle.std.proofs.Common.{◌≡◌, ℕ, zero, suc, ◌+◌, ◌<◌, ◌==◌, ◌&&◌, ◌||◌, Bool, true, false, List, [], ◌∷◌, Option, None, Some, if◌then◌else◌, length, slice_get, slice_index_or, refl, sym, ap, subst, ◌∙◌, true≢false, eq-eqb, arith}
-use Rattle.std.specs.List.{list_any}
+use Rattle.std.proofs.Common.{◌≡◌, ℕ, zero, suc, ◌+◌, ◌<◌, ◌==◌, ◌&&◌, ◌||◌, Bool, true, false, List, [], ◌∷◌, Option, None, Some, if◌then◌else◌, length, slice_get, refl, sym, ap, subst, ◌∙◌, true≢false, eq-eqb, arith}
 use Rattle.std.specs.Option.{option_map, option_and_then}
 use Rattle.std.specs.Str.{IsUtf8, chars}
 use Rattle.std.proofs.lemmas.Bool.{eqb-true, and_parts}
-use Rattle.std.proofs.lemmas.Option.{none-some, same_Some, slice_get_within, get_or_from_slice_get}
+use Rattle.std.proofs.lemmas.Option.{none-some, same_Some}
 use Rattle.xs_names.specs.Characters.{is_ncname}
 use Rattle.xs_names.specs.Names.{NameTable, Grown, name_number, space_of, local_of, with_name, same_name}
-use Rattle.xs_names.proofs.GrownLaws.{Grown-refl, Grown-trans, Grown-with_name, name_number-Grown, space_of-Grown, local_of-Grown, slice_get-names-Grown, within-name_number}
+use Rattle.xs_names.proofs.GrownLaws.{Grown-refl, Grown-trans, Grown-with_name, name_number-Grown, space_of-Grown, local_of-Grown, slice_get-names-Grown}
 use Rattle.xs_names.proofs.NumberingLaws.{same_name-Decides, slice_get-number_of}
 use Rattle.representations.specs.declared.parts.Represented.{Represented}
 use Rattle.representations.specs.declared.parts.Represented.TheVariants as forms
@@ -22,7 +21,7 @@ use Rattle.redefine_names.specs.declared.declared.VersionKind.{VersionKind}
 use Rattle.redefine_names.specs.declared.declared.VersionKind.TheVariants as kinds
 use Rattle.redefine_names.specs.declared.redirections.Redirection.{Redirection}
 use Rattle.redefine_names.proofs.SpaceLaws.{original-spaced}
-use Rattle.redefine_laws.proofs.ListLaws.{not-both}
+use Rattle.redefine_laws.proofs.ListLaws.{not-both, index-some}
 use Rattle.redefine_laws.proofs.TableLaws.{item-there}
 
 -- ---- kinds and forms
@@ -117,11 +116,6 @@ module _ (reps : List Representation) where
       version-there (with_version t reps first) originals n original declared at is (omega (arith, within, (grown-version t first).more_names))
 
 -- ---- representations with originals under names of their own
-index-some : (xs : List (Option ℕ)) (n o : ℕ) → slice_index_or xs n None ≡ Some o → slice_get xs n ≡ Some (Some o)
-index-some [] n o is = absurd (none-some o is)
-index-some (x ∷ xs) zero o is = ap (λ (y : Option ℕ). Some y) is
-index-some (x ∷ xs) (suc n) o is = index-some xs n o is
-
 among : (xs : List (Option ℕ)) (n original : ℕ) → slice_get xs n ≡ Some (Some original) → is_original xs original ≡ true
 among [] n original at = absurd (none-some (Some original) at)
 among (x ∷ xs) zero original at =
@@ -189,104 +183,104 @@ module _ (t : NameTable) (reps : List Representation) (originals : List (Option 
   module _ (plain : ArePlain) (version original : ℕ) (has : original_at originals version ≡ Some original) (d : Declared) (own : declared_at reps version ≡ Some d) (its : declared_at reps original ≡ Some d)
       (within : d.name < length t.names) (text : IsUtf8 (local_of t d.name))
     where
-    abbrev h : (n : ℕ) × (version_at whole reps original ≡ Some n)
-    h = version-there reps t originals version original d (index-some originals version original has) its within
+      abbrev h : (n : ℕ) × (version_at whole reps original ≡ Some n)
+      h = version-there reps t originals version original d (index-some originals version original has) its within
 
-    abbrev r : Redirection
-    r = record { kind = d.kind; from = d.name; to = h.0 }
+      abbrev r : Redirection
+      r = record { kind = d.kind; from = d.name; to = h.0 }
 
-    abbrev hidden : Declared
-    hidden = record d { name = h.0 }
+      abbrev hidden : Declared
+      hidden = record d { name = h.0 }
 
-    own-redirected : own_redirection whole reps originals version ≡ Some r
-    own-redirected =
-        ap (redirection_if whole reps version) has
-        ∙ (ap (λ (o : Option Declared). redirection_to whole reps o original) own ∙ ap (redirection_of d) h.1)
+      own-redirected : own_redirection whole reps originals version ≡ Some r
+      own-redirected =
+          ap (redirection_if whole reps version) has
+          ∙ (ap (λ (o : Option Declared). redirection_to whole reps o original) own ∙ ap (redirection_of d) h.1)
 
-    at-redirected : (place : ℕ) → version_around reps originals place ≡ Some version → redirection_at whole reps originals place ≡ Some r
-    at-redirected place around = ap (option_and_then (own_redirection whole reps originals)) around ∙ own-redirected
+      at-redirected : (place : ℕ) → version_around reps originals place ≡ Some version → redirection_at whole reps originals place ≡ Some r
+      at-redirected place around = ap (option_and_then (own_redirection whole reps originals)) around ∙ own-redirected
 
-    new-refers : (place : ℕ) (rep : Representation) → version_around reps originals place ≡ Some version → referred (new_at place rep).form ≡ option_map (meant_declared r) (referred rep.form)
-    new-refers place rep around =
-        named-refers (original_name whole reps originals place) (redirected (redirection_at whole reps originals place) rep.form)
-        ∙ (ap (λ (o : Option Redirection). referred (redirected o rep.form)) (at-redirected place around) ∙ by-refers r rep.form)
+      new-refers : (place : ℕ) (rep : Representation) → version_around reps originals place ≡ Some version → referred (new_at place rep).form ≡ option_map (meant_declared r) (referred rep.form)
+      new-refers place rep around =
+          named-refers (original_name whole reps originals place) (redirected (redirection_at whole reps originals place) rep.form)
+          ∙ (ap (λ (o : Option Redirection). referred (redirected o rep.form)) (at-redirected place around) ∙ by-refers r rep.form)
 
-    name-is : original_name whole reps originals original ≡ Some h.0
-    name-is =
-        ap (λ (b : Bool). if b then version_at whole reps original else None) (among originals version original (index-some originals version original has)) ∙ h.1
+      name-is : original_name whole reps originals original ≡ Some h.0
+      name-is =
+          ap (λ (b : Bool). if b then version_at whole reps original else None) (among originals version original (index-some originals version original has)) ∙ h.1
 
-    declared-new : declared_at apart original ≡ Some hidden
-    declared-new = by (slice_get reps original) refl its
-      where
-        by : (o : Option Representation) → slice_get reps original ≡ o → declared_in o ≡ Some d → declared_at apart original ≡ Some hidden
-        by None at is = absurd (none-some d is)
-        by (Some rep) at is =
-            let redirection = redirection_at whole reps originals original in
-            ap declared_in (new-at original rep at)
-            ∙ (ap (λ (name : Option ℕ). declared_by (named name (redirected redirection rep.form))) name-is
-            ∙ named-declares (redirected redirection rep.form) h.0 d (redirected-declares redirection rep.form ∙ is))
+      declared-new : declared_at apart original ≡ Some hidden
+      declared-new = by (slice_get reps original) refl its
+        where
+          by : (o : Option Representation) → slice_get reps original ≡ o → declared_in o ≡ Some d → declared_at apart original ≡ Some hidden
+          by None at is = absurd (none-some d is)
+          by (Some rep) at is =
+              let redirection = redirection_at whole reps originals original in
+              ap declared_in (new-at original rep at)
+              ∙ (ap (λ (name : Option ℕ). declared_by (named name (redirected redirection rep.form))) name-is
+              ∙ named-declares (redirected redirection rep.form) h.0 d (redirected-declares redirection rep.form ∙ is))
 
-    redefined-new : redefined_by apart originals version ≡ Some hidden
-    redefined-new = ap (option_and_then (declared_at apart)) has ∙ declared-new
+      redefined-new : redefined_by apart originals version ≡ Some hidden
+      redefined-new = ap (option_and_then (declared_at apart)) has ∙ declared-new
 
-    redefined-old : redefined_by reps originals version ≡ Some d
-    redefined-old = ap (option_and_then (declared_at reps)) has ∙ its
+      redefined-old : redefined_by reps originals version ≡ Some d
+      redefined-old = ap (option_and_then (declared_at reps)) has ∙ its
 
-    meant-it : meant_declared r d ≡ hidden
-    meant-it =
-        let test : (same_kind d.kind d.kind && d.name == d.name) ≡ true =
-        ap (λ (b : Bool). b && d.name == d.name) (kind-same d.kind) ∙ eq-eqb d.name d.name refl in
-        ap (λ (b : Bool). record d { name = if b then h.0 else d.name }) test
+      meant-it : meant_declared r d ≡ hidden
+      meant-it =
+          let test : (same_kind d.kind d.kind && d.name == d.name) ≡ true =
+          ap (λ (b : Bool). b && d.name == d.name) (kind-same d.kind) ∙ eq-eqb d.name d.name refl in
+          ap (λ (b : Bool). record d { name = if b then h.0 else d.name }) test
 
-    -- no document writes the name of an original
-    never-written : IsPlain h.0 → ⊥
-    never-written written =
-        let grown = grown-versions reps t originals in
-        let local = version_local (local_of whole d.name) original in
-        let named : name_number whole (space_of whole d.name) local ≡ Some h.0 = ap (number_of whole original) (sym its) ∙ h.1 in
-        let at = slice_get-number_of same_name same_name-Decides whole.names (space_of whole d.name, local) h.0 named in
-        let old = slice_get-names-Grown t whole grown h.0 (written.ns, written.local) written.at in
-        let same : written.local ≡ local = ap (λ (name : ℕ × List ℕ). name.1) (same_Some (written.ns, written.local) (space_of whole d.name, local) (sym old ∙ at)) in
-        let utf : IsUtf8 (local_of whole d.name) = subst IsUtf8 (sym (local_of-Grown t whole grown d.name within)) text in
-        not-both (ap (λ (l : List ℕ). is_ncname (chars l)) (sym same) ∙ written.plain) (original-spaced (local_of whole d.name) original utf)
+      -- no document writes the name of an original
+      never-written : IsPlain h.0 → ⊥
+      never-written written =
+          let grown = grown-versions reps t originals in
+          let local = version_local (local_of whole d.name) original in
+          let named : name_number whole (space_of whole d.name) local ≡ Some h.0 = ap (number_of whole original) (sym its) ∙ h.1 in
+          let at = slice_get-number_of same_name same_name-Decides whole.names (space_of whole d.name, local) h.0 named in
+          let old = slice_get-names-Grown t whole grown h.0 (written.ns, written.local) written.at in
+          let same : written.local ≡ local = ap (λ (name : ℕ × List ℕ). name.1) (same_Some (written.ns, written.local) (space_of whole d.name, local) (sym old ∙ at)) in
+          let utf : IsUtf8 (local_of whole d.name) = subst IsUtf8 (sym (local_of-Grown t whole grown d.name within)) text in
+          not-both (ap (λ (l : List ℕ). is_ncname (chars l)) (sym same) ∙ written.plain) (original-spaced (local_of whole d.name) original utf)
 
-    meant-from : (to : Declared) → IsPlain to.name → meant_declared r to ≡ hidden → to ≡ d
-    meant-from to written same = by (same_kind to.kind d.kind && d.name == to.name) refl (ap (λ (x : Declared). x.name) same)
-      where
-        by : (b : Bool) → (same_kind to.kind d.kind && d.name == to.name) ≡ b → (if b then h.0 else to.name) ≡ h.0 → to ≡ d
-        by true e is =
-            let tests = and_parts (same_kind to.kind d.kind) (d.name == to.name) e in
-            let kind = kinds-same to.kind d.kind tests.0 in
-            let name : to.name ≡ d.name = sym (eqb-true d.name to.name tests.1) in
-            λ i. record { kind = kind i; name = name i }
-        by false e is = absurd (never-written (subst IsPlain is written))
+      meant-from : (to : Declared) → IsPlain to.name → meant_declared r to ≡ hidden → to ≡ d
+      meant-from to written same = by (same_kind to.kind d.kind && d.name == to.name) refl (ap (λ (x : Declared). x.name) same)
+        where
+          by : (b : Bool) → (same_kind to.kind d.kind && d.name == to.name) ≡ b → (if b then h.0 else to.name) ≡ h.0 → to ≡ d
+          by true e is =
+              let tests = and_parts (same_kind to.kind d.kind) (d.name == to.name) e in
+              let kind = kinds-same to.kind d.kind tests.0 in
+              let name : to.name ≡ d.name = sym (eqb-true d.name to.name tests.1) in
+              λ i. record { kind = kind i; name = name i }
+          by false e is = absurd (never-written (subst IsPlain is written))
 
-    pub hidden-to : (place : ℕ) → IsSelfReference apart originals version place → IsSelfReference reps originals version place
-    hidden-to place is =
-        let from = renamed-from 0 reps place is.rep is.there in
-        let rep = from.0 in
-        let around : version_around reps originals place ≡ Some version = sym (around-same place) ∙ is.within in
-        let same : is.rep ≡ new_at place rep = same_Some is.rep (new_at place rep) (sym is.there ∙ new-at place rep from.1) in
-        let to : is.to ≡ hidden = same_Some is.to hidden (sym is.original ∙ redefined-new) in
-        let found : option_map (meant_declared r) (referred rep.form) ≡ Some hidden =
-        sym (new-refers place rep around) ∙ (ap (λ (x : Representation). referred x.form) (sym same) ∙ (is.refers ∙ ap (λ (x : Declared). Some x) to)) in
-        by rep from.1 around (referred rep.form) refl found
-      where
-        by : (rep : Representation) → slice_get reps place ≡ Some rep → version_around reps originals place ≡ Some version → (o : Option Declared) → referred rep.form ≡ o → option_map (meant_declared r) o ≡ Some hidden → IsSelfReference reps originals version place
-        by rep at around None e found = absurd (none-some hidden found)
-        by rep at around (Some to) e found =
-            let is_d = meant-from to (plain place rep to at e) (same_Some (meant_declared r to) hidden found) in
-            record { rep = rep; to = d; there = at; within = around; refers = e ∙ ap (λ (x : Declared). Some x) is_d; original = redefined-old }
+      pub hidden-to : (place : ℕ) → IsSelfReference apart originals version place → IsSelfReference reps originals version place
+      hidden-to place is =
+          let from = renamed-from 0 reps place is.rep is.there in
+          let rep = from.0 in
+          let around : version_around reps originals place ≡ Some version = sym (around-same place) ∙ is.within in
+          let same : is.rep ≡ new_at place rep = same_Some is.rep (new_at place rep) (sym is.there ∙ new-at place rep from.1) in
+          let to : is.to ≡ hidden = same_Some is.to hidden (sym is.original ∙ redefined-new) in
+          let found : option_map (meant_declared r) (referred rep.form) ≡ Some hidden =
+          sym (new-refers place rep around) ∙ (ap (λ (x : Representation). referred x.form) (sym same) ∙ (is.refers ∙ ap (λ (x : Declared). Some x) to)) in
+          by rep from.1 around (referred rep.form) refl found
+        where
+          by : (rep : Representation) → slice_get reps place ≡ Some rep → version_around reps originals place ≡ Some version → (o : Option Declared) → referred rep.form ≡ o → option_map (meant_declared r) o ≡ Some hidden → IsSelfReference reps originals version place
+          by rep at around None e found = absurd (none-some hidden found)
+          by rep at around (Some to) e found =
+              let is_d = meant-from to (plain place rep to at e) (same_Some (meant_declared r to) hidden found) in
+              record { rep = rep; to = d; there = at; within = around; refers = e ∙ ap (λ (x : Declared). Some x) is_d; original = redefined-old }
 
-    pub hidden-from : (place : ℕ) → IsSelfReference reps originals version place → IsSelfReference apart originals version place
-    hidden-from place is =
-        let to : is.to ≡ d = same_Some is.to d (sym is.original ∙ redefined-old) in
-        record {
-          rep = new_at place is.rep;
-          to = hidden;
-          there = new-at place is.rep is.there;
-          within = around-same place ∙ is.within;
-          refers = new-refers place is.rep is.within
-              ∙ (ap (option_map (meant_declared r)) (is.refers ∙ ap (λ (x : Declared). Some x) to) ∙ ap (λ (x : Declared). Some x) meant-it);
-          original = redefined-new;
-        }
+      pub hidden-from : (place : ℕ) → IsSelfReference reps originals version place → IsSelfReference apart originals version place
+      hidden-from place is =
+          let to : is.to ≡ d = same_Some is.to d (sym is.original ∙ redefined-old) in
+          record {
+            rep = new_at place is.rep;
+            to = hidden;
+            there = new-at place is.rep is.there;
+            within = around-same place ∙ is.within;
+            refers = new-refers place is.rep is.within
+                ∙ (ap (option_map (meant_declared r)) (is.refers ∙ ap (λ (x : Declared). Some x) to) ∙ ap (λ (x : Declared). Some x) meant-it);
+            original = redefined-new;
+          }

@@ -1,6 +1,6 @@
 -- What elements of schema documents declare, by what they stand in: the schema and its redefines hold no others of these, and a
 -- target namespace and the name of a reference are such as can be written.
-use Rattle.std.proofs.Common.{◌≡◌, ℕ, zero, suc, ◌==◌, ◌&&◌, Bool, true, false, not, List, [], ◌∷◌, ◌++◌, Option, None, Some, if◌then◌else◌, length, refl, sym, ap, subst, ◌∙◌, true≢false, arith}
+use Rattle.std.proofs.Common.{◌≡◌, ℕ, ◌==◌, ◌&&◌, Bool, true, false, List, [], ◌∷◌, Option, None, Some, if◌then◌else◌, length, refl, sym, ap, subst, ◌∙◌, true≢false, arith}
 use Rattle.std.specs.Prelude.{is_some}
 use Rattle.std.specs.Option.{option_and_then}
 use Rattle.std.specs.List.{before_first, after_first}
@@ -22,7 +22,7 @@ use Rattle.schema_values.specs.declared.grammar_kinds.Kind.{Kind}
 use Rattle.schema_values.specs.declared.grammar_kinds.Kind.TheVariants as k
 use Rattle.schema_values.specs.declared.grammar_kinds.Tag.{Tag}
 use Rattle.schema_values.specs.declared.grammar_kinds.Tag.TheVariants as tags
-use Rattle.schema_shape.specs.Shapes.{form_of, including, redefining, target_of}
+use Rattle.schema_shape.specs.Shapes.{form_of, including, redefining}
 use Rattle.schema_shape.specs.declared.forms.Form.{Form}
 use Rattle.schema_shape.specs.declared.forms.Form.TheVariants as forms
 use Rattle.schema_set.specs.EffectiveSet.{form_target}

@@ -1,6 +1,6 @@
 -- Positions in lists, and how many items pass a test.
-use Rattle.std.proofs.Common.{◌≡◌, ℕ, zero, suc, ◌+◌, ◌<◌, ◌≤◌, ◌==◌, ◌||◌, ◌⊎◌, inl, inr, Bool, true, false, cond, List, [], ◌∷◌, ◌++◌, Option, None, Some, if◌then◌else◌, drop, length, slice_get, refl, sym, ap, subst, ◌∙◌, true≢false, arith}
-use Rattle.std.specs.Prelude.{filter_map}
+use Rattle.std.proofs.Common.{◌≡◌, ℕ, zero, suc, ◌+◌, ◌<◌, ◌≤◌, ◌==◌, ◌||◌, ◌⊎◌, inl, inr, Bool, true, false, cond, List, [], ◌∷◌, ◌++◌, Option, None, Some, if◌then◌else◌, drop, length, slice_get, refl, sym, ap, ◌∙◌, true≢false, arith}
+use Rattle.std.specs.Prelude.{filter_map, slice_index_or}
 use Rattle.std.specs.List.{list_any, position_from, cons_option}
 use Rattle.std.proofs.lemmas.Bool.{eqb-true, eq-eqb}
 use Rattle.std.proofs.lemmas.Option.{none-some, same_Some, slice_get_within}
@@ -38,6 +38,11 @@ module _ {X : Type 0} where
   dropped (suc m) (x ∷ xs) k =
       let same : suc (m + k) ≡ suc m + k = omega arith in
       dropped m xs k ∙ ap (λ (n : ℕ). slice_get (x ∷ xs) n) same
+
+  pub index-some : (xs : List (Option X)) (n : ℕ) (x : X) → slice_index_or xs n None ≡ Some x → slice_get xs n ≡ Some (Some x)
+  index-some [] n x is = absurd (none-some x is)
+  index-some (y ∷ xs) zero x is = ap (λ (o : Option X). Some o) is
+  index-some (y ∷ xs) (suc n) x is = index-some xs n x is
 
   -- ---- how many pass a test
   module _ (test : X → Bool) where

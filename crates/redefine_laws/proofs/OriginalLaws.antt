@@ -1,6 +1,6 @@
 -- Which elements have originals, and what these are.
-use Rattle.std.proofs.Common.{◌≡◌, ℕ, zero, suc, ◌+◌, ◌-◌, ◌<◌, ◌==◌, ◌&&◌, ◌⊎◌, inl, inr, Bool, true, false, cond, List, [], ◌∷◌, ◌++◌, Option, None, Some, length, map, slice_get, refl, sym, ap, subst, ◌∙◌, arith}
-use Rattle.std.specs.Prelude.{Contains, All, slice_index_or}
+use Rattle.std.proofs.Common.{◌≡◌, ℕ, zero, suc, ◌-◌, ◌==◌, inl, inr, Bool, true, false, cond, List, [], ◌∷◌, Option, None, Some, map, slice_get, refl, sym, ap, subst, ◌∙◌, arith}
+use Rattle.std.specs.Prelude.{Contains, All}
 use Rattle.std.specs.List.{AllZip, find, flat_map}
 use Rattle.std.specs.Option.{option_map, option_and_then, option_or, option_to_list}
 use Rattle.std.proofs.lemmas.Bool.{eqb-true, and_parts}
@@ -15,17 +15,17 @@ use Rattle.schema_set.specs.declared.documents.SetDocument.{SetDocument}
 use Rattle.schema_set.specs.EffectiveSet.{IsDocument}
 use Rattle.schema_set.specs.Order.{same_target}
 use Rattle.redefine_originals.specs.declared.versions.Redefinable.{Redefinable}
-use Rattle.redefine_originals.specs.Versions.{Child, Version, inside, at_top, redefined, children_at, redefining, declared_as, declares, in_redefine, on_top, version_in, shapes_of as available_shapes, shapes_at, version_at, IsOriginal}
+use Rattle.redefine_originals.specs.Versions.{Child, Version, inside, at_top, redefined, children_at, redefining, declared_as, declares, in_redefine, on_top, version_in, shapes_of as available_shapes, shapes_at, IsOriginal}
 use Rattle.redefine_originals.specs.Originals.{shapes_of, elements, version_place, child_of, IsPlaceOf, IsChildPlace, IsOriginalPlace, AreOriginals}
-use Rattle.redefine_originals.proofs.InsideLaws.{find-true, inside-from}
+use Rattle.redefine_originals.proofs.InsideLaws.{find-true}
 use Rattle.redefine_originals.proofs.VersionLaws.{original-is}
 use Rattle.redefine_names.specs.VersionNames.{original_at}
-use Rattle.redefine_laws.proofs.ListLaws.{split, not-both}
+use Rattle.redefine_laws.proofs.ListLaws.{split, not-both, index-some}
 use Rattle.redefine_laws.proofs.KindLaws.{is_plain}
 use Rattle.redefine_laws.proofs.TreeLaws.{has_member, AreElements, one-item, one-parent}
-use Rattle.redefine_laws.proofs.PlaceLaws.{Slot, slots, pair_of, elements-are, Stands, stands, there, IsVersionAt, version-at as place-at}
+use Rattle.redefine_laws.proofs.PlaceLaws.{Slot, slots, pair_of, elements-are, Stands, stands, version-at as place-at}
 use Rattle.redefine_laws.proofs.FormLaws.{target-one}
-use Rattle.redefine_laws.proofs.AroundLaws.{contains-at, at-contains, inside-at, Together, IsParent}
+use Rattle.redefine_laws.proofs.AroundLaws.{at-contains, inside-at, IsParent}
 
 -- ---- lists
 in-flat-map : {X Y : Type 0} (f : X → List Y) (xs : List X) (n : ℕ) (y : Y) → slice_get (flat_map f xs) n ≡ Some y → (i : ℕ) × (x : X) × (m : ℕ) × (slice_get xs i ≡ Some x) × (slice_get (f x) m ≡ Some y)
@@ -161,11 +161,6 @@ module _ (available : List Available) (set : List SetDocument) (originals : List
       pub declares : declared_as slot.shape.form ≡ Some (of, name)
       pub declared : declared_as other.shape.form ≡ Some (of, name)
       pub target : other.document.target ≡ slot.document.target
-
-    pub index-some : (xs : List (Option ℕ)) (n o : ℕ) → slice_index_or xs n None ≡ Some o → slice_get xs n ≡ Some (Some o)
-    index-some [] n o is = absurd (none-some o is)
-    index-some (x ∷ xs) zero o is = ap (λ (y : Option ℕ). Some y) is
-    index-some (x ∷ xs) (suc n) o is = index-some xs n o is
 
     -- the elements of a document by its number
     pub shapes-same : (d : SetDocument) (document : ℕ) → IsDocument available d → d.number ≡ document → shapes_of d ≡ shapes_at available document

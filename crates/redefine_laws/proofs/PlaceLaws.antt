@@ -1,5 +1,5 @@
 -- The places of the elements of a set, document by document, and what is represented there.
-use Rattle.std.proofs.Common.{◌≡◌, ℕ, zero, suc, ◌+◌, ◌<◌, ◌==◌, ◌&&◌, ◌⊎◌, inl, inr, Bool, true, false, cond, List, [], ◌∷◌, ◌++◌, Option, None, Some, if◌then◌else◌, drop, length, map, reverse, slice_get, refl, sym, ap, subst, ◌∙◌, arith}
+use Rattle.std.proofs.Common.{◌≡◌, ℕ, zero, suc, ◌+◌, ◌<◌, ◌==◌, ◌&&◌, inl, inr, Bool, true, false, List, [], ◌∷◌, ◌++◌, Option, Some, if◌then◌else◌, drop, length, map, reverse, slice_get, refl, sym, ap, subst, ◌∙◌, arith}
 use Rattle.std.specs.List.{position_from}
 use Rattle.std.proofs.lemmas.List.{length-append, map-append}
 use Rattle.std.proofs.lemmas.Option.{none-some, same_Some, slice_get_within}
@@ -82,12 +82,12 @@ stands start (d ∷ ds) n slot at = elim (split (slots_in start d (shapes_of d))
   | inl own ↦ (
       let is = slot-in start d (shapes_of d) n slot own in
       subst (Stands start (d ∷ ds) n) (sym is.0) (record { i = 0; m = n; document = refl; begins = refl; place = refl; shape = is.1; behind = refl })
-    )
+      )
   | inr later ↦ (
       let rest = stands (start + length (shapes_of d)) ds later.0 slot later.2 in
       let long = length-in start d (shapes_of d) in
       record { i = suc rest.i; m = rest.m; document = rest.document; begins = rest.begins; place = omega (arith, later.1, long, rest.place); shape = rest.shape; behind = rest.behind }
-    )
+      )
 ]
 
 pub placed : (start : ℕ) (ds : List SetDocument) (i m : ℕ) (d : SetDocument) (s : Shape) → slice_get ds i ≡ Some d → slice_get (shapes_of d) m ≡ Some s
@@ -99,7 +99,7 @@ placed start (e ∷ ds) zero m d s at in_it =
       m,
       refl,
       in-front (slots_in start e (shapes_of e)) (slots (start + length (shapes_of e)) ds) m (slot_of start e s (drop (suc m) (shapes_of e))) (slot-at start e (shapes_of e) m s own)
-      ∙ ap (λ (x : SetDocument). Some (slot_of start x s (drop (suc m) (shapes_of x)))) same,
+          ∙ ap (λ (x : SetDocument). Some (slot_of start x s (drop (suc m) (shapes_of x)))) same,
     )
 placed start (e ∷ ds) (suc i) m d s at in_it =
     let rest = placed (start + length (shapes_of e)) ds i m d s at in_it in
@@ -204,7 +204,7 @@ module _ (t : NameTable) where
           in-front (document_representations t start first d) (representations_of t (start + length list) next ds) n made.0 made.1,
           subst (λ (x : Slot). Represents x (start + n) made.0) (sym is.0) (record { form = made.2.0; members = made.2.1 }),
         )
-      )
+        )
     | inr later ↦ (
         let rest = represented-at (start + length list) next ds later.0 slot later.2 in
         let same : length (slots_in start d list) ≡ length (document_representations t start first d) = length-in start d list ∙ sym (length-from naming defaults d.number first [] start list) in
@@ -213,10 +213,10 @@ module _ (t : NameTable) where
         let place : start + length list + later.0 ≡ start + n = omega (arith, later.1, long) in (
           rest.0,
           ap (λ (k : ℕ). slice_get (representations_of t start first (d ∷ ds)) k) on
-          ∙ (in-back (document_representations t start first d) (representations_of t (start + length list) next ds) later.0 ∙ rest.1),
+              ∙ (in-back (document_representations t start first d) (representations_of t (start + length list) next ds) later.0 ∙ rest.1),
           subst (λ (p : ℕ). Represents slot p rest.0) place rest.2,
         )
-      )
+        )
   ]
     where
       list : List Shape

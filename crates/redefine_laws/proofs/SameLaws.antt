@@ -1,8 +1,7 @@
 -- Of a set whose redefines break no constraint: references of redefining components to themselves are the same by all definitions.
 use Rattle.std.proofs.Common.{◌≡◌, ℕ, ◌<◌, List, [], Option, None, Some, length, slice_get, refl, sym, ap, subst, ◌∙◌}
-use Rattle.std.specs.Prelude.{◌↔◌, All, Contains}
+use Rattle.std.specs.Prelude.{◌↔◌, Contains}
 use Rattle.std.specs.Option.{option_and_then}
-use Rattle.std.specs.Str.{IsUtf8}
 use Rattle.std.proofs.lemmas.Option.{none-some}
 use Rattle.xs_names.specs.Names.{NameTable}
 use Rattle.schema_shape.specs.declared.forms.Shape.{Shape}
@@ -14,16 +13,13 @@ use Rattle.schema_set.specs.declared.inputs.SchemaInput.{SchemaInput}
 use Rattle.redefine_originals.specs.Versions.{redefining, declared_as}
 use Rattle.redefine_originals.specs.Originals.{shapes_of}
 use Rattle.representations.specs.declared.parts.Representation.{Representation}
-use Rattle.set_representations.specs.Documents.{representations, set_table}
 use Rattle.redefine_names.specs.Components.{declared_at}
-use Rattle.redefine_names.specs.VersionNames.{original_at, with_versions}
-use Rattle.redefine_names.specs.Renamed.{renamed}
-use Rattle.redefine_names.specs.Redefined.{redefined_by, IsSelfReference}
+use Rattle.redefine_names.specs.VersionNames.{original_at}
+use Rattle.redefine_names.specs.Redefined.{redefined_by, IsSelfReference, RedefinesWhole}
 use Rattle.redefine_names.specs.declared.declared.Declared.{Declared}
-use Rattle.redefine_laws.specs.SelfReferences.{RefersToItself, AreComposed}
+use Rattle.redefine_laws.specs.SelfReferences.{RefersToItself, AreComposed, set_names, set_reps, set_versions, AreTexts}
 use Rattle.redefine_laws.proofs.TreeLaws.{AreElements}
 use Rattle.redefine_laws.proofs.KindLaws.{IsSpace}
-use Rattle.redefine_laws.proofs.PlaceLaws.{Slot, pair_of}
 use Rattle.redefine_laws.proofs.OriginalLaws.{element-from}
 use Rattle.redefine_laws.proofs.FoundLaws.{original-found}
 use Rattle.redefine_laws.proofs.HiddenLaws.{hidden-to, hidden-from}
@@ -41,10 +37,10 @@ module _ (base : NameTable) (inputs : List SchemaInput) (set : List SetDocument)
   sources = available inputs
 
   abbrev t : NameTable
-  t = set_table base set
+  t = set_names base set
 
   abbrev reps : List Representation
-  reps = representations t set
+  reps = set_reps base set
 
   effective : IsEffectiveSet sources set
   effective = c.is_set.0
@@ -78,9 +74,9 @@ module _ (base : NameTable) (inputs : List SchemaInput) (set : List SetDocument)
   by-places version place = (places-to version place, places-from version place)
 
   -- where originals have names of their own
-  module _ (texts : All (λ (name : ℕ × List ℕ). IsUtf8 name.1) t.names) where
+  module _ (texts : AreTexts t) where
     abbrev apart : List Representation
-    apart = renamed (with_versions t reps originals) reps originals
+    apart = set_versions base set originals
 
     module _ (version original : ℕ) (has : original_at originals version ≡ Some original) where
       abbrev d : Declared
@@ -111,3 +107,10 @@ module _ (base : NameTable) (inputs : List SchemaInput) (set : List SetDocument)
 
     pub by-hidden-names : (version place : ℕ) → IsSelfReference apart originals version place ↔ RefersToItself set version place
     by-hidden-names version place = (hidden-places-to version place, hidden-places-from version place)
+
+    -- a component that redefines another whole has no reference to itself
+    pub by-whole : (version original : ℕ) → RedefinesWhole apart originals version original ↔ (original_at originals version ≡ Some original) × ((place : ℕ) → RefersToItself set version place → ⊥)
+    by-whole version original = (
+      λ whole. (whole.is, λ place is. whole.alone (place, hidden-places-from version place is)),
+      λ both. record { is = both.0; alone = λ has. both.1 has.0 (hidden-places-to version has.0 has.1) },
+    )

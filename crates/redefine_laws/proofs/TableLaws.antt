@@ -1,12 +1,12 @@
 -- The names that stand in the documents of a set are in its table, and one number is that of one name.
-use Rattle.std.proofs.Common.{◌≡◌, ℕ, zero, suc, ◌&&◌, ◌||◌, Bool, true, false, List, [], ◌∷◌, Option, None, Some, length, slice_get, refl, sym, ap, subst, ◌∙◌, bytes_eq}
+use Rattle.std.proofs.Common.{◌≡◌, ℕ, zero, suc, ◌||◌, Bool, true, List, [], ◌∷◌, Option, None, Some, length, slice_get, refl, sym, ap, subst, ◌∙◌, bytes_eq}
 use Rattle.std.specs.Option.{option_map, unwrap_or}
 use Rattle.std.proofs.lemmas.Option.{none-some, same_Some}
 use Rattle.std.proofs.lemmas.Slice.Eq.{bytes_eq-Decides}
 use Rattle.std.specs.Bool.{Decides}
 use Rattle.tree_rows.specs.declared.name.Expanded.{Expanded}
 use Rattle.tree_rows.specs.declared.row.Binding.{Binding}
-use Rattle.xs_names.specs.Names.{NameTable, Grown, absent_space, same_name, space_number, name_number, with_space, with_name, local_of}
+use Rattle.xs_names.specs.Names.{NameTable, Grown, absent_space, same_name, space_number, name_number, with_space, with_name}
 use Rattle.xs_names.specs.Numbering.{number_of, with_item}
 use Rattle.xs_names.proofs.GrownLaws.{Grown-refl, Grown-trans, Grown-with_space, Grown-with_name, space_number-Grown, name_number-Grown}
 use Rattle.xs_names.proofs.NumberingLaws.{same_name-Decides, slice_get-number_of, with_item-old, with_item-new, number_of-new}

@@ -1,7 +1,6 @@
 -- The elements of a document's tree: no two have one number, none is a member of two, and members come behind what they are in.
-use Rattle.std.proofs.Common.{◌≡◌, ℕ, zero, suc, ◌+◌, ◌<◌, ◌≤◌, ◌==◌, ◌||◌, ◌⊎◌, inl, inr, Bool, true, false, List, [], ◌∷◌, ◌++◌, Option, None, Some, if◌then◌else◌, length, slice_get, refl, sym, ap, subst, ◌∙◌, append_assoc, append-nil, true≢false, eq-eqb, arith}
+use Rattle.std.proofs.Common.{◌≡◌, ℕ, zero, suc, ◌+◌, ◌≤◌, ◌==◌, ◌||◌, ◌⊎◌, inl, inr, Bool, true, false, List, [], ◌∷◌, ◌++◌, Option, None, Some, if◌then◌else◌, slice_get, refl, sym, ap, subst, ◌∙◌, append_assoc, eq-eqb, arith}
 use Rattle.std.specs.Option.{option_and_then}
-use Rattle.std.proofs.lemmas.Bool.{eqb-true}
 use Rattle.std.proofs.lemmas.Option.{none-some, same_Some}
 use Rattle.tag_names.specs.Scopes.{first_scope}
 use Rattle.tree_rows.specs.Forest.{Document, Forest, none, text, element}
@@ -20,11 +19,10 @@ use Rattle.schema_values.specs.declared.grammar_kinds.Tag.TheVariants as tags
 use Rattle.schema_faults.specs.Constructs.{Construct, nearest, constructs}
 use Rattle.schema_shape.specs.Shaped.{constructs_of}
 use Rattle.schema_shape.specs.Shapes.{shape_of, shapes_of, shapes, declares, member_numbers, schema_form}
-use Rattle.schema_shape.specs.declared.forms.Form.{Form}
 use Rattle.schema_shape.specs.declared.forms.Form.TheVariants as forms
 use Rattle.schema_shape.specs.declared.forms.SchemaForm.{SchemaForm}
 use Rattle.schema_shape.specs.declared.forms.Shape.{Shape}
-use Rattle.redefine_laws.proofs.ListLaws.{split, in-front, in-back, one_if, count, count-append, counted, counted-once, Nests, nests-append, holds}
+use Rattle.redefine_laws.proofs.ListLaws.{split, one_if, count, count-append, counted, counted-once, Nests, nests-append, holds}
 use Rattle.schema_set.specs.EffectiveSet.{own_target, form_target}
 use Rattle.redefine_originals.specs.declared.versions.Redefinable.{Redefinable}
 use Rattle.redefine_laws.proofs.KindLaws.{is_inner, is_plain, part-inner, below-part, part-plain, plain-inner, IsSpace, form-space, refers, IsWritten, form-written}
