@@ -13,7 +13,7 @@ use Rattle.redefine_originals.proofs.InsideLaws.{inside-has, inside-from, any-fr
 use Rattle.redefine_faults.specs.Redefinitions.{IsBelow, child, deeper}
 use Rattle.representations.specs.declared.parts.Representation.{Representation}
 use Rattle.set_representations.specs.Documents.{representations, shapes_of}
-use Rattle.set_representations.specs.Members.{place_from}
+use Rattle.set_representations.specs.Members.{place_from, places_of}
 use Rattle.redefine_names.specs.VersionNames.{original_at}
 use Rattle.redefine_names.specs.Redirections.{is_in, version_or, version_above}
 use Rattle.redefine_laws.proofs.ListLaws.{not-both, dropped, position-is, position-at, holds, looked, looks}
@@ -55,6 +55,25 @@ pub record Encloses (set : List SetDocument) (outer inner : ℕ) : Type 0 where
   pub both : Together set outer inner
   pub below : IsBelow (shapes_of both.one.document) both.one.shape both.other.shape
 
+-- where an element is found among those behind another
+place-of : (list : List Shape) → AreElements list → (m n : ℕ) (x : Shape) (behind : List Shape) → behind ≡ drop (suc m) list → m < n → slice_get list n ≡ Some x
+    → (place : ℕ) → (q : ℕ) × (q + suc m ≡ place + n) × (place_from place behind x.item ≡ Some q)
+place-of list are m n x behind same after in_list place =
+    let k : ℕ = n - suc m in
+    let on : suc m + k ≡ n = omega (arith, after) in
+    let at : slice_get behind k ≡ Some x = ap (λ (xs : List Shape). slice_get xs k) same ∙ (dropped (suc m) list k ∙ (ap (λ (i : ℕ). slice_get list i) on ∙ in_list)) in
+    let found = position-at (is_item x.item) place behind k x at (eq-eqb x.item x.item refl) in
+    let found_in : slice_get list (suc m + found.0) ≡ Some found.1 =
+    sym (dropped (suc m) list found.0) ∙ (ap (λ (xs : List Shape). slice_get xs found.0) (sym same) ∙ found.3) in
+    let one : suc m + found.0 ≡ n = one-item list are (suc m + found.0) n found.1 x found_in in_list (eqb-true found.1.item x.item found.4) in
+    (place + found.0, omega (arith, one), found.2)
+
+-- what is found there is a member
+in-members : (q place : ℕ) (behind : List Shape) (items : List ℕ) (item : ℕ) (rep : Representation) (at : Option Representation) → at ≡ Some rep → rep.members ≡ places_of (0 + place + 1) behind items → holds item items ≡ true
+    → place_from (0 + place + 1) behind item ≡ Some q → is_in q at ≡ true
+in-members q place behind items item rep at is members held found =
+    ap (λ (o : Option Representation). is_in q o) is ∙ (ap (holds q) members ∙ looks (place_from (0 + place + 1) behind) q items item held found)
+
 module _ (t : NameTable) (set : List SetDocument) where
   abbrev pub reps : List Representation
   reps = representations t set
@@ -93,7 +112,7 @@ module _ (t : NameTable) (set : List SetDocument) where
           in-rep n q rep slot.0 slot.1 (subst (Represents t slot.0 (0 + n)) same made.2) is
 
   module _ (elements : (i : ℕ) (d : SetDocument) → slice_get set i ≡ Some d → AreElements (shapes_of d)) where
-    -- two elements that begin with one document are at the same place where their places in it are the same
+    -- an element that stands in another is a member of its representation
     pub in-parent : (outer inner : ℕ) → IsParent set outer inner → is_in inner (slice_get reps outer) ≡ true
     in-parent outer inner is =
         let one = is.both.one in
@@ -104,20 +123,10 @@ module _ (t : NameTable) (set : List SetDocument) where
         let its = stands 0 set inner other is.both.there in
         let in_list : slice_get list its.m ≡ Some other.shape = ap (λ (d : SetDocument). slice_get (shapes_of d) its.m) (sym is.both.document) ∙ its.shape in
         let after = (are.nested own.m its.m one.shape other.shape own.shape in_list is.held).0 in
-        let k : ℕ = its.m - suc own.m in
-        let on : suc own.m + k ≡ its.m = omega (arith, after) in
-        let behind : slice_get one.behind k ≡ Some other.shape =
-        ap (λ (xs : List Shape). slice_get xs k) own.behind ∙ (dropped (suc own.m) list k ∙ (ap (λ (n : ℕ). slice_get list n) on ∙ in_list)) in
-        let first = position-at (is_item other.shape.item) (0 + outer + 1) one.behind k other.shape behind (eq-eqb other.shape.item other.shape.item refl) in
-        let first_in : slice_get list (suc own.m + first.0) ≡ Some first.1 =
-        sym (dropped (suc own.m) list first.0) ∙ (ap (λ (xs : List Shape). slice_get xs first.0) (sym own.behind) ∙ first.3) in
-        let same : suc own.m + first.0 ≡ its.m = one-item list are (suc own.m + first.0) its.m first.1 other.shape first_in in_list (eqb-true first.1.item other.shape.item first.4) in
-        let place : 0 + outer + 1 + first.0 ≡ inner = omega (arith, same, own.place, its.place, is.both.start) in
+        let found = place-of list are own.m its.m other.shape one.behind own.behind after in_list (0 + outer + 1) in
+        let place : found.0 ≡ inner = omega (arith, found.1, own.place, its.place, is.both.start) in
         let made = represented-at t 0 1 set outer one is.both.at in
-        let members : holds inner made.0.members ≡ true =
-        ap (holds inner) made.2.members
-        ∙ looks (place_from (0 + outer + 1) one.behind) inner one.shape.members other.shape.item is.held (first.2 ∙ ap (λ (n : ℕ). Some n) place) in
-        ap (λ (o : Option Representation). is_in inner o) made.1 ∙ members
+        in-members inner outer one.behind one.shape.members other.shape.item made.0 (slice_get reps outer) made.1 made.2.members is.held (found.2 ∙ ap (λ (n : ℕ). Some n) place)
 
     -- an element stands in one other
     pub parent-one : (m n q : ℕ) → IsParent set m q → IsParent set n q → m ≡ n
