@@ -1,5 +1,6 @@
 -- References of redefining components to themselves: by places and by the elements of documents.
 use Rattle.std.proofs.Common.{◌≡◌, ℕ, ◌<◌, inl, inr, Bool, true, false, cond, List, Option, None, Some, length, slice_get, refl, sym, ap, subst, ◌∙◌, arith}
+use Rattle.std.proofs.Math.Path.{transport}
 use Rattle.std.specs.Prelude.{All}
 use Rattle.std.specs.Option.{option_map, option_and_then}
 use Rattle.std.proofs.lemmas.List.Elements.{All-contains}
@@ -75,6 +76,14 @@ module _ (inputs : List SchemaInput) (trees : All (λ (input : SchemaInput). IsT
         subst AreElements own (elements-of from.0.tree tree)
 
 -- ---- both definitions
+below-same : (d e : SetDocument) (x y s u : Shape) → d ≡ e → x ≡ y → s ≡ u → IsBelow (shapes_of d) x s → IsBelow (shapes_of e) y u
+below-same d e x y s u document outer inner below = transport (λ i. IsBelow (shapes_of (document i)) (outer i) (inner i)) below
+
+refers-same : (d e : SetDocument) (s u : Shape) (a b : Redefinable × List ℕ) → d ≡ e → s ≡ u → a ≡ b
+    → is_self_reference (shapes_of d) d.target a.0 a.1 s.form ≡ true → is_self_reference (shapes_of e) e.target b.0 b.1 u.form ≡ true
+refers-same d e s u a b document shape declared to =
+    transport (λ i. is_self_reference (shapes_of (document i)) (document i).target (declared i).0 (declared i).1 (shape i).form ≡ true) to
+
 module _ (base : NameTable) (sources : List Available) (set : List SetDocument) (originals : List (Option ℕ)) (are : AreOriginals sources set originals)
     (effective : IsEffectiveSet sources set) (all : (i : ℕ) (d : SetDocument) → slice_get set i ≡ Some d → AreElements (shapes_of d))
     (space : (i : ℕ) (d : SetDocument) → slice_get set i ≡ Some d → IsSpace d.target)
@@ -293,49 +302,66 @@ module _ (base : NameTable) (sources : List Available) (set : List SetDocument) 
                 refers = record { below = subst (λ (s : Shape). IsBelow (shapes_of v.slot.document) s slot.shape) (sym child.2) below; to = refer place slot at document found e same };
               }
 
-      pub from-elements : (place : ℕ) → RefersToItself set version place → IsSelfReference (reps t set) originals version place
-      from-elements place is =
+      -- the element at a place refers to the component that it is below
+      record IsReference (place : ℕ) : Type 0 where
+        slot : Slot
+        at : slice_get (slots 0 set) place ≡ Some slot
+        document : slot.document ≡ v.slot.document
+        below : IsBelow (shapes_of v.slot.document) v.slot.shape slot.shape
+        to : is_self_reference (shapes_of slot.document) slot.document.target v.of v.name slot.shape.form ≡ true
+
+      reference-from : (place : ℕ) → RefersToItself set version place → IsReference place
+      reference-from place is =
           let outer = element-from sources set originals are all version is.document is.child.shape is.at in
           let inner = element-from sources set originals are all place is.document is.reference is.there in
-          let slot = inner.0 in
-          let at = inner.1 in
           let one : outer.0 ≡ v.slot = same_Some outer.0 v.slot (sym outer.1 ∙ v.at) in
           let pair : pair_of v.slot ≡ (is.document, is.child.shape) = ap pair_of (sym one) ∙ outer.2 in
-          let own : v.slot.document ≡ is.document = ap (λ (p : SetDocument × Shape). p.0) pair in
-          let its : slot.document ≡ is.document = ap (λ (p : SetDocument × Shape). p.0) inner.2 in
-          let document : slot.document ≡ v.slot.document = its ∙ sym own in
-          let shape : slot.shape ≡ is.reference = ap (λ (p : SetDocument × Shape). p.1) inner.2 in
-          let child : v.slot.shape ≡ is.child.shape = ap (λ (p : SetDocument × Shape). p.1) pair in
+          let own : is.document ≡ v.slot.document = ap (λ (p : SetDocument × Shape). p.0) (sym pair) in
+          let child : is.child.shape ≡ v.slot.shape = ap (λ (p : SetDocument × Shape). p.1) (sym pair) in
+          let its : is.document ≡ inner.0.document = ap (λ (p : SetDocument × Shape). p.0) (sym inner.2) in
+          let shape : is.reference ≡ inner.0.shape = ap (λ (p : SetDocument × Shape). p.1) (sym inner.2) in
+          let declared : (is.of, is.name) ≡ (v.of, v.name) = same_Some (is.of, is.name) (v.of, v.name) (sym is.declares ∙ (ap (λ (x : Shape). declared_as x.form) child ∙ v.declares)) in
+          record {
+            slot = inner.0;
+            at = inner.1;
+            document = sym its ∙ own;
+            below = below-same is.document v.slot.document is.child.shape v.slot.shape is.reference inner.0.shape own child shape is.refers.below;
+            to = refers-same is.document inner.0.document is.reference inner.0.shape (is.of, is.name) (v.of, v.name) its shape declared is.refers.to;
+          }
+
+      same-start : (place : ℕ) (slot : Slot) → slice_get (slots 0 set) place ≡ Some slot → slot.document ≡ v.slot.document → slot.start ≡ v.slot.start
+      same-start place slot at document =
           let here = stands 0 set version v.slot v.at in
           let there = stands 0 set place slot at in
           let index : there.i ≡ here.i =
           effective.once there.i here.i slot.document v.slot.document there.document here.document (ap (λ (d : SetDocument). d.number) document) (ap (λ (d : SetDocument). d.target) document) in
-          let start : slot.start ≡ v.slot.start = there.begins ∙ (ap (λ (i : ℕ). begin 0 i set) index ∙ sym here.begins) in
-          let below : IsBelow (shapes_of v.slot.document) v.slot.shape slot.shape =
-          subst (λ (x : Shape). IsBelow (shapes_of v.slot.document) v.slot.shape x) (sym shape)
-          (subst (λ (x : Shape). IsBelow (shapes_of v.slot.document) x is.reference) (sym child) (subst (λ (d : SetDocument). IsBelow (shapes_of d) is.child.shape is.reference) (sym own) is.refers.below)) in
-          let within = below-above t sources set originals are all version original v.slot v.at has (declared-plain v.slot.shape.form (v.of, v.name) v.declares) slot.shape below place slot at start document refl in
-          let declared : (is.of, is.name) ≡ (v.of, v.name) = same_Some (is.of, is.name) (v.of, v.name) (sym is.declares ∙ (ap (λ (x : Shape). declared_as x.form) (sym child) ∙ v.declares)) in
-          let of : is.of ≡ v.of = ap (λ (d : Redefinable × List ℕ). d.0) declared in
-          let name : is.name ≡ v.name = ap (λ (d : Redefinable × List ℕ). d.1) declared in
-          let reference : is_self_reference (shapes_of slot.document) slot.document.target v.of v.name slot.shape.form ≡ true =
-          subst (λ (d : SetDocument). is_self_reference (shapes_of d) d.target v.of v.name slot.shape.form ≡ true) (sym its)
-          (subst (λ (x : Shape). is_self_reference (shapes_of is.document) is.document.target v.of v.name x.form ≡ true) (sym shape)
-          (subst (λ (n : List ℕ). is_self_reference (shapes_of is.document) is.document.target v.of n is.reference.form ≡ true) name
-          (subst (λ (k : Redefinable). is_self_reference (shapes_of is.document) is.document.target k is.name is.reference.form ≡ true) of is.refers.to))) in
-          let means = self-from (shapes_of slot.document) slot.document.target v.name v.of slot.shape.form reference in
-          let made = rep-at place slot at in
+          there.begins ∙ (ap (λ (i : ℕ). begin 0 i set) index ∙ sym here.begins)
+
+      -- its representation refers to what the original declares
+      represented-refers : (place : ℕ) (slot : Slot) (at : slice_get (slots 0 set) place ≡ Some slot) → slot.document ≡ v.slot.document → IsTo (shapes_of slot.document) slot.document.target v.name v.of slot.shape.form
+          → (rep : Representation) → rep.form ≡ represented t (naming_at slot) (defaults_of (shapes_of slot.document)) slot.shape.form → referred rep.form ≡ Some declares_it
+      represented-refers place slot at document means rep made =
           let naming = naming_at slot in
           let defaults = defaults_of (shapes_of slot.document) in
           let number : reference_number t naming means.to ≡ name_in t v.slot.document.target v.name =
           names-same place slot at v.of means.to means.is v.name means.space means.local ∙ ap (λ (d : SetDocument). name_in t d.target v.name) document in
+          let same : reference_of t naming defaults (v.of, means.to) ≡ declares_it = ap (λ (n : ℕ). record { kind = kind_of v.of; name = n }) number in
+          let form : referred rep.form ≡ option_map (reference_of t naming defaults) (refers slot.shape.form) = ap referred made ∙ refers-to t naming defaults slot.shape.form in
+          form ∙ (ap (option_map (reference_of t naming defaults)) means.is ∙ ap (λ (d : Declared). Some d) same)
+
+      pub from-elements : (place : ℕ) → RefersToItself set version place → IsSelfReference (reps t set) originals version place
+      from-elements place is =
+          let r = reference-from place is in
+          let within =
+          below-above t sources set originals are all version original v.slot v.at has (declared-plain v.slot.shape.form (v.of, v.name) v.declares) r.slot.shape r.below place r.slot r.at
+          (same-start place r.slot r.at r.document) r.document refl in
+          let made = rep-at place r.slot r.at in
+          let means = self-from (shapes_of r.slot.document) r.slot.document.target v.name v.of r.slot.shape.form r.to in
           record {
             rep = made.0;
             to = declares_it;
             there = made.1;
             within = ap (λ (o : Option ℕ). version_or place o (version_above (reps t set) originals place place)) within.none ∙ within.above;
-            refers = ap referred made.2
-                ∙ (refers-to t naming defaults slot.shape.form
-                ∙ (ap (option_map (reference_of t naming defaults)) means.is ∙ ap (λ (n : ℕ). Some (record { kind = kind_of v.of; name = n })) number));
+            refers = represented-refers place r.slot r.at r.document means made.0 made.2;
             original = redefined-is;
           }
