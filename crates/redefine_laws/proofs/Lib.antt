@@ -1,0 +1,13 @@
+pub mod ListLaws
+pub mod KindLaws
+pub mod TreeLaws
+pub mod TableLaws
+pub mod PlaceLaws
+pub mod FormLaws
+pub mod AroundLaws
+pub mod OriginalLaws
+pub mod FoundLaws
+pub mod BelowLaws
+pub mod HiddenLaws
+pub mod SelfLaws
+pub mod SameLaws
