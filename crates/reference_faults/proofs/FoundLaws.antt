@@ -49,7 +49,7 @@ module _ (t : NameTable) (origins : List Origin) (reps : List Representation) (n
         let spaces = spaces_of reps in
         let kinds = kinds_of reps in
         let origin = origin_at origins place in
-        let is : is_lost spaces kinds rep.form ≡ true = ap not (all-pass (resolves spaces kinds) (references rep.form) to e among) in
+        let is : is_lost t spaces kinds rep.form ≡ true = ap not (all-pass (resolves spaces kinds) (references rep.form) to e among) in
         let last = code_if (is_foreign t spaces kinds origin rep.form) SrcResolve4 [] in
         let third = reference_codes t spaces kinds origin rep.form in
         let second = code_if (is_xsi t (attribute_name rep.form)) NoXsi third in
@@ -57,7 +57,7 @@ module _ (t : NameTable) (origins : List Origin) (reps : List Representation) (n
         let here : Contains (codes_of t spaces kinds origin place rep.form) SrcResolve =
         kept (is_double spaces place) SchPropsCorrect2 SrcResolve first
         (kept (is_xmlns t (attribute_name rep.form)) NoXmlns SrcResolve second
-        (kept (is_xsi t (attribute_name rep.form)) NoXsi SrcResolve third (first-kept (is_lost spaces kinds rep.form) SrcResolve last is))) in
+        (kept (is_xsi t (attribute_name rep.form)) NoXsi SrcResolve third (first-kept (is_lost t spaces kinds rep.form) SrcResolve last is))) in
         none (name_fault rep.at SrcResolve) (inl (place, rep, SrcResolve, at, here, refl))
 
     by-answer : (b : Bool) → resolves (spaces_of reps) (kinds_of reps) to ≡ b → resolves (spaces_of reps) (kinds_of reps) to ≡ true
