@@ -4,6 +4,7 @@ ghost use Rattle.tree_edits.specs.Edits.{can_be_made};
 ghost use Rattle.doc_changes.specs.Stands.{StandsFor};
 
 use crate::lines::{document, items_of};
+use doc_documents::documents_keep_their_nodes;
 use doc_edits::{make_change, prepare};
 use doc_tree::DocTree;
 use std::alloc::{AllocError, Global};
@@ -25,6 +26,7 @@ fn edit_document<A: Abort>(
     requires can { can_be_made edit.now ≡ true }
     ensures { OnOk result ((d : Document) × StandsFor names.new doc.new d) }
 {
+    documents_keep_their_nodes();
     match prepare(alloc, doc, names, edit) {
         Ok(change) => {
             make_change(doc, names, change)?;
