@@ -51,5 +51,6 @@ pub fn document<A: Abort>(rt: &A, alloc: Global, names: &mut Names) -> Result<Do
     ensures { IfOk result (λ doc. (d : Document) × StandsFor names.new doc d) }
 {
     let tree = tree_of_lines(rt, alloc)?;
-    DocTree::from_plain(alloc, names, &tree)
+    let doc = DocTree::from_plain(alloc, names, &tree)?;
+    Ok(doc)
 }
