@@ -7,8 +7,8 @@ mod documents;
 mod laws;
 mod number_laws;
 mod resolved;
+mod set_types;
 mod shaped;
-mod type_laws;
 mod types;
 mod version_laws;
 
@@ -18,6 +18,6 @@ pub use documents::CompiledSet;
 pub use laws::compiled_types_are_simple;
 pub use number_laws::kind_numbers_are_those_of_tables;
 pub use resolved::{components_are_simple, names_resolve};
+pub use set_types::set_types_are_simple;
 pub use shaped::representations_are_shaped;
-pub use type_laws::set_types_are_simple;
 pub use version_laws::versions_are_shaped;

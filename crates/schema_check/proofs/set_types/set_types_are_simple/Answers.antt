@@ -2,7 +2,7 @@ use Rattle.type_derivation.specs.Within.{AreSimple}
 use Rattle.set_representations.specs.Documents.{representations}
 use Rattle.schema_check.specs.Simple.{AreTypesSimple}
 use Rattle.schema_check.proofs.TypeLaws.{documents-of, of-set, still-simple}
-use Rattle.schema_check.proofs.type_laws.set_types_are_simple.Goals as goal
+use Rattle.schema_check.proofs.set_types.set_types_are_simple.Goals as goal
 
 pub returns-clause-documents : goal.returns-clause-documents
 returns-clause-documents c = documents-of
