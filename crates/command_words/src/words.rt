@@ -1,0 +1,43 @@
+ghost use Rattle.std.specs.Prelude.{◌≡◌, true, is_some, IfOk, IfErr, IfSome};
+ghost use Rattle.command_words.specs.Requests.{HasCount, request};
+
+use crate::Request;
+use crate::grammar::are_accepted;
+use crate::parsing::{parse, requested};
+use clap::error::ErrorKind;
+use std::alloc::{AllocError, Global};
+use xs_names::Text;
+
+/// Why the words of a command line were not read.
+#[derive(Clone, Copy, Debug, PartialEq, Eq)]
+pub enum WordsFault {
+    /// Memory was wanting.
+    Memory,
+    /// A word is not UTF-8.
+    NotText,
+}
+
+/// What the words behind the program's name ask for, `None` where they are none of the program's:
+///
+/// - `check`, `assess` or `session`, and before or behind it perhaps `--max-errors` and a number in the next word or, behind an
+///   equals sign, in the same;
+/// - `generate` or `trial`, a number, and a count from 1 to 100,000.
+///
+/// # Errors
+///
+/// `AllocError` where the program's words find no memory.
+pub fn read_words(alloc: Global, words: &[Text]) -> Result<Option<Request>, AllocError>
+    ensures asked { IfOk result (λ asked. asked ≡ request words.now) }
+    ensures counted { IfOk result (λ asked. IfSome asked HasCount) }
+    ensures memory { IfErr result (λ _. is_some (request words.now) ≡ true) }
+{
+    if !are_accepted(words) {
+        return Ok(None);
+    }
+    let texts: Vec<&str> = words.iter().map(|word| word.as_str()).collect(alloc)?;
+    match parse(alloc, texts.as_slice()) {
+        Ok(matches) => Ok(requested(&matches)),
+        Err(error) if error.kind() == ErrorKind::OutOfMemory => Err(AllocError),
+        Err(_) => Ok(None),
+    }
+}
