@@ -1,7 +1,8 @@
-ghost use Rattle.std.specs.Prelude.{◌≡◌, ◌∷◌, [], Some, None, MatchOption, is_some};
+ghost use Rattle.std.specs.Prelude.{◌≡◌, ◌∷◌, [], Some, is_some};
+ghost use Rattle.std.specs.Option.{option_copied};
 ghost use Rattle.command_words.specs.Requests as requests;
 
-use crate::request::{read_generated, read_most, read_task};
+use crate::request::{read_generated, read_stream};
 use xs_names::Text;
 
 /// Whether a word is the option's name.
@@ -13,7 +14,7 @@ fn is_option(word: &str) -> bool
 
 /// The value of the option, where it stands in one word with its name.
 fn value_within(word: &str) -> Option<&str>
-    ensures { MatchOption result (requests.value_within word.now ≡ None) (λ value. requests.value_within word.now ≡ Some value.now) }
+    ensures { option_copied result ≡ requests.value_within word.now }
 {
     word.strip_prefix("--max-errors=")
 }
@@ -22,10 +23,11 @@ fn value_within(word: &str) -> Option<&str>
 fn is_read(command: &str, value: &str) -> bool
     ensures { result ≡ is_some (requests.read_by (requests.task command.now) (requests.most (Some value.now))) }
 {
-    read_task(command).is_some() && read_most(Some(value)).is_some()
+    read_stream(command, Some(value)).is_some()
 }
 
 /// Whether two words are a command and, in one word, the option.
+#[tactic(auto, using(crate::proofs::Lines::glued_first, crate::proofs::Lines::glued_last, crate::proofs::Lines::no_two))]
 fn are_two(first: &str, second: &str) -> bool
     ensures { result ≡ is_some (requests.request (first.now ∷ second.now ∷ [])) }
 {
@@ -39,6 +41,7 @@ fn are_two(first: &str, second: &str) -> bool
 }
 
 /// Whether three words are a command and the option, or ask for a stream to be generated.
+#[tactic(auto, using(crate::proofs::Lines::apart_first, crate::proofs::Lines::apart_last, crate::proofs::Lines::made))]
 fn are_three(first: &str, second: &str, third: &str) -> bool
     ensures { result ≡ is_some (requests.request (first.now ∷ second.now ∷ third.now ∷ [])) }
 {
@@ -56,11 +59,12 @@ fn are_three(first: &str, second: &str, third: &str) -> bool
 /// - `check`, `assess` or `session`, and before or behind it perhaps `--max-errors` and a number in the next word or, behind an
 ///   equals sign, in the same;
 /// - `generate` or `trial`, a number, and a count from 1 to 100,000.
+#[tactic(auto, using(crate::proofs::Lines::alone, crate::proofs::Lines::too_many))]
 pub fn are_accepted(words: &[Text]) -> bool
     ensures { result ≡ is_some (requests.request words.now) }
 {
     match words {
-        [word] => read_task(word.as_str()).is_some(),
+        [word] => read_stream(word.as_str(), None).is_some(),
         [first, second] => are_two(first.as_str(), second.as_str()),
         [first, second, third] => are_three(first.as_str(), second.as_str(), third.as_str()),
         _ => false,

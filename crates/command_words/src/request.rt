@@ -1,4 +1,5 @@
-ghost use Rattle.std.specs.Prelude.{◌≡◌, None, IfSome, option_map};
+ghost use Rattle.std.specs.Prelude.{◌≡◌, IfSome};
+ghost use Rattle.std.specs.Option.{option_copied};
 ghost use Rattle.command_words.specs.Requests as requests;
 ghost use Rattle.command_words.specs.Requests.{HasCount};
 ghost use Rattle.command_words.specs.inside.Command.{given_by};
@@ -34,7 +35,7 @@ pub enum Request {
 }
 
 /// The task that a word names.
-pub fn read_task(word: &str) -> Option<Task>
+fn read_task(word: &str) -> Option<Task>
     ensures { result ≡ requests.task word.now }
 {
     if word == "check" {
@@ -49,8 +50,8 @@ pub fn read_task(word: &str) -> Option<Task>
 }
 
 /// How many record lines are written at most, by the value of the option.
-pub fn read_most(value: Option<&str>) -> Option<u32>
-    ensures { result ≡ requests.most (option_map (λ v. v.now) value.entry) }
+fn read_most(value: Option<&str>) -> Option<u32>
+    ensures { result ≡ requests.most (option_copied value.entry) }
 {
     match value {
         None => Some(USUAL_MOST),
@@ -59,8 +60,8 @@ pub fn read_most(value: Option<&str>) -> Option<u32>
 }
 
 /// A stream is read.
-fn read_stream(command: &str, value: Option<&str>) -> Option<Request>
-    ensures asked { result ≡ requests.read_by (requests.task command.now) (requests.most (option_map (λ v. v.now) value.entry)) }
+pub fn read_stream(command: &str, value: Option<&str>) -> Option<Request>
+    ensures asked { result ≡ requests.read_by (requests.task command.now) (requests.most (option_copied value.entry)) }
     ensures counted { IfSome result HasCount }
 {
     let task = read_task(command)?;
@@ -91,13 +92,13 @@ pub fn read_request(
     count: Option<&str>,
     value: Option<&str>,
 ) -> Option<Request>
-    ensures asked { result ≡ given_by (option_map (λ v. v.now) command.entry) (option_map (λ v. v.now) number.entry)
-        (option_map (λ v. v.now) count.entry) (option_map (λ v. v.now) value.entry) }
+    ensures asked { result ≡ given_by (option_copied command.entry) (option_copied number.entry)
+        (option_copied count.entry) (option_copied value.entry) }
     ensures counted { IfSome result HasCount }
 {
     let command = command?;
-    match (number, count) {
-        (Some(number), Some(count)) => read_generated(command, number, count),
-        _ => read_stream(command, value),
+    match number {
+        None => read_stream(command, value),
+        Some(number) => read_generated(command, number, count?),
     }
 }

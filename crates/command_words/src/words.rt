@@ -1,5 +1,6 @@
 ghost use Rattle.std.specs.Prelude.{◌≡◌, true, is_some, IfOk, IfErr, IfSome};
 ghost use Rattle.command_words.specs.Requests.{HasCount, request};
+ghost use Rattle.command_words.specs.inside.Command.{texts};
 
 use crate::Request;
 use crate::grammar::are_accepted;
@@ -15,6 +16,13 @@ pub enum WordsFault {
     Memory,
     /// A word is not UTF-8.
     NotText,
+}
+
+/// The words as `clap` reads them.
+fn texts_of(alloc: Global, words: &[Text]) -> Result<Vec<&str>, AllocError>
+    ensures { IfOk result (λ read. texts read.items ≡ words.now) }
+{
+    words.iter().map(|word| word.as_str()).collect(alloc)
 }
 
 /// What the words behind the program's name ask for, `None` where they are none of the program's:
@@ -34,7 +42,7 @@ pub fn read_words(alloc: Global, words: &[Text]) -> Result<Option<Request>, Allo
     if !are_accepted(words) {
         return Ok(None);
     }
-    let texts: Vec<&str> = words.iter().map(|word| word.as_str()).collect(alloc)?;
+    let texts = texts_of(alloc, words)?;
     match parse(alloc, texts.as_slice()) {
         Ok(matches) => Ok(requested(&matches)),
         Err(error) if error.kind() == ErrorKind::OutOfMemory => Err(AllocError),

@@ -25,5 +25,6 @@ texts = map (λ w. w.now)
 -- what is asked for by the command, the number, the count and the option's value
 abbrev pub given_by : Option Text → Option Text → Option Text → Option Text → Option Request
 given_by None start items value = None
+given_by (Some command) None items value = asked_by value (command ∷ [])
+given_by (Some command) (Some start) None value = None
 given_by (Some command) (Some start) (Some items) value = asked_by None (command ∷ start ∷ items ∷ [])
-given_by (Some command) start items value = asked_by value (command ∷ [])

@@ -17,10 +17,10 @@ WritesLines start items output Valid old new = Appends old new (lines_of start i
 WritesLines start items output WriteFault old new = AppendsFront old new (lines_of start items output)
 WritesLines start items output status old new = ⊥
 
-abbrev pub IsWanting : Status → Option (List ℕ) → Option (List ℕ) → Type 0
-IsWanting status old new = (status ≡ Memory) × (new ≡ old)
+abbrev pub EndsWanting : Status → Option (List ℕ) → Option (List ℕ) → Type 0
+EndsWanting status old new = (status ≡ Memory) × (new ≡ old)
 
 -- the lines were written where the session came to its end; where it was broken off, memory was wanting
 abbrev pub EndsSession : Bool → ℕ → ℕ → List ℕ → Status → Option (List ℕ) → Option (List ℕ) → Type 0
-EndsSession true start items output status old new = IsWanting status old new
+EndsSession true start items output status old new = EndsWanting status old new
 EndsSession false start items output status old new = WritesLines start items output status old new
