@@ -6,7 +6,9 @@ use Rattle.std.specs.List.{list_all}
 use Rattle.std.specs.Str.{bytes_eq}
 use Rattle.std.proofs.lemmas.Bool.Decides.{nat_tests}
 use Rattle.std.proofs.lemmas.Slice.Eq.{bytes_eq-Decides}
-use Rattle.clap.specs.Words.{App, Row, first_of, is_simple, matches_of, takes}
+use Rattle.clap.specs.Words.{HasMatchesOf, Row, first_of, first_value, found_of, is_simple, matches_of, rows_of, takes}
+use Rattle.clap.specs.declared.parser.matches.ArgMatches.{ArgMatches}
+use Rattle.clap.proofs.WalkLemmas.{first_value-rows}
 use Rattle.clap.proofs.OnLiterals.{clap_on_literals}
 use Rattle.command_words.specs.Numbers.{is_number, number, between}
 use Rattle.command_words.specs.Requests.{asked_by, generated, generated_by, is_option, most, read_by, request, task, value_within}
@@ -107,27 +109,27 @@ module _ (b : ℕ) (rest : Text) (other : (b == 45) ≡ false) where
 
   fits_apart_first : (w : Text) → IsReading w → Fits (name ∷ v ∷ w ∷ []) (read_by (task w) (most (Some v)))
   unfolding clap_on_literals
-  fits_apart_first w (inl e) = subst (λ x. Fits (name ∷ v ∷ x ∷ []) (read_by (task x) (most (Some v)))) (sym e) (record { taken = rw other refl; found = rw other refl })
+  fits_apart_first w (inl e) = subst (λ x. Fits (name ∷ v ∷ x ∷ []) (read_by (task x) (most (Some v)))) (sym e) (record { taken = simp other; found = simp other })
   fits_apart_first w (inr (inl e)) =
-      subst (λ x. Fits (name ∷ v ∷ x ∷ []) (read_by (task x) (most (Some v)))) (sym e) (record { taken = rw other refl; found = rw other refl })
+      subst (λ x. Fits (name ∷ v ∷ x ∷ []) (read_by (task x) (most (Some v)))) (sym e) (record { taken = simp other; found = simp other })
   fits_apart_first w (inr (inr e)) =
-      subst (λ x. Fits (name ∷ v ∷ x ∷ []) (read_by (task x) (most (Some v)))) (sym e) (record { taken = rw other refl; found = rw other refl })
+      subst (λ x. Fits (name ∷ v ∷ x ∷ []) (read_by (task x) (most (Some v)))) (sym e) (record { taken = simp other; found = simp other })
 
   fits_apart_last : (w : Text) → IsReading w → Fits (w ∷ name ∷ v ∷ []) (read_by (task w) (most (Some v)))
   unfolding clap_on_literals
-  fits_apart_last w (inl e) = subst (λ x. Fits (x ∷ name ∷ v ∷ []) (read_by (task x) (most (Some v)))) (sym e) (record { taken = rw other refl; found = rw other refl })
+  fits_apart_last w (inl e) = subst (λ x. Fits (x ∷ name ∷ v ∷ []) (read_by (task x) (most (Some v)))) (sym e) (record { taken = simp other; found = simp other })
   fits_apart_last w (inr (inl e)) =
-      subst (λ x. Fits (x ∷ name ∷ v ∷ []) (read_by (task x) (most (Some v)))) (sym e) (record { taken = rw other refl; found = rw other refl })
+      subst (λ x. Fits (x ∷ name ∷ v ∷ []) (read_by (task x) (most (Some v)))) (sym e) (record { taken = simp other; found = simp other })
   fits_apart_last w (inr (inr e)) =
-      subst (λ x. Fits (x ∷ name ∷ v ∷ []) (read_by (task x) (most (Some v)))) (sym e) (record { taken = rw other refl; found = rw other refl })
+      subst (λ x. Fits (x ∷ name ∷ v ∷ []) (read_by (task x) (most (Some v)))) (sym e) (record { taken = simp other; found = simp other })
 
   module _ (c : ℕ) (more : Text) (digit : (c == 45) ≡ false) where
     fits_made : (w : Text) → IsMaking w → Fits (w ∷ v ∷ (c ∷ more) ∷ []) (generated w v (c ∷ more))
     unfolding clap_on_literals
     fits_made w (inl e) =
-        subst (λ x. Fits (x ∷ v ∷ (c ∷ more) ∷ []) (generated x v (c ∷ more))) (sym e) (record { taken = rw (other, digit) refl; found = rw (other, digit) refl })
+        subst (λ x. Fits (x ∷ v ∷ (c ∷ more) ∷ []) (generated x v (c ∷ more))) (sym e) (record { taken = simp (other, digit); found = simp (other, digit) })
     fits_made w (inr e) =
-        subst (λ x. Fits (x ∷ v ∷ (c ∷ more) ∷ []) (generated x v (c ∷ more))) (sym e) (record { taken = rw (other, digit) refl; found = rw (other, digit) refl })
+        subst (λ x. Fits (x ∷ v ∷ (c ∷ more) ∷ []) (generated x v (c ∷ more))) (sym e) (record { taken = simp (other, digit); found = simp (other, digit) })
 
 -- ---- all words that are accepted
 
@@ -176,8 +178,8 @@ read_last f s t other e h =
     subst (λ w. Fits (f ∷ w ∷ t ∷ []) (request (f ∷ s ∷ t ∷ []))) (sym (option_is s e)) (subst (Fits (f ∷ name ∷ t ∷ [])) (sym is) fits)
 
 generated_three : (f s t : Text) → is_option f ≡ false → is_option s ≡ false → is_some (request (f ∷ s ∷ t ∷ [])) ≡ true → Fits (f ∷ s ∷ t ∷ []) (request (f ∷ s ∷ t ∷ []))
-generated_three f s t no none h =
-    let is = made f s t no none in
+generated_three f s t lone none h =
+    let is = made f s t lone none in
     let some = some_made f (number s) (between 1 100000 t) (ap is_some (sym is) ∙ h) in
     let d = digits s some.1 in
     let n = within 1 100000 t some.2 in
@@ -196,3 +198,21 @@ fits (w ∷ []) h = fits_one w h
 fits (f ∷ s ∷ []) h = two_by f s _ _ refl refl h
 fits (f ∷ s ∷ t ∷ []) h = three_by f s t _ _ refl refl h
 fits (a ∷ b ∷ c ∷ d ∷ more) h = let no = ap is_some (too_many (a ∷ b ∷ c ∷ d ∷ more) (omega arith)) in cc
+
+-- ---- what clap is called with, and what it finds
+
+pub taken : (read words : List Text) → read ≡ words → is_some (request words) ≡ true → takes xsv read ≡ true
+taken read words is some = ap (takes xsv) is ∙ (fits words some).taken
+
+pub asked_for : (m : ArgMatches) (read words : List Text) → HasMatchesOf xsv read m → read ≡ words → is_some (request words) ≡ true
+    → given_by (first_value (found_of m) (codes "COMMAND")) (first_value (found_of m) (codes "NUMBER")) (first_value (found_of m) (codes "COUNT")) (first_value (found_of m) (codes "max-errors"))
+        ≡ request words
+asked_for m read words h is some =
+    let f = found_of m in
+    let rows : rows_of f ≡ matches_of xsv words = (h simple).0 ∙ ap (matches_of xsv) is in
+    (λ i. given_by (first_value-rows f (codes "COMMAND") i) (first_value-rows f (codes "NUMBER") i) (first_value-rows f (codes "COUNT") i) (first_value-rows f (codes "max-errors") i))
+    ∙ (ap found_by rows ∙ (fits words some).found)
+
+pub unasked : (o : Option Request) (t : Bool) → t ≡ is_some o → t ≡ false → None ≡ o
+unasked None t is e = refl
+unasked (Some r) t is e = cc

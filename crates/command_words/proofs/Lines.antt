@@ -1,8 +1,14 @@
 -- A word is the option's name, has its value, or is some other; and what words ask for, by the kinds of each.
-use Rattle.std.proofs.Common.{◌≡◌, ◌⊎◌, inl, inr, ℕ, suc, zero, ◌≤◌, ◌+◌, ◌&&◌, List, [], ◌∷◌, ◌++◌, Bool, true, false, drop, length, Option, Some, None, codes, is_some, refl, sym, subst, ap, ◌∙◌, arith, true≢false}
+use Rattle.std.proofs.Common.{◌≡◌, ◌⊎◌, inl, inr, ℕ, suc, zero, ◌≤◌, ◌+◌, ◌&&◌, List, [], ◌∷◌, ◌++◌, Bool, true, false, drop, length, Option, Some, None, MatchOption, codes, is_some, refl, sym, subst, ap, ◌∙◌, arith, true≢false}
 use Rattle.std.specs.Prelude.{nat_eq, nat_lt, nat_le, if◌then◌else◌}
 use Rattle.std.specs.List.{starts_with}
 use Rattle.std.specs.Str.{bytes_eq}
+use Rattle.std.specs.Str.Parse.{digits_value}
+use Rattle.std.specs.Str.{IsCharBoundary}
+use Rattle.std.specs.Str.Pattern.{FindsTextPrefix, StripsPrefix}
+use Rattle.std.specs.Option.{option_copied}
+use Rattle.std.specs.Borrow.{Bor}
+use Rattle.std.proofs.lemmas.Str.Pattern.{starts_text}
 use Rattle.std.proofs.lemmas.Bool.Decides.{Decides-eqb}
 use Rattle.std.proofs.lemmas.Slice.Eq.{bytes_eq-Decides, starts_is}
 use Rattle.command_words.specs.Numbers.{is_number, number, between}
@@ -28,6 +34,12 @@ Kind w = (w ≡ name) ⊎ ((v : Text) × (w ≡ named v)) ⊎ IsOther w
 
 pub option_is : (w : Text) → is_option w ≡ true → w ≡ name
 option_is w e = (bytes_eq-Decides w name).0 e
+
+-- what is behind the option's name and an equals sign
+pub within_of : (w : Text) (r : Option (Bor Text)) → MatchOption r (FindsTextPrefix (codes "--max-errors=") w None) (λ x. StripsPrefix (FindsTextPrefix (codes "--max-errors=")) w x.now)
+    → option_copied r ≡ value_within w
+within_of w None h = rw (← starts_text false (codes "--max-errors=") w h) refl
+within_of w (Some x) h = rw (← starts_text true (codes "--max-errors=") w (h.0, h.1, subst (IsCharBoundary w) (sym h.1.0) h.1.2)) (ap Some (h.2 ∙ ap (λ k. drop k w) h.1.0))
 
 within_by : (w v : Text) (t : Bool) → t ≡ starts_with nat_eq w (codes "--max-errors=") → (if t then Some (drop 13 w) else None) ≡ Some v → w ≡ named v
 within_by w v false same e = cc
@@ -59,7 +71,8 @@ number_by w n true e = cc
 number_by w n false e = refl
 
 pub named_number : (v : Text) → number (named v) ≡ None
-named_number v = number_by (named v) _ (is_number (named v)) (no_digits _ _ _)
+named_number v =
+    number_by (named v) _ (is_number (named v)) (no_digits (nat_lt 0 (length (named v))) (nat_le (length (named v)) 20) (nat_le (digits_value 10 (named v)) 18446744073709551615))
 
 pub ungenerated : (word : Text) (a b : Option ℕ) → bytes_eq word (codes "generate") ≡ false → bytes_eq word (codes "trial") ≡ false → generated_by word a b ≡ None
 ungenerated word None b e f = refl
@@ -103,7 +116,7 @@ glued_last f s v none e = subst (λ w. request (f ∷ w ∷ []) ≡ read_by (tas
     go (inr (inr o)) = rw (o.apart, o.within) refl
 
 pub no_two : (f s : Text) → value_within f ≡ None → value_within s ≡ None → request (f ∷ s ∷ []) ≡ None
-no_two f s none no = go (kind f) (kind s)
+no_two f s none lone = go (kind f) (kind s)
   where
     go : Kind f → Kind s → request (f ∷ s ∷ []) ≡ None
     go (inl is) k = subst (λ w. request (w ∷ s ∷ []) ≡ None) (sym is) refl
@@ -145,7 +158,7 @@ behind_value v s t other = go (kind s) (kind t)
     go (inr (inr o)) k = rw (o.apart, o.within) (last o k)
 
 pub made : (f s t : Text) → is_option f ≡ false → is_option s ≡ false → request (f ∷ s ∷ t ∷ []) ≡ generated f s t
-made f s t no none = go (kind f) (kind s) (kind t)
+made f s t lone none = go (kind f) (kind s) (kind t)
   where
     second : (u : Text) → Kind t → asked (with_positional f (with_value u (line (t ∷ [])))) ≡ None
     second u (inl is) = subst (λ w. asked (with_positional f (with_value u (line (w ∷ [])))) ≡ None) (sym is) refl

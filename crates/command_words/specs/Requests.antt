@@ -1,5 +1,5 @@
 -- What the words of a command line ask for.
-use Rattle.std.specs.Prelude.{ℕ, ◌≤◌, ◌≡◌, List, [], ◌∷◌, ◌++◌, Bool, drop, Option, Some, None, codes, refl, if◌then◌else◌, nat_eq}
+use Rattle.std.specs.Prelude.{ℕ, ◌≤◌, ◌≡◌, ◌⊎◌, List, [], ◌∷◌, ◌++◌, Bool, false, drop, Option, Some, None, codes, refl, if◌then◌else◌, nat_eq}
 use Rattle.std.specs.List.{starts_with}
 use Rattle.std.specs.Str.{bytes_eq}
 use Rattle.command_words.specs.Numbers.{number, between}
@@ -51,6 +51,14 @@ abbrev pub line : List (List ℕ) → Option Line
 line [] = Some no_words
 line (word ∷ []) = if is_option word then None else with_word word (Some no_words)
 line (word ∷ next ∷ more) = if is_option word then with_value next (line more) else with_word word (line (next ∷ more))
+
+-- the word is no part of the option
+abbrev pub IsPositional : List ℕ → Type 0
+IsPositional word = (is_option word ≡ false) × (value_within word ≡ None)
+
+-- these words are the option with this value
+abbrev pub IsOption : List (List ℕ) → List ℕ → Type 0
+IsOption words v = (words ≡ codes "--max-errors" ∷ v ∷ []) ⊎ (words ≡ (codes "--max-errors=" ++ v) ∷ [])
 
 -- ---- what they ask for
 

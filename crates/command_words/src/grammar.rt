@@ -26,6 +26,14 @@ fn is_read(command: &str, value: &str) -> bool
     read_stream(command, Some(value)).is_some()
 }
 
+/// Whether a word is a command that needs no other.
+#[tactic(auto, using(crate::proofs::Lines::alone))]
+fn is_one(word: &str) -> bool
+    ensures { result ≡ is_some (requests.request (word.now ∷ [])) }
+{
+    read_stream(word, None).is_some()
+}
+
 /// Whether two words are a command and, in one word, the option.
 #[tactic(auto, using(crate::proofs::Lines::glued_first, crate::proofs::Lines::glued_last, crate::proofs::Lines::no_two))]
 fn are_two(first: &str, second: &str) -> bool
@@ -59,12 +67,12 @@ fn are_three(first: &str, second: &str, third: &str) -> bool
 /// - `check`, `assess` or `session`, and before or behind it perhaps `--max-errors` and a number in the next word or, behind an
 ///   equals sign, in the same;
 /// - `generate` or `trial`, a number, and a count from 1 to 100,000.
-#[tactic(auto, using(crate::proofs::Lines::alone, crate::proofs::Lines::too_many))]
+#[tactic(auto, using(crate::proofs::Lines::too_many))]
 pub fn are_accepted(words: &[Text]) -> bool
     ensures { result ≡ is_some (requests.request words.now) }
 {
     match words {
-        [word] => read_stream(word.as_str(), None).is_some(),
+        [word] => is_one(word.as_str()),
         [first, second] => are_two(first.as_str(), second.as_str()),
         [first, second, third] => are_three(first.as_str(), second.as_str(), third.as_str()),
         _ => false,

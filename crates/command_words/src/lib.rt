@@ -2,10 +2,12 @@
 #![tactic(auto)]
 
 mod grammar;
+mod laws;
 mod number;
 mod parsing;
 mod request;
 mod words;
 
+pub use laws::the_rest_is_positional;
 pub use request::{Request, Task, USUAL_MOST};
 pub use words::{WordsFault, read_words};

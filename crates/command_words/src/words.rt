@@ -22,7 +22,27 @@ pub enum WordsFault {
 fn texts_of(alloc: Global, words: &[Text]) -> Result<Vec<&str>, AllocError>
     ensures { IfOk result (λ read. texts read.items ≡ words.now) }
 {
-    words.iter().map(|word| word.as_str()).collect(alloc)
+    let mut read = Vec::new(alloc);
+    for word in words {
+        read.push(word.as_str())?;
+    }
+    Ok(read)
+}
+
+/// What the program's words ask for, by what `clap` finds in them.
+fn read_accepted(alloc: Global, words: &[Text]) -> Result<Option<Request>, AllocError>
+    requires { is_some (request words.now) ≡ true }
+    ensures asked { IfOk result (λ asked. asked ≡ request words.now) }
+    ensures counted { IfOk result (λ asked. IfSome asked HasCount) }
+{
+    let read = texts_of(alloc, words)?;
+    match parse(alloc, read.as_slice()) {
+        Ok(matches) => Ok(requested(&matches)),
+        Err(error) => match error.kind() {
+            ErrorKind::OutOfMemory => Err(AllocError),
+            _ => Ok(None),
+        },
+    }
 }
 
 /// What the words behind the program's name ask for, `None` where they are none of the program's:
@@ -42,10 +62,5 @@ pub fn read_words(alloc: Global, words: &[Text]) -> Result<Option<Request>, Allo
     if !are_accepted(words) {
         return Ok(None);
     }
-    let texts = texts_of(alloc, words)?;
-    match parse(alloc, texts.as_slice()) {
-        Ok(matches) => Ok(requested(&matches)),
-        Err(error) if error.kind() == ErrorKind::OutOfMemory => Err(AllocError),
-        Err(_) => Ok(None),
-    }
+    read_accepted(alloc, words)
 }

@@ -13,7 +13,7 @@ use command_words::{Task, USUAL_MOST};
 use generated_stream::generated_lines;
 use generated_trial::{GeneratedSource, KeptText, summary_of, write_summary};
 use std::alloc::Global;
-use xsv_io::{Failed, Sink};
+use xsv_io::Sink;
 use xsv_steps::{Ledger, Steps};
 
 /// Runs a session over the stream of a number and a count of items, and keeps its output.
@@ -45,7 +45,7 @@ fn write_trial<W: Sink>(start: u64, items: u32, output: &[u8], sink: &mut W) -> 
     let lines = generated_lines(start, items);
     match write_summary(sink, lines, &summary_of(output)) {
         Ok(()) => Status::Valid,
-        Err(Failed) => Status::WriteFault,
+        Err(_) => Status::WriteFault,
     }
 }
 
