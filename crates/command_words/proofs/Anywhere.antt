@@ -1,8 +1,8 @@
 -- The option among positional words.
-use Rattle.std.proofs.Common.{◌≡◌, inl, inr, zero, suc, ℕ, List, [], ◌∷◌, ◌++◌, Option, Some, None, refl, sym, subst, ap, ◌∙◌, arith}
+use Rattle.std.proofs.Common.{◌≡◌, inl, inr, suc, List, [], ◌∷◌, ◌++◌, Some, None, refl, sym, subst, ap, ◌∙◌, arith}
 use Rattle.std.specs.List.{All}
-use Rattle.command_words.specs.Requests.{IsOption, IsPositional, Line, line, with_positional, with_value}
-use Rattle.command_words.proofs.Lines.{Text, name, named}
+use Rattle.command_words.specs.Requests.{IsOption, IsPositional, line, with_positional, with_value}
+use Rattle.command_words.proofs.Lines.{Text, named}
 
 front_of : (w : Text) (more : List Text) → All IsPositional (w ∷ more) → IsPositional w
 front_of w more all = all 0 w (omega arith)

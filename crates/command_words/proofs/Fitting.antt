@@ -1,25 +1,25 @@
 -- clap takes the words that are accepted, and finds in them what they ask for.
-use Rattle.std.proofs.Common.{◌≡◌, ◌⊎◌, inl, inr, ℕ, ◌==◌, ◌&&◌, List, [], ◌∷◌, ◌++◌, Bool, true, false, length, Option, Some, None, codes, is_some, refl, sym, subst, ap, ◌∙◌, arith}
-use Rattle.std.specs.Prelude.{if◌then◌else◌}
+use Rattle.std.proofs.Common.{◌≡◌, ◌⊎◌, inl, inr, ℕ, ◌==◌, List, [], ◌∷◌, Bool, true, false, Option, Some, None, codes, is_some, refl, sym, subst, ap, ◌∙◌, arith}
 use Rattle.std.specs.Char.{is_ascii_digit}
-use Rattle.std.specs.List.{list_all}
 use Rattle.std.specs.Str.{bytes_eq}
 use Rattle.std.proofs.lemmas.Bool.Decides.{nat_tests}
 use Rattle.std.proofs.lemmas.Slice.Eq.{bytes_eq-Decides}
-use Rattle.clap.specs.Words.{HasMatchesOf, Row, first_of, first_value, found_of, is_simple, matches_of, rows_of, takes}
+use Rattle.clap.specs.Words.{HasMatchesOf, Row, first_of as first_found, first_value, found_of, is_simple, matches_of, rows_of, takes}
 use Rattle.clap.specs.declared.parser.matches.ArgMatches.{ArgMatches}
 use Rattle.clap.proofs.WalkLemmas.{first_value-rows}
+use Rattle.clap.specs.declared.parser.matches.ValueSource.TheVariants.{CommandLine}
+use Rattle.clap.specs.declared.builder.value_parser.Reading.TheVariants.{AsWritten}
 use Rattle.clap.proofs.OnLiterals.{clap_on_literals}
 use Rattle.command_words.specs.Numbers.{is_number, number, between}
-use Rattle.command_words.specs.Requests.{asked_by, generated, generated_by, is_option, most, read_by, request, task, value_within}
+use Rattle.command_words.specs.Requests.{generated, generated_by, is_option, most, read_by, request, task, value_within}
 use Rattle.command_words.specs.declared.request.Request.{Request}
 use Rattle.command_words.specs.declared.request.Task.{Task}
 use Rattle.command_words.specs.inside.Command.{given_by, xsv}
-use Rattle.command_words.proofs.Lines.{Text, IsOther, Kind, alone, apart_first, apart_last, glued_first, glued_last, kind, made, name, named, no_two, option_is, too_many, within_is}
+use Rattle.command_words.proofs.Lines.{Text, alone, apart_first, apart_last, glued_first, glued_last, made, name, named, no_two, option_is, too_many, within_is}
 
 -- what is asked for by the rows that were found
 abbrev pub found_by : List Row → Option Request
-found_by rows = given_by (first_of (codes "COMMAND") rows) (first_of (codes "NUMBER") rows) (first_of (codes "COUNT") rows) (first_of (codes "max-errors") rows)
+found_by rows = given_by (first_found (codes "COMMAND") rows) (first_found (codes "NUMBER") rows) (first_found (codes "COUNT") rows) (first_found (codes "max-errors") rows)
 
 -- clap takes the words, and what it finds asks for this
 pub record Fits (words : List Text) (asked : Option Request) : Type 0 where
@@ -107,13 +107,26 @@ module _ (b : ℕ) (rest : Text) (other : (b == 45) ≡ false) where
   abbrev v : Text
   v = b ∷ rest
 
-  fits_apart_first : (w : Text) → IsReading w → Fits (name ∷ v ∷ w ∷ []) (read_by (task w) (most (Some v)))
+  abbrev option_row : Row
+  option_row = record { id = codes "max-errors"; values = v ∷ []; count = None; source = Some CommandLine; reading = AsWritten }
+
+  abbrev command_row : Text → Row
+  command_row w = record { id = codes "COMMAND"; values = w ∷ []; count = None; source = Some CommandLine; reading = AsWritten }
+
+  taken_first : (w : Text) → IsReading w → takes xsv (name ∷ v ∷ w ∷ []) ≡ true
   unfolding clap_on_literals
-  fits_apart_first w (inl e) = subst (λ x. Fits (name ∷ v ∷ x ∷ []) (read_by (task x) (most (Some v)))) (sym e) (record { taken = simp other; found = simp other })
-  fits_apart_first w (inr (inl e)) =
-      subst (λ x. Fits (name ∷ v ∷ x ∷ []) (read_by (task x) (most (Some v)))) (sym e) (record { taken = simp other; found = simp other })
-  fits_apart_first w (inr (inr e)) =
-      subst (λ x. Fits (name ∷ v ∷ x ∷ []) (read_by (task x) (most (Some v)))) (sym e) (record { taken = simp other; found = simp other })
+  taken_first w (inl e) = subst (λ x. takes xsv (name ∷ v ∷ x ∷ []) ≡ true) (sym e) (simp other)
+  taken_first w (inr (inl e)) = subst (λ x. takes xsv (name ∷ v ∷ x ∷ []) ≡ true) (sym e) (simp other)
+  taken_first w (inr (inr e)) = subst (λ x. takes xsv (name ∷ v ∷ x ∷ []) ≡ true) (sym e) (simp other)
+
+  rows_first : (w : Text) → IsReading w → matches_of xsv (name ∷ v ∷ w ∷ []) ≡ option_row ∷ command_row w ∷ []
+  unfolding clap_on_literals
+  rows_first w (inl e) = subst (λ x. matches_of xsv (name ∷ v ∷ x ∷ []) ≡ option_row ∷ command_row x ∷ []) (sym e) (simp other)
+  rows_first w (inr (inl e)) = subst (λ x. matches_of xsv (name ∷ v ∷ x ∷ []) ≡ option_row ∷ command_row x ∷ []) (sym e) (simp other)
+  rows_first w (inr (inr e)) = subst (λ x. matches_of xsv (name ∷ v ∷ x ∷ []) ≡ option_row ∷ command_row x ∷ []) (sym e) (simp other)
+
+  fits_apart_first : (w : Text) → IsReading w → Fits (name ∷ v ∷ w ∷ []) (read_by (task w) (most (Some v)))
+  fits_apart_first w is = record { taken = taken_first w is; found = ap found_by (rows_first w is) }
 
   fits_apart_last : (w : Text) → IsReading w → Fits (w ∷ name ∷ v ∷ []) (read_by (task w) (most (Some v)))
   unfolding clap_on_literals
@@ -213,6 +226,6 @@ asked_for m read words h is some =
     (λ i. given_by (first_value-rows f (codes "COMMAND") i) (first_value-rows f (codes "NUMBER") i) (first_value-rows f (codes "COUNT") i) (first_value-rows f (codes "max-errors") i))
     ∙ (ap found_by rows ∙ (fits words some).found)
 
-pub unasked : (o : Option Request) (t : Bool) → t ≡ is_some o → t ≡ false → None ≡ o
-unasked None t is e = refl
-unasked (Some r) t is e = cc
+pub unasked : (o : Option Request) → false ≡ is_some o → None ≡ o
+unasked None e = refl
+unasked (Some r) e = cc

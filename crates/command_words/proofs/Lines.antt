@@ -1,5 +1,5 @@
 -- A word is the option's name, has its value, or is some other; and what words ask for, by the kinds of each.
-use Rattle.std.proofs.Common.{◌≡◌, ◌⊎◌, inl, inr, ℕ, suc, zero, ◌≤◌, ◌+◌, ◌&&◌, List, [], ◌∷◌, ◌++◌, Bool, true, false, drop, length, Option, Some, None, MatchOption, codes, is_some, refl, sym, subst, ap, ◌∙◌, arith, true≢false}
+use Rattle.std.proofs.Common.{◌≡◌, ◌⊎◌, inl, inr, ℕ, suc, ◌≤◌, ◌+◌, ◌&&◌, List, [], ◌∷◌, ◌++◌, Bool, true, false, drop, length, Option, Some, None, MatchOption, codes, refl, sym, subst, ap, ◌∙◌, arith}
 use Rattle.std.specs.Prelude.{nat_eq, nat_lt, nat_le, if◌then◌else◌}
 use Rattle.std.specs.List.{starts_with}
 use Rattle.std.specs.Str.{bytes_eq}
@@ -13,7 +13,6 @@ use Rattle.std.proofs.lemmas.Bool.Decides.{Decides-eqb}
 use Rattle.std.proofs.lemmas.Slice.Eq.{bytes_eq-Decides, starts_is}
 use Rattle.command_words.specs.Numbers.{is_number, number, between}
 use Rattle.command_words.specs.Requests.{Line, asked, asked_by, generated, generated_by, is_option, line, most, no_words, read_by, request, task, value_within, with_by, with_positional, with_value}
-use Rattle.command_words.specs.declared.request.Request.{Request}
 
 abbrev pub Text : Type 0
 Text = List ℕ

@@ -1,5 +1,5 @@
 -- The one command as clap reads it, and what its matches ask for.
-use Rattle.std.specs.Prelude.{ℕ, List, [], ◌∷◌, Option, Some, None, map, true, codes}
+use Rattle.std.specs.Prelude.{List, [], ◌∷◌, Option, Some, None, map, true, codes}
 use Rattle.std.specs.Borrow.{Bor}
 use Rattle.clap.specs.Words.{App, Rule, Text, new_app, new_rule, with_rule}
 use Rattle.clap.specs.Simple.{on_top}

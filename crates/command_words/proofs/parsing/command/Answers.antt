@@ -1,6 +1,6 @@
 use Rattle.std.proofs.Common.{rules, ap, ap₂, true, ◌≡◌, ◌∙◌}
 use Rattle.std.proofs.lemmas.Result.{IfOk-weaker}
-use Rattle.clap.specs.Words.{App, Shape, app_of, new_rule, rule_of, with_rule}
+use Rattle.clap.specs.Words.{Shape, app_of, new_rule, rule_of, with_rule}
 use Rattle.clap.specs.Simple.{app_of_fields, on_top}
 use Rattle.std.specs.Prelude.{codes}
 use Rattle.command_words.specs.inside.Command.{bare, command_rule, option_rule, xsv}
