@@ -219,7 +219,7 @@ taken read words is some = ap (takes xsv) is ∙ (fits words some).taken
 
 pub asked_for : (m : ArgMatches) (read words : List Text) → HasMatchesOf xsv read m → read ≡ words → is_some (request words) ≡ true
     → given_by (first_value (found_of m) (codes "COMMAND")) (first_value (found_of m) (codes "NUMBER")) (first_value (found_of m) (codes "COUNT")) (first_value (found_of m) (codes "max-errors"))
-        ≡ request words
+    ≡ request words
 asked_for m read words h is some =
     let f = found_of m in
     let rows : rows_of f ≡ matches_of xsv words = (h simple).0 ∙ ap (matches_of xsv) is in

@@ -10,5 +10,4 @@ pub fn the_rest_is_positional()
         → line (front ++ (option ++ back)) ≡ Some (record { positional = front ++ back; value = Some value }) }
     ensures twice { (front one middle other back : List (List ℕ)) (x y : List ℕ) → All IsPositional front → IsOption one x → All IsPositional middle
         → IsOption other y → All IsPositional back → line (front ++ (one ++ (middle ++ (other ++ back)))) ≡ None }
-{
-}
+{}

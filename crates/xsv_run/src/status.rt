@@ -52,7 +52,10 @@ impl Status {
     pub fn is_broken(self) -> bool
         ensures { result ≡ is_broken self }
     {
-        matches!(self, Status::ReadFault | Status::WriteFault | Status::Memory)
+        matches!(
+            self,
+            Status::ReadFault | Status::WriteFault | Status::Memory
+        )
     }
 
     /// The status of a stream that ended, or that was broken off.
