@@ -10,7 +10,7 @@ use Rattle.told.proofs.Going.{goes_breaks}
 use Rattle.told.proofs.Saying.{memory_breaks}
 use Rattle.command_words.specs.declared.request.Request.{Request}
 use Rattle.command_words.specs.declared.request.Request.TheVariants.{Read, Generate, Trial}
-use Rattle.xsv_run.specs.Output.{Answers, EndsAs, IsWanting, Reads, Runs, Tries, WritesTrial, told_of, trial_of, usual_session, wanted_of}
+use Rattle.xsv_run.specs.Output.{Answers, EndsAs, IsWanting, RefusesWords, Runs, Tries, WritesTrial, told_of, trial_of, usual_session, wanted_of}
 use Rattle.xsv_run.specs.Statuses.{is_broken}
 use Rattle.xsv_run.specs.declared.status.Status.{Status}
 use Rattle.xsv_run.specs.declared.status.Status.TheVariants.{Valid, NotValid, SchemaRefused, ListingRefused, Limit, Unsupported, Words, ReadFault, WriteFault, Memory}
@@ -99,3 +99,12 @@ no_memory (Some (Read task most)) some a rest = record {
 no_memory (Some (Generate start items)) some a rest = (refl, refl)
 no_memory (Some (Trial start items)) some a rest =
     ((refl, ([], memory_breaks (told_of usual_session (stream_text start items) true) (trace (Some []) a.steps))), refl)
+
+-- what was asked for is done as it was read of the words
+pub refused_runs : (asked : Option Request) → None ≡ asked → (status : Status) (old new : Trace) (rest : Option (List ℕ)) → RefusesWords status old new
+    → Runs asked status old new rest rest
+refused_runs asked is status old new rest h = subst (λ (a : Option Request). Runs a status old new rest rest) is (h, refl)
+
+pub runs_as : (asked : Option Request) (request : Request) → Some request ≡ asked → (status : Status) (old new : Trace) (rest_old rest_new : Option (List ℕ))
+    → Runs (Some request) status old new rest_old rest_new → Runs asked status old new rest_old rest_new
+runs_as asked request is status old new rest_old rest_new h = subst (λ (a : Option Request). Runs a status old new rest_old rest_new) is h
