@@ -92,7 +92,7 @@ unread (Some bytes) P h = h bytes
 pub no_memory : (asked : Option Request) → is_some asked ≡ true → (a : Trace) (rest : Option (List ℕ)) → Runs asked Memory a a rest rest
 no_memory None some a rest = cc
 no_memory (Some (Read task most)) some a rest = record {
-  answers = unread rest _ (λ bytes. memory_breaks (told_of (wanted_of task most) bytes true) a);
+  answers = unread rest (λ (bytes : List ℕ). Answers (wanted_of task most) bytes Memory a a) (λ bytes. memory_breaks (told_of (wanted_of task most) bytes true) a);
   broken = λ is. cc;
   answered = λ is. cc;
 }
