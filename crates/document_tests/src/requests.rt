@@ -1,7 +1,7 @@
+use command_words::{Request, Task, read_words};
 use std::alloc::{AllocError, Global};
 use std::test::Fail;
 use xs_names::Text;
-use xsv_run::{Request, Task, read_words};
 
 /// Words with a space between two, and what they ask for.
 const ACCEPTED: [(&str, Request); 16] = [
@@ -81,7 +81,7 @@ fn words_of(alloc: Global, line: &str) -> Result<Vec<Text>, AllocError> {
 fn accepts_the_words_of_the_grammar(rt: HostRuntime) -> Result<(), Fail> {
     for (line, request) in ACCEPTED {
         let words = words_of(rt.alloc(), line)?;
-        assert!(rt; read_words(&words) == Some(request));
+        assert!(rt; read_words(rt.alloc(), &words)? == Some(request));
     }
     Ok(())
 }
@@ -90,9 +90,9 @@ fn accepts_the_words_of_the_grammar(rt: HostRuntime) -> Result<(), Fail> {
 fn refuses_other_words(rt: HostRuntime) -> Result<(), Fail> {
     for line in REFUSED {
         let words = words_of(rt.alloc(), line)?;
-        assert!(rt; read_words(&words).is_none());
+        assert!(rt; read_words(rt.alloc(), &words)?.is_none());
     }
     let none: Vec<Text> = Vec::new(rt.alloc());
-    assert!(rt; read_words(&none).is_none());
+    assert!(rt; read_words(rt.alloc(), &none)?.is_none());
     Ok(())
 }

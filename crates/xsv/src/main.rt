@@ -1,12 +1,13 @@
 //! Assesses a document by an XML Schema, both given as PYX lines on standard input.
 #![tactic(auto)]
 
+use command_words::WordsFault;
 use std::io::{ErrorKind, LineWriter};
 use std::process::ExitCode;
 use std::{env, io};
 use xs_names::Text;
 use xsv_io::{StdSink, StdSource};
-use xsv_run::{Status, WordsFault, run_by};
+use xsv_run::{Status, run_by};
 use xsv_steps::{Silent, Steps};
 
 /// The words behind the program's name.

@@ -28,8 +28,12 @@ use Rattle.stream_sections.specs.declared.schemas.SchemaSection.{SchemaSection}
 use Rattle.stream_answers.specs.Faults.{fault_line, fault_ending}
 use Rattle.stream_answers.specs.Output.{ends, schema_ok, inputs, question_of, compiled_told, check_told, opening, opened_told, commands_told, stream_told, sections_told}
 use Rattle.stream_answers.specs.declared.wanted.Wanted.{Wanted}
+use Rattle.generated_stream.specs.Lines.{stream_text}
+use Rattle.command_words.specs.declared.request.Request.{Request}
+use Rattle.command_words.specs.declared.request.Request.TheVariants.{Read, Generate, Trial}
 use Rattle.xsv_run.specs.Statuses.{status_of}
-use Rattle.xsv_run.specs.Output.{Output, ComesTo, IsOutput, output_of, told_of}
+use Rattle.xsv_run.specs.Output.{wanted_of as wanted}
+use Rattle.xsv_run.specs.Output.{Output, ComesTo, IsAnswer, IsOutput, IsTrial, output_of, usual_session, told_of, trial_of}
 use Rattle.xsv_run.specs.Complete.{IsByOutcome, IsCheckOutput, IsStreamOutput, answer, answered_output}
 use Rattle.xsv_run.proofs.Replies.{says_back, says_on, last_back, last_said, last_ending, commands_back, commands_on}
 
@@ -53,9 +57,14 @@ module _ (found_is : (s : SchemaSet) (d : Document) (x y : List Entry) → IsFou
       let one = leads_to_one found_is outcome_is t h.said l.said h.ending l.ending h.leads l.leads in
       h.output_is ∙ (ap (λ (s : Said). output_of s h.ending) one.0 ∙ (ap (output_of l.said) one.1 ∙ sym l.output_is))
 
-  pub one_output : (what : Option Wanted) (bytes : List ℕ) (closed : Bool) (x y : Output) → IsOutput what bytes closed x → IsOutput what bytes closed y → x ≡ y
+  one_tried : (start items : ℕ) (x y : Output) → IsTrial start items x → IsTrial start items y → x ≡ y
+  one_tried start items x y h l = h.2 ∙ (ap (trial_of start items) (comes_to_one (told_of usual_session (stream_text start items) true) h.0 l.0 h.1 l.1) ∙ sym l.2)
+
+  pub one_output : (asked : Option Request) (bytes : List ℕ) (closed : Bool) (x y : Output) → IsOutput asked bytes closed x → IsOutput asked bytes closed y → x ≡ y
   one_output None bytes closed x y h l = h ∙ sym l
-  one_output (Some what) bytes closed x y h l = comes_to_one (told_of what bytes closed) x y h l
+  one_output (Some (Read task most)) bytes closed x y h l = comes_to_one (told_of (wanted task most) bytes closed) x y h l
+  one_output (Some (Generate start items)) bytes closed x y h l = h ∙ sym l
+  one_output (Some (Trial start items)) bytes closed x y h l = one_tried start items x y h l
 
 -- ---- what is asked is answered
 
@@ -109,12 +118,12 @@ module _ (law : (all : List SchemaSection) (its : List Item) → SpellsCheck all
   check_told_is : told_of (wanted_of Check most) bytes true ≡ asks (question_of all) check_next
   check_told_is = told_is (wanted_of Check most) bytes its (asks (question_of all) check_next) reads (ap (stream_told check_told) (law all its spells))
 
-  pub check_answered : IsOutput (Some (wanted_of Check most)) bytes true out → IsByOutcome all IsCheckOutput out
+  pub check_answered : IsAnswer (wanted_of Check most) bytes true out → IsByOutcome all IsCheckOutput out
   check_answered h =
       let o = known (question_of all) check_next out (subst (λ (t : Told). ComesTo t out) check_told_is h) in
       (o.0, o.1, check_is o.0 out o.2)
 
-  pub check_comes : IsByOutcome all IsCheckOutput out → IsOutput (Some (wanted_of Check most)) bytes true out
+  pub check_comes : IsByOutcome all IsCheckOutput out → IsAnswer (wanted_of Check most) bytes true out
   check_comes h = subst (λ (t : Told). ComesTo t out) (sym check_told_is) (asked (question_of all) check_next out h.0 h.1 (check_comes_by h.0 out h.2))
 
 -- ---- a stream with a document
@@ -201,12 +210,12 @@ module _ (law : (a : Asked) (all : List SchemaSection) (d : Document) (orders : 
     stream_told_is =
         told_is w bytes its (asks (question_of all) (stream_next w all d orders)) reads (sections_for w.asked w.most all d orders its spells.asks spells)
 
-    pub stream_answered : IsOutput (Some w) bytes true out → IsByOutcome all (IsStreamOutput w all d orders) out
+    pub stream_answered : IsAnswer w bytes true out → IsByOutcome all (IsStreamOutput w all d orders) out
     stream_answered h =
         let o = known (question_of all) (stream_next w all d orders) out (subst (λ (t : Told). ComesTo t out) stream_told_is h) in
         (o.0, o.1, stream_is w all d orders o.0 out o.2)
 
-    pub stream_comes : IsByOutcome all (IsStreamOutput w all d orders) out → IsOutput (Some w) bytes true out
+    pub stream_comes : IsByOutcome all (IsStreamOutput w all d orders) out → IsAnswer w bytes true out
     stream_comes h =
         subst (λ (t : Told). ComesTo t out) (sym stream_told_is)
         (asked (question_of all) (stream_next w all d orders) out h.0 h.1 (stream_comes_by w all d orders h.0 out h.2))

@@ -1,7 +1,7 @@
-pub mod Digits
 pub mod Telling
 pub mod Items
 pub mod Going
 pub mod Streams
 pub mod Replies
 pub mod Complete
+pub mod Trying

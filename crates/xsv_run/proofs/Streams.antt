@@ -16,7 +16,7 @@ use Rattle.stream_answers.specs.inside.Turns.{Spot, told, unbegun}
 use Rattle.stream_answers.specs.inside.Turning.{stands}
 use Rattle.stream_answers.specs.declared.wanted.Wanted.{Wanted}
 use Rattle.xsv_run.specs.Taking.{TakesAtMost}
-use Rattle.xsv_run.specs.Output.{BreaksOff, IsOutput, output_of, told_of}
+use Rattle.xsv_run.specs.Output.{BreaksOff, IsAnswer, output_of, told_of}
 use Rattle.xsv_run.specs.declared.reader.Reader.{Reader}
 use Rattle.xsv_run.specs.inside.Progress.{EndsFed, Feeds, TakesPiece, EndsPiece, StandsAt, PausesFed, to_tell}
 
@@ -118,23 +118,23 @@ module _ (a : Wanted) (rest_old rest_mid rest_new : Option (List ℕ)) (o m n : 
   output_failed one = failed_by one.bytes one.goes rest_old rest_mid one.consumed
 
   stops_failed : StandsAt a rest_old rest_mid o m r → Waits r.listing → r.listing.finished ≡ false → Keeps rest_mid rest_new
-      → BreaksOff (Some a) rest_old rest_new o.taken m.taken
+      → BreaksOff a rest_old rest_new o.taken m.taken
   stops_failed one waits going kept =
       let now : to_tell r [] false ≡ over None = ap (told r.stream.wanted r.listing.past.lines (stands r.stream)) (waits.0 going) in
       let so = one.goes [] false in record {
         bytes = one.bytes;
         consumed = Consumes-kept rest_old rest_mid rest_new one.bytes one.consumed kept;
         output = output_of so.said None;
-        is_output = subst (λ (l : List ℕ). IsOutput (Some a) l false (output_of so.said None)) (append-nil one.bytes)
+        is_output = subst (λ (l : List ℕ). IsAnswer a l false (output_of so.said None)) (append-nil one.bytes)
             (record { said = so.said; ending = None; leads = subst (Leads (told_of a (one.bytes ++ []) false) so.said) now so.leads; output_is = refl });
         goes_on = refl;
         wrote = so.wrote;
       }
 
   pub stops_broken : StandsAt a rest_old rest_mid o m r → Waits r.listing → r.listing.finished ≡ false → n ≡ m → Keeps rest_mid rest_new
-      → BreaksOff (Some a) rest_old rest_new o.taken n.taken
+      → BreaksOff a rest_old rest_new o.taken n.taken
   stops_broken one waits going same kept =
-      subst (λ (k : Trace). BreaksOff (Some a) rest_old rest_new o.taken k.taken) (sym same) (stops_failed one waits going kept)
+      subst (λ (k : Trace). BreaksOff a rest_old rest_new o.taken k.taken) (sym same) (stops_failed one waits going kept)
 
   pub few_failed : StandsAt a rest_old rest_mid o m r → bytes_taken r.listing ≤ MOST_BYTES + 1 → Keeps rest_mid rest_new → TakesAtMost (MOST_BYTES + 1) rest_old rest_new
   few_failed one few kept = (one.bytes, Consumes-kept rest_old rest_mid rest_new one.bytes one.consumed kept, omega (arith, one.counted, few))

@@ -16,7 +16,7 @@ use Rattle.xsv_run.specs.declared.status.Status.TheVariants as statuses
 
 -- the status of a stream that has ended
 module _ (what : Wanted) (whole : List ℕ) (a b : Trace) where
-  ends_by : (ending : Ending) → Goes (told_of what whole true) a b (over (Some ending)) → EndsAs (Some what) whole (status_of ending) a b
+  ends_by : (ending : Ending) → Goes (told_of what whole true) a b (over (Some ending)) → EndsAs what whole (status_of ending) a b
   ends_by ending g = record {
     output = output_of g.said (Some ending);
     is_output = record { said = g.said; ending = Some ending; leads = g.leads; output_is = refl };
@@ -26,7 +26,7 @@ module _ (what : Wanted) (whole : List ℕ) (a b : Trace) where
     few = g.few;
   }
 
-  as_ending : (ending : Ending) → Goes (told_of what whole true) a b (over (Some ending)) → Answers (Some what) whole (status_of ending) a b
+  as_ending : (ending : Ending) → Goes (told_of what whole true) a b (over (Some ending)) → Answers what whole (status_of ending) a b
   as_ending endings.Valid ended = ends_by endings.Valid ended
   as_ending endings.NotValid ended = ends_by endings.NotValid ended
   as_ending endings.SchemaRefused ended = ends_by endings.SchemaRefused ended
@@ -34,7 +34,7 @@ module _ (what : Wanted) (whole : List ℕ) (a b : Trace) where
   as_ending endings.Limit ended = ends_by endings.Limit ended
   as_ending endings.Unsupported ended = ends_by endings.Unsupported ended
 
-  as_status : (e : Result Ending BreakOff) → Ends (told_of what whole true) e a b → Answers (Some what) whole (status_by e) a b
+  as_status : (e : Result Ending BreakOff) → Ends (told_of what whole true) e a b → Answers what whole (status_by e) a b
   as_status (Ok ending) ended = as_ending ending ended
   as_status (Err breaks.Memory) ended = ended
   as_status (Err breaks.WriteFault) ended = ended
@@ -44,12 +44,12 @@ if_some None f h = tt
 if_some (Some whole) f h = f whole h
 
 pub answers_by : (what : Wanted) (rest : Option (List ℕ)) (e : Result Ending BreakOff) (a b : Trace) (status : Status) → status ≡ status_by e
-    → IfSome rest (λ whole. Ends (told_of what whole true) e a b) → IfSome rest (λ whole. Answers (Some what) whole status a b)
+    → IfSome rest (λ whole. Ends (told_of what whole true) e a b) → IfSome rest (λ whole. Answers what whole status a b)
 answers_by what rest e a b status is =
-    if_some rest (λ whole ended. subst (λ (s : Status). Answers (Some what) whole s a b) (sym is) (as_status what whole a b e ended))
+    if_some rest (λ whole ended. subst (λ (s : Status). Answers what whole s a b) (sym is) (as_status what whole a b e ended))
 
 pub answers_broken : (what : Wanted) (rest : Option (List ℕ)) (a b : Trace)
-    → IfSome rest (λ whole. (more : Told) × Goes (told_of what whole true) a b more) → IfSome rest (λ whole. Answers (Some what) whole statuses.ReadFault a b)
+    → IfSome rest (λ whole. (more : Told) × Goes (told_of what whole true) a b more) → IfSome rest (λ whole. Answers what whole statuses.ReadFault a b)
 answers_broken what rest a b = if_some rest (λ whole broke. broke)
 
 -- the status tells of words and of a failed read never, and of a failed write where one failed

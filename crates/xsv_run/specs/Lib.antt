@@ -1,5 +1,3 @@
-pub mod Numbers
-pub mod Requests
 pub mod Taking
 pub mod Statuses
 pub mod Sides

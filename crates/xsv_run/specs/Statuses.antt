@@ -1,5 +1,5 @@
 -- How a run ends, by how its stream does, and the numbers that the program ends with.
-use Rattle.std.specs.Prelude.{ℕ, Result, Ok, Err}
+use Rattle.std.specs.Prelude.{ℕ, Bool, true, false, Result, Ok, Err}
 use Rattle.told.specs.declared.break_off.BreakOff.{BreakOff}
 use Rattle.told.specs.declared.break_off.BreakOff.TheVariants as breaks
 use Rattle.told.specs.declared.ending.Ending.{Ending}
@@ -18,6 +18,13 @@ number_of Words = 6
 number_of ReadFault = 7
 number_of WriteFault = 8
 number_of Memory = 9
+
+-- a status that is no answer
+abbrev pub is_broken : Status → Bool
+is_broken ReadFault = true
+is_broken WriteFault = true
+is_broken Memory = true
+is_broken status = false
 
 abbrev pub status_of : Ending → Status
 status_of endings.Valid = Valid

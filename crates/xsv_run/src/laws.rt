@@ -1,4 +1,4 @@
-ghost use Rattle.std.specs.Prelude.{◌≡◌, List, ℕ, Bool, true, Option, Some};
+ghost use Rattle.std.specs.Prelude.{◌≡◌, List, ℕ, Bool, true, Option};
 ghost use Rattle.item_listing.specs.Listed.{listed};
 ghost use Rattle.item_listing.specs.State.{unread};
 ghost use Rattle.item_listing.specs.declared.item.Item.{Item};
@@ -7,7 +7,8 @@ ghost use Rattle.stream_sections.specs.Spelled.{whole, Order, SpellsCheck, Spell
 ghost use Rattle.stream_answers.specs.declared.wanted.Wanted.{Wanted};
 ghost use Rattle.stream_sections.specs.declared.asked.Asked.TheVariants.{Check};
 ghost use Rattle.stream_sections.specs.declared.schemas.SchemaSection.{SchemaSection};
-ghost use Rattle.xsv_run.specs.Output.{Output, IsOutput};
+ghost use Rattle.command_words.specs.declared.request.Request.{Request};
+ghost use Rattle.xsv_run.specs.Output.{Output, IsAnswer, IsOutput};
 ghost use Rattle.xsv_run.specs.Complete.{IsByOutcome, IsCheckOutput, IsStreamOutput};
 
 use outcome_laws::outcomes_are_one;
@@ -16,7 +17,7 @@ use what_is_found::what_is_found_is_the_only_one;
 
 /// For what is asked and the bytes of a source there is one output.
 pub fn outputs_are_one()
-    ensures only { (what : Option Wanted) (bytes : List ℕ) (closed : Bool) (x y : Output) → IsOutput what bytes closed x → IsOutput what bytes closed y → x ≡ y }
+    ensures only { (asked : Option Request) (bytes : List ℕ) (closed : Bool) (x y : Output) → IsOutput asked bytes closed x → IsOutput asked bytes closed y → x ≡ y }
 {
     what_is_found_is_the_only_one();
     outcomes_are_one();
@@ -26,15 +27,15 @@ pub fn outputs_are_one()
 /// `session` by the report or the replies and the record of the root of the last tree.
 pub fn streams_are_answered()
     ensures check { (most : ℕ) (bytes : List ℕ) (its : List Item) (all : List SchemaSection) (out : Output) → listed unread bytes true ≡ whole its → SpellsCheck all its
-        → IsOutput (Some (record { asked = Check; most = most })) bytes true out → IsByOutcome all IsCheckOutput out }
+        → IsAnswer (record { asked = Check; most = most }) bytes true out → IsByOutcome all IsCheckOutput out }
     ensures checked { (most : ℕ) (bytes : List ℕ) (its : List Item) (all : List SchemaSection) (out : Output) → listed unread bytes true ≡ whole its → SpellsCheck all its
-        → IsByOutcome all IsCheckOutput out → IsOutput (Some (record { asked = Check; most = most })) bytes true out }
+        → IsByOutcome all IsCheckOutput out → IsAnswer (record { asked = Check; most = most }) bytes true out }
     ensures stream { (w : Wanted) (bytes : List ℕ) (its : List Item) (all : List SchemaSection) (d : Document) (orders : List Order) (out : Output)
         → listed unread bytes true ≡ whole its → SpellsStream w.asked all d orders its
-        → IsOutput (Some w) bytes true out → IsByOutcome all (IsStreamOutput w all d orders) out }
+        → IsAnswer w bytes true out → IsByOutcome all (IsStreamOutput w all d orders) out }
     ensures streamed { (w : Wanted) (bytes : List ℕ) (its : List Item) (all : List SchemaSection) (d : Document) (orders : List Order) (out : Output)
         → listed unread bytes true ≡ whole its → SpellsStream w.asked all d orders its
-        → IsByOutcome all (IsStreamOutput w all d orders) out → IsOutput (Some w) bytes true out }
+        → IsByOutcome all (IsStreamOutput w all d orders) out → IsAnswer w bytes true out }
 {
     streams_are_read();
 }

@@ -3,17 +3,14 @@
 
 mod laws;
 mod next;
-mod number;
 mod piece;
 mod reader;
-mod request;
 mod running;
 mod status;
 mod stream;
-mod words;
+mod trial;
+mod wanted;
 
 pub use laws::{outputs_are_one, streams_are_answered};
-pub use request::{Request, Task, read_words};
 pub use running::{run, run_by};
 pub use status::Status;
-pub use words::WordsFault;

@@ -1,15 +1,17 @@
-ghost use Rattle.std.specs.Prelude.{◌≡◌, ℕ, ◌+◌, ◌≤◌, IfOk, IfSome};
+ghost use Rattle.std.specs.Prelude.{◌≡◌, ℕ, ◌+◌, ◌≤◌, Some, IfOk};
 ghost use Rattle.item_listing.specs.declared.limits.TheConstants.{MOST_BYTES};
 ghost use Rattle.xsv_io.specs.Causes.{KeepsCount};
 ghost use Rattle.told.specs.Going.{trace};
-ghost use Rattle.xsv_run.specs.Output.{AnswersUnread, BreaksOff, Does, DoesUnread, Generates, RefusesWords, wanted};
-ghost use Rattle.xsv_run.specs.Requests.{request};
+ghost use Rattle.command_words.specs.Requests.{HasCount, request};
+ghost use Rattle.xsv_run.specs.Output.{Generates, RefusesWords, Runs, RunsUnread};
 ghost use Rattle.xsv_run.specs.Sides.{HasCauses};
 ghost use Rattle.xsv_run.specs.Taking.{TakesAtMost};
 
+use crate::Status;
 use crate::stream::answer_stream;
-use crate::words::wanted_of;
-use crate::{Request, Status, WordsFault, read_words};
+use crate::trial::run_trial;
+use crate::wanted::wanted_of;
+use command_words::{Request, WordsFault, read_words};
 use generated_stream::generate_stream;
 use std::alloc::Global;
 use xs_names::Text;
@@ -44,10 +46,33 @@ fn generate<W: Sink>(start: u64, items: u32, sink: &mut W) -> Status
     }
 }
 
-/// Answers a stream by what the words ask for: whether its schema is accepted, a report on its document, or
-/// the replies to its edits. Each line is answered before the next is looked at.
+/// Does what was asked for.
+fn do_request<S: Source, W: Sink, L: Ledger>(
+    alloc: Global,
+    request: Request,
+    source: &mut S,
+    sink: &mut W,
+    steps: &mut Steps<L>,
+) -> Status
+    requires { HasCount request }
+    ensures runs { Runs (Some request) result (trace (W.taken sink.old) steps.old) (trace (W.taken sink.new) steps.new) (S.rest source.old) (S.rest source.new) }
+    ensures few { TakesAtMost (MOST_BYTES + 1) (S.rest source.old) (S.rest source.new) }
+    ensures causes { HasCauses S.faults S.fault_bound W.faults W.fault_bound source.old source.new sink.old sink.new steps.old steps.new result }
+{
+    match request {
+        Request::Read(task, most) => {
+            let wanted = wanted_of(task, most);
+            answer_stream(alloc, wanted, source, sink, steps)
+        }
+        Request::Generate(start, items) => generate(start, items, sink),
+        Request::Trial(start, items) => run_trial(alloc, start, items, sink, steps),
+    }
+}
+
+/// Does what the words ask for: answers a stream, by whether its schema is accepted, a report on its document, or the replies to
+/// its edits, each line before the next is looked at; or writes a generated stream, or what a session on one comes to.
 ///
-/// The status says how the run ended; the last three of its kinds are no answer to the stream.
+/// The status says how the run ended; the last three of its kinds are no answer.
 pub fn run<S: Source, W: Sink, L: Ledger>(
     alloc: Global,
     words: &[Text],
@@ -57,16 +82,9 @@ pub fn run<S: Source, W: Sink, L: Ledger>(
 ) -> Status
     // What is written and the status are the output of the definitions, and no more steps are counted than it costs. Where a read, a write
     // or memory failed, a front of it was written, and no more steps are counted than that front costs, and what would have been said next.
-    ensures output { IfSome (S.rest source.old) (λ bytes.
-        Does (request words.now) bytes result (trace (W.taken sink.old) steps.old) (trace (W.taken sink.new) steps.new)) }
-
-    // Where a read failed, what was written is what the bytes that were taken tell, and they do not end the run.
-    ensures broken { result ≡ Status.ReadFault
-        → BreaksOff (wanted words.now) (S.rest source.old) (S.rest source.new) (W.taken sink.old) (W.taken sink.new) }
-
-    // A stream is generated, or words that ask for nothing are answered by the usage line, and nothing is read, whatever the source tells.
-    ensures words { DoesUnread (request words.now) result (trace (W.taken sink.old) steps.old) (trace (W.taken sink.new) steps.new)
-        (S.rest source.old) (S.rest source.new) }
+    // Where a read failed, what was written is what the bytes that were taken tell, and they do not end the run. Nothing is read where a
+    // stream is generated, or where the words ask for nothing.
+    ensures runs { Runs (request words.now) result (trace (W.taken sink.old) steps.old) (trace (W.taken sink.new) steps.new) (S.rest source.old) (S.rest source.new) }
 
     // At most one byte more than the longest stream is taken.
     ensures few { TakesAtMost (MOST_BYTES + 1) (S.rest source.old) (S.rest source.new) }
@@ -74,14 +92,10 @@ pub fn run<S: Source, W: Sink, L: Ledger>(
     // A fault is answered only where that side's count rose, or stands at its last value. Counts and steps never fall.
     ensures causes { HasCauses S.faults S.fault_bound W.faults W.fault_bound source.old source.new sink.old sink.new steps.old steps.new result }
 {
-    match read_words(words) {
-        None => refuse_words(sink),
-        Some(Request::Read(task, most)) => {
-            let wanted = wanted_of(task, most);
-            answer_stream(alloc, wanted, source, sink, steps)
-        }
-        Some(Request::Generate(start, items)) => generate(start, items, sink),
-        Some(Request::Trial(_, _)) => refuse_words(sink),
+    match read_words(alloc, words) {
+        Err(_) => Status::Memory,
+        Ok(None) => refuse_words(sink),
+        Ok(Some(request)) => do_request(alloc, request, source, sink, steps),
     }
 }
 
@@ -94,13 +108,9 @@ pub fn run_by<S: Source, W: Sink, L: Ledger>(
     sink: &mut W,
     steps: &mut Steps<L>,
 ) -> Status
-    ensures output { IfOk words.entry (λ read. IfSome (S.rest source.old) (λ bytes.
-        Does (request read.now) bytes result (trace (W.taken sink.old) steps.old) (trace (W.taken sink.new) steps.new))) }
-    ensures broken { IfOk words.entry (λ read. result ≡ Status.ReadFault
-        → BreaksOff (wanted read.now) (S.rest source.old) (S.rest source.new) (W.taken sink.old) (W.taken sink.new)) }
-    ensures words { IfOk words.entry (λ read. DoesUnread (request read.now) result (trace (W.taken sink.old) steps.old) (trace (W.taken sink.new) steps.new)
-        (S.rest source.old) (S.rest source.new)) }
-    ensures unread { AnswersUnread words.entry result (trace (W.taken sink.old) steps.old) (trace (W.taken sink.new) steps.new) (S.rest source.old) (S.rest source.new) }
+    ensures runs { IfOk words.entry (λ read.
+        Runs (request read.now) result (trace (W.taken sink.old) steps.old) (trace (W.taken sink.new) steps.new) (S.rest source.old) (S.rest source.new)) }
+    ensures unread { RunsUnread words.entry result (trace (W.taken sink.old) steps.old) (trace (W.taken sink.new) steps.new) (S.rest source.old) (S.rest source.new) }
     ensures few { TakesAtMost (MOST_BYTES + 1) (S.rest source.old) (S.rest source.new) }
     ensures causes { HasCauses S.faults S.fault_bound W.faults W.fault_bound source.old source.new sink.old sink.new steps.old steps.new result }
 {

@@ -28,7 +28,7 @@ pub enum Status {
 }
 
 impl Status {
-    ghost use Rattle.xsv_run.specs.Statuses.{number_of, status_by};
+    ghost use Rattle.xsv_run.specs.Statuses.{is_broken, number_of, status_by};
 
     /// The number that the program ends with.
     pub fn number(self) -> u8
@@ -46,6 +46,16 @@ impl Status {
             Status::WriteFault => 8,
             Status::Memory => 9,
         }
+    }
+
+    /// Whether the run was broken off: the status is no answer.
+    pub fn is_broken(self) -> bool
+        ensures { result ≡ is_broken self }
+    {
+        matches!(
+            self,
+            Status::ReadFault | Status::WriteFault | Status::Memory
+        )
     }
 
     /// The status of a stream that ended, or that was broken off.

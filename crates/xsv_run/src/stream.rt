@@ -4,7 +4,7 @@ ghost use Rattle.item_listing.specs.State.{unread};
 ghost use Rattle.told.specs.Going.{trace};
 ghost use Rattle.stream_answers.specs.inside.Turns.{unbegun};
 ghost use Rattle.stream_answers.specs.inside.Turning.{IsStanding, stands};
-ghost use Rattle.xsv_run.specs.Output.{Answers, BreaksOff};
+ghost use Rattle.xsv_run.specs.Output.{Answers, BreaksOff, Reads};
 ghost use Rattle.xsv_run.specs.Sides.{HasCauses};
 ghost use Rattle.xsv_run.specs.Taking.{TakesAtMost};
 
@@ -27,8 +27,8 @@ fn take_pieces<S: Source, W: Sink, L: Ledger>(
     requires unread { reader.old.listing ≡ unread }
     requires unbegun { stands reader.old.stream ≡ unbegun }
     requires open { IsStanding reader.old.stream }
-    ensures output { IfSome (S.rest source.old) (λ bytes. Answers (Some reader.old.stream.wanted) bytes result (trace (W.taken sink.old) steps.old) (trace (W.taken sink.new) steps.new)) }
-    ensures broken { result ≡ Status.ReadFault → BreaksOff (Some reader.old.stream.wanted) (S.rest source.old) (S.rest source.new) (W.taken sink.old) (W.taken sink.new) }
+    ensures output { IfSome (S.rest source.old) (λ bytes. Answers reader.old.stream.wanted bytes result (trace (W.taken sink.old) steps.old) (trace (W.taken sink.new) steps.new)) }
+    ensures broken { result ≡ Status.ReadFault → BreaksOff reader.old.stream.wanted (S.rest source.old) (S.rest source.new) (W.taken sink.old) (W.taken sink.new) }
     ensures answered { result ≡ Status.Words → ⊥ }
     ensures few { TakesAtMost (MOST_BYTES + 1) (S.rest source.old) (S.rest source.new) }
     ensures causes { HasCauses S.faults S.fault_bound W.faults W.fault_bound source.old source.new sink.old sink.new steps.old steps.new result }
@@ -54,9 +54,7 @@ pub fn answer_stream<S: Source, W: Sink, L: Ledger>(
     sink: &mut W,
     steps: &mut Steps<L>,
 ) -> Status
-    ensures output { IfSome (S.rest source.old) (λ bytes. Answers (Some wanted) bytes result (trace (W.taken sink.old) steps.old) (trace (W.taken sink.new) steps.new)) }
-    ensures broken { result ≡ Status.ReadFault → BreaksOff (Some wanted) (S.rest source.old) (S.rest source.new) (W.taken sink.old) (W.taken sink.new) }
-    ensures answered { result ≡ Status.Words → ⊥ }
+    ensures reads { Reads wanted result (trace (W.taken sink.old) steps.old) (trace (W.taken sink.new) steps.new) (S.rest source.old) (S.rest source.new) }
     ensures few { TakesAtMost (MOST_BYTES + 1) (S.rest source.old) (S.rest source.new) }
     ensures causes { HasCauses S.faults S.fault_bound W.faults W.fault_bound source.old source.new sink.old sink.new steps.old steps.new result }
 {

@@ -1,18 +1,9 @@
 ghost use Rattle.std.specs.Prelude.{◌≡◌};
 ghost use Rattle.xsv_run.specs.Output as output;
 
-use crate::Task;
+use command_words::Task;
 use stream_answers::Wanted;
 use stream_sections::Asked;
-
-/// Why the words of a command line were not read.
-#[derive(Clone, Copy, Debug, PartialEq, Eq)]
-pub enum WordsFault {
-    /// Memory was wanting.
-    Memory,
-    /// A word is not UTF-8.
-    NotText,
-}
 
 /// What a stream is read for.
 fn asked_of(task: Task) -> Asked

@@ -1,7 +1,7 @@
 ghost use Rattle.std.specs.Prelude.{◌≡◌, ◌≤◌, IfSome};
 ghost use Rattle.std.specs.Char.{is_ascii_digit};
 ghost use Rattle.std.specs.List.{list_all};
-ghost use Rattle.xsv_run.specs.Numbers as numbers;
+ghost use Rattle.command_words.specs.Numbers as numbers;
 
 /// The most digits that a number has.
 const MOST_DIGITS: usize = 20;
