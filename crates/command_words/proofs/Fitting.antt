@@ -1,5 +1,5 @@
 -- clap takes the words that are accepted, and finds in them what they ask for.
-use Rattle.std.proofs.Common.{◌≡◌, ◌⊎◌, inl, inr, ℕ, ◌==◌, List, [], ◌∷◌, Bool, true, false, Option, Some, None, codes, is_some, refl, sym, subst, ap, ◌∙◌, arith}
+use Rattle.std.proofs.Common.{◌≡◌, ℕ, ◌==◌, List, [], ◌∷◌, Bool, true, false, Option, Some, None, codes, is_some, refl, sym, subst, ap, ◌∙◌, arith}
 use Rattle.std.specs.Char.{is_ascii_digit}
 use Rattle.std.specs.Str.{bytes_eq}
 use Rattle.std.proofs.lemmas.Bool.Decides.{nat_tests}
@@ -30,119 +30,110 @@ pub simple : is_simple xsv ≡ true
 unfolding clap_on_literals
 simple = refl
 
--- ---- commands
+-- ---- words that are no options
 
-abbrev IsReading : Text → Type 0
-IsReading w = (w ≡ codes "check") ⊎ (w ≡ codes "assess") ⊎ (w ≡ codes "session")
-
-reading_by : (w : Text) (a b c : Bool) → bytes_eq w (codes "check") ≡ a → bytes_eq w (codes "assess") ≡ b → bytes_eq w (codes "session") ≡ c
-    → is_some (task w) ≡ true → IsReading w
-reading_by w true b c e f g h = inl ((bytes_eq-Decides w _).0 e)
-reading_by w false true c e f g h = inr (inl ((bytes_eq-Decides w _).0 f))
-reading_by w false false true e f g h = inr (inr ((bytes_eq-Decides w _).0 g))
-reading_by w false false false e f g h = let no : is_some (task w) ≡ false = rw (e, f, g) refl in cc
-
-reading : (w : Text) → is_some (task w) ≡ true → IsReading w
-reading w = reading_by w _ _ _ refl refl refl
-
-abbrev IsMaking : Text → Type 0
-IsMaking w = (w ≡ codes "generate") ⊎ (w ≡ codes "trial")
-
-making_by : (w : Text) (a b : Bool) (n m : ℕ) → bytes_eq w (codes "generate") ≡ a → bytes_eq w (codes "trial") ≡ b
-    → is_some (generated_by w (Some n) (Some m)) ≡ true → IsMaking w
-making_by w true b n m e f h = inl ((bytes_eq-Decides w _).0 e)
-making_by w false true n m e f h = inr ((bytes_eq-Decides w _).0 f)
-making_by w false false n m e f h = let no : is_some (generated_by w (Some n) (Some m)) ≡ false = rw (e, f) refl in cc
-
--- ---- numbers begin with a digit
-
-pub record IsDigits (w : Text) : Type 0 where
+-- the word does not begin with a hyphen
+pub record IsWord (w : Text) : Type 0 where
   pub first : ℕ
   pub rest : Text
   pub is : w ≡ first ∷ rest
   pub other : (first == 45) ≡ false
 
+reading_by : (w : Text) (a b c : Bool) → bytes_eq w (codes "check") ≡ a → bytes_eq w (codes "assess") ≡ b → bytes_eq w (codes "session") ≡ c
+    → is_some (task w) ≡ true → IsWord w
+reading_by w true b c e f g h = record { first = _; rest = _; is = (bytes_eq-Decides w (codes "check")).0 e; other = refl }
+reading_by w false true c e f g h = record { first = _; rest = _; is = (bytes_eq-Decides w (codes "assess")).0 f; other = refl }
+reading_by w false false true e f g h = record { first = _; rest = _; is = (bytes_eq-Decides w (codes "session")).0 g; other = refl }
+reading_by w false false false e f g h = let none : is_some (task w) ≡ false = rw (e, f, g) refl in cc
+
+reading : (w : Text) → is_some (task w) ≡ true → IsWord w
+reading w = reading_by w _ _ _ refl refl refl
+
+making_by : (w : Text) (a b : Bool) (n m : ℕ) → bytes_eq w (codes "generate") ≡ a → bytes_eq w (codes "trial") ≡ b
+    → is_some (generated_by w (Some n) (Some m)) ≡ true → IsWord w
+making_by w true b n m e f h = record { first = _; rest = _; is = (bytes_eq-Decides w (codes "generate")).0 e; other = refl }
+making_by w false true n m e f h = record { first = _; rest = _; is = (bytes_eq-Decides w (codes "trial")).0 f; other = refl }
+making_by w false false n m e f h = let none : is_some (generated_by w (Some n) (Some m)) ≡ false = rw (e, f) refl in cc
+
 digit_other : (b : ℕ) → is_ascii_digit b ≡ true → (b == 45) ≡ false
 digit_other b h = grind (arith, nat_tests, h)
 
-all_digits : (w : Text) → is_number w ≡ true → IsDigits w
+all_digits : (w : Text) → is_number w ≡ true → IsWord w
 all_digits [] h = cc
 all_digits (b ∷ rest) h = record { first = b; rest = rest; is = refl; other = digit_other b (grind (arith, nat_tests, h)) }
 
-digits_by : (w : Text) (t : Bool) → is_number w ≡ t → is_some (number w) ≡ true → IsDigits w
+digits_by : (w : Text) (t : Bool) → is_number w ≡ t → is_some (number w) ≡ true → IsWord w
 digits_by w true e h = all_digits w e
-digits_by w false e h = let no : is_some (number w) ≡ false = rw e refl in cc
+digits_by w false e h = let none : is_some (number w) ≡ false = rw e refl in cc
 
-digits : (w : Text) → is_some (number w) ≡ true → IsDigits w
+digits : (w : Text) → is_some (number w) ≡ true → IsWord w
 digits w = digits_by w (is_number w) refl
 
-between_by : (least most : ℕ) (w : Text) (o : Option ℕ) → number w ≡ o → is_some (between least most w) ≡ true → IsDigits w
-between_by least most w None e h = let no : is_some (between least most w) ≡ false = rw e refl in cc
+between_by : (least most : ℕ) (w : Text) (o : Option ℕ) → number w ≡ o → is_some (between least most w) ≡ true → IsWord w
+between_by least most w None e h = let none : is_some (between least most w) ≡ false = rw e refl in cc
 between_by least most w (Some n) e h = digits w (rw e refl)
 
-within : (least most : ℕ) (w : Text) → is_some (between least most w) ≡ true → IsDigits w
+within : (least most : ℕ) (w : Text) → is_some (between least most w) ≡ true → IsWord w
 within least most w = between_by least most w (number w) refl
 
 -- ---- the words, shape by shape
 
-fits_alone : (w : Text) → IsReading w → Fits (w ∷ []) (read_by (task w) (most None))
-unfolding clap_on_literals
-fits_alone w (inl e) = subst (λ x. Fits (x ∷ []) (read_by (task x) (most None))) (sym e) (record { taken = refl; found = refl })
-fits_alone w (inr (inl e)) = subst (λ x. Fits (x ∷ []) (read_by (task x) (most None))) (sym e) (record { taken = refl; found = refl })
-fits_alone w (inr (inr e)) = subst (λ x. Fits (x ∷ []) (read_by (task x) (most None))) (sym e) (record { taken = refl; found = refl })
+abbrev row_of : Text → Text → Row
+row_of id value = record { id = id; values = value ∷ []; count = None; source = Some CommandLine; reading = AsWritten }
 
-fits_glued_first : (v w : Text) → IsReading w → Fits (named v ∷ w ∷ []) (read_by (task w) (most (Some v)))
-unfolding clap_on_literals
-fits_glued_first v w (inl e) = subst (λ x. Fits (named v ∷ x ∷ []) (read_by (task x) (most (Some v)))) (sym e) (record { taken = refl; found = refl })
-fits_glued_first v w (inr (inl e)) = subst (λ x. Fits (named v ∷ x ∷ []) (read_by (task x) (most (Some v)))) (sym e) (record { taken = refl; found = refl })
-fits_glued_first v w (inr (inr e)) = subst (λ x. Fits (named v ∷ x ∷ []) (read_by (task x) (most (Some v)))) (sym e) (record { taken = refl; found = refl })
+abbrev option_row : Text → Row
+option_row = row_of (codes "max-errors")
 
-fits_glued_last : (v w : Text) → IsReading w → Fits (w ∷ named v ∷ []) (read_by (task w) (most (Some v)))
-unfolding clap_on_literals
-fits_glued_last v w (inl e) = subst (λ x. Fits (x ∷ named v ∷ []) (read_by (task x) (most (Some v)))) (sym e) (record { taken = refl; found = refl })
-fits_glued_last v w (inr (inl e)) = subst (λ x. Fits (x ∷ named v ∷ []) (read_by (task x) (most (Some v)))) (sym e) (record { taken = refl; found = refl })
-fits_glued_last v w (inr (inr e)) = subst (λ x. Fits (x ∷ named v ∷ []) (read_by (task x) (most (Some v)))) (sym e) (record { taken = refl; found = refl })
+abbrev command_row : Text → Row
+command_row = row_of (codes "COMMAND")
 
 module _ (b : ℕ) (rest : Text) (other : (b == 45) ≡ false) where
-  abbrev v : Text
-  v = b ∷ rest
+  abbrev w : Text
+  w = b ∷ rest
 
-  abbrev option_row : Row
-  option_row = record { id = codes "max-errors"; values = v ∷ []; count = None; source = Some CommandLine; reading = AsWritten }
-
-  abbrev command_row : Text → Row
-  command_row w = record { id = codes "COMMAND"; values = w ∷ []; count = None; source = Some CommandLine; reading = AsWritten }
-
-  taken_first : (w : Text) → IsReading w → takes xsv (name ∷ v ∷ w ∷ []) ≡ true
+  fits_alone : Fits (w ∷ []) (read_by (task w) (most None))
   unfolding clap_on_literals
-  taken_first w (inl e) = subst (λ x. takes xsv (name ∷ v ∷ x ∷ []) ≡ true) (sym e) (simp other)
-  taken_first w (inr (inl e)) = subst (λ x. takes xsv (name ∷ v ∷ x ∷ []) ≡ true) (sym e) (simp other)
-  taken_first w (inr (inr e)) = subst (λ x. takes xsv (name ∷ v ∷ x ∷ []) ≡ true) (sym e) (simp other)
+  fits_alone =
+      let rows : matches_of xsv (w ∷ []) ≡ command_row w ∷ [] = simp other in
+      record { taken = simp other; found = ap found_by rows }
 
-  rows_first : (w : Text) → IsReading w → matches_of xsv (name ∷ v ∷ w ∷ []) ≡ option_row ∷ command_row w ∷ []
+  fits_glued_first : (v : Text) → Fits (named v ∷ w ∷ []) (read_by (task w) (most (Some v)))
   unfolding clap_on_literals
-  rows_first w (inl e) = subst (λ x. matches_of xsv (name ∷ v ∷ x ∷ []) ≡ option_row ∷ command_row x ∷ []) (sym e) (simp other)
-  rows_first w (inr (inl e)) = subst (λ x. matches_of xsv (name ∷ v ∷ x ∷ []) ≡ option_row ∷ command_row x ∷ []) (sym e) (simp other)
-  rows_first w (inr (inr e)) = subst (λ x. matches_of xsv (name ∷ v ∷ x ∷ []) ≡ option_row ∷ command_row x ∷ []) (sym e) (simp other)
+  fits_glued_first v =
+      let rows : matches_of xsv (named v ∷ w ∷ []) ≡ option_row v ∷ command_row w ∷ [] = simp other in
+      record { taken = simp other; found = ap found_by rows }
 
-  fits_apart_first : (w : Text) → IsReading w → Fits (name ∷ v ∷ w ∷ []) (read_by (task w) (most (Some v)))
-  fits_apart_first w is = record { taken = taken_first w is; found = ap found_by (rows_first w is) }
-
-  fits_apart_last : (w : Text) → IsReading w → Fits (w ∷ name ∷ v ∷ []) (read_by (task w) (most (Some v)))
+  fits_glued_last : (v : Text) → Fits (w ∷ named v ∷ []) (read_by (task w) (most (Some v)))
   unfolding clap_on_literals
-  fits_apart_last w (inl e) = subst (λ x. Fits (x ∷ name ∷ v ∷ []) (read_by (task x) (most (Some v)))) (sym e) (record { taken = simp other; found = simp other })
-  fits_apart_last w (inr (inl e)) =
-      subst (λ x. Fits (x ∷ name ∷ v ∷ []) (read_by (task x) (most (Some v)))) (sym e) (record { taken = simp other; found = simp other })
-  fits_apart_last w (inr (inr e)) =
-      subst (λ x. Fits (x ∷ name ∷ v ∷ []) (read_by (task x) (most (Some v)))) (sym e) (record { taken = simp other; found = simp other })
+  fits_glued_last v =
+      let rows : matches_of xsv (w ∷ named v ∷ []) ≡ command_row w ∷ option_row v ∷ [] = simp other in
+      record { taken = simp other; found = ap found_by rows }
 
   module _ (c : ℕ) (more : Text) (digit : (c == 45) ≡ false) where
-    fits_made : (w : Text) → IsMaking w → Fits (w ∷ v ∷ (c ∷ more) ∷ []) (generated w v (c ∷ more))
+    abbrev v : Text
+    v = c ∷ more
+
+    fits_apart_first : Fits (name ∷ v ∷ w ∷ []) (read_by (task w) (most (Some v)))
     unfolding clap_on_literals
-    fits_made w (inl e) =
-        subst (λ x. Fits (x ∷ v ∷ (c ∷ more) ∷ []) (generated x v (c ∷ more))) (sym e) (record { taken = simp (other, digit); found = simp (other, digit) })
-    fits_made w (inr e) =
-        subst (λ x. Fits (x ∷ v ∷ (c ∷ more) ∷ []) (generated x v (c ∷ more))) (sym e) (record { taken = simp (other, digit); found = simp (other, digit) })
+    fits_apart_first =
+        let rows : matches_of xsv (name ∷ v ∷ w ∷ []) ≡ option_row v ∷ command_row w ∷ [] = simp (other, digit) in
+        record { taken = simp (other, digit); found = ap found_by rows }
+
+    fits_apart_last : Fits (w ∷ name ∷ v ∷ []) (read_by (task w) (most (Some v)))
+    unfolding clap_on_literals
+    fits_apart_last =
+        let rows : matches_of xsv (w ∷ name ∷ v ∷ []) ≡ command_row w ∷ option_row v ∷ [] = simp (other, digit) in
+        record { taken = simp (other, digit); found = ap found_by rows }
+
+    module _ (d : ℕ) (last : Text) (figure : (d == 45) ≡ false) where
+      abbrev u : Text
+      u = d ∷ last
+
+      fits_made : Fits (w ∷ v ∷ u ∷ []) (generated w v u)
+      unfolding clap_on_literals
+      fits_made =
+          let rows : matches_of xsv (w ∷ v ∷ u ∷ []) ≡ command_row w ∷ row_of (codes "NUMBER") v ∷ row_of (codes "COUNT") u ∷ [] = simp (other, digit, figure) in
+          record { taken = simp (other, digit, figure); found = ap found_by rows }
 
 -- ---- all words that are accepted
 
@@ -151,54 +142,70 @@ some_read None m h = cc
 some_read (Some t) None h = cc
 some_read (Some t) (Some m) h = (refl, refl)
 
-some_made : (w : Text) (a b : Option ℕ) → is_some (generated_by w a b) ≡ true → IsMaking w × (is_some a ≡ true) × (is_some b ≡ true)
+some_made : (w : Text) (a b : Option ℕ) → is_some (generated_by w a b) ≡ true → IsWord w × (is_some a ≡ true) × (is_some b ≡ true)
 some_made w None b h = cc
 some_made w (Some a) None h = cc
 some_made w (Some a) (Some b) h = (making_by w _ _ a b refl refl h, refl, refl)
 
+-- a fact of a word, by its first character
+spelt : (P : Text → Type 0) (w : Text) (is : IsWord w) → P (is.first ∷ is.rest) → P w
+spelt P w is h = subst P (sym is.is) h
+
 fits_one : (w : Text) → is_some (request (w ∷ [])) ≡ true → Fits (w ∷ []) (request (w ∷ []))
 fits_one w h =
     let some = some_read (task w) (most None) (ap is_some (sym (alone w)) ∙ h) in
-    subst (Fits (w ∷ [])) (sym (alone w)) (fits_alone w (reading w some.0))
+    let is = reading w some.0 in
+    subst (Fits (w ∷ [])) (sym (alone w)) (spelt (λ x. Fits (x ∷ []) (read_by (task x) (most None))) w is (fits_alone is.first is.rest is.other))
 
 two_by : (f s : Text) (a b : Option Text) → value_within f ≡ a → value_within s ≡ b → is_some (request (f ∷ s ∷ [])) ≡ true → Fits (f ∷ s ∷ []) (request (f ∷ s ∷ []))
 two_by f s (Some v) b e l h =
-    let is = glued_first f s v e in
-    let some = some_read (task s) (most (Some v)) (ap is_some (sym is) ∙ h) in
-    subst (λ w. Fits (w ∷ s ∷ []) (request (f ∷ s ∷ []))) (sym (within_is f v e)) (subst (Fits (named v ∷ s ∷ [])) (sym is) (fits_glued_first v s (reading s some.0)))
+    let same = glued_first f s v e in
+    let some = some_read (task s) (most (Some v)) (ap is_some (sym same) ∙ h) in
+    let is = reading s some.0 in
+    subst (λ x. Fits (x ∷ s ∷ []) (request (f ∷ s ∷ []))) (sym (within_is f v e)) (subst (Fits (named v ∷ s ∷ [])) (sym same)
+    (spelt (λ x. Fits (named v ∷ x ∷ []) (read_by (task x) (most (Some v)))) s is (fits_glued_first is.first is.rest is.other v)))
 two_by f s None (Some v) e l h =
-    let is = glued_last f s v e l in
-    let some = some_read (task f) (most (Some v)) (ap is_some (sym is) ∙ h) in
-    subst (λ w. Fits (f ∷ w ∷ []) (request (f ∷ s ∷ []))) (sym (within_is s v l)) (subst (Fits (f ∷ named v ∷ [])) (sym is) (fits_glued_last v f (reading f some.0)))
-two_by f s None None e l h = let no = ap is_some (no_two f s e l) in cc
+    let same = glued_last f s v e l in
+    let some = some_read (task f) (most (Some v)) (ap is_some (sym same) ∙ h) in
+    let is = reading f some.0 in
+    subst (λ x. Fits (f ∷ x ∷ []) (request (f ∷ s ∷ []))) (sym (within_is s v l)) (subst (Fits (f ∷ named v ∷ [])) (sym same)
+    (spelt (λ x. Fits (x ∷ named v ∷ []) (read_by (task x) (most (Some v)))) f is (fits_glued_last is.first is.rest is.other v)))
+two_by f s None None e l h = let none = ap is_some (no_two f s e l) in cc
 
 read_first : (f s t : Text) → is_option f ≡ true → is_some (request (f ∷ s ∷ t ∷ [])) ≡ true → Fits (f ∷ s ∷ t ∷ []) (request (f ∷ s ∷ t ∷ []))
 read_first f s t e h =
-    let is = apart_first f s t e in
-    let some = some_read (task t) (most (Some s)) (ap is_some (sym is) ∙ h) in
+    let same = apart_first f s t e in
+    let some = some_read (task t) (most (Some s)) (ap is_some (sym same) ∙ h) in
+    let is = reading t some.0 in
     let d = within 0 4294967295 s some.1 in
-    let fits : Fits (name ∷ s ∷ t ∷ []) (read_by (task t) (most (Some s))) =
-    subst (λ w. Fits (name ∷ w ∷ t ∷ []) (read_by (task t) (most (Some w)))) (sym d.is) (fits_apart_first d.first d.rest d.other t (reading t some.0)) in
-    subst (λ w. Fits (w ∷ s ∷ t ∷ []) (request (f ∷ s ∷ t ∷ []))) (sym (option_is f e)) (subst (Fits (name ∷ s ∷ t ∷ [])) (sym is) fits)
+    subst (λ x. Fits (x ∷ s ∷ t ∷ []) (request (f ∷ s ∷ t ∷ []))) (sym (option_is f e)) (subst (Fits (name ∷ s ∷ t ∷ [])) (sym same)
+    (spelt (λ x. Fits (name ∷ s ∷ x ∷ []) (read_by (task x) (most (Some s)))) t is
+    (spelt (λ x. Fits (name ∷ x ∷ (is.first ∷ is.rest) ∷ []) (read_by (task (is.first ∷ is.rest)) (most (Some x)))) s d
+    (fits_apart_first is.first is.rest is.other d.first d.rest d.other))))
 
 read_last : (f s t : Text) → is_option f ≡ false → is_option s ≡ true → is_some (request (f ∷ s ∷ t ∷ [])) ≡ true → Fits (f ∷ s ∷ t ∷ []) (request (f ∷ s ∷ t ∷ []))
-read_last f s t other e h =
-    let is = apart_last f s t other e in
-    let some = some_read (task f) (most (Some t)) (ap is_some (sym is) ∙ h) in
+read_last f s t plain e h =
+    let same = apart_last f s t plain e in
+    let some = some_read (task f) (most (Some t)) (ap is_some (sym same) ∙ h) in
+    let is = reading f some.0 in
     let d = within 0 4294967295 t some.1 in
-    let fits : Fits (f ∷ name ∷ t ∷ []) (read_by (task f) (most (Some t))) =
-    subst (λ w. Fits (f ∷ name ∷ w ∷ []) (read_by (task f) (most (Some w)))) (sym d.is) (fits_apart_last d.first d.rest d.other f (reading f some.0)) in
-    subst (λ w. Fits (f ∷ w ∷ t ∷ []) (request (f ∷ s ∷ t ∷ []))) (sym (option_is s e)) (subst (Fits (f ∷ name ∷ t ∷ [])) (sym is) fits)
+    subst (λ x. Fits (f ∷ x ∷ t ∷ []) (request (f ∷ s ∷ t ∷ []))) (sym (option_is s e)) (subst (Fits (f ∷ name ∷ t ∷ [])) (sym same)
+    (spelt (λ x. Fits (x ∷ name ∷ t ∷ []) (read_by (task x) (most (Some t)))) f is
+    (spelt (λ x. Fits ((is.first ∷ is.rest) ∷ name ∷ x ∷ []) (read_by (task (is.first ∷ is.rest)) (most (Some x)))) t d
+    (fits_apart_last is.first is.rest is.other d.first d.rest d.other))))
 
 generated_three : (f s t : Text) → is_option f ≡ false → is_option s ≡ false → is_some (request (f ∷ s ∷ t ∷ [])) ≡ true → Fits (f ∷ s ∷ t ∷ []) (request (f ∷ s ∷ t ∷ []))
 generated_three f s t lone none h =
-    let is = made f s t lone none in
-    let some = some_made f (number s) (between 1 100000 t) (ap is_some (sym is) ∙ h) in
+    let same = made f s t lone none in
+    let some = some_made f (number s) (between 1 100000 t) (ap is_some (sym same) ∙ h) in
+    let is = some.0 in
     let d = digits s some.1 in
     let n = within 1 100000 t some.2 in
-    let fits : Fits (f ∷ s ∷ (n.first ∷ n.rest) ∷ []) (generated f s (n.first ∷ n.rest)) =
-    subst (λ w. Fits (f ∷ w ∷ (n.first ∷ n.rest) ∷ []) (generated f w (n.first ∷ n.rest))) (sym d.is) (fits_made d.first d.rest d.other n.first n.rest n.other f some.0) in
-    subst (Fits (f ∷ s ∷ t ∷ [])) (sym is) (subst (λ w. Fits (f ∷ s ∷ w ∷ []) (generated f s w)) (sym n.is) fits)
+    subst (Fits (f ∷ s ∷ t ∷ [])) (sym same)
+    (spelt (λ x. Fits (x ∷ s ∷ t ∷ []) (generated x s t)) f is
+    (spelt (λ x. Fits ((is.first ∷ is.rest) ∷ x ∷ t ∷ []) (generated (is.first ∷ is.rest) x t)) s d
+    (spelt (λ x. Fits ((is.first ∷ is.rest) ∷ (d.first ∷ d.rest) ∷ x ∷ []) (generated (is.first ∷ is.rest) (d.first ∷ d.rest) x)) t n
+    (fits_made is.first is.rest is.other d.first d.rest d.other n.first n.rest n.other))))
 
 three_by : (f s t : Text) (a b : Bool) → is_option f ≡ a → is_option s ≡ b → is_some (request (f ∷ s ∷ t ∷ [])) ≡ true → Fits (f ∷ s ∷ t ∷ []) (request (f ∷ s ∷ t ∷ []))
 three_by f s t true b e l h = read_first f s t e h
