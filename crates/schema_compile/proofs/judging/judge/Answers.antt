@@ -14,8 +14,8 @@ judge_found-requires c =
       there = subst (λ (s : CompiledSet). AreContentsThere s.parts) same c.contents_are_there.ensures.there;
     }
 
-pub returns-in_ok : goal.returns-in_ok
-returns-in_ok c = record {
+pub returns : goal.returns
+returns c = record {
   judged = of-same IsJudged c.args.set.now c.find.new.set c.find.ensures.same c.judge_found.result c.judge_found.ensures.judged;
   same = c.judge_found.ensures.same ∙ c.find.ensures.same;
 }
