@@ -1,0 +1,5 @@
+mod ReferenceLaws
+mod FaultLaws
+mod EntryLaws
+mod OwnLaws
+mod TargetLaws
