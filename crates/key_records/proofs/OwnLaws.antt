@@ -194,3 +194,16 @@ module _ (refs : References) (old middle new : KeyRecords) (scope k : ℕ) (tupl
 
   pub settled-again : (t : Links) → AreSettled t middle.referred → AreSettled t new.referred
   settled-again t s = subst (AreSettled t) (sym again.referred_is) s
+
+-- ---- what is there
+
+pub there-referred : (b : Bool) (r : KeyRecords) (n k : ℕ) (tuple : List Key) → b ≡ true → 1 ≤ own_in b r n k tuple → 1 ≤ own_count r.referred n (2 * k) tuple
+there-referred b r n k tuple e h = subst (λ (x : Bool). 1 ≤ own_in x r n k tuple) e h
+
+pub there-other : (b : Bool) (r : KeyRecords) (n k : ℕ) (tuple : List Key) → b ≡ false → 1 ≤ own_in b r n k tuple → 1 ≤ own_count r.others n (2 * k) tuple
+there-other b r n k tuple e h = subst (λ (x : Bool). 1 ≤ own_in x r n k tuple) e h
+
+-- what was made right of a list is right of the list that it is
+pub through : (refs : References) (r : KeyRecords) (tuple : List Key) (told slice keyrefs all : List ℕ) → slice ≡ told → keyrefs ≡ all
+    → ((n keyref : ℕ) → Has n slice → Has keyref keyrefs → IsMatched refs r n keyref tuple) → (n keyref : ℕ) → Has n told → Has keyref all → IsMatched refs r n keyref tuple
+through refs r tuple told slice keyrefs all a b right n keyref h k = right n keyref (subst (Has n) (sym a) h) (subst (Has keyref) (sym b) k)

@@ -120,7 +120,8 @@ impl FaultCounts {
         let Some(more) = self.at(scope, constraint).with(found) else {
             return Err(AllocError);
         };
-        self.set(scope, constraint, more)
+        self.set(scope, constraint, more)?;
+        Ok(())
     }
 
     /// Counts the faults of a target no more.
@@ -137,6 +138,7 @@ impl FaultCounts {
             return Ok(());
         }
         let fewer = self.at(scope, constraint).without(found);
-        self.set(scope, constraint, fewer)
+        self.set(scope, constraint, fewer)?;
+        Ok(())
     }
 }

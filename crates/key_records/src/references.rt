@@ -25,10 +25,12 @@ impl References {
         ensures sound { AreReferences result }
         ensures none { refers result ≡ [] }
     {
+        let keys = Vec::new(alloc);
+        let keyrefs = HashMap::new(alloc);
         References {
             alloc,
-            keys: Vec::new(alloc),
-            keyrefs: HashMap::new(alloc),
+            keys,
+            keyrefs,
         }
     }
 
