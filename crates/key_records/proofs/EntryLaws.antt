@@ -156,4 +156,3 @@ module _ (refs : References) (r : KeyRecords) (n k : ℕ) (tuple : List Key) (ke
     taken-rematched no =
         rematched refs r others n k tuple own-left (λ m j other off. sym (said_others others r.others n k tuple grown m (for_key j other) off))
         (subst (λ (c : ℕ). c ≤ 1) (sym none-left) (omega arith)) once (taken-right no)
-

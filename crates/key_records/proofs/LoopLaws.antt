@@ -23,11 +23,11 @@ module _ (refs : References) (old new : KeyRecords) (scope : ℕ) (tuple : List 
       ]
     where
       first : Has keyref (x ∷ rest) → Has keyref rest ⊎ IsMatched refs new scope keyref tuple
-      first there = elim there [ | inl same ↦ inr (subst (λ (k : ℕ). IsMatched refs new scope k tuple) same right) | inr later ↦ inl later ]
+      first there = elim there [ inl same ↦ inr (subst (λ (k : ℕ). IsMatched refs new scope k tuple) same right) | inr later ↦ inl later ]
 
 pub keyrefs-all : (refs : References) (r : KeyRecords) (scope : ℕ) (tuple : List Key) (all left : List ℕ) → length left ≡ 0 → ((keyref : ℕ) → Has keyref all → Has keyref left ⊎ IsMatched refs r scope keyref tuple)
     → (keyref : ℕ) → Has keyref all → IsMatched refs r scope keyref tuple
-keyrefs-all refs r scope tuple all left none so keyref h = elim (so keyref h) [ | inl there ↦ absurd (nothing-left left keyref none there) | inr done ↦ done ]
+keyrefs-all refs r scope tuple all left none so keyref h = elim (so keyref h) [ inl there ↦ absurd (nothing-left left keyref none there) | inr done ↦ done ]
 
 module _ (refs : References) (old new : KeyRecords) (tuple : List Key) (keyrefs all left rest : List ℕ) (x : ℕ) where
   pub told-more : IsRematched refs old new → ((keyref : ℕ) → Has keyref keyrefs → IsMatched refs new x keyref tuple) → left ≡ x ∷ rest
@@ -40,9 +40,9 @@ module _ (refs : References) (old new : KeyRecords) (tuple : List Key) (keyrefs 
       ]
     where
       first : Has n (x ∷ rest) → Has n rest ⊎ ((keyref : ℕ) → Has keyref keyrefs → IsMatched refs new n keyref tuple)
-      first there = elim there [ | inl same ↦ inr (subst (λ (m : ℕ). (keyref : ℕ) → Has keyref keyrefs → IsMatched refs new m keyref tuple) same right) | inr later ↦ inl later ]
+      first there = elim there [ inl same ↦ inr (subst (λ (m : ℕ). (keyref : ℕ) → Has keyref keyrefs → IsMatched refs new m keyref tuple) same right) | inr later ↦ inl later ]
 
 pub told-all : (refs : References) (r : KeyRecords) (tuple : List Key) (keyrefs all left : List ℕ) → length left ≡ 0
     → ((n : ℕ) → Has n all → Has n left ⊎ ((keyref : ℕ) → Has keyref keyrefs → IsMatched refs r n keyref tuple))
     → (n keyref : ℕ) → Has n all → Has keyref keyrefs → IsMatched refs r n keyref tuple
-told-all refs r tuple keyrefs all left none so n keyref h k = elim (so n h) [ | inl there ↦ absurd (nothing-left left n none there) | inr done ↦ done keyref k ]
+told-all refs r tuple keyrefs all left none so n keyref h k = elim (so n h) [ inl there ↦ absurd (nothing-left left n none there) | inr done ↦ done keyref k ]

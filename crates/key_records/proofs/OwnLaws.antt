@@ -108,7 +108,7 @@ has-or-lacks m [] = inr (λ h. h)
 has-or-lacks m (x ∷ xs) =
     elim (same_or_other x m) [
       | inl e ↦ inl (inl e)
-      | inr off ↦ elim (has-or-lacks m xs) [ | inl later ↦ inl (inr later) | inr never ↦ inr (λ h. elim h [ inl e ↦ off e | inr later ↦ never later ]) ]
+      | inr off ↦ elim (has-or-lacks m xs) [ inl later ↦ inl (inr later) | inr never ↦ inr (λ h. elim h [ inl e ↦ off e | inr later ↦ never later ]) ]
     ]
 
 same-or-not : (x y : KeyTuple) (b : Bool) → same_key_tuple x y ≡ b → (x ≡ y) ⊎ (x ≡ y → ⊥)

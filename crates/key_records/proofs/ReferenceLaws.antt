@@ -25,7 +25,7 @@ key-more xs x k key is = by (slice_get (xs ++ x ∷ []) k) refl is
   where
     by : (found : Option (Option ℕ)) → slice_get (xs ++ x ∷ []) k ≡ found → joined found ≡ Some key → (joined (slice_get xs k) ≡ Some key) ⊎ ((k ≡ length xs) × (x ≡ Some key))
     by None e h = absurd (none-some key h)
-    by (Some o) e h = elim (slice_get-push xs x k o e) [ | inl there ↦ inl (ap joined there ∙ h) | inr last ↦ inr (last.0, sym last.1 ∙ h) ]
+    by (Some o) e h = elim (slice_get-push xs x k o e) [ inl there ↦ inl (ap joined there ∙ h) | inr last ↦ inr (last.0, sym last.1 ∙ h) ]
 
 pub no_references : (r : References) → refers r ≡ [] → AreReferences r
 no_references r e = record {

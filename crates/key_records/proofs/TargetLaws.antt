@@ -12,7 +12,7 @@ use Rattle.identity_counts.proofs.Bearers.{same_or_other, bearers-alike}
 use Rattle.identity_counts.proofs.Exact.{seen_is}
 use Rattle.identity_carry.specs.Tables.{KeyTuple, AreSettled, for_key, own, said, same_key_tuple, is_in_table}
 use Rattle.identity_carry.proofs.EntryLaws.{decides}
-use Rattle.key_records.specs.Counted.{Counted, plus, one_target, counted_of, has_tuple, has_fault, no_targets, own_tuples}
+use Rattle.key_records.specs.Counted.{Counted, plus, one_target, no_targets, own_tuples, with_keys, with_misuse, without_keys, with_nillable}
 use Rattle.key_records.specs.Faults.{AreMoreFaults, faults_at, no_faults, weight}
 use Rattle.key_records.specs.References.{AreReferences, key_of, keyrefs_of, is_referred, has_any}
 use Rattle.key_records.specs.Records.{own_in, own_of, is_shown, unmatched, AreOnce, AreMatched, AreRecords, IsOneMoreTarget}
@@ -23,6 +23,13 @@ use Rattle.key_records.specs.declared.references.References.{References}
 use Rattle.key_records.specs.declared.records.KeyRecords.{KeyRecords}
 
 -- ---- faults, by one of their numbers
+
+abbrev has_fault : ℕ → ℕ → Bool → ℕ → ℕ → ℕ
+has_fault scope k fault n j = weight (nat_eq scope n && (nat_eq k j && fault))
+
+-- whether it is this key-sequence of this constraint of this element
+abbrev is_it : ℕ → ℕ → List Key → ℕ → ℕ → List Key → Bool
+is_it scope k tuple n j other = nat_eq scope n && same_key_tuple (for_key k tuple) (for_key j other)
 
 and-off : (a b : Bool) (f : Bool) → (a ≡ true → b ≡ true → ⊥) → weight (a && (b && f)) ≡ 0
 and-off false b f off = refl
@@ -38,7 +45,7 @@ fault-off scope k f n j off = and-off (nat_eq scope n) (nat_eq k j) f (λ a b. o
 spot-or-not : (scope k n j : ℕ) → ((scope ≡ n) × (k ≡ j)) ⊎ (scope ≡ n → k ≡ j → ⊥)
 spot-or-not scope k n j =
     elim (same_or_other scope n) [
-      | inl a ↦ elim (same_or_other k j) [ | inl b ↦ inl (a, b) | inr off ↦ inr (λ x y. off y) ]
+      | inl a ↦ elim (same_or_other k j) [ inl b ↦ inl (a, b) | inr off ↦ inr (λ x y. off y) ]
       | inr off ↦ inr (λ x y. off x)
     ]
 
@@ -80,12 +87,17 @@ module _ (t : Links) (refs : References) (c : Counted) (old : KeyRecords) (fault
   abbrev found : Option (List Key) → TargetFaults
   found tuple = record { misused = misused; lacking = is_none tuple; nillable = nillable }
 
-  plus-zero : (a : ℕ) → a ≡ a + 0
-  plus-zero a = omega arith
+  none-there : (a b : Bool) → weight (a && (b && false)) ≡ 0
+  none-there false b = refl
+  none-there true false = refl
+  none-there true true = refl
+
+  plus-none : (m : ℕ) (a b : Bool) → m ≡ m + weight (a && (b && false))
+  plus-none m a b = with-zero m m (weight (a && (b && false))) refl (none-there a b)
 
   pub put-faults : AreMoreFaults old.faults faults scope k (found None) → AreRecords t refs c old → AreRecords t refs (plus c (one_target scope k None misused nillable)) faulty
   put-faults grown r = record {
-    own_are = λ n j tuple. r.own_are n j tuple ∙ plus-zero (c.tuples n j tuple);
+    own_are = λ n j tuple. r.own_are n j tuple ∙ plus-none (c n j (with_keys tuple)) (nat_eq scope n) (nat_eq k j);
     settled = r.settled;
     matched = r.matched;
     once = r.once;
@@ -96,13 +108,13 @@ module _ (t : Links) (refs : References) (c : Counted) (old : KeyRecords) (fault
 
   pub take-faults : AreMoreFaults faults old.faults scope k (found None) → AreRecords t refs (plus c (one_target scope k None misused nillable)) old → AreRecords t refs c faulty
   take-faults grown r = record {
-    own_are = λ n j tuple. r.own_are n j tuple ∙ sym (plus-zero (c.tuples n j tuple));
+    own_are = λ n j tuple. r.own_are n j tuple ∙ sym (plus-none (c n j (with_keys tuple)) (nat_eq scope n) (nat_eq k j));
     settled = r.settled;
     matched = r.matched;
     once = r.once;
-    misused_are = λ n j. less (faults_at faults n j).misused (c.misused n j) (has_fault scope k misused n j) (sym (misused-more faults old.faults scope k (found None) grown n j) ∙ r.misused_are n j);
-    lacking_are = λ n j. less (faults_at faults n j).lacking (c.lacking n j) (has_fault scope k true n j) (sym (lacking-more faults old.faults scope k (found None) grown n j) ∙ r.lacking_are n j);
-    nillable_are = λ n j. less (faults_at faults n j).nillable (c.nillable n j) (has_fault scope k nillable n j) (sym (nillable-more faults old.faults scope k (found None) grown n j) ∙ r.nillable_are n j);
+    misused_are = λ n j. less (faults_at faults n j).misused (c n j with_misuse) (has_fault scope k misused n j) (sym (misused-more faults old.faults scope k (found None) grown n j) ∙ r.misused_are n j);
+    lacking_are = λ n j. less (faults_at faults n j).lacking (c n j without_keys) (has_fault scope k true n j) (sym (lacking-more faults old.faults scope k (found None) grown n j) ∙ r.lacking_are n j);
+    nillable_are = λ n j. less (faults_at faults n j).nillable (c n j with_nillable) (has_fault scope k nillable n j) (sym (nillable-more faults old.faults scope k (found None) grown n j) ∙ r.nillable_are n j);
   }
 
 -- with one
@@ -113,7 +125,7 @@ module _ (t : Links) (refs : References) (c : Counted) (old middle new : KeyReco
       let here = subst (λ (x : FaultCounts). AreMoreFaults old.faults x scope k (record { misused = misused; lacking = false; nillable = nillable })) (sym faults_are) grown in
       let all : TargetFaults = record { misused = misused; lacking = false; nillable = nillable } in
       record {
-        own_are = λ n j other. own n j other ∙ ap (λ (a : ℕ). a + weight (has_tuple scope k (Some tuple) n j other)) (r.own_are n j other);
+        own_are = λ n j other. own n j other ∙ ap (λ (a : ℕ). a + weight (is_it scope k tuple n j other)) (r.own_are n j other);
         settled = settled;
         matched = matched;
         once = once;
@@ -128,17 +140,17 @@ module _ (t : Links) (refs : References) (c : Counted) (old middle new : KeyReco
       let here = subst (λ (x : FaultCounts). AreMoreFaults x old.faults scope k (record { misused = misused; lacking = false; nillable = nillable })) (sym faults_are) grown in
       let all : TargetFaults = record { misused = misused; lacking = false; nillable = nillable } in
       record {
-        own_are = λ n j other. less (own_of refs new n j other) (c.tuples n j other) (weight (has_tuple scope k (Some tuple) n j other)) (sym (own n j other) ∙ r.own_are n j other);
+        own_are = λ n j other. less (own_of refs new n j other) (c n j (with_keys other)) (weight (is_it scope k tuple n j other)) (sym (own n j other) ∙ r.own_are n j other);
         settled = settled;
         matched = matched;
         once = once;
-        misused_are = λ n j. less (faults_at new.faults n j).misused (c.misused n j) (has_fault scope k misused n j) (sym (misused-more new.faults old.faults scope k all here n j) ∙ r.misused_are n j);
-        lacking_are = λ n j. less (faults_at new.faults n j).lacking (c.lacking n j) (has_fault scope k false n j) (sym (lacking-more new.faults old.faults scope k all here n j) ∙ r.lacking_are n j);
-        nillable_are = λ n j. less (faults_at new.faults n j).nillable (c.nillable n j) (has_fault scope k nillable n j) (sym (nillable-more new.faults old.faults scope k all here n j) ∙ r.nillable_are n j);
+        misused_are = λ n j. less (faults_at new.faults n j).misused (c n j with_misuse) (has_fault scope k misused n j) (sym (misused-more new.faults old.faults scope k all here n j) ∙ r.misused_are n j);
+        lacking_are = λ n j. less (faults_at new.faults n j).lacking (c n j without_keys) (has_fault scope k false n j) (sym (lacking-more new.faults old.faults scope k all here n j) ∙ r.lacking_are n j);
+        nillable_are = λ n j. less (faults_at new.faults n j).nillable (c n j with_nillable) (has_fault scope k nillable n j) (sym (nillable-more new.faults old.faults scope k all here n j) ∙ r.nillable_are n j);
       }
 
 -- what was put in is there
-tuple-here : (scope k : ℕ) (tuple : List Key) → weight (has_tuple scope k (Some tuple) scope k tuple) ≡ 1
+tuple-here : (scope k : ℕ) (tuple : List Key) → weight (is_it scope k tuple scope k tuple) ≡ 1
 tuple-here scope k tuple = ap weight (λ i. eq-eqb scope scope refl i && (decides (for_key k tuple) (for_key k tuple)).1 refl i)
 
 pub there : (t : Links) (refs : References) (c : Counted) (r : KeyRecords) (scope k : ℕ) (tuple : List Key) (misused nillable : Bool) → AreRecords t refs (plus c (one_target scope k (Some tuple) misused nillable)) r
@@ -146,7 +158,7 @@ pub there : (t : Links) (refs : References) (c : Counted) (r : KeyRecords) (scop
 there t refs c r scope k tuple misused nillable records =
     let all = records.own_are scope k tuple in
     let one = tuple-here scope k tuple in
-    some (own_of refs r scope k tuple) (c.tuples scope k tuple) (weight (has_tuple scope k (Some tuple) scope k tuple)) all one
+    some (own_of refs r scope k tuple) (c scope k (with_keys tuple)) (weight (is_it scope k tuple scope k tuple)) all one
   where
     some : (a b w : ℕ) → a ≡ b + w → w ≡ 1 → 1 ≤ a
     some a b w e one = omega (arith, e, one)
@@ -158,12 +170,12 @@ among f a b d misused lacking nillable one two three = λ i. record { misused = 
 
 pub faults-among : (t : Links) (refs : References) (c : Counted) (r : KeyRecords) (scope k : ℕ) (tuple : Option (List Key)) (misused nillable : Bool) → AreRecords t refs (plus c (one_target scope k tuple misused nillable)) r
     → faults_at r.faults scope k
-    ≡ record { misused = c.misused scope k + weight misused; lacking = c.lacking scope k + weight (is_none tuple); nillable = c.nillable scope k + weight nillable }
+    ≡ record { misused = c scope k with_misuse + weight misused; lacking = c scope k without_keys + weight (is_none tuple); nillable = c scope k with_nillable + weight nillable }
 faults-among t refs c r scope k tuple misused nillable records =
-    among (faults_at r.faults scope k) (c.misused scope k) (c.lacking scope k) (c.nillable scope k) misused (is_none tuple) nillable
-    (records.misused_are scope k ∙ ap (λ (w : ℕ). c.misused scope k + w) (fault-here scope k misused))
-    (records.lacking_are scope k ∙ ap (λ (w : ℕ). c.lacking scope k + w) (fault-here scope k (is_none tuple)))
-    (records.nillable_are scope k ∙ ap (λ (w : ℕ). c.nillable scope k + w) (fault-here scope k nillable))
+    among (faults_at r.faults scope k) (c scope k with_misuse) (c scope k without_keys) (c scope k with_nillable) misused (is_none tuple) nillable
+    (records.misused_are scope k ∙ ap (λ (w : ℕ). c scope k with_misuse + w) (fault-here scope k misused))
+    (records.lacking_are scope k ∙ ap (λ (w : ℕ). c scope k without_keys + w) (fault-here scope k (is_none tuple)))
+    (records.nillable_are scope k ∙ ap (λ (w : ℕ). c scope k with_nillable + w) (fault-here scope k nillable))
 
 -- ---- what they say
 
@@ -172,13 +184,13 @@ told-by None code is = (λ e. absurd (true≢false (sym e)), λ p. absurd (is p)
 told-by (Some found) code is = (λ e. is.0, λ p. refl)
 
 pub repeated-by : (t : Links) (refs : References) (c : Counted) (r : KeyRecords) (scope k : ℕ) (b told : Bool) → AreRecords t refs c r → b ≡ is_referred refs k → IsTrue told ↔ ((tuple : List Key) × (2 ≤ own_in b r scope k tuple))
-    → IsTrue told ↔ ((tuple : List Key) × (2 ≤ c.tuples scope k tuple))
+    → IsTrue told ↔ ((tuple : List Key) × (2 ≤ c scope k (with_keys tuple)))
 repeated-by t refs c r scope k b told records is iff = (
   λ e. let found = iff.0 e in (found.0, subst (λ (n : ℕ). 2 ≤ n) (same found.0) found.1),
   λ found. iff.1 (found.0, subst (λ (n : ℕ). 2 ≤ n) (sym (same found.0)) found.1),
 )
   where
-    same : (tuple : List Key) → own_in b r scope k tuple ≡ c.tuples scope k tuple
+    same : (tuple : List Key) → own_in b r scope k tuple ≡ c scope k (with_keys tuple)
     same tuple = ap (λ (x : Bool). own_in x r scope k tuple) is ∙ records.own_are scope k tuple
 
 -- by one recursion, where own ones are the same
@@ -205,7 +217,7 @@ module _ (t : Links) (refs : References) (c : Counted) (r : KeyRecords) (scope k
       seen_is same_key_tuple t (own r.referred) (said r.referred) records.settled (for_key key tuple) scope below children stand
       ∙ (λ i. is_seen (own-is tuple scope i) (bearing-alike (own r.referred) (own_tuples c) (for_key key tuple) (own-is tuple) below i))
 
-  entered-is : (tuple : List Key) → unmatched r scope keyref tuple ≡ weight (nat_lt 0 (c.tuples scope keyref tuple) && not (is_visible (own_tuples c) (for_key key tuple) scope below))
+  entered-is : (tuple : List Key) → unmatched r scope keyref tuple ≡ weight (nat_lt 0 (c scope keyref (with_keys tuple)) && not (is_visible (own_tuples c) (for_key key tuple) scope below))
   entered-is tuple =
       records.matched scope keyref tuple key is
       ∙ (λ i. weight (nat_lt 0 (records.own_are scope keyref tuple i) && not (shown-is tuple i)))
@@ -224,14 +236,14 @@ module _ (t : Links) (refs : References) (c : Counted) (r : KeyRecords) (scope k
       subst (λ (w : ℕ). 1 ≤ w) (sym (λ i. weight (there i && not (e i)))) (omega arith)
 
   pub unmatched-by : (told : Bool) → IsTrue told ↔ ((tuple : List Key) × (1 ≤ unmatched r scope keyref tuple))
-      → IsTrue told ↔ ((tuple : List Key) × (1 ≤ c.tuples scope keyref tuple) × (is_visible (own_tuples c) (for_key key tuple) scope below ≡ false))
+      → IsTrue told ↔ ((tuple : List Key) × (1 ≤ c scope keyref (with_keys tuple)) × (is_visible (own_tuples c) (for_key key tuple) scope below ≡ false))
   unmatched-by told iff = (
     λ e.
         let found = iff.0 e in
-        let parts = from-weight (c.tuples scope keyref found.0) (is_visible (own_tuples c) (for_key key found.0) scope below) (subst (λ (n : ℕ). 1 ≤ n) (entered-is found.0) found.1) in
+        let parts = from-weight (c scope keyref (with_keys found.0)) (is_visible (own_tuples c) (for_key key found.0) scope below) (subst (λ (n : ℕ). 1 ≤ n) (entered-is found.0) found.1) in
         (found.0, parts.0, parts.1),
     λ found.
-        iff.1 (found.0, subst (λ (n : ℕ). 1 ≤ n) (sym (entered-is found.0)) (to-weight (c.tuples scope keyref found.0) (is_visible (own_tuples c) (for_key key found.0) scope below) found.1 found.2)),
+        iff.1 (found.0, subst (λ (n : ℕ). 1 ≤ n) (sym (entered-is found.0)) (to-weight (c scope keyref (with_keys found.0)) (is_visible (own_tuples c) (for_key key found.0) scope below) found.1 found.2)),
   )
 
 -- ---- no targets

@@ -4,7 +4,7 @@ use Rattle.simple_values.specs.declared.key.Key.{Key}
 use Rattle.identity_tables.specs.KeyTables.{own_count}
 use Rattle.identity_counts.specs.Counting.{Links}
 use Rattle.identity_carry.specs.Tables.{AreSettled, for_key, same_key_tuple, is_in_table}
-use Rattle.key_records.specs.Counted.{Counted}
+use Rattle.key_records.specs.Counted.{Counted, with_keys, with_misuse, without_keys, with_nillable}
 use Rattle.key_records.specs.Faults.{faults_at, weight}
 use Rattle.key_records.specs.References.{key_of, is_referred}
 use Rattle.key_records.specs.declared.references.References.{References}
@@ -62,10 +62,10 @@ AreMatched refs r = (n k : ℕ) (tuple : List Key) → IsMatched refs r n k tupl
 -- The records are right by what is counted of targets: own key-sequences and faults are those of the targets, each element counts the child
 -- elements in whose tables a key-sequence is, and those of keyrefs are entered that are not in the table of the element.
 pub record AreRecords (t : Links) (refs : References) (c : Counted) (r : KeyRecords) : Type 0 where
-  pub own_are : (n k : ℕ) (tuple : List Key) → own_of refs r n k tuple ≡ c.tuples n k tuple
+  pub own_are : (n k : ℕ) (tuple : List Key) → own_of refs r n k tuple ≡ c n k (with_keys tuple)
   pub settled : AreSettled t r.referred
   pub matched : AreMatched refs r
   pub once : AreOnce r
-  pub misused_are : (n k : ℕ) → (faults_at r.faults n k).misused ≡ c.misused n k
-  pub lacking_are : (n k : ℕ) → (faults_at r.faults n k).lacking ≡ c.lacking n k
-  pub nillable_are : (n k : ℕ) → (faults_at r.faults n k).nillable ≡ c.nillable n k
+  pub misused_are : (n k : ℕ) → (faults_at r.faults n k).misused ≡ c n k with_misuse
+  pub lacking_are : (n k : ℕ) → (faults_at r.faults n k).lacking ≡ c n k without_keys
+  pub nillable_are : (n k : ℕ) → (faults_at r.faults n k).nillable ≡ c n k with_nillable

@@ -65,13 +65,7 @@ impl KeyRecords {
     }
 
     // How often a key-sequence is an own one of an element for a constraint.
-    fn own_count(
-        &self,
-        references: &References,
-        scope: u32,
-        constraint: u32,
-        tuple: &Tuple,
-    ) -> u32
+    fn own_count(&self, references: &References, scope: u32, constraint: u32, tuple: &Tuple) -> u32
         requires few { constraint < 2 ^ 31 }
         ensures { result ≡ own_of references.now self.now scope constraint tuple.now }
     {

@@ -4,7 +4,7 @@ ghost use Rattle.std.specs.Prelude.{◌≡◌, ◌≤◌, ◌<◌, ◌^◌, ◌�
 ghost use Rattle.simple_values.specs.declared.key.Key.{Key};
 ghost use Rattle.identity_counts.specs.Counting.{Links, Numbers, IsLinked, StandFor, firsts, is_visible};
 ghost use Rattle.identity_carry.specs.Tables.{AreParents, for_key};
-ghost use Rattle.key_records.specs.Counted.{Counted, counted_of, own_tuples, plus};
+ghost use Rattle.key_records.specs.Counted.{Counted, counted_of, own_tuples, plus, with_keys, with_misuse, without_keys, with_nillable};
 ghost use Rattle.key_records.specs.Faults.{faults_of};
 ghost use Rattle.key_records.specs.References.{AreReferences, key_of};
 ghost use Rattle.key_records.specs.Records.{AreRecords};
@@ -96,14 +96,14 @@ impl KeyRecords {
 
     /// Whether a target of a constraint of an element misuses a field (cvc-identity-constraint.3).
     pub fn has_misused(&self, scope: u32, constraint: u32) -> bool
-        ensures { (t : Links) (refs : TheReferences) (c : Counted) → AreRecords t refs c self.now → result ≡ nat_lt 0 (c.misused scope constraint) }
+        ensures { (t : Links) (refs : TheReferences) (c : Counted) → AreRecords t refs c self.now → result ≡ nat_lt 0 (c scope constraint with_misuse) }
     {
         0 < self.faults.at(scope, constraint).misused
     }
 
     /// Whether a target of a constraint of an element has no key-sequence (cvc-identity-constraint.4.2.1).
     pub fn has_lacking(&self, scope: u32, constraint: u32) -> bool
-        ensures { (t : Links) (refs : TheReferences) (c : Counted) → AreRecords t refs c self.now → result ≡ nat_lt 0 (c.lacking scope constraint) }
+        ensures { (t : Links) (refs : TheReferences) (c : Counted) → AreRecords t refs c self.now → result ≡ nat_lt 0 (c scope constraint without_keys) }
     {
         0 < self.faults.at(scope, constraint).lacking
     }
@@ -111,7 +111,7 @@ impl KeyRecords {
     /// Whether a field of a target of a constraint of an element has an element whose declaration is nillable
     /// (cvc-identity-constraint.4.2.3).
     pub fn has_nillable(&self, scope: u32, constraint: u32) -> bool
-        ensures { (t : Links) (refs : TheReferences) (c : Counted) → AreRecords t refs c self.now → result ≡ nat_lt 0 (c.nillable scope constraint) }
+        ensures { (t : Links) (refs : TheReferences) (c : Counted) → AreRecords t refs c self.now → result ≡ nat_lt 0 (c scope constraint with_nillable) }
     {
         0 < self.faults.at(scope, constraint).nillable
     }
@@ -119,7 +119,7 @@ impl KeyRecords {
     /// Whether two targets of a constraint of an element have equal key-sequences (cvc-identity-constraint.4.1, .4.2.2).
     pub fn has_repeated(&self, references: &References, scope: u32, constraint: u32) -> bool
         requires few { constraint < 2 ^ 31 }
-        ensures { (t : Links) (c : Counted) → AreRecords t references.now c self.now → IsTrue result ↔ ((tuple : List Key) × (2 ≤ c.tuples scope constraint tuple)) }
+        ensures { (t : Links) (c : Counted) → AreRecords t references.now c self.now → IsTrue result ↔ ((tuple : List Key) × (2 ≤ c scope constraint (with_keys tuple))) }
     {
         self.has_equal(references.is_referred(constraint), scope, constraint)
     }
@@ -129,7 +129,7 @@ impl KeyRecords {
     pub fn has_unmatched(&self, scope: u32, keyref: u32) -> bool
         requires few { keyref < 2 ^ 31 }
         ensures { (t : Links) (refs : TheReferences) (c : Counted) (key : ℕ) (below : Numbers) → AreReferences refs → AreRecords t refs c self.now → key_of refs keyref ≡ Some key → t.children scope ≡ firsts below → StandFor t below
-            → IsTrue result ↔ ((tuple : List Key) × (1 ≤ c.tuples scope keyref tuple) × (is_visible (own_tuples c) (for_key key tuple) scope below ≡ false)) }
+            → IsTrue result ↔ ((tuple : List Key) × (1 ≤ c scope keyref (with_keys tuple)) × (is_visible (own_tuples c) (for_key key tuple) scope below ≡ false)) }
     {
         self.has_entries(scope, keyref)
     }

@@ -1,7 +1,7 @@
 use Rattle.std.proofs.Common.{List, Option, sym, ap, subst, ◌∙◌}
 use Rattle.std.specs.Prelude.{is_none}
 use Rattle.simple_values.specs.declared.key.Key.{Key}
-use Rattle.key_records.specs.Counted.{plus, one_target}
+use Rattle.key_records.specs.Counted.{plus, one_target, with_misuse, without_keys, with_nillable}
 use Rattle.key_records.specs.Faults.{AreMoreFaults, more_faults}
 use Rattle.key_records.specs.Records.{AreRecords}
 use Rattle.key_records.specs.declared.faults.Faults.{Faults}
@@ -14,7 +14,7 @@ pub remove-requires : goal.remove-requires
 remove-requires c =
     let l = c.requires.linked in
     let target = c.args.target in
-    let fewer : Faults = record { misused = l.1.misused target.scope target.constraint; lacking = l.1.lacking target.scope target.constraint; nillable = l.1.nillable target.scope target.constraint } in
+    let fewer : Faults = record { misused = l.1 target.scope target.constraint with_misuse; lacking = l.1 target.scope target.constraint without_keys; nillable = l.1 target.scope target.constraint with_nillable } in
     (fewer, faults-among l.0 c.args.tree.now.references.now l.1 c.args.self.now target.scope target.constraint target.tuple.now target.misused target.nillable l.4 ∙ ap (more_faults fewer) (sym c.faults.ensures))
 
 pub take_tuple-requires-clause-there : goal.take_tuple-requires-clause-there
