@@ -153,7 +153,8 @@ pub(crate) fn read_all<T: KeySiblings>(
 ) -> Result<(), AllocError>
     requires references { AreReferencesOf by.now.set.parts.now.constraints.parts by.now.tree.references.now }
     requires few { length codes.old.items + size (T.forest siblings) < 2 ^ 32 }
-    ensures { OnOk result (AreFilled by.now.set.names.now by.now.set.parts.now by.now.set.identities.now by.now.tree records.now (length codes.old.items) (T.forest siblings)
+    ensures many { OnOk result (length codes.new.items ≡ length codes.old.items + size (T.forest siblings)) }
+    ensures codes { OnOk result (AreFilled by.now.set.names.now by.now.set.parts.now by.now.set.identities.now by.now.tree records.now (length codes.old.items) (T.forest siblings)
         → codes.new.items ≡ codes.old.items ++ all_codes by.now.set.names.now by.now.set.parts.now by.now.set.identities.now (T.forest siblings)) }
 {
     let mut left = siblings;
