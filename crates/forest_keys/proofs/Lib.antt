@@ -1,7 +1,10 @@
+mod Keyrefs
 mod Linking
 mod Places
+mod Parents
 mod Counts
 mod Growing
+mod Along
 mod Filling
 mod Reading
 mod Codes
