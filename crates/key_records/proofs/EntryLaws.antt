@@ -96,7 +96,7 @@ right refs r n k tuple key own seen wanted is own_is seen_is wanted_is entered =
     let shown : seen ≡ is_shown r n other tuple = subst (λ j. seen ≡ is_shown r n j tuple) same seen_is in
     entered ∙ ap weight wanted_is ∙ (λ i. weight (nat_lt 0 (own_is i) && not (shown i)))
 
--- no keyref
+-- fails keyref
 pub no-keyref : (refs : References) (r : KeyRecords) (n k : ℕ) (tuple : List Key) → key_of refs k ≡ None → IsMatched refs r n k tuple
 no-keyref refs r n k tuple e = λ key is. absurd (none-some key (sym e ∙ is))
   where
@@ -107,9 +107,9 @@ no-keyref refs r n k tuple e = λ key is. absurd (none-some key (sym e ∙ is))
 module _ (refs : References) (r : KeyRecords) (n k : ℕ) (tuple : List Key) (key own entered : ℕ) (seen wanted : Bool) (once : AreOnce r)
     (is : key_of refs k ≡ Some key) (own_is : own ≡ own_of refs r n k tuple) (seen_is : seen ≡ is_shown r n key tuple) (wanted_is : wanted ≡ (nat_lt 0 own && not seen)) (entered_is : entered ≡ unmatched r n k tuple) where
   pub stays-entered : wanted ≡ true → (entered ≡ 0 → ⊥) → IsMatched refs r n k tuple
-  stays-entered yes some =
+  stays-entered holds some =
       let one : unmatched r n k tuple ≡ 1 = few (unmatched r n k tuple) (once n k tuple) (λ e. some (entered_is ∙ e)) in
-      right refs r n k tuple key own seen wanted is own_is seen_is wanted_is (one ∙ sym (weight-one wanted yes))
+      right refs r n k tuple key own seen wanted is own_is seen_is wanted_is (one ∙ sym (weight-one wanted holds))
     where
       few : (c : ℕ) → c ≤ 1 → (c ≡ 0 → ⊥) → c ≡ 1
       few zero h off = absurd (off refl)
@@ -117,7 +117,7 @@ module _ (refs : References) (r : KeyRecords) (n k : ℕ) (tuple : List Key) (ke
       few (suc (suc c)) h off = absurd (omega (arith, h))
 
   pub stays-out : wanted ≡ false → entered ≡ 0 → IsMatched refs r n k tuple
-  stays-out no none = right refs r n k tuple key own seen wanted is own_is seen_is wanted_is (sym entered_is ∙ none ∙ sym (weight-none wanted no))
+  stays-out fails none = right refs r n k tuple key own seen wanted is own_is seen_is wanted_is (sym entered_is ∙ none ∙ sym (weight-none wanted fails))
 
   -- it is entered
   module _ (others : Tables) (made : List Key) (cloned : made ≡ tuple) (grown : IsOneMoreTuple r.others others n (2 * k + 1) made) where
@@ -128,14 +128,14 @@ module _ (refs : References) (r : KeyRecords) (n k : ℕ) (tuple : List Key) (ke
     own-there m j other = own_kept r.others others n k tuple more m (for_key j other)
 
     pub entered-right : wanted ≡ true → entered ≡ 0 → IsMatched refs (new refs r others) n k tuple
-    entered-right yes none =
+    entered-right holds none =
         let one : unmatched (new refs r others) n k tuple ≡ 1 = said_more r.others others n k tuple more ∙ ap (λ (c : ℕ). c + 1) (sym entered_is ∙ none) in
-        right refs (new refs r others) n k tuple key own seen wanted is (own_is ∙ sym (own-kept refs r others k tuple n k tuple (own-there n k tuple))) seen_is wanted_is (one ∙ sym (weight-one wanted yes))
+        right refs (new refs r others) n k tuple key own seen wanted is (own_is ∙ sym (own-kept refs r others k tuple n k tuple (own-there n k tuple))) seen_is wanted_is (one ∙ sym (weight-one wanted holds))
 
     pub entered-rematched : wanted ≡ true → entered ≡ 0 → IsRematched refs r (new refs r others)
-    entered-rematched yes none =
+    entered-rematched holds none =
         let one : unmatched (new refs r others) n k tuple ≡ 1 = said_more r.others others n k tuple more ∙ ap (λ (c : ℕ). c + 1) (sym entered_is ∙ none) in
-        rematched refs r others n k tuple own-there (λ m j other off. said_others r.others others n k tuple more m (for_key j other) off) (subst (λ (c : ℕ). c ≤ 1) (sym one) (omega arith)) once (entered-right yes none)
+        rematched refs r others n k tuple own-there (λ m j other off. said_others r.others others n k tuple more m (for_key j other) off) (subst (λ (c : ℕ). c ≤ 1) (sym one) (omega arith)) once (entered-right holds none)
 
   -- it is taken out
   module _ (others : Tables) (grown : IsOneMoreTuple others r.others n (2 * k + 1) tuple) where
@@ -149,10 +149,10 @@ module _ (refs : References) (r : KeyRecords) (n k : ℕ) (tuple : List Key) (ke
         fewer a b e h = omega (arith, e, h)
 
     pub taken-right : wanted ≡ false → IsMatched refs (new refs r others) n k tuple
-    taken-right no =
-        right refs (new refs r others) n k tuple key own seen wanted is (own_is ∙ sym (own-kept refs r others k tuple n k tuple (own-left n k tuple))) seen_is wanted_is (none-left ∙ sym (weight-none wanted no))
+    taken-right fails =
+        right refs (new refs r others) n k tuple key own seen wanted is (own_is ∙ sym (own-kept refs r others k tuple n k tuple (own-left n k tuple))) seen_is wanted_is (none-left ∙ sym (weight-none wanted fails))
 
     pub taken-rematched : wanted ≡ false → IsRematched refs r (new refs r others)
-    taken-rematched no =
+    taken-rematched fails =
         rematched refs r others n k tuple own-left (λ m j other off. sym (said_others others r.others n k tuple grown m (for_key j other) off))
-        (subst (λ (c : ℕ). c ≤ 1) (sym none-left) (omega arith)) once (taken-right no)
+        (subst (λ (c : ℕ). c ≤ 1) (sym none-left) (omega arith)) once (taken-right fails)

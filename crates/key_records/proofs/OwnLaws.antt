@@ -40,7 +40,7 @@ with-none : (a b w : ℕ) → a ≡ b + w → w ≡ 0 → a ≡ b
 with-none a b w e none = omega (arith, e, none)
 
 not-both : (b : Bool) → b ≡ true → b ≡ false → ⊥
-not-both b yes no = true≢false (sym yes ∙ no)
+not-both b holds fails = true≢false (sym holds ∙ fails)
 
 -- the own ones of one kind of constraints, where the constraint is of that kind
 module _ (refs : References) (old new : KeyRecords) (scope k : ℕ) (tuple : List Key) where
@@ -51,7 +51,7 @@ module _ (refs : References) (old new : KeyRecords) (scope k : ℕ) (tuple : Lis
       by : (b : Bool) → is_referred refs j ≡ b → own_in b new n j other ≡ own_in b old n j other + weight (is_it scope k tuple n j other)
       by true e = grown n (for_key j other)
       by false e = same-with (own_count new.others n (2 * j) other) (own_count old.others n (2 * j) other) (weight (is_it scope k tuple n j other)) (same n j other)
-          (it-apart (is_referred refs) scope k tuple n j other true here (λ yes. not-both (is_referred refs j) yes e))
+          (it-apart (is_referred refs) scope k tuple n j other true here (λ holds. not-both (is_referred refs j) holds e))
 
   pub other-more : is_referred refs k ≡ false → IsOneMoreTuple old.others new.others scope (2 * k) tuple → ((n j : ℕ) (other : List Key) → own_count new.referred n (2 * j) other ≡ own_count old.referred n (2 * j) other)
       → IsOneMoreTarget refs old new scope k tuple
@@ -59,7 +59,7 @@ module _ (refs : References) (old new : KeyRecords) (scope k : ℕ) (tuple : Lis
     where
       by : (b : Bool) → is_referred refs j ≡ b → own_in b new n j other ≡ own_in b old n j other + weight (is_it scope k tuple n j other)
       by true e = same-with (own_count new.referred n (2 * j) other) (own_count old.referred n (2 * j) other) (weight (is_it scope k tuple n j other)) (same n j other)
-          (it-apart (is_referred refs) scope k tuple n j other false here (λ no. not-both (is_referred refs j) e no))
+          (it-apart (is_referred refs) scope k tuple n j other false here (λ fails. not-both (is_referred refs j) e fails))
       by false e = own_more old.others new.others scope k tuple grown n (for_key j other)
 
 -- elsewhere the own ones are as they were
@@ -68,7 +68,7 @@ pub own-elsewhere : (refs : References) (fewer more : KeyRecords) (scope k : ℕ
 own-elsewhere refs fewer more scope k tuple grown n j other off =
     with-none (own_of refs more n j other) (own_of refs fewer n j other) (weight (is_it scope k tuple n j other)) (grown n j other) (it-off scope k tuple n j other off)
 
--- ---- of a constraint that no keyref refers to
+-- ---- of a constraint that fails keyref refers to
 
 module _ (refs : References) (old : KeyRecords) (others : Tables) (scope k : ℕ) (tuple : List Key) where
   abbrev other_new : KeyRecords

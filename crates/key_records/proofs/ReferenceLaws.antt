@@ -1,7 +1,7 @@
 -- References, one constraint more.
 use Rattle.std.proofs.Common.{◌≡◌, ◌⊎◌, ℕ, ◌<◌, ◌^◌, ◌==◌, ◌++◌, ◌∷◌, List, [], length, Bool, true, false, cond, if◌then◌else◌, nat_eq, inl, inr, Option, None, Some, refl, sym, ap, subst, ◌∙◌, arith}
 use Rattle.std.specs.Prelude.{slice_get, not}
-use Rattle.std.specs.Option.{option_and_then}
+use Rattle.std.specs.Option.{option_and_then, IfSome}
 use Rattle.std.specs.Map.{lookup}
 use Rattle.std.specs.declared.vec.Vec.{Vec}
 use Rattle.std.specs.declared.alloc.Global.{Global}
@@ -103,5 +103,6 @@ referred-is (x ∷ xs) b e = ap not (e ∙ some)
     some = grind (arith, nat_tests)
 
 -- what is known of a key that is found
-pub few-there : (r : References) (keyref key : ℕ) → AreReferences r → Some key ≡ key_of r keyref → (keyref < 2 ^ 31) × (key < 2 ^ 31)
-few-there r keyref key sound e = sound.few keyref key (sym e)
+pub few-there : (r : References) (keyref : ℕ) (found : Option ℕ) → AreReferences r → found ≡ key_of r keyref → IfSome found (λ key. (keyref < 2 ^ 31) × (key < 2 ^ 31))
+few-there r keyref None sound e = tt
+few-there r keyref (Some key) sound e = sound.few keyref key (sym e)

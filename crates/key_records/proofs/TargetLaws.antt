@@ -50,7 +50,7 @@ spot-or-not scope k n j =
     ]
 
 with-zero : (a b w : ℕ) → a ≡ b → w ≡ 0 → a ≡ b + w
-with-zero a b w e none = omega (arith, e, none)
+with-zero a b w e f = omega (arith, e, f)
 
 -- a number of them after one target more
 module _ (pick : Faults → ℕ) (fault : Bool) (fewer more : FaultCounts) (scope k : ℕ) (found : TargetFaults) (grown : AreMoreFaults fewer more scope k found)
@@ -246,7 +246,7 @@ module _ (t : Links) (refs : References) (c : Counted) (r : KeyRecords) (scope k
         iff.1 (found.0, subst (λ (n : ℕ). 1 ≤ n) (sym (entered-is found.0)) (to-weight (c scope keyref (with_keys found.0)) (is_visible (own_tuples c) (for_key key found.0) scope below) found.1 found.2)),
   )
 
--- ---- no targets
+-- ---- fails targets
 
 none-own : (b : Bool) (r : KeyRecords) (n k : ℕ) (tuple : List Key) → own_count r.referred n (2 * k) tuple ≡ 0 → own_count r.others n (2 * k) tuple ≡ 0 → own_in b r n k tuple ≡ 0
 none-own true r n k tuple one two = one
@@ -254,7 +254,7 @@ none-own false r n k tuple one two = two
 
 none-bears : (cs : List ℕ) → bearers (λ (m : ℕ). false) cs ≡ 0
 none-bears [] = refl
-none-bears (c ∷ cs) = none-bears cs
+none-bears (c ∷ cs) = let rest = none-bears cs in omega (arith, rest)
 
 pub records-of-none : (t : Links) (refs : References) (r : KeyRecords) → r.referred ≡ [] → r.others ≡ [] → ((n k : ℕ) → faults_at r.faults n k ≡ no_faults) → AreRecords t refs no_targets r
 records-of-none t refs r one two none_there = record {

@@ -1,7 +1,7 @@
 -- The records of the targets of identity constraints: Structures 3.11.4 and 3.11.5.
 use Rattle.std.specs.Prelude.{◌≡◌, ◌+◌, ◌*◌, ◌≤◌, ◌&&◌, ℕ, nat_eq, nat_lt, Bool, true, false, not, List, Some, if◌then◌else◌}
 use Rattle.simple_values.specs.declared.key.Key.{Key}
-use Rattle.identity_tables.specs.KeyTables.{own_count}
+use Rattle.identity_tables.specs.KeyTables.{Tables, own_count}
 use Rattle.identity_counts.specs.Counting.{Links}
 use Rattle.identity_carry.specs.Tables.{AreSettled, for_key, same_key_tuple, is_in_table}
 use Rattle.key_records.specs.Counted.{Counted, with_keys, with_misuse, without_keys, with_nillable}
@@ -10,9 +10,13 @@ use Rattle.key_records.specs.References.{key_of, is_referred}
 use Rattle.key_records.specs.declared.references.References.{References}
 use Rattle.key_records.specs.declared.records.KeyRecords.{KeyRecords}
 
+abbrev pub own_from : Bool → Tables → Tables → ℕ → ℕ → List Key → ℕ
+own_from true referred others n k tuple = own_count referred n (2 * k) tuple
+own_from false referred others n k tuple = own_count others n (2 * k) tuple
+
+-- how often a key-sequence is an own one of an element for a constraint that keyrefs refer to, or for another
 abbrev pub own_in : Bool → KeyRecords → ℕ → ℕ → List Key → ℕ
-own_in true r n k tuple = own_count r.referred n (2 * k) tuple
-own_in false r n k tuple = own_count r.others n (2 * k) tuple
+own_in b r n k tuple = own_from b r.referred r.others n k tuple
 
 -- how often a key-sequence is an own one of an element for a constraint
 abbrev pub own_of : References → KeyRecords → ℕ → ℕ → List Key → ℕ

@@ -72,16 +72,23 @@ impl References {
         Ok(())
     }
 
+    // The key or unique that a constraint refers to, if it is a keyref.
+    fn find(&self, constraint: u32) -> Option<u32>
+        ensures { result ≡ key_of self.now constraint }
+    {
+        match self.keys.get(constraint as usize) {
+            None => None,
+            Some(key) => *key,
+        }
+    }
+
     /// The key or unique that a constraint refers to, if it is a keyref.
     pub fn key_of(&self, constraint: u32) -> Option<u32>
         requires { AreReferences self.now }
         ensures key { result ≡ key_of self.now constraint }
         ensures few { IfSome result (λ key. (constraint < 2 ^ 31) × (key < 2 ^ 31)) }
     {
-        match self.keys.get(constraint as usize) {
-            None => None,
-            Some(key) => *key,
-        }
+        self.find(constraint)
     }
 
     /// The keyrefs that refer to a key or unique.

@@ -1,5 +1,5 @@
 use Rattle.key_records.proofs.TargetLaws.{repeated-by}
-use Rattle.key_records.proofs.targets.KeyRecords.has_repeated.Goals as goal
+use Rattle.key_records.proofs.records.KeyRecords.has_repeated.Goals as goal
 
 pub returns : goal.returns
 returns c = λ t counted records.

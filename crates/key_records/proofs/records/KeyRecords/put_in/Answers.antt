@@ -8,7 +8,7 @@ use Rattle.key_records.specs.declared.faults.Faults.{Faults}
 use Rattle.key_records.specs.declared.faults.TargetFaults.{TargetFaults}
 use Rattle.key_records.specs.declared.records.KeyRecords.{KeyRecords}
 use Rattle.key_records.proofs.TargetLaws.{put-faults, put-target}
-use Rattle.key_records.proofs.targets.KeyRecords.put_in.Goals as goal
+use Rattle.key_records.proofs.records.KeyRecords.put_in.Goals as goal
 
 pub put_tuple-requires-clause-once : goal.put_tuple-requires-clause-once
 put_tuple-requires-clause-once c = c.requires.linked.4.once
@@ -26,8 +26,8 @@ returns-in-None c = λ t counted linked parents records.
     (put-faults t refs counted c.args.self.now faults target.scope target.constraint target.misused target.nillable
     (subst (λ (f : TargetFaults). AreMoreFaults c.args.self.now.faults faults target.scope target.constraint f) (c.faults.ensures ∙ ap (λ (o : Option (List Key)). record { misused = target.misused; lacking = is_none o; nillable = target.nillable }) c.in-None.is) c.in_ok-add.ensures) records)
 
-pub returns-in-Some : goal.returns-in-Some
-returns-in-Some c = λ t counted linked parents records.
+pub returns-in_ok-put_tuple-in-Some : goal.returns-in_ok-put_tuple-in-Some
+returns-in_ok-put_tuple-in-Some c = λ t counted linked parents records.
     let refs = c.args.tree.now.references.now in
     let target = c.args.target in
     let faults = c.add.new.self in

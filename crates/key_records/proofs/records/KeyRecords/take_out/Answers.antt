@@ -8,7 +8,7 @@ use Rattle.key_records.specs.declared.faults.Faults.{Faults}
 use Rattle.key_records.specs.declared.faults.TargetFaults.{TargetFaults}
 use Rattle.key_records.specs.declared.records.KeyRecords.{KeyRecords}
 use Rattle.key_records.proofs.TargetLaws.{take-faults, take-target, there, faults-among}
-use Rattle.key_records.proofs.targets.KeyRecords.take_out.Goals as goal
+use Rattle.key_records.proofs.records.KeyRecords.take_out.Goals as goal
 
 pub remove-requires : goal.remove-requires
 remove-requires c =
@@ -41,8 +41,8 @@ returns-in-None c = λ t counted linked parents records.
     (subst (λ (f : TargetFaults). AreMoreFaults faults c.args.self.now.faults target.scope target.constraint f) (c.faults.ensures ∙ ap (λ (o : Option (List Key)). record { misused = target.misused; lacking = is_none o; nillable = target.nillable }) c.in-None.is) c.in_ok-remove.ensures)
     (subst (λ (o : Option (List Key)). AreRecords t refs (plus counted (one_target target.scope target.constraint o target.misused target.nillable)) c.args.self.now) c.in-None.is records)
 
-pub returns-in-Some : goal.returns-in-Some
-returns-in-Some c = λ t counted linked parents records.
+pub returns-in_ok-take_tuple-in-Some : goal.returns-in_ok-take_tuple-in-Some
+returns-in_ok-take_tuple-in-Some c = λ t counted linked parents records.
     let refs = c.args.tree.now.references.now in
     let target = c.args.target in
     let faults = c.remove.new.self in

@@ -1,5 +1,5 @@
 use Rattle.key_records.proofs.TargetLaws.{unmatched-by}
-use Rattle.key_records.proofs.targets.KeyRecords.has_unmatched.Goals as goal
+use Rattle.key_records.proofs.records.KeyRecords.has_unmatched.Goals as goal
 
 pub returns : goal.returns
 returns c = λ t refs counted key below sound records is children stand.
