@@ -96,7 +96,7 @@ right refs r n k tuple key own seen wanted is own_is seen_is wanted_is entered =
     let shown : seen ≡ is_shown r n other tuple = subst (λ j. seen ≡ is_shown r n j tuple) same seen_is in
     entered ∙ ap weight wanted_is ∙ (λ i. weight (nat_lt 0 (own_is i) && not (shown i)))
 
--- fails keyref
+-- no keyref
 pub no-keyref : (refs : References) (r : KeyRecords) (n k : ℕ) (tuple : List Key) → key_of refs k ≡ None → IsMatched refs r n k tuple
 no-keyref refs r n k tuple e = λ key is. absurd (none-some key (sym e ∙ is))
   where

@@ -68,7 +68,7 @@ pub own-elsewhere : (refs : References) (fewer more : KeyRecords) (scope k : ℕ
 own-elsewhere refs fewer more scope k tuple grown n j other off =
     with-none (own_of refs more n j other) (own_of refs fewer n j other) (weight (is_it scope k tuple n j other)) (grown n j other) (it-off scope k tuple n j other off)
 
--- ---- of a constraint that fails keyref refers to
+-- ---- of a constraint that no keyref refers to
 
 module _ (refs : References) (old : KeyRecords) (others : Tables) (scope k : ℕ) (tuple : List Key) where
   abbrev other_new : KeyRecords

@@ -246,7 +246,7 @@ module _ (t : Links) (refs : References) (c : Counted) (r : KeyRecords) (scope k
         iff.1 (found.0, subst (λ (n : ℕ). 1 ≤ n) (sym (entered-is found.0)) (to-weight (c scope keyref (with_keys found.0)) (is_visible (own_tuples c) (for_key key found.0) scope below) found.1 found.2)),
   )
 
--- ---- fails targets
+-- ---- no targets
 
 none-own : (b : Bool) (r : KeyRecords) (n k : ℕ) (tuple : List Key) → own_count r.referred n (2 * k) tuple ≡ 0 → own_count r.others n (2 * k) tuple ≡ 0 → own_in b r n k tuple ≡ 0
 none-own true r n k tuple one two = one
