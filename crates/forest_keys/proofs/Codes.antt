@@ -66,7 +66,7 @@ module _ (names : NameTable) (t : Tables) (identities : List IdentityPaths) wher
     codes_for k = codes_by names t identities k (slice_get t.constraints.parts k) own below
 
     pub codes-begun : (ks : List ℕ) (codes : List Found) → ks ≡ constraints_of t own → codes ≡ [] → flat_map codes_for (constraints_of t own) ≡ codes ++ flat_map codes_for ks
-    codes-begun ks codes e none = ap (flat_map codes_for) (sym e) ∙ ap (λ xs. xs ++ flat_map codes_for ks) (sym none)
+    codes-begun ks codes e empty = ap (flat_map codes_for) (sym e) ∙ ap (λ xs. xs ++ flat_map codes_for ks) (sym empty)
 
     pub codes-next : (all codes new : List Found) (k : ℕ) (left more : List ℕ) (code : Option Code) → all ≡ codes ++ flat_map codes_for left → left ≡ k ∷ more → found_of code ≡ codes_for k → new ≡ codes ++ found_of code
         → all ≡ new ++ flat_map codes_for more
@@ -76,7 +76,7 @@ module _ (names : NameTable) (t : Tables) (identities : List IdentityPaths) wher
 
     pub codes-end : (left : List ℕ) (codes : List Found) → flat_map codes_for (constraints_of t own) ≡ codes ++ flat_map codes_for left → left ≡ [] → codes ≡ identity_codes names t identities own below
     unfolding identity_codes
-    codes-end left codes so none = sym (so ∙ ap (λ ks. codes ++ flat_map codes_for ks) none ∙ append-nil codes)
+    codes-end left codes so end = sym (so ∙ ap (λ ks. codes ++ flat_map codes_for ks) end ∙ append-nil codes)
 
   -- ---- of all elements
 

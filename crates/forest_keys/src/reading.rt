@@ -159,8 +159,8 @@ pub(crate) fn read_all<T: KeySiblings>(
 {
     let mut left = siblings;
     'left: while let Some(own) = left.first() {
-        let place = codes.len() as u32;
-        let found = codes_of(by, records, place, &own)?;
+        let place = codes.len();
+        let found = codes_of(by, records, place as u32, &own)?;
         codes.push(found)?;
         read_all(by, records, left.below(), codes)?;
         left = left.next();

@@ -1,4 +1,4 @@
-use Rattle.std.proofs.Common.{◌≡◌, ◌+◌, ◌<◌, length, refl, sym, ap, ◌∙◌, arith}
+use Rattle.std.proofs.Common.{rules, ◌≡◌, ◌+◌, ◌<◌, length, refl, sym, ap, ◌∙◌, arith}
 use Rattle.path_walk.specs.Sight.{below_first, behind_first, seen}
 use Rattle.path_walk.specs.inside.Walk.{size}
 use Rattle.forest_keys.proofs.Siblings.{size_first}
@@ -35,10 +35,11 @@ left-preserved g t c =
     let sizes = size_first f first is in
     let fewer = l.invariant.fewer in
     let next_size = ap size c.next-left.ensures in
+    let place : c.len-place.result ≡ length l.parents.items = search rules in
     record {
       fewer = omega (arith, sizes, fewer, next_size);
       few = c.in_ok-add_parents.ensures.few;
-      so_far = parents-next f (forest c.below.result) (forest c.next-left.result) first c.args.parent c.len-place.result l.parents.items c.push.new.self.items c.add_parents.new.parents.items _ is c.below.ensures c.next-left.ensures c.len-place.ensures.len c.in_ok-push.ensures.items c.in_ok-add_parents.ensures.parents l.invariant.so_far;
+      so_far = parents-next f (forest c.below.result) (forest c.next-left.result) first c.args.parent c.len-place.result l.parents.items c.push.new.self.items c.add_parents.new.parents.items _ is c.below.ensures c.next-left.ensures place c.in_ok-push.ensures.items c.in_ok-add_parents.ensures.parents l.invariant.so_far;
     }
 
 pub returns : goal.returns

@@ -1,10 +1,10 @@
-use Rattle.std.proofs.Common.{◌≡◌, ◌+◌, ◌++◌, ◌∷◌, [], ℕ, List, length, refl, sym, ap, ◌∙◌, subst, arith}
+use Rattle.std.proofs.Common.{rules, ◌≡◌, ◌+◌, ◌++◌, ◌∷◌, [], ℕ, List, length, refl, sym, ap, ◌∙◌, subst, arith}
 use Rattle.xs_codes.specs.declared.fault.Found.{Found}
 use Rattle.identity_constraints.specs.Seen.{KeyForest}
 use Rattle.path_walk.specs.Sight.{below_first, behind_first, seen}
 use Rattle.path_walk.specs.inside.Walk.{size}
 use Rattle.forest_keys.specs.Codes.{all_codes}
-use Rattle.forest_keys.specs.inside.Records.{AreFilled}
+use Rattle.forest_keys.specs.inside.Records.{AreFilled, AreFilledAt}
 use Rattle.forest_keys.proofs.Siblings.{size_first}
 use Rattle.forest_keys.proofs.Filling.{filled-first, filled-below, filled-next}
 use Rattle.forest_keys.proofs.Codes.{all-next, all-end}
@@ -62,8 +62,9 @@ left-preserved g t c =
           (filled-next set.names.now set.parts.now set.identities.now tree r q f first is (l.invariant.filled h)));
       so_far = λ h.
           let filled = l.invariant.filled h in
-          let place : c.len-place.result ≡ q = c.len-place.ensures.len in
-          let code = c.in_ok-found.ensures (below_first f) (filled-first set.names.now set.parts.now set.identities.now tree r q f first is filled) in
+          let place : c.len-place.result ≡ q = search rules in
+          let code = c.in_ok-found.ensures (below_first f)
+              (subst (λ (n : ℕ). AreFilledAt set.names.now set.parts.now set.identities.now tree r n first (below_first f)) (sym place) (filled-first set.names.now set.parts.now set.identities.now tree r q f first is filled)) in
           let below = step.codes
               (subst (λ (n : ℕ). AreFilled set.names.now set.parts.now set.identities.now tree r n (forest c.below.result)) (sym middle)
               (subst (λ (x : KeyForest). AreFilled set.names.now set.parts.now set.identities.now tree r (q + 1) x) (sym c.below.ensures)

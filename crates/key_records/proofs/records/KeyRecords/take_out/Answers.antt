@@ -22,7 +22,7 @@ take_tuple-requires-clause-there c =
     let l = c.requires.linked in
     let target = c.args.target in
     let refs = c.args.tree.now.references.now in
-    there l.0 refs l.1 c.args.self.now target.scope target.constraint c.in-Some.tuple.now target.misused target.nillable
+    there l.0 refs l.1 c.args.self.now target.scope target.constraint c.in-Some.tuple target.misused target.nillable
     (subst (λ (o : Option (List Key)). AreRecords l.0 refs (plus l.1 (one_target target.scope target.constraint o target.misused target.nillable)) c.args.self.now) c.in-Some.is l.4)
 
 pub take_tuple-requires-clause-once : goal.take_tuple-requires-clause-once
@@ -48,8 +48,8 @@ returns-in_ok-take_tuple-in-Some c = λ t counted linked parents records.
     let faults = c.remove.new.self in
     let middle : KeyRecords = record c.args.self.now { faults = faults } in
     let new = c.take_tuple.new.self in
-    let step = c.in_ok-take_tuple.ensures in
-    take-target t refs counted c.args.self.now middle new target.scope target.constraint c.in-Some.tuple.now target.misused target.nillable step.rest.1
+    let step = c.in_ok-take_tuple-in-Some.ensures in
+    take-target t refs counted c.args.self.now middle new target.scope target.constraint c.in-Some.tuple target.misused target.nillable step.rest.1
     (subst (λ (f : TargetFaults). AreMoreFaults faults c.args.self.now.faults target.scope target.constraint f) (c.faults.ensures ∙ ap (λ (o : Option (List Key)). record { misused = target.misused; lacking = is_none o; nillable = target.nillable }) c.in-Some.is) c.in_ok-remove.ensures)
     (subst (λ (o : Option (List Key)). AreRecords t refs (plus counted (one_target target.scope target.constraint o target.misused target.nillable)) c.args.self.now) c.in-Some.is records) step.own
     (step.settled t linked parents records.settled) (step.matched records.matched) step.rest.0
