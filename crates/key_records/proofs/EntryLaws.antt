@@ -1,10 +1,10 @@
 -- One key-sequence of a keyref entered or taken out.
-use Rattle.std.proofs.Common.{◌≡◌, ◌⊎◌, ◌+◌, ◌*◌, ◌≤◌, ◌<◌, ◌&&◌, ℕ, zero, suc, Bool, true, false, List, Option, None, Some, Result, Ok, Err, inl, inr, nat_eq, refl, sym, ap, subst, ◌∙◌, arith}
-use Rattle.std.specs.Prelude.{OnOk, nat_lt, not}
+use Rattle.std.proofs.Common.{◌≡◌, ◌⊎◌, ◌+◌, ◌*◌, ◌≤◌, ◌&&◌, ℕ, zero, suc, Bool, true, false, List, None, Some, inl, inr, refl, sym, ap, subst, ◌∙◌, arith}
+use Rattle.std.specs.Prelude.{nat_lt, not}
 use Rattle.simple_values.specs.declared.key.Key.{Key}
 use Rattle.identity_tables.specs.KeyTables.{Tables, own_count, IsOneMoreTuple}
 use Rattle.identity_counts.proofs.Bearers.{spot}
-use Rattle.identity_carry.specs.Tables.{KeyTuple, for_key, same_key_tuple, is_in_table}
+use Rattle.identity_carry.specs.Tables.{KeyTuple, for_key, same_key_tuple}
 use Rattle.identity_carry.proofs.EntryLaws.{decides, own_kept, said_more, said_others}
 use Rattle.key_records.specs.Faults.{weight}
 use Rattle.key_records.specs.References.{key_of, is_referred}

@@ -1,12 +1,12 @@
 -- Counts of faults, of one constraint of an element changed.
-use Rattle.std.proofs.Common.{◌≡◌, ◌+◌, ◌&&◌, ◌==◌, ℕ, Bool, true, false, cond, List, Option, None, Some, inl, inr, refl, sym, ap, ◌∙◌, arith, true≢false, unwrap_or}
+use Rattle.std.proofs.Common.{◌≡◌, ◌+◌, ◌==◌, ℕ, Bool, true, false, cond, Option, Some, refl, sym, ap, ◌∙◌, arith, true≢false, unwrap_or}
 use Rattle.std.specs.Map.{lookup}
-use Rattle.std.proofs.lemmas.Bool.{cases_Bool, and_from, and_parts, eqb-true, eq-eqb}
+use Rattle.std.proofs.lemmas.Bool.{and_from, and_parts, eqb-true, eq-eqb}
 use Rattle.key_records.specs.declared.faults.ScopeId.{ScopeId}
 use Rattle.key_records.specs.declared.faults.Faults.{Faults}
 use Rattle.key_records.specs.declared.faults.TargetFaults.{TargetFaults}
 use Rattle.key_records.specs.declared.faults.FaultCounts.{FaultCounts}
-use Rattle.key_records.specs.Faults.{AreMoreFaults, Sets, same_scope, faults_at, more_faults, no_faults, weight, has_none}
+use Rattle.key_records.specs.Faults.{AreMoreFaults, Sets, same_scope, faults_at, more_faults, no_faults, has_none}
 
 abbrev id : ℕ → ℕ → ScopeId
 id scope constraint = record { scope = scope; constraint = constraint }

@@ -1,5 +1,5 @@
 -- Entries made right one by one.
-use Rattle.std.proofs.Common.{◌≡◌, ◌⊎◌, ◌<◌, ℕ, List, [], ◌∷◌, length, inl, inr, sym, ap, subst, arith}
+use Rattle.std.proofs.Common.{◌≡◌, ◌⊎◌, ◌<◌, ℕ, List, [], ◌∷◌, length, inl, inr, ap, subst, arith}
 use Rattle.simple_values.specs.declared.key.Key.{Key}
 use Rattle.identity_counts.specs.Counting.{Has}
 use Rattle.key_records.specs.Records.{IsMatched, IsRematched}

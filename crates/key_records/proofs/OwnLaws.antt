@@ -1,15 +1,15 @@
 -- One own key-sequence more of an element, or one less.
-use Rattle.std.proofs.Common.{◌≡◌, ◌⊎◌, ◌+◌, ◌*◌, ◌≤◌, ◌&&◌, ℕ, Bool, true, false, List, Option, None, Some, Result, Ok, Err, inl, inr, nat_eq, refl, sym, ap, subst, ◌∙◌, arith, true≢false}
-use Rattle.std.specs.Prelude.{OnOk, nat_lt, not, [], ◌∷◌}
-use Rattle.std.proofs.lemmas.Bool.{and_from, and_parts, eqb-true, eq-eqb}
+use Rattle.std.proofs.Common.{◌≡◌, ◌⊎◌, ◌+◌, ◌*◌, ◌≤◌, ◌&&◌, ℕ, Bool, true, false, List, Some, inl, inr, nat_eq, refl, sym, ap, subst, ◌∙◌, arith, true≢false}
+use Rattle.std.specs.Prelude.{nat_lt, not, [], ◌∷◌}
+use Rattle.std.proofs.lemmas.Bool.{and_parts, eqb-true}
 use Rattle.simple_values.specs.declared.key.Key.{Key}
 use Rattle.identity_tables.specs.KeyTables.{Tables, own_count, IsOneMoreTuple}
 use Rattle.identity_counts.specs.Counting.{Has, Links}
 use Rattle.identity_counts.proofs.Bearers.{same_or_other}
 use Rattle.identity_carry.specs.Tables.{KeyTuple, for_key, same_key_tuple, is_in_table, AreSettled, IsOneMoreOwn}
-use Rattle.identity_carry.proofs.EntryLaws.{decides, own_more, own_others, said_kept}
+use Rattle.identity_carry.proofs.EntryLaws.{decides, own_more, said_kept}
 use Rattle.key_records.specs.Faults.{weight}
-use Rattle.key_records.specs.References.{AreReferences, key_of, keyrefs_of, is_referred, has_any}
+use Rattle.key_records.specs.References.{AreReferences, key_of, keyrefs_of, is_referred}
 use Rattle.key_records.specs.Records.{own_in, own_of, is_shown, unmatched, IsMatched, AreOnce, AreMatched, IsRematched, IsOneMoreTarget, IsChangedAt}
 use Rattle.key_records.specs.declared.references.References.{References}
 use Rattle.key_records.specs.declared.records.KeyRecords.{KeyRecords}

@@ -1,8 +1,8 @@
 -- One target more in the records, or one less, and what they say of constraints.
-use Rattle.std.proofs.Common.{◌≡◌, ◌⊎◌, ◌+◌, ◌*◌, ◌≤◌, ◌&&◌, ◌||◌, ℕ, Bool, true, false, List, [], ◌∷◌, Option, None, Some, inl, inr, nat_eq, if◌then◌else◌, refl, sym, ap, subst, ◌∙◌, arith, true≢false}
+use Rattle.std.proofs.Common.{◌≡◌, ◌⊎◌, ◌+◌, ◌*◌, ◌≤◌, ◌&&◌, ℕ, Bool, true, false, List, [], ◌∷◌, Option, None, Some, inl, inr, nat_eq, refl, sym, ap, subst, ◌∙◌, arith, true≢false}
 use Rattle.std.specs.Prelude.{nat_lt, not, is_none, IsTrue, ◌↔◌}
 use Rattle.std.specs.Option.{SomeIff, is_some}
-use Rattle.std.proofs.lemmas.Bool.{and_parts, eqb-true, eq-eqb}
+use Rattle.std.proofs.lemmas.Bool.{eqb-true, eq-eqb}
 use Rattle.std.proofs.lemmas.Bool.Decides.{nat_tests}
 use Rattle.xs_codes.specs.declared.code.Code.{Code}
 use Rattle.simple_values.specs.declared.key.Key.{Key}
@@ -10,7 +10,7 @@ use Rattle.identity_tables.specs.KeyTables.{Tables, own_count}
 use Rattle.identity_counts.specs.Counting.{Links, Numbers, none, node, Has, firsts, StandFor, is_seen, bearers, bearing, is_visible, seen}
 use Rattle.identity_counts.proofs.Bearers.{same_or_other, bearers-alike}
 use Rattle.identity_counts.proofs.Exact.{seen_is}
-use Rattle.identity_carry.specs.Tables.{KeyTuple, AreSettled, for_key, own, said, same_key_tuple, is_in_table}
+use Rattle.identity_carry.specs.Tables.{KeyTuple, AreSettled, for_key, own, said, same_key_tuple}
 use Rattle.identity_carry.proofs.EntryLaws.{decides}
 use Rattle.key_records.specs.Counted.{Counted, plus, one_target, no_targets, own_tuples, with_keys, with_misuse, without_keys, with_nillable}
 use Rattle.key_records.specs.Faults.{AreMoreFaults, faults_at, no_faults, weight}

@@ -1,5 +1,5 @@
 -- How many targets have which faults: cvc-identity-constraint.3, .4.2.1 and .4.2.3 (Structures 3.11.4).
-use Rattle.std.specs.Prelude.{◌≡◌, ◌+◌, ◌==◌, ◌&&◌, ℕ, Bool, not, List, Option, is_none, unwrap_or, if◌then◌else◌}
+use Rattle.std.specs.Prelude.{◌≡◌, ◌+◌, ◌==◌, ◌&&◌, ℕ, Bool, not, is_none, unwrap_or, if◌then◌else◌}
 use Rattle.std.specs.Map.{lookup}
 use Rattle.key_records.specs.declared.faults.ScopeId.{ScopeId}
 use Rattle.key_records.specs.declared.faults.Faults.{Faults}

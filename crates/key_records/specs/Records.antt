@@ -1,5 +1,5 @@
 -- The records of the targets of identity constraints: Structures 3.11.4 and 3.11.5.
-use Rattle.std.specs.Prelude.{◌≡◌, ◌+◌, ◌*◌, ◌≤◌, ◌&&◌, ℕ, nat_eq, nat_lt, Bool, true, false, not, List, Some, if◌then◌else◌}
+use Rattle.std.specs.Prelude.{◌≡◌, ◌+◌, ◌*◌, ◌≤◌, ◌&&◌, ℕ, nat_eq, nat_lt, Bool, true, false, not, List, Some}
 use Rattle.simple_values.specs.declared.key.Key.{Key}
 use Rattle.identity_tables.specs.KeyTables.{Tables, own_count}
 use Rattle.identity_counts.specs.Counting.{Links}

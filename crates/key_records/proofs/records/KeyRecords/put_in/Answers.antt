@@ -2,9 +2,8 @@ use Rattle.std.proofs.Common.{List, Option, sym, ap, subst, ◌∙◌}
 use Rattle.std.specs.Prelude.{is_none}
 use Rattle.simple_values.specs.declared.key.Key.{Key}
 use Rattle.key_records.specs.Counted.{plus, one_target}
-use Rattle.key_records.specs.Faults.{AreMoreFaults, more_faults}
+use Rattle.key_records.specs.Faults.{AreMoreFaults}
 use Rattle.key_records.specs.Records.{AreRecords}
-use Rattle.key_records.specs.declared.faults.Faults.{Faults}
 use Rattle.key_records.specs.declared.faults.TargetFaults.{TargetFaults}
 use Rattle.key_records.specs.declared.records.KeyRecords.{KeyRecords}
 use Rattle.key_records.proofs.TargetLaws.{put-faults, put-target}

@@ -1,5 +1,5 @@
 use Rattle.std.proofs.Common.{sym}
-use Rattle.key_records.proofs.EntryLaws.{rematched-none, no-keyref, stays-entered, stays-out, entered-right, entered-rematched, taken-right, taken-rematched}
+use Rattle.key_records.proofs.EntryLaws.{rematched-none, no-keyref, entered-right, entered-rematched, taken-right, taken-rematched}
 use Rattle.key_records.proofs.records.KeyRecords.rematch.Goals as goal
 
 pub returns-in_default : goal.returns-in_default

@@ -1,4 +1,4 @@
-use Rattle.std.proofs.Common.{ℕ, length, inl, sym, ap, arith}
+use Rattle.std.proofs.Common.{inl}
 use Rattle.key_records.proofs.EntryLaws.{rematched-none, rematched-both}
 use Rattle.key_records.proofs.LoopLaws.{told-more, told-all, shorter}
 use Rattle.key_records.proofs.records.KeyRecords.rematch_told.Goals as goal

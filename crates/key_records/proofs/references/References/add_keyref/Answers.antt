@@ -1,4 +1,4 @@
-use Rattle.std.proofs.Common.{◌∷◌, ◌++◌, List, [], refl, sym, ap, ◌∙◌}
+use Rattle.std.proofs.Common.{◌∷◌, ◌++◌, [], refl, sym, ap, ◌∙◌}
 use Rattle.key_records.specs.References.{items_of}
 use Rattle.key_records.proofs.ReferenceLaws.{one-more-keyref}
 use Rattle.key_records.proofs.references.References.add_keyref.Goals as goal
