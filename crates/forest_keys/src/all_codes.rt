@@ -1,9 +1,12 @@
 //! The codes of all elements of a forest.
 
-ghost use Rattle.std.specs.Prelude.{◌≡◌, IfOk};
+ghost use Rattle.std.specs.Prelude.{◌≡◌, ◌<◌, ◌^◌, None, IfOk};
 ghost use Rattle.component_tables.specs.ContentTypes.{AreContentsOf};
 ghost use Rattle.path_walk.specs.Sight.{AreNamed};
+ghost use Rattle.path_walk.specs.inside.Walk.{size};
 ghost use Rattle.forest_keys.specs.Codes.{all_codes};
+ghost use Rattle.forest_keys.specs.inside.Keyrefs.{AreReferencesOf};
+ghost use Rattle.forest_keys.specs.inside.Places.{parents_along};
 
 use crate::keyrefs::references_of;
 use crate::placing::parents_of;
@@ -14,6 +17,25 @@ use path_walk::{KeySet, KeySiblings};
 use std::alloc::AllocError;
 use xs_codes::Found;
 use xs_lists::Listed;
+
+// The codes of siblings and of all below them, where these are their parents.
+fn codes_by<T: KeySiblings>(
+    by: &Counting<'_>,
+    siblings: T,
+) -> Result<Vec<Listed<Found>>, AllocError>
+    requires contents { AreContentsOf by.now.set.parts.now by.now.set.contents.now }
+    requires named { AreNamed by.now.set.names.now (T.forest siblings) }
+    requires references { AreReferencesOf by.now.set.parts.now.constraints.parts by.now.tree.references.now }
+    requires parents { by.now.tree.parents.now ≡ parents_along 0 None (T.forest siblings) }
+    requires few { size (T.forest siblings) < 2 ^ 32 }
+    ensures { IfOk result (λ codes. codes.items ≡ all_codes by.now.set.names.now by.now.set.parts.now by.now.set.identities.now (T.forest siblings)) }
+{
+    let mut records = KeyRecords::new(by.set.alloc)?;
+    put_all(by, &mut records, 0, siblings)?;
+    let mut codes = Vec::new(by.set.alloc);
+    read_all(by, &records, siblings, &mut codes)?;
+    Ok(codes)
+}
 
 /// The codes of siblings and of all elements below them, in document order: of each identity constraint of an element's declaration,
 /// in order, the first that is broken of cvc-identity-constraint.3 to .4.3 (Structures 3.11.4). All targets are put into one set of
@@ -40,9 +62,6 @@ pub fn forest_codes<T: KeySiblings>(
             references: &references,
         },
     };
-    let mut records = KeyRecords::new(set.alloc)?;
-    put_all(&by, &mut records, 0, siblings)?;
-    let mut codes = Vec::new(set.alloc);
-    read_all(&by, &records, siblings, &mut codes)?;
+    let codes = codes_by(&by, siblings)?;
     Ok(codes)
 }
