@@ -5,4 +5,3 @@ mod Naming
 mod Stepping
 mod Together
 mod There
-mod Spreading

@@ -1,4 +1,0 @@
-pub mod Keyrefs
-pub mod Places
-pub mod Found
-pub mod Records
