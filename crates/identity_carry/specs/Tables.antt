@@ -4,7 +4,7 @@ use Rattle.std.specs.Option.{option_and_then}
 use Rattle.simple_values.specs.declared.key.Key.{Key}
 use Rattle.identity_tables.specs.Tuple.{same_tuple}
 use Rattle.identity_tables.specs.KeyTables.{Tables, own_count}
-use Rattle.identity_counts.specs.Counting.{Links, Change, IsSettled, IsPending, is_seen}
+use Rattle.identity_counts.specs.Counting.{Links, Change, Has, IsSettled, IsPending, is_seen}
 use Rattle.identity_carry.specs.declared.carrying.Waiting.{Waiting}
 
 -- a tuple with the key or unique that it is for
@@ -64,3 +64,12 @@ IsOneMoreOwn fewer more scope key tuple =
 -- an element has it in its table
 abbrev pub is_in_table : Tables → ℕ → KeyTuple → Bool
 is_in_table tables n y = is_seen (own tables n y) (said tables n y)
+
+-- at other elements, and of other tuples, the same is in the tables
+abbrev pub IsAlikeBut : ℕ → KeyTuple → Tables → Tables → Type 0
+IsAlikeBut at x old new = (m : ℕ) (y : KeyTuple) → (at ≡ m → x ≡ y → ⊥) → is_in_table new m y ≡ is_in_table old m y
+
+-- the elements told before are still told, and at all that are not told, and of other tuples, the same is in the tables
+pub record AreTold (x : KeyTuple) (old new : Tables) (before after : List ℕ) : Type 0 where
+  pub still : (m : ℕ) → Has m before → Has m after
+  pub alike : (m : ℕ) (y : KeyTuple) → (Has m after → x ≡ y → ⊥) → is_in_table new m y ≡ is_in_table old m y

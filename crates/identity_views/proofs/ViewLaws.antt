@@ -10,12 +10,12 @@ use Rattle.simple_values.specs.declared.key.Key.{Key}
 use Rattle.xs_components.specs.Tables.{Tables}
 use Rattle.identity_paths.specs.declared.paths.IdentityPaths.{IdentityPaths}
 use Rattle.identity_tables.specs.Tuple.{same_tuple}
-use Rattle.identity_counts.specs.Counting.{bearing as bearing_at, is_visible as is_seen_at}
+use Rattle.identity_counts.specs.Counting.{Numbers, none as no_numbers, node, bearing as bearing_at, is_visible as is_seen_at}
 use Rattle.identity_carry.specs.Tables.{KeyTuple, for_key}
 use Rattle.identity_carry.proofs.EntryLaws.{tuple_decides}
 use Rattle.identity_constraints.specs.Seen.{KeyElement, KeyForest, none, element}
 use Rattle.identity_constraints.specs.Satisfied.{own_tuples, has_tuple, has_repeated, bearing, is_visible}
-use Rattle.identity_views.specs.Views.{numbers, times, IsCounted, AreCounted}
+use Rattle.identity_views.specs.Views.{times, IsCounted, AreCounted}
 
 abbrev tally : (List Key → Bool) → List (List Key) → ℕ
 tally p [] = 0
@@ -38,22 +38,24 @@ counted tuple (other ∷ tuples) =
     one-more (same_tuple tuple other) (times tuple tuples) (times tuple (other ∷ tuples)) (has_tuple tuple tuples) (step tuple other tuples) (counted tuple tuples)
 
 module _ (names : NameTable) (t : Tables) (identities : List IdentityPaths) (own : ℕ → KeyTuple → ℕ) (k : ℕ) (tuple : List Key) where
-  seen-at : (e : KeyElement) (below : KeyForest) → IsCounted names t identities own e below → bearing_at own (for_key k tuple) (numbers below) ≡ bearing names t identities k tuple below →
-      is_seen_at own (for_key k tuple) e.number (numbers below) ≡ is_visible names t identities k tuple e below
-  seen-at e below here under =
+  seen-at : (n : ℕ) (under : Numbers) (e : KeyElement) (below : KeyForest) → IsCounted names t identities own n e below → bearing_at own (for_key k tuple) under ≡ bearing names t identities k tuple below →
+      is_seen_at own (for_key k tuple) n under ≡ is_visible names t identities k tuple e below
+  seen-at n under e below here same =
       let owns = ap (nat_lt 0) (here k tuple) ∙ counted tuple (own_tuples names t identities k e below) in
-      λ i. owns i || (under i == 1)
+      λ i. owns i || (same i == 1)
 
-  pub bearing-is : (f : KeyForest) → AreCounted names t identities own f → bearing_at own (for_key k tuple) (numbers f) ≡ bearing names t identities k tuple f
-  bearing-is none all = refl
-  bearing-is (element e below next) all =
-      let here = seen-at e below all.0 (bearing-is below all.1) in
-      let rest = bearing-is next all.2 in
+  pub bearing-is : (ns : Numbers) (f : KeyForest) → AreCounted names t identities own ns f → bearing_at own (for_key k tuple) ns ≡ bearing names t identities k tuple f
+  bearing-is no_numbers none all = refl
+  bearing-is no_numbers (element e below next) all = absurd all
+  bearing-is (node n under behind) none all = absurd all
+  bearing-is (node n under behind) (element e below next) all =
+      let here = seen-at n under e below all.0 (bearing-is under below all.1) in
+      let rest = bearing-is behind next all.2 in
       λ i. (if here i then 1 else 0) + rest i
 
-  pub visible-is : (e : KeyElement) (below : KeyForest) → IsCounted names t identities own e below → AreCounted names t identities own below →
-      is_seen_at own (for_key k tuple) e.number (numbers below) ≡ is_visible names t identities k tuple e below
-  visible-is e below here all = seen-at e below here (bearing-is below all)
+  pub visible-is : (n : ℕ) (under : Numbers) (e : KeyElement) (below : KeyForest) → IsCounted names t identities own n e below → AreCounted names t identities own under below →
+      is_seen_at own (for_key k tuple) n under ≡ is_visible names t identities k tuple e below
+  visible-is n under e below here all = seen-at n under e below here (bearing-is under below all)
 
 -- ---- two equal ones
 

@@ -1,4 +1,8 @@
 use Rattle.identity_carry.proofs.CarryLaws.{added, settled-ok, own-more-ok}
+use Rattle.std.proofs.Common.{◌*◌, subst}
+use Rattle.identity_tables.specs.KeyTables.{IsOneMoreTuple}
+use Rattle.identity_carry.specs.Tables.{for_key}
+use Rattle.identity_carry.proofs.ToldLaws.{alike-own, told-one, told-ok}
 use Rattle.identity_carry.proofs.carrying.add_tuple.Goals as goal
 
 pub settle-requires-clause-linked : goal.settle-requires-clause-linked
@@ -16,3 +20,12 @@ returns-clause-settled c =
 pub returns-clause-own : goal.returns-clause-own
 returns-clause-own c =
     own-more-ok c.settle.result c.args.tables.now c.add.new.self c.settle.new.tables c.args.scope c.args.key c.args.tuple.now c.in_ok-clone.field-0 c.in_ok-clone.ensures.cases c.in_ok-add.ensures.ok c.settle.ensures.own
+
+pub returns-clause-told : goal.returns-clause-told
+returns-clause-told c =
+    let old = c.args.tables.now in
+    let middle = c.add.new.self in
+    let x = for_key c.args.key c.args.tuple.now in
+    let grown = subst (IsOneMoreTuple old middle c.args.scope (2 * c.args.key)) c.in_ok-clone.ensures.cases c.in_ok-add.ensures.ok in
+    told-ok c.settle.result x old middle c.settle.new.tables c.args.told.now.items c.push.new.self.items c.settle.new.told.items
+    (told-one x old middle c.args.scope c.args.told.now.items c.push.new.self.items c.in_ok-push.ensures.items (alike-own old middle c.args.scope c.args.key c.args.tuple.now grown)) c.settle.ensures.told

@@ -1,4 +1,6 @@
 use Rattle.identity_carry.proofs.CarryLaws.{dropped, settled-ok, own-less-ok}
+use Rattle.identity_carry.specs.Tables.{for_key}
+use Rattle.identity_carry.proofs.ToldLaws.{alike-own, told-one, told-ok, turned}
 use Rattle.identity_carry.proofs.carrying.drop_tuple.Goals as goal
 
 pub settle-requires-clause-linked : goal.settle-requires-clause-linked
@@ -16,3 +18,12 @@ returns-clause-settled c =
 pub returns-clause-own : goal.returns-clause-own
 returns-clause-own c =
     own-less-ok c.settle.result c.args.tables.now c.drop_entry.new.self c.settle.new.tables c.args.scope c.args.key c.args.tuple.now c.drop_entry.ensures c.settle.ensures.own
+
+pub returns-clause-told : goal.returns-clause-told
+returns-clause-told c =
+    let old = c.args.tables.now in
+    let middle = c.drop_entry.new.self in
+    let x = for_key c.args.key c.args.tuple.now in
+    told-ok c.settle.result x old middle c.settle.new.tables c.args.told.now.items c.push.new.self.items c.settle.new.told.items
+    (told-one x old middle c.args.scope c.args.told.now.items c.push.new.self.items c.in_ok-push.ensures.items
+    (turned c.args.scope x old middle (alike-own middle old c.args.scope c.args.key c.args.tuple.now c.drop_entry.ensures))) c.settle.ensures.told

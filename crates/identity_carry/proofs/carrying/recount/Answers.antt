@@ -1,4 +1,6 @@
 use Rattle.identity_carry.proofs.CarryLaws.{counted-more-ok, counted-less, falls-there}
+use Rattle.identity_carry.specs.Tables.{for_key}
+use Rattle.identity_carry.proofs.ToldLaws.{alike-said, alike-said-ok, turned}
 use Rattle.identity_carry.proofs.carrying.recount.Goals as goal
 
 pub returns-then-waiting-clause-touched : goal.returns-then-waiting-clause-touched
@@ -13,3 +15,12 @@ drop_entry-requires c =
 pub returns-clause-touched : goal.returns-clause-touched
 returns-clause-touched c = λ t i waits.
     counted-less t i c.args.tables.now c.drop_entry.new.self c.args.waiting.at c.args.key c.args.tuple.now c.args.waiting.grows c.if-waiting.false c.drop_entry.ensures waits
+
+pub returns-then-waiting-clause-alike : goal.returns-then-waiting-clause-alike
+returns-then-waiting-clause-alike c =
+    alike-said-ok c.add.result c.args.tables.now c.add.new.self c.args.waiting.at c.args.key c.args.tuple.now c.in_ok-clone.field-0 c.in_ok-clone.ensures.cases c.add.ensures.ok
+
+pub returns-clause-alike : goal.returns-clause-alike
+returns-clause-alike c =
+    let new = c.drop_entry.new.self in
+    turned c.args.waiting.at (for_key c.args.key c.args.tuple.now) c.args.tables.now new (alike-said new c.args.tables.now c.args.waiting.at c.args.key c.args.tuple.now c.drop_entry.ensures)

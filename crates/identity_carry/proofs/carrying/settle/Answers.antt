@@ -1,7 +1,15 @@
-use Rattle.std.proofs.Common.{◌≡◌, ◌≤◌, ◌+◌, ◌∙◌, Option, ap, subst, arith}
-use Rattle.identity_carry.specs.Tables.{ArePending, level}
+use Rattle.std.proofs.Common.{◌≡◌, ◌≤◌, ◌+◌, ◌∙◌, Option, ap, refl, subst, arith}
+use Rattle.identity_carry.specs.Tables.{ArePending, for_key, level}
 use Rattle.identity_carry.specs.declared.carrying.Waiting.{Waiting}
+use Rattle.identity_carry.proofs.ToldLaws.{told-none, told-both}
 use Rattle.identity_carry.proofs.carrying.settle.Goals as goal
+
+pub loop-waits-init : goal.loop-waits-init
+loop-waits-init c = record {
+  pending = λ t linked parents p. p;
+  own = λ n y. refl;
+  told = told-none (for_key c.args.key c.args.tuple.now) c.args.tables.now c.args.told.now.items;
+}
 
 pub loop-waits-preserved : goal.loop-waits-preserved
 loop-waits-preserved c =
@@ -10,6 +18,7 @@ loop-waits-preserved c =
       pending = λ t linked parents p. c.in_ok-waits.ensures.pending t linked parents
           (subst (λ (o : Option Waiting). ArePending t c.args.key c.args.tuple.now c.loop-waits.tables o) c.in-Some.is (inv.pending t linked parents p));
       own = λ n y. c.in_ok-waits.ensures.own n y ∙ inv.own n y;
+      told = told-both (for_key c.args.key c.args.tuple.now) c.args.tables.now c.loop-waits.tables c.settle_at.new.tables c.args.told.now.items c.loop-waits.told.items c.settle_at.new.told.items inv.told c.in_ok-waits.ensures.told;
     }
 
 pub loop-waits-smaller : goal.loop-waits-smaller

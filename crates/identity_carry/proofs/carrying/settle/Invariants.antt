@@ -1,11 +1,12 @@
 use Rattle.identity_counts.specs.Counting.{Links, IsLinked}
-use Rattle.identity_carry.specs.Tables.{AreParents, ArePending, HasSameOwn, level}
+use Rattle.identity_carry.specs.Tables.{AreParents, ArePending, AreTold, HasSameOwn, for_key, level}
 use Rattle.identity_carry.proofs.carrying.settle.Given as goal
 
 abbrev pub invariant-loop-waits : goal.invariant-loop-waits
 invariant-loop-waits l = record {
   pending : (t : Links) → IsLinked t → AreParents t l.parents → ArePending t l.key l.tuple l.initial.tables l.initial.waits → ArePending t l.key l.tuple l.tables l.waits;
   own : HasSameOwn l.initial.tables l.tables;
+  told : AreTold (for_key l.key l.tuple) l.initial.tables l.tables l.initial.told.items l.told.items;
 }
 
 abbrev pub decreases-loop-waits : goal.decreases-loop-waits

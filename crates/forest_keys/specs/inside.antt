@@ -1,0 +1,4 @@
+pub mod Keyrefs
+pub mod Places
+pub mod Found
+pub mod Records

@@ -1,0 +1,6 @@
+mod ReferenceLaws
+mod FaultLaws
+mod EntryLaws
+mod LoopLaws
+mod OwnLaws
+mod TargetLaws

@@ -1,0 +1,4 @@
+pub mod References
+pub mod Faults
+pub mod Counted
+pub mod Records
