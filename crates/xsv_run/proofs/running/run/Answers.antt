@@ -1,4 +1,3 @@
-use Rattle.std.proofs.Common.{refl}
 use Rattle.told.specs.Going.{trace}
 use Rattle.command_words.specs.Requests.{request}
 use Rattle.xsv_run.proofs.Trying.{no_memory, refused_runs, runs_as}
