@@ -288,7 +288,11 @@ impl<T: Clone> RSlice<T> for [T] {
 #[macro_export]
 macro_rules! rvec {
     [in $a:expr; $x:expr; $n:expr] => { $crate::Vec::from_elem($a, $x, $n) };
-    [in $a:expr; $($x:expr),* $(,)?] => { { let mut v = $crate::Vec::new($a); $( let _ = v.push($x); )* Ok::<_, $crate::alloc::AllocError>(v) } };
+    [in $a:expr; $($x:expr),* $(,)?] => {{
+        let mut v = $crate::Vec::new($a);
+        $( let _ = v.push($x); )*
+        Ok::<_, $crate::alloc::AllocError>(v)
+    }};
     [in $a:expr;] => { Ok::<_, $crate::alloc::AllocError>($crate::Vec::new($a)) };
 }
 pub mod collections {
