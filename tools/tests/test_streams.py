@@ -37,7 +37,7 @@ class Streams(Case):
         status, written, _ = self.tool('streams', PROGRAM, 'a.txt', top=top)
         self.assertEqual(status, 1)
         self.assertIn('a.txt: == check: end\n  3 listing 1 BadSection\n  wanted 0 schema ok\n', written)
-        self.assertIn('3 of 4 streams', written)
+        self.assertIn('10 of 11 streams', written)
 
     def test_another_program(self):
         for program in '/bin/true', '/bin/cat':
