@@ -85,10 +85,10 @@ no-children q parent (element own below next) p off out =
     ap (λ b. with_first b q (children_from (q + 1) (xs ++ ys) p)) off ∙ children-append (q + 1) xs ys p
     ∙ (λ i. under i ++ behind i)
   where
-    xs : List (Option ℕ)
+    abbrev xs : List (Option ℕ)
     xs = parents_along (q + 1) (Some q) below
 
-    ys : List (Option ℕ)
+    abbrev ys : List (Option ℕ)
     ys = parents_along (q + 1 + size below) parent next
 
     under : children_from (q + 1) xs p ≡ []
@@ -110,10 +110,10 @@ own-children q p (element own below next) less =
     ap (λ b. with_first b q (children_from (q + 1) (xs ++ ys) p)) (of-itself p (Some p) refl)
     ∙ ap (λ cs. q ∷ cs) (children-append (q + 1) xs ys p ∙ (λ i. under i ++ behind i))
   where
-    xs : List (Option ℕ)
+    abbrev xs : List (Option ℕ)
     xs = parents_along (q + 1) (Some q) below
 
-    ys : List (Option ℕ)
+    abbrev ys : List (Option ℕ)
     ys = parents_along (q + 1 + size below) (Some p) next
 
     under : children_from (q + 1) xs p ≡ []
@@ -132,13 +132,13 @@ pub part-stands : (all front back : List (Option ℕ)) (q : ℕ) (parent : Optio
 part-stands all front back q parent none e long before after less = tt
 part-stands all front back q parent (element own below next) e long before after less = (children-are, under, behind)
   where
-    xs : List (Option ℕ)
+    abbrev xs : List (Option ℕ)
     xs = parents_along (q + 1) (Some q) below
 
-    ys : List (Option ℕ)
+    abbrev ys : List (Option ℕ)
     ys = parents_along (q + 1 + size below) parent next
 
-    n : ℕ
+    abbrev n : ℕ
     n = q + 1 + size below
 
     xs-long : length xs ≡ size below
