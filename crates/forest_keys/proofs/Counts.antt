@@ -67,36 +67,39 @@ module _ (names : NameTable) (t : Tables) (identities : List IdentityPaths) wher
   abbrev counted_if : Bool → ℕ → KeyElement → KeyForest → Feature → ℕ
   counted_if b j own below x = if b then count_in (found j own below) x else 0
 
+  module _ (place k : ℕ) (ks : List ℕ) (own : KeyElement) (below : KeyForest) (j : ℕ) (x : Feature) (rest : targets_for names t identities place ks own below place j x ≡ counted_if (has_number j ks) j own below x) where
+    with-zero : (a b c : ℕ) → a ≡ 0 → b ≡ c → a + b ≡ c
+    with-zero a b c e f = omega (arith, e, f)
+
+    with-none : (a b c : ℕ) → a ≡ c → b ≡ 0 → a + b ≡ c
+    with-none a b c e f = omega (arith, e, f)
+
+    told : k ≡ j → counted_if (has_number j (k ∷ ks)) j own below x ≡ count_in (found j own below) x
+    told e = ap (λ b. counted_if (b || has_number j ks) j own below x) (eq-eqb k j e)
+
+    same : k ≡ j → (b : Bool) → has_number k ks ≡ b → targets_for names t identities place (k ∷ ks) own below place j x ≡ counted_if (has_number j (k ∷ ks)) j own below x
+    same e true is =
+        with-zero _ _ (count_in (found j own below) x) (ap (λ b. (if b then no_targets else targets_of place k (found k own below)) place j x) is)
+        (rest ∙ ap (λ b. counted_if b j own below x) (ap (λ (i : ℕ). has_number i ks) (sym e) ∙ is))
+        ∙ sym (told e)
+    same e false is =
+        with-none _ _ (count_in (found j own below) x)
+        (ap (λ b. (if b then no_targets else targets_of place k (found k own below)) place j x) is ∙ ap (λ (i : ℕ). targets_of place i (found i own below) place j x) e ∙ targets-here place j (found j own below) x)
+        (rest ∙ ap (λ b. counted_if b j own below x) (ap (λ (i : ℕ). has_number i ks) (sym e) ∙ is))
+        ∙ sym (told e)
+
+    more-here : targets_for names t identities place (k ∷ ks) own below place j x ≡ counted_if (has_number j (k ∷ ks)) j own below x
+    more-here =
+        elim (same_or_other k j) [
+          | inl e ↦ same e (has_number k ks) refl
+          | inr off ↦
+              with-zero _ _ (counted_if (has_number j ks) j own below x) (first-off place k ks own below place j x (λ a b. off b)) rest
+              ∙ ap (λ b. counted_if (b || has_number j ks) j own below x) (sym (off-eq k j (nat_eq k j) refl off))
+        ]
+
   for-here : (place : ℕ) (ks : List ℕ) (own : KeyElement) (below : KeyForest) (j : ℕ) (x : Feature) → targets_for names t identities place ks own below place j x ≡ counted_if (has_number j ks) j own below x
   for-here place [] own below j x = refl
-  for-here place (k ∷ ks) own below j x =
-      elim (same_or_other k j) [
-        | inl e ↦ same e (has_number k ks) refl
-        | inr off ↦
-            (let none-first = first-off place k ks own below place j x (λ a b. off b) in let rest = for-here place ks own below j x in
-            with-zero _ _ (counted_if (has_number j ks) j own below x) none-first rest)
-            ∙ ap (λ b. counted_if (b || has_number j ks) j own below x) (sym (off-eq k j (nat_eq k j) refl off))
-      ]
-    where
-      with-zero : (a b c : ℕ) → a ≡ 0 → b ≡ c → a + b ≡ c
-      with-zero a b c e f = omega (arith, e, f)
-
-      with-none : (a b c : ℕ) → a ≡ c → b ≡ 0 → a + b ≡ c
-      with-none a b c e f = omega (arith, e, f)
-
-      told : k ≡ j → counted_if (has_number j (k ∷ ks)) j own below x ≡ count_in (found j own below) x
-      told e = ap (λ b. counted_if (b || has_number j ks) j own below x) (eq-eqb k j e)
-
-      same : k ≡ j → (b : Bool) → has_number k ks ≡ b → targets_for names t identities place (k ∷ ks) own below place j x ≡ counted_if (has_number j (k ∷ ks)) j own below x
-      same e true is =
-          with-zero _ _ (count_in (found j own below) x) (ap (λ b. (if b then no_targets else targets_of place k (found k own below)) place j x) is)
-          (for-here place ks own below j x ∙ ap (λ b. counted_if b j own below x) (ap (λ (i : ℕ). has_number i ks) (sym e) ∙ is))
-          ∙ sym (told e)
-      same e false is =
-          with-none _ _ (count_in (found j own below) x)
-          (ap (λ b. (if b then no_targets else targets_of place k (found k own below)) place j x) is ∙ ap (λ (i : ℕ). targets_of place i (found i own below) place j x) e ∙ targets-here place j (found j own below) x)
-          (for-here place ks own below j x ∙ ap (λ b. counted_if b j own below x) (ap (λ (i : ℕ). has_number i ks) (sym e) ∙ is))
-          ∙ sym (told e)
+  for-here place (k ∷ ks) own below j x = more-here place k ks own below j x (for-here place ks own below j x)
 
   -- an element has no targets for the constraints of others
   none-of-others : (k : ℕ) (own : KeyElement) (below : KeyForest) → has_constraint names t identities k own ≡ false → found k own below ≡ []
@@ -171,12 +174,8 @@ turn a b = by (same_tuple a b) (same_tuple b a) refl refl
 
 pub keys-counted : (os : List Outcome) (tuple : List Key) → count_in os (with_keys tuple) ≡ times tuple (tuples_in os)
 keys-counted [] tuple = refl
-keys-counted (o ∷ os) tuple = by o.tuple
+keys-counted (o ∷ os) tuple = by (keys-counted os tuple) o.tuple
   where
-    rest : count_in os (with_keys tuple) ≡ times tuple (tuples_in os)
-    rest = keys-counted os tuple
-
-    by : (own : Option (List Key)) → weight (has_keys own tuple) + count_in os (with_keys tuple) ≡ times tuple (option_to_list own ++ tuples_in os)
-    by None = (let zero_more : 0 + count_in os (with_keys tuple) ≡ count_in os (with_keys tuple) = omega arith in zero_more) ∙ rest
-    by (Some other) =
-        (λ i. weight (turn other tuple i) + rest i) ∙ sym (times-cons tuple other (tuples_in os))
+    by : count_in os (with_keys tuple) ≡ times tuple (tuples_in os) → (own : Option (List Key)) → weight (has_keys own tuple) + count_in os (with_keys tuple) ≡ times tuple (option_to_list own ++ tuples_in os)
+    by rest None = (let same : 0 + count_in os (with_keys tuple) ≡ count_in os (with_keys tuple) = omega arith in same) ∙ rest
+    by rest (Some other) = (λ i. weight (turn other tuple i) + rest i) ∙ sym (times-cons tuple other (tuples_in os))

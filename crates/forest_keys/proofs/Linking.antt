@@ -47,26 +47,27 @@ of-off p q off = by (is_of p q) refl
 
 children-down : (i : ℕ) (qs : List (Option ℕ)) (p c : ℕ) → Has c (children_from i qs p) → (j : ℕ) × (c ≡ i + j) × (joined (slice_get qs j) ≡ Some p)
 children-down i [] p c h = absurd h
-children-down i (q ∷ qs) p c h = by (is_of p q) refl h
+children-down i (q ∷ qs) p c h = by (children-down (i + 1) qs p c) (is_of p q) refl h
   where
-    later : Has c (children_from (i + 1) qs p) → (j : ℕ) × (c ≡ i + j) × (joined (slice_get (q ∷ qs) j) ≡ Some p)
-    later k = let rest = children-down (i + 1) qs p c k in (suc rest.0, omega (arith, rest.1), rest.2)
+    later : ((j : ℕ) × (c ≡ i + 1 + j) × (joined (slice_get qs j) ≡ Some p)) → (j : ℕ) × (c ≡ i + j) × (joined (slice_get (q ∷ qs) j) ≡ Some p)
+    later rest = (suc rest.0, omega (arith, rest.1), rest.2)
 
-    by : (b : Bool) → is_of p q ≡ b → Has c (with_first b i (children_from (i + 1) qs p)) → (j : ℕ) × (c ≡ i + j) × (joined (slice_get (q ∷ qs) j) ≡ Some p)
-    by true e k = elim k [ | inl here ↦ (0, omega (arith, here), of-is p q e) | inr there ↦ later there ]
-    by false e k = later k
+    by : (Has c (children_from (i + 1) qs p) → (j : ℕ) × (c ≡ i + 1 + j) × (joined (slice_get qs j) ≡ Some p)) → (b : Bool) → is_of p q ≡ b → Has c (with_first b i (children_from (i + 1) qs p))
+        → (j : ℕ) × (c ≡ i + j) × (joined (slice_get (q ∷ qs) j) ≡ Some p)
+    by rest true e k = elim k [ | inl here ↦ (0, omega (arith, here), of-is p q e) | inr there ↦ later (rest there) ]
+    by rest false e k = later (rest k)
 
 children-up : (i : ℕ) (qs : List (Option ℕ)) (p j : ℕ) → joined (slice_get qs j) ≡ Some p → Has (i + j) (children_from i qs p)
 children-up i [] p j e = absurd (none-some p e)
 children-up i (q ∷ qs) p zero e = subst (λ b. Has (i + 0) (with_first b i (children_from (i + 1) qs p))) (sym (of-itself p q e)) (inl (omega arith))
-children-up i (q ∷ qs) p (suc j) e = by (is_of p q)
+children-up i (q ∷ qs) p (suc j) e = by (children-up (i + 1) qs p j e) (is_of p q)
   where
-    there : Has (i + suc j) (children_from (i + 1) qs p)
-    there = let at : i + 1 + j ≡ i + suc j = omega arith in subst (λ n. Has n (children_from (i + 1) qs p)) at (children-up (i + 1) qs p j e)
+    there : Has (i + 1 + j) (children_from (i + 1) qs p) → Has (i + suc j) (children_from (i + 1) qs p)
+    there h = let at : i + 1 + j ≡ i + suc j = omega arith in subst (λ n. Has n (children_from (i + 1) qs p)) at h
 
-    by : (b : Bool) → Has (i + suc j) (with_first b i (children_from (i + 1) qs p))
-    by true = inr there
-    by false = there
+    by : Has (i + 1 + j) (children_from (i + 1) qs p) → (b : Bool) → Has (i + suc j) (with_first b i (children_from (i + 1) qs p))
+    by h true = inr (there h)
+    by h false = there h
 
 lacks-all : (x : ℕ) (cs : List ℕ) → ((c : ℕ) → Has c cs → c ≢ x) → Lacks x cs
 lacks-all x [] off = tt
@@ -74,11 +75,14 @@ lacks-all x (c ∷ cs) off = (off c (inl refl), lacks-all x cs (λ d h. off d (i
 
 children-apart : (i : ℕ) (qs : List (Option ℕ)) (p : ℕ) → Distinct (children_from i qs p)
 children-apart i [] p = tt
-children-apart i (q ∷ qs) p = by (is_of p q)
+children-apart i (q ∷ qs) p = by (children-apart (i + 1) qs p) (is_of p q)
   where
-    by : (b : Bool) → Distinct (with_first b i (children_from (i + 1) qs p))
-    by true = (lacks-all i (children_from (i + 1) qs p) (λ c h e. let down = children-down (i + 1) qs p c h in let at = down.1 in absurd (omega (arith, at, e))), children-apart (i + 1) qs p)
-    by false = children-apart (i + 1) qs p
+    first : Lacks i (children_from (i + 1) qs p)
+    first = lacks-all i (children_from (i + 1) qs p) (λ c h e. let down = children-down (i + 1) qs p c h in let at = down.1 in absurd (omega (arith, at, e)))
+
+    by : Distinct (children_from (i + 1) qs p) → (b : Bool) → Distinct (with_first b i (children_from (i + 1) qs p))
+    by rest true = (first, rest)
+    by rest false = rest
 
 pub links_linked : (parents : List (Option ℕ)) → IsLinked (links_of parents)
 links_linked parents = record {

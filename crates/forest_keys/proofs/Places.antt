@@ -32,36 +32,25 @@ parents-length q parent (element own below next) =
 abbrev AreBefore : ℕ → List (Option ℕ) → Type 0
 AreBefore i qs = (j p : ℕ) → joined (slice_get qs j) ≡ Some p → p < i + j
 
+before-cons : (i : ℕ) (x : Option ℕ) (xs : List (Option ℕ)) → ((p : ℕ) → x ≡ Some p → p < i) → AreBefore (i + 1) xs → AreBefore i (x ∷ xs)
+before-cons i x xs first rest zero p e = let h = first p e in omega (arith, h)
+before-cons i x xs first rest (suc j) p e = let h = rest j p e in omega (arith, h)
+
 before-append : (i : ℕ) (xs ys : List (Option ℕ)) → AreBefore i xs → AreBefore (i + length xs) ys → AreBefore i (xs ++ ys)
 before-append i [] ys one two = λ j p e. let h = two j p e in omega (arith, h)
-before-append i (x ∷ xs) ys one two = by
-  where
-    rest : AreBefore (i + 1) (xs ++ ys)
-    rest = before-append (i + 1) xs ys (λ j p e. let h = one (suc j) p e in omega (arith, h)) (λ j p e. let h = two j p e in omega (arith, h))
-
-    by : (j p : ℕ) → joined (slice_get (x ∷ (xs ++ ys)) j) ≡ Some p → p < i + j
-    by zero p e = one zero p e
-    by (suc j) p e = let h = rest j p e in omega (arith, h)
+before-append i (x ∷ xs) ys one two =
+    before-cons i x (xs ++ ys) (λ p e. let h = one 0 p e in omega (arith, h))
+    (before-append (i + 1) xs ys (λ j p e. let h = one (suc j) p e in omega (arith, h)) (λ j p e. let h = two j p e in omega (arith, h)))
 
 parents-before : (q : ℕ) (parent : Option ℕ) (g : KeyForest) → ((a : ℕ) → parent ≡ Some a → a < q) → AreBefore q (parents_along q parent g)
 parents-before q parent none less = λ j p e. absurd (none-some p e)
-parents-before q parent (element own below next) less = by
-  where
-    under : AreBefore (q + 1) (parents_along (q + 1) (Some q) below)
-    under = parents-before (q + 1) (Some q) below (λ a e. let same = some-is q a e in omega (arith, same))
-
-    behind : AreBefore (q + 1 + length (parents_along (q + 1) (Some q) below)) (parents_along (q + 1 + size below) parent next)
-    behind =
-        let long = parents-length (q + 1) (Some q) below in
-        let rest = parents-before (q + 1 + size below) parent next (λ a e. let h = less a e in omega (arith, h)) in
-        λ j p e. let h = rest j p e in omega (arith, h, long)
-
-    rest : AreBefore (q + 1) (parents_along (q + 1) (Some q) below ++ parents_along (q + 1 + size below) parent next)
-    rest = before-append (q + 1) (parents_along (q + 1) (Some q) below) (parents_along (q + 1 + size below) parent next) under behind
-
-    by : AreBefore q (parents_along q parent (element own below next))
-    by zero p e = let h = less p e in omega (arith, h)
-    by (suc j) p e = let h = rest j p e in omega (arith, h)
+parents-before q parent (element own below next) less =
+    let xs = parents_along (q + 1) (Some q) below in
+    let long = parents-length (q + 1) (Some q) below in
+    let under = parents-before (q + 1) (Some q) below (λ a e. let same = some-is q a e in omega (arith, same)) in
+    let behind = parents-before (q + 1 + size below) parent next (λ a e. let h = less a e in omega (arith, h)) in
+    before-cons q parent (xs ++ parents_along (q + 1 + size below) parent next) less
+    (before-append (q + 1) xs (parents_along (q + 1 + size below) parent next) under (λ j p e. let h = behind j p e in omega (arith, h, long)))
 
 pub are_parents : (f : KeyForest) (parents : List (Option ℕ)) → parents ≡ parents_along 0 None f → AreParents (links_of parents) parents
 are_parents f parents e = record {
@@ -82,130 +71,129 @@ less-off parent q p less h = of-off p parent (λ e. let l = less p e in absurd (
 no-children : (q : ℕ) (parent : Option ℕ) (g : KeyForest) (p : ℕ) → is_of p parent ≡ false → (p < q) ⊎ (q + size g ≤ p) → children_from q (parents_along q parent g) p ≡ []
 no-children q parent none p off out = refl
 no-children q parent (element own below next) p off out =
-    ap (λ b. with_first b q (children_from (q + 1) (xs ++ ys) p)) off ∙ children-append (q + 1) xs ys p
-    ∙ (λ i. under i ++ behind i)
-  where
-    abbrev xs : List (Option ℕ)
-    xs = parents_along (q + 1) (Some q) below
-
-    abbrev ys : List (Option ℕ)
-    ys = parents_along (q + 1 + size below) parent next
-
-    under : children_from (q + 1) xs p ≡ []
-    under =
-        no-children (q + 1) (Some q) below p (apart-off q p (λ e. elim out [ | inl h ↦ absurd (omega (arith, h, e)) | inr h ↦ absurd (omega (arith, h, e)) ]))
-        (elim out [ | inl h ↦ inl (omega (arith, h)) | inr h ↦ inr (omega (arith, h)) ])
-
-    behind : children_from (q + 1 + length xs) ys p ≡ []
-    behind =
-        let long = parents-length (q + 1) (Some q) below in
-        let at : q + 1 + length xs ≡ q + 1 + size below = omega (arith, long) in
-        ap (λ n. children_from n ys p) at
-        ∙ no-children (q + 1 + size below) parent next p off (elim out [ | inl h ↦ inl (omega (arith, h)) | inr h ↦ inr (omega (arith, h)) ])
+    let xs = parents_along (q + 1) (Some q) below in
+    let ys = parents_along (q + 1 + size below) parent next in
+    let long = parents-length (q + 1) (Some q) below in
+    let at : q + 1 + length xs ≡ q + 1 + size below = omega (arith, long) in
+    let under : children_from (q + 1) xs p ≡ [] =
+    no-children (q + 1) (Some q) below p (apart-off q p (λ e. elim out [ | inl h ↦ absurd (omega (arith, h, e)) | inr h ↦ absurd (omega (arith, h, e)) ]))
+    (elim out [ | inl h ↦ inl (omega (arith, h)) | inr h ↦ inr (omega (arith, h)) ]) in
+    let behind : children_from (q + 1 + length xs) ys p ≡ [] =
+    ap (λ n. children_from n ys p) at ∙ no-children (q + 1 + size below) parent next p off (elim out [ | inl h ↦ inl (omega (arith, h)) | inr h ↦ inr (omega (arith, h)) ]) in
+    ap (λ b. with_first b q (children_from (q + 1) (xs ++ ys) p)) off ∙ children-append (q + 1) xs ys p ∙ (λ i. under i ++ behind i)
 
 -- siblings with this parent
 own-children : (q p : ℕ) (g : KeyForest) → p < q → children_from q (parents_along q (Some p) g) p ≡ firsts (placed q g)
 own-children q p none less = refl
 own-children q p (element own below next) less =
+    let xs = parents_along (q + 1) (Some q) below in
+    let ys = parents_along (q + 1 + size below) (Some p) next in
+    let long = parents-length (q + 1) (Some q) below in
+    let at : q + 1 + length xs ≡ q + 1 + size below = omega (arith, long) in
+    let under : children_from (q + 1) xs p ≡ [] = no-children (q + 1) (Some q) below p (apart-off q p (λ e. absurd (omega (arith, less, e)))) (inl (omega (arith, less))) in
+    let behind : children_from (q + 1 + length xs) ys p ≡ firsts (placed (q + 1 + size below) next) =
+    ap (λ n. children_from n ys p) at ∙ own-children (q + 1 + size below) p next (omega (arith, less)) in
     ap (λ b. with_first b q (children_from (q + 1) (xs ++ ys) p)) (of-itself p (Some p) refl)
     ∙ ap (λ cs. q ∷ cs) (children-append (q + 1) xs ys p ∙ (λ i. under i ++ behind i))
-  where
-    abbrev xs : List (Option ℕ)
-    xs = parents_along (q + 1) (Some q) below
 
-    abbrev ys : List (Option ℕ)
-    ys = parents_along (q + 1 + size below) (Some p) next
+-- an element with what is below it and behind it, in front of others and behind others
+module _ (all front back : List (Option ℕ)) (q : ℕ) (parent : Option ℕ) (below next : KeyForest) (long : length front ≡ q) (before : (p : ℕ) → q ≤ p → children_from 0 front p ≡ [])
+    (after : (p : ℕ) → q ≤ p → p < q + (1 + size below + size next) → children_from (q + (1 + size below + size next)) back p ≡ []) (less : (a : ℕ) → parent ≡ Some a → a < q)
+    (e : all ≡ front ++ ((parent ∷ (parents_along (q + 1) (Some q) below ++ parents_along (q + 1 + size below) parent next)) ++ back)) where
+  abbrev xs : List (Option ℕ)
+  xs = parents_along (q + 1) (Some q) below
 
-    under : children_from (q + 1) xs p ≡ []
-    under = no-children (q + 1) (Some q) below p (apart-off q p (λ e. absurd (omega (arith, less, e)))) (inl (omega (arith, less)))
+  abbrev ys : List (Option ℕ)
+  ys = parents_along (q + 1 + size below) parent next
 
-    behind : children_from (q + 1 + length xs) ys p ≡ firsts (placed (q + 1 + size below) next)
-    behind =
-        let long = parents-length (q + 1) (Some q) below in
-        let at : q + 1 + length xs ≡ q + 1 + size below = omega (arith, long) in
-        ap (λ n. children_from n ys p) at ∙ own-children (q + 1 + size below) p next (omega (arith, less))
+  xs-long : length xs ≡ size below
+  xs-long = parents-length (q + 1) (Some q) below
+
+  ys-long : length ys ≡ size next
+  ys-long = parents-length (q + 1 + size below) parent next
+
+  parent-off : (p : ℕ) → q ≤ p → is_of p parent ≡ false
+  parent-off p h = less-off parent q p less h
+
+  back-none : (p : ℕ) → q ≤ p → p < q + (1 + size below + size next) → children_from (q + 1 + size below + length ys) back p ≡ []
+  back-none p h k =
+      let many = ys-long in
+      let at : q + 1 + size below + length ys ≡ q + (1 + size below + size next) = omega (arith, many) in
+      ap (λ m. children_from m back p) at ∙ after p h k
+
+  -- those behind an element and what is below it are no children of it
+  behind-none : (p : ℕ) → q ≤ p → p < q + 1 + size below → children_from (q + 1 + size below) (ys ++ back) p ≡ []
+  behind-none p h k =
+      children-append (q + 1 + size below) ys back p
+      ∙ (λ i. no-children (q + 1 + size below) parent next p (parent-off p h) (inl k) i ++ back-none p h (omega (arith, k)) i)
+
+  inner : children_from (q + 1) ((xs ++ ys) ++ back) q ≡ firsts (placed (q + 1) below)
+  inner =
+      let many = xs-long in
+      let at : q + 1 + length xs ≡ q + 1 + size below = omega (arith, many) in
+      let rest : children_from (q + 1 + length xs) (ys ++ back) q ≡ [] = ap (λ m. children_from m (ys ++ back) q) at ∙ behind-none q (omega arith) (omega arith) in
+      let mine = own-children (q + 1) q below (omega arith) in
+      ap (λ (l : List (Option ℕ)). children_from (q + 1) l q) (append_assoc xs ys back) ∙ children-append (q + 1) xs (ys ++ back) q
+      ∙ (λ i. mine i ++ rest i) ∙ append-nil (firsts (placed (q + 1) below))
+
+  children-are : children_from 0 all q ≡ firsts (placed (q + 1) below)
+  children-are =
+      let at : 0 + length front + 1 ≡ q + 1 = omega (arith, long) in
+      let out = before q (omega arith) in
+      let off = parent-off q (omega arith) in
+      ap (λ (l : List (Option ℕ)). children_from 0 l q) e ∙ children-append 0 front ((parent ∷ (xs ++ ys)) ++ back) q
+      ∙ (λ i. out i ++ children_from (0 + length front) (parent ∷ ((xs ++ ys) ++ back)) q)
+      ∙ ap (λ b. with_first b (0 + length front) (children_from (0 + length front + 1) ((xs ++ ys) ++ back) q)) off
+      ∙ ap (λ m. children_from m ((xs ++ ys) ++ back) q) at ∙ inner
+
+  below-whole : all ≡ (front ++ parent ∷ []) ++ (xs ++ (ys ++ back))
+  below-whole = e ∙ ap (λ (l : List (Option ℕ)). front ++ parent ∷ l) (append_assoc xs ys back) ∙ sym (append_assoc front (parent ∷ []) (xs ++ (ys ++ back)))
+
+  below-long : length (front ++ parent ∷ []) ≡ q + 1
+  below-long = let l = length-append front (parent ∷ []) in omega (arith, l, long)
+
+  below-before : (p : ℕ) → q + 1 ≤ p → children_from 0 (front ++ parent ∷ []) p ≡ []
+  below-before p h =
+      let out = before p (omega (arith, h)) in
+      let off = parent-off p (omega (arith, h)) in
+      children-append 0 front (parent ∷ []) p ∙ (λ i. out i ++ with_first (off i) (0 + length front) [])
+
+  below-after : (p : ℕ) → q + 1 ≤ p → p < q + 1 + size below → children_from (q + 1 + size below) (ys ++ back) p ≡ []
+  below-after p h k = behind-none p (omega (arith, h)) k
+
+  next-whole : all ≡ (front ++ parent ∷ xs) ++ (ys ++ back)
+  next-whole = e ∙ ap (λ (l : List (Option ℕ)). front ++ parent ∷ l) (append_assoc xs ys back) ∙ sym (append_assoc front (parent ∷ xs) (ys ++ back))
+
+  next-long : length (front ++ parent ∷ xs) ≡ q + 1 + size below
+  next-long = let l = length-append front (parent ∷ xs) in let many = xs-long in omega (arith, l, long, many)
+
+  next-before : (p : ℕ) → q + 1 + size below ≤ p → children_from 0 (front ++ parent ∷ xs) p ≡ []
+  next-before p h =
+      let out = before p (omega (arith, h)) in
+      let off = parent-off p (omega (arith, h)) in
+      let at : 0 + length front + 1 ≡ q + 1 = omega (arith, long) in
+      children-append 0 front (parent ∷ xs) p ∙ (λ i. out i ++ with_first (off i) (0 + length front) (children_from (0 + length front + 1) xs p))
+      ∙ ap (λ m. children_from m xs p) at ∙ no-children (q + 1) (Some q) below p (apart-off q p (λ same. absurd (omega (arith, h, same)))) (inr h)
+
+  next-after : (p : ℕ) → q + 1 + size below ≤ p → p < q + 1 + size below + size next → children_from (q + 1 + size below + size next) back p ≡ []
+  next-after p h k =
+      let at : q + 1 + size below + size next ≡ q + (1 + size below + size next) = omega arith in
+      ap (λ m. children_from m back p) at ∙ after p (omega (arith, h)) (omega (arith, k))
 
 -- a part of a forest, in front of others and behind others
 pub part-stands : (all front back : List (Option ℕ)) (q : ℕ) (parent : Option ℕ) (g : KeyForest) → all ≡ front ++ (parents_along q parent g ++ back) → length front ≡ q
     → ((p : ℕ) → q ≤ p → children_from 0 front p ≡ []) → ((p : ℕ) → q ≤ p → p < q + size g → children_from (q + size g) back p ≡ []) → ((a : ℕ) → parent ≡ Some a → a < q)
     → StandFor (links_of all) (placed q g)
 part-stands all front back q parent none e long before after less = tt
-part-stands all front back q parent (element own below next) e long before after less = (children-are, under, behind)
-  where
-    abbrev xs : List (Option ℕ)
-    xs = parents_along (q + 1) (Some q) below
-
-    abbrev ys : List (Option ℕ)
-    ys = parents_along (q + 1 + size below) parent next
-
-    abbrev n : ℕ
-    n = q + 1 + size below
-
-    xs-long : length xs ≡ size below
-    xs-long = parents-length (q + 1) (Some q) below
-
-    ys-long : length ys ≡ size next
-    ys-long = parents-length (q + 1 + size below) parent next
-
-    parent-off : (p : ℕ) → q ≤ p → is_of p parent ≡ false
-    parent-off p h = less-off parent q p less h
-
-    back-none : (p : ℕ) → q ≤ p → p < q + size (element own below next) → children_from (n + length ys) back p ≡ []
-    back-none p h k =
-        let at : q + 1 + size below + length ys ≡ q + size (element own below next) = omega (arith, ys-long) in
-        ap (λ m. children_from m back p) at ∙ after p h k
-
-    -- what the children of this element are
-    inner : children_from (q + 1) ((xs ++ ys) ++ back) q ≡ firsts (placed (q + 1) below)
-    inner =
-        ap (λ (l : List (Option ℕ)). children_from (q + 1) l q) (append_assoc xs ys back)
-        ∙ children-append (q + 1) xs (ys ++ back) q
-        ∙ (λ i. own-children (q + 1) q below (omega arith) i ++ rest i)
-        ∙ append-nil (firsts (placed (q + 1) below))
-      where
-        rest : children_from (q + 1 + length xs) (ys ++ back) q ≡ []
-        rest =
-            let at : q + 1 + length xs ≡ q + 1 + size below = omega (arith, xs-long) in
-            ap (λ m. children_from m (ys ++ back) q) at ∙ children-append (q + 1 + size below) ys back q
-            ∙ (λ i. no-children (q + 1 + size below) parent next q (parent-off q (omega arith)) (inl (omega arith)) i ++ back-none q (omega arith) (omega arith) i)
-
-    children-are : children_from 0 all q ≡ firsts (placed (q + 1) below)
-    children-are =
-        ap (λ (l : List (Option ℕ)). children_from 0 l q) e ∙ children-append 0 front ((parent ∷ (xs ++ ys)) ++ back) q
-        ∙ (λ i. before q (omega arith) i ++ children_from (0 + length front) (parent ∷ ((xs ++ ys) ++ back)) q)
-        ∙ ap (λ b. with_first b (0 + length front) (children_from (0 + length front + 1) ((xs ++ ys) ++ back) q)) (parent-off q (omega arith))
-        ∙ (let at : 0 + length front + 1 ≡ q + 1 = omega (arith, long) in ap (λ m. children_from m ((xs ++ ys) ++ back) q) at)
-        ∙ inner
-
-    front-one : (p : ℕ) → q ≤ p → children_from 0 (front ++ parent ∷ []) p ≡ []
-    front-one p h =
-        children-append 0 front (parent ∷ []) p
-        ∙ (λ i. before p h i ++ with_first (parent-off p h i) (0 + length front) [])
-
-    under : StandFor (links_of all) (placed (q + 1) below)
-    under =
-        part-stands all (front ++ parent ∷ []) (ys ++ back) (q + 1) (Some q) below
-        (e ∙ ap (λ (l : List (Option ℕ)). front ++ parent ∷ l) (append_assoc xs ys back) ∙ sym (append_assoc front (parent ∷ []) (xs ++ (ys ++ back))))
-        (let l = length-append front (parent ∷ []) in omega (arith, l, long))
-        (λ p h. front-one p (omega (arith, h)))
-        (λ p h k. children-append (q + 1 + size below) ys back p
-        ∙ (λ i. no-children (q + 1 + size below) parent next p (parent-off p (omega (arith, h))) (inl k) i ++ back-none p (omega (arith, h)) (omega (arith, k)) i))
-        (λ a is. let same = some-is q a is in omega (arith, same))
-
-    behind : StandFor (links_of all) (placed (q + 1 + size below) next)
-    behind =
-        part-stands all (front ++ (parent ∷ xs)) back (q + 1 + size below) parent next
-        (e ∙ ap (λ (l : List (Option ℕ)). front ++ parent ∷ l) (append_assoc xs ys back) ∙ sym (append_assoc front (parent ∷ xs) (ys ++ back)))
-        (let l = length-append front (parent ∷ xs) in omega (arith, l, long, xs-long))
-        (λ p h.
-        children-append 0 front (parent ∷ xs) p
-        ∙ (λ i. before p (omega (arith, h)) i ++ with_first (parent-off p (omega (arith, h)) i) (0 + length front) (children_from (0 + length front + 1) xs p))
-        ∙ (let at : 0 + length front + 1 ≡ q + 1 = omega (arith, long) in ap (λ m. children_from m xs p) at)
-        ∙ no-children (q + 1) (Some q) below p (apart-off q p (λ same. absurd (omega (arith, h, same)))) (inr h))
-        (λ p h k.
-        let at : q + 1 + size below + size next ≡ q + size (element own below next) = omega arith in
-        ap (λ m. children_from m back p) at ∙ after p (omega (arith, h)) (omega (arith, k)))
-        (λ a is. let h = less a is in omega (arith, h))
+part-stands all front back q parent (element own below next) e long before after less = (
+  children-are all front back q parent below next long before after less e,
+  part-stands all (front ++ parent ∷ []) (parents_along (q + 1 + size below) parent next ++ back) (q + 1) (Some q) below (below-whole all front back q parent below next long before after less e)
+      (below-long all front back q parent below next long before after less e) (below-before all front back q parent below next long before after less e) (below-after all front back q parent below next long before after less e)
+      (λ a is. let same = some-is q a is in omega (arith, same)),
+  part-stands all (front ++ parent ∷ parents_along (q + 1) (Some q) below) back (q + 1 + size below) parent next (next-whole all front back q parent below next long before after less e)
+      (next-long all front back q parent below next long before after less e) (next-before all front back q parent below next long before after less e) (next-after all front back q parent below next long before after less e)
+      (λ a is. let h = less a is in omega (arith, h)),
+)
 
 pub forest_stands : (f : KeyForest) (parents : List (Option ℕ)) → parents ≡ parents_along 0 None f → StandFor (links_of parents) (placed 0 f)
 forest_stands f parents e =

@@ -59,13 +59,13 @@ any-there p (x ∷ xs) e =
 
 there-any : (p : List Key → Bool) (xs : List (List Key)) (tuple : List Key) → 1 ≤ times tuple xs → p tuple ≡ true → list_any p xs ≡ true
 there-any p [] tuple some e = absurd (omega (arith, some))
-there-any p (x ∷ xs) tuple some e = by (same_tuple tuple x) refl
+there-any p (x ∷ xs) tuple some e = by (there-any p xs tuple) (same_tuple tuple x) refl
   where
-    by : (b : Bool) → same_tuple tuple x ≡ b → list_any p (x ∷ xs) ≡ true
-    by true is = or_left (p x) (list_any p xs) (subst (λ y. p y ≡ true) ((tuple_decides tuple x).0 is) e)
-    by false is =
-        let cons = times-cons tuple x xs in let none = ap weight is in
-        or_right (p x) (list_any p xs) (there-any p xs tuple (omega (arith, cons, none, some)) e)
+    by : (1 ≤ times tuple xs → p tuple ≡ true → list_any p xs ≡ true) → (b : Bool) → same_tuple tuple x ≡ b → list_any p (x ∷ xs) ≡ true
+    by rest true is = or_left (p x) (list_any p xs) (subst (λ y. p y ≡ true) ((tuple_decides tuple x).0 is) e)
+    by rest false is =
+        let cons = times-cons tuple x xs in let nothing = ap weight is in
+        or_right (p x) (list_any p xs) (rest (omega (arith, cons, nothing, some)) e)
 
 not-true : (b : Bool) → not b ≡ true → b ≡ false
 not-true true e = absurd (true≢false (sym e))
