@@ -116,9 +116,9 @@ module _ (names : NameTable) (t : Tables) (identities : List IdentityPaths) wher
   pub along-off : (q : ℕ) (g : KeyForest) (n j : ℕ) (x : Feature) → (n < q) ⊎ (q + size g ≤ n) → targets_along names t identities q g n j x ≡ 0
   along-off q none n j x out = refl
   along-off q (element own below next) n j x out =
-      none-and _ _ (for-off q (constraints_of t own) own below n j x (λ e. elim out [ | inl h ↦ absurd (omega (arith, h, e)) | inr h ↦ absurd (omega (arith, h, e)) ]))
-      (none-and _ _ (along-off (q + 1) below n j x (elim out [ | inl h ↦ inl (omega (arith, h)) | inr h ↦ inr (omega (arith, h)) ]))
-      (along-off (q + 1 + size below) next n j x (elim out [ | inl h ↦ inl (omega (arith, h)) | inr h ↦ inr (omega (arith, h)) ])))
+      none-and _ _ (for-off q (constraints_of t own) own below n j x (λ e. elim out [ inl h ↦ absurd (omega (arith, h, e)) | inr h ↦ absurd (omega (arith, h, e)) ]))
+      (none-and _ _ (along-off (q + 1) below n j x (elim out [ inl h ↦ inl (omega (arith, h)) | inr h ↦ inr (omega (arith, h)) ]))
+      (along-off (q + 1 + size below) next n j x (elim out [ inl h ↦ inl (omega (arith, h)) | inr h ↦ inr (omega (arith, h)) ])))
 
   -- ---- part by part
 

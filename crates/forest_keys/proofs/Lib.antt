@@ -1,4 +1,4 @@
-mod Keyrefs
+mod KeyrefLaws
 mod Linking
 mod Places
 mod Parents
@@ -6,6 +6,6 @@ mod Counts
 mod Growing
 mod Along
 mod Filling
-mod Reading
+mod ReadLaws
 mod Codes
 mod Siblings

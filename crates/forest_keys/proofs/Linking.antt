@@ -54,7 +54,7 @@ children-down i (q ∷ qs) p c h = by (children-down (i + 1) qs p c) (is_of p q)
 
     by : (Has c (children_from (i + 1) qs p) → (j : ℕ) × (c ≡ i + 1 + j) × (joined (slice_get qs j) ≡ Some p)) → (b : Bool) → is_of p q ≡ b → Has c (with_first b i (children_from (i + 1) qs p))
         → (j : ℕ) × (c ≡ i + j) × (joined (slice_get (q ∷ qs) j) ≡ Some p)
-    by rest true e k = elim k [ | inl here ↦ (0, omega (arith, here), of-is p q e) | inr there ↦ later (rest there) ]
+    by rest true e k = elim k [ inl here ↦ (0, omega (arith, here), of-is p q e) | inr there ↦ later (rest there) ]
     by rest false e k = later (rest k)
 
 children-up : (i : ℕ) (qs : List (Option ℕ)) (p j : ℕ) → joined (slice_get qs j) ≡ Some p → Has (i + j) (children_from i qs p)

@@ -76,10 +76,10 @@ no-children q parent (element own below next) p off out =
     let long = parents-length (q + 1) (Some q) below in
     let at : q + 1 + length xs ≡ q + 1 + size below = omega (arith, long) in
     let under : children_from (q + 1) xs p ≡ [] =
-    no-children (q + 1) (Some q) below p (apart-off q p (λ e. elim out [ | inl h ↦ absurd (omega (arith, h, e)) | inr h ↦ absurd (omega (arith, h, e)) ]))
-    (elim out [ | inl h ↦ inl (omega (arith, h)) | inr h ↦ inr (omega (arith, h)) ]) in
+    no-children (q + 1) (Some q) below p (apart-off q p (λ e. elim out [ inl h ↦ absurd (omega (arith, h, e)) | inr h ↦ absurd (omega (arith, h, e)) ]))
+    (elim out [ inl h ↦ inl (omega (arith, h)) | inr h ↦ inr (omega (arith, h)) ]) in
     let behind : children_from (q + 1 + length xs) ys p ≡ [] =
-    ap (λ n. children_from n ys p) at ∙ no-children (q + 1 + size below) parent next p off (elim out [ | inl h ↦ inl (omega (arith, h)) | inr h ↦ inr (omega (arith, h)) ]) in
+    ap (λ n. children_from n ys p) at ∙ no-children (q + 1 + size below) parent next p off (elim out [ inl h ↦ inl (omega (arith, h)) | inr h ↦ inr (omega (arith, h)) ]) in
     ap (λ b. with_first b q (children_from (q + 1) (xs ++ ys) p)) off ∙ children-append (q + 1) xs ys p ∙ (λ i. under i ++ behind i)
 
 -- siblings with this parent

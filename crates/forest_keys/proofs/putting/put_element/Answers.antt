@@ -3,7 +3,7 @@ use Rattle.identity_constraints.specs.Targets.{constraints_of}
 use Rattle.path_walk.specs.Sight.{seen}
 use Rattle.key_records.specs.Counted.{Counted}
 use Rattle.forest_keys.specs.inside.Found.{targets_at, targets_for, targets_first}
-use Rattle.forest_keys.proofs.Keyrefs.{shorter, nothing-left}
+use Rattle.forest_keys.proofs.KeyrefLaws.{shorter, nothing-left}
 use Rattle.forest_keys.proofs.Siblings.{first_is, not_none}
 use Rattle.forest_keys.proofs.Growing.{begun, one-on, all-in, reached-alike}
 use Rattle.forest_keys.proofs.putting.put_element.Goals as goal

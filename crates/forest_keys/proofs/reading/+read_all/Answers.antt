@@ -64,11 +64,11 @@ left-preserved g t c =
           let filled = l.invariant.filled h in
           let place : c.len-place.result ≡ q = search rules in
           let code = c.in_ok-found.ensures (below_first f)
-              (subst (λ (n : ℕ). AreFilledAt set.names.now set.parts.now set.identities.now tree r n first (below_first f)) (sym place) (filled-first set.names.now set.parts.now set.identities.now tree r q f first is filled)) in
+          (subst (λ (n : ℕ). AreFilledAt set.names.now set.parts.now set.identities.now tree r n first (below_first f)) (sym place) (filled-first set.names.now set.parts.now set.identities.now tree r q f first is filled)) in
           let below = step.codes
-              (subst (λ (n : ℕ). AreFilled set.names.now set.parts.now set.identities.now tree r n (forest c.below.result)) (sym middle)
-              (subst (λ (x : KeyForest). AreFilled set.names.now set.parts.now set.identities.now tree r (q + 1) x) (sym c.below.ensures)
-              (filled-below set.names.now set.parts.now set.identities.now tree r q f first is filled))) in
+          (subst (λ (n : ℕ). AreFilled set.names.now set.parts.now set.identities.now tree r n (forest c.below.result)) (sym middle)
+          (subst (λ (x : KeyForest). AreFilled set.names.now set.parts.now set.identities.now tree r (q + 1) x) (sym c.below.ensures)
+          (filled-below set.names.now set.parts.now set.identities.now tree r q f first is filled))) in
           ap (λ (x : KeyForest). c.read_all.new.codes.items ++ all_codes set.names.now set.parts.now set.identities.now x) c.next-left.ensures
           ∙ all-next set.names.now set.parts.now set.identities.now f first _ l.codes.items c.push.new.self.items c.read_all.new.codes.items c.in_ok-found.found _ is (l.invariant.so_far h) code c.in_ok-push.ensures.items
           (below ∙ ap (λ (x : KeyForest). c.push.new.self.items ++ all_codes set.names.now set.parts.now set.identities.now x) c.below.ensures);

@@ -4,7 +4,7 @@ use Rattle.identity_constraints.specs.Targets.{outcomes}
 use Rattle.identity_constraints.specs.Satisfied.{first_broken, checks_by}
 use Rattle.key_records.specs.Counted.{with_misuse}
 use Rattle.forest_keys.proofs.Codes.{misused-first, not-misused, key-there}
-use Rattle.forest_keys.proofs.Reading.{faulty}
+use Rattle.forest_keys.proofs.ReadLaws.{faulty}
 use Rattle.forest_keys.proofs.reading.code_by.Goals as goal
 
 pub keyref_code-requires-clause-sound : goal.keyref_code-requires-clause-sound

@@ -1,6 +1,6 @@
 use Rattle.std.proofs.Common.{sym, ap, ◌∙◌}
 use Rattle.path_walk.specs.Sight.{seen}
-use Rattle.forest_keys.proofs.Keyrefs.{nothing-left, shorter}
+use Rattle.forest_keys.proofs.KeyrefLaws.{nothing-left, shorter}
 use Rattle.forest_keys.proofs.Codes.{codes-begun, codes-next, codes-end}
 use Rattle.forest_keys.proofs.reading.codes_of.Goals as goal
 

@@ -2,7 +2,7 @@ use Rattle.std.proofs.Common.{sym, ◌∙◌}
 use Rattle.key_records.specs.Counted.{without_keys, with_nillable}
 use Rattle.identity_constraints.specs.Targets.{outcomes}
 use Rattle.forest_keys.proofs.Codes.{key-lacks, key-repeats, key-nillable, key-holds}
-use Rattle.forest_keys.proofs.Reading.{faulty, repeated}
+use Rattle.forest_keys.proofs.ReadLaws.{faulty, repeated}
 use Rattle.forest_keys.proofs.reading.key_code.Goals as goal
 
 pub returns-then-has_lacking : goal.returns-then-has_lacking

@@ -1,7 +1,7 @@
 use Rattle.std.proofs.Common.{sym, ◌∙◌}
 use Rattle.identity_constraints.specs.Targets.{outcomes}
 use Rattle.forest_keys.proofs.Codes.{keyref-broken, keyref-holds}
-use Rattle.forest_keys.proofs.Reading.{unmatched}
+use Rattle.forest_keys.proofs.ReadLaws.{unmatched}
 use Rattle.forest_keys.proofs.reading.keyref_code.Goals as goal
 
 pub returns-then-has_unmatched : goal.returns-then-has_unmatched

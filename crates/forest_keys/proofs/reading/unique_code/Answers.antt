@@ -1,7 +1,7 @@
 use Rattle.std.proofs.Common.{sym, ◌∙◌}
 use Rattle.identity_constraints.specs.Targets.{outcomes}
 use Rattle.forest_keys.proofs.Codes.{unique-broken, unique-holds}
-use Rattle.forest_keys.proofs.Reading.{repeated}
+use Rattle.forest_keys.proofs.ReadLaws.{repeated}
 use Rattle.forest_keys.proofs.reading.unique_code.Goals as goal
 
 pub returns-then-has_repeated : goal.returns-then-has_repeated
