@@ -8,7 +8,7 @@ use Rattle.forest_keys.proofs.placing.+add_parents.Goals as goal
 pub left-init : goal.left-init
 left-init g t c = record {
   fewer = omega arith;
-  few = c.requires;
+  few = c.requires.few;
   so_far = refl;
 }
 
@@ -20,7 +20,7 @@ add_parents-requires g t c κs within =
     let fewer = l.invariant.fewer in
     let under = ap size c.below.ensures in
     let long = c.in_ok-push.ensures.len in
-    let few = c.if-place-ge.false in (
+    let few = c.if-place.false in (
       omega (arith, c.decreases, sizes, fewer, under),
       (within, omega (arith, long, few)),
     )

@@ -35,7 +35,7 @@ put_all-requires g t c κs within =
     let few = c.requires.few in
     let under = ap size c.below.ensures in (
       omega (arith, c.decreases, sizes, fewer, under),
-      (within, (c.requires.contents, subst (AreNamed names) (sym c.below.ensures) (named_below names f l.invariant.named), c.requires.sound, omega (arith, sizes, place_is, few, under), c.in_ok-put_element.ensures.can)),
+      (within, (c.requires.contents, (subst (AreNamed names) (sym c.below.ensures) (named_below names f l.invariant.named), (c.requires.sound, (omega (arith, sizes, place_is, few, under), c.in_ok-put_element.ensures.can))))),
     )
 
 pub left-preserved : goal.left-preserved
