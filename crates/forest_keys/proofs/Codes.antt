@@ -1,5 +1,5 @@
 -- The first that is broken of each constraint, one by one.
-use Rattle.std.proofs.Common.{◌≡◌, ◌+◌, ℕ, zero, suc, true, false, List, [], ◌∷◌, ◌++◌, length, map, refl, sym, ◌∙◌, ap, subst, append_assoc, append-nil, Option, None, Some, arith}
+use Rattle.std.proofs.Common.{◌≡◌, ℕ, zero, suc, true, false, List, [], ◌∷◌, ◌++◌, length, map, refl, sym, ◌∙◌, ap, append_assoc, append-nil, Option, None, Some, arith}
 use Rattle.std.specs.Prelude.{slice_get}
 use Rattle.std.specs.List.{flat_map}
 use Rattle.std.specs.Option.{option_and_then}
@@ -18,7 +18,7 @@ use Rattle.identity_constraints.specs.Targets.{Outcome, constraints_of, outcomes
 use Rattle.identity_constraints.specs.Satisfied.{has_misused, has_lacking, has_nillable, has_unmatched, is_no_key, is_not_unique, first_broken, checks, checks_by, codes_by, identity_codes}
 use Rattle.path_walk.specs.Sight.{IsFirst, below_first, behind_first}
 use Rattle.path_walk.specs.inside.Walk.{size}
-use Rattle.key_records.specs.References.{key_of, refers}
+use Rattle.key_records.specs.References.{key_of}
 use Rattle.key_records.specs.declared.references.References.{References}
 use Rattle.forest_keys.specs.Codes.{all_codes}
 use Rattle.forest_keys.specs.inside.Keyrefs.{AreReferencesOf, key_in, referred}

@@ -1,6 +1,5 @@
 -- What is counted of the targets of elements, place by place.
-use Rattle.std.proofs.Common.{◌≡◌, ◌≢◌, ◌⊎◌, ◌+◌, ◌<◌, ◌≤◌, ◌&&◌, ◌||◌, ◌==◌, ℕ, Bool, true, false, if◌then◌else◌, nat_eq, List, [], ◌∷◌, ◌++◌, inl, inr, Option, None, Some, refl, sym, ap, subst, ◌∙◌, arith, true≢false}
-use Rattle.std.specs.List.{list_any, count_by, flat_map}
+use Rattle.std.proofs.Common.{◌≡◌, ◌⊎◌, ◌+◌, ◌<◌, ◌≤◌, ◌&&◌, ◌||◌, ℕ, Bool, true, false, if◌then◌else◌, nat_eq, List, [], ◌∷◌, ◌++◌, inl, inr, Option, None, Some, refl, sym, ap, ◌∙◌, arith, true≢false}
 use Rattle.std.specs.Option.{option_to_list}
 use Rattle.std.proofs.lemmas.Bool.{eqb-true, eq-eqb}
 use Rattle.std.proofs.lemmas.List.Recursion.{is_count_by}
@@ -16,7 +15,7 @@ use Rattle.identity_constraints.specs.Targets.{Outcome, constraints_of, has_cons
 use Rattle.identity_constraints.specs.Satisfied.{tuples_in}
 use Rattle.identity_views.specs.Views.{times}
 use Rattle.path_walk.specs.inside.Walk.{size}
-use Rattle.key_records.specs.Counted.{Counted, Feature, has, has_keys, no_targets, one_target, plus, with_keys}
+use Rattle.key_records.specs.Counted.{Counted, Feature, has, has_keys, no_targets, one_target, with_keys}
 use Rattle.key_records.specs.Faults.{weight}
 use Rattle.forest_keys.specs.inside.Found.{count_in, targets_of, has_number, targets_first, targets_for, targets_at, targets_along}
 

@@ -1,13 +1,12 @@
 -- Records with the targets of all elements are right at each.
-use Rattle.std.proofs.Common.{◌≡◌, ◌+◌, ◌<◌, ◌≤◌, ℕ, List, refl, sym, ap, subst, ◌∙◌, arith}
-use Rattle.simple_values.specs.declared.key.Key.{Key}
+use Rattle.std.proofs.Common.{◌≡◌, ◌+◌, ◌<◌, ◌≤◌, ℕ, List, subst, ◌∙◌, arith}
 use Rattle.xs_names.specs.Names.{NameTable}
 use Rattle.xs_components.specs.Tables.{Tables}
 use Rattle.identity_paths.specs.declared.paths.IdentityPaths.{IdentityPaths}
 use Rattle.identity_counts.specs.Counting.{Links, StandFor}
 use Rattle.identity_constraints.specs.Seen.{KeyElement, KeyForest, none, element}
 use Rattle.identity_constraints.specs.Targets.{outcomes}
-use Rattle.identity_views.specs.Views.{IsCounted, AreCounted}
+use Rattle.identity_views.specs.Views.{AreCounted}
 use Rattle.path_walk.specs.Sight.{IsFirst, below_first, behind_first}
 use Rattle.path_walk.specs.inside.Walk.{size}
 use Rattle.key_records.specs.Counted.{Counted, Feature, own_tuples, with_keys}

@@ -1,8 +1,6 @@
 -- Targets put in one after another.
-use Rattle.std.proofs.Common.{◌≡◌, ◌+◌, ℕ, List, refl, sym, ap, subst, ◌∙◌, arith}
-use Rattle.identity_counts.specs.Counting.{Links, IsLinked}
-use Rattle.identity_carry.specs.Tables.{AreParents}
-use Rattle.key_records.specs.Counted.{Counted, Feature, no_targets, plus}
+use Rattle.std.proofs.Common.{◌≡◌, ◌+◌, ℕ, sym, subst, ◌∙◌, arith}
+use Rattle.key_records.specs.Counted.{Counted, no_targets, plus}
 use Rattle.key_records.specs.Records.{AreRecords}
 use Rattle.key_records.specs.declared.records.KeyRecords.{KeyRecords}
 use Rattle.key_records.specs.declared.records.KeyTree.{KeyTree}

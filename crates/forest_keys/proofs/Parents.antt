@@ -1,5 +1,5 @@
 -- The parents of places, one element more with all below it.
-use Rattle.std.proofs.Common.{◌≡◌, ◌+◌, ℕ, List, [], ◌∷◌, ◌++◌, length, Option, None, Some, refl, sym, ap, ◌∙◌, append_assoc, append-nil, arith}
+use Rattle.std.proofs.Common.{◌≡◌, ◌+◌, ℕ, List, [], ◌∷◌, ◌++◌, length, Option, Some, refl, sym, ap, ◌∙◌, append_assoc, append-nil, arith}
 use Rattle.std.proofs.lemmas.List.{length-append}
 use Rattle.identity_constraints.specs.Seen.{KeyElement, KeyForest, none, element}
 use Rattle.path_walk.specs.Sight.{IsFirst, below_first, behind_first}

@@ -1,10 +1,10 @@
 -- The links of the elements of a forest, by their places.
-use Rattle.std.proofs.Common.{◌≡◌, ◌⊎◌, ◌+◌, ◌<◌, ◌≤◌, ℕ, zero, suc, Bool, true, false, nat_eq, List, [], ◌∷◌, ◌++◌, length, inl, inr, Option, None, Some, refl, sym, ap, subst, ◌∙◌, arith, append_assoc, append-nil}
+use Rattle.std.proofs.Common.{◌≡◌, ◌⊎◌, ◌+◌, ◌<◌, ◌≤◌, ℕ, zero, suc, false, List, [], ◌∷◌, ◌++◌, length, inl, inr, Option, None, Some, refl, sym, ap, ◌∙◌, arith, append_assoc, append-nil}
 use Rattle.std.specs.Prelude.{slice_get}
 use Rattle.std.specs.Option.{option_and_then}
 use Rattle.std.proofs.lemmas.List.{length-append}
-use Rattle.identity_counts.specs.Counting.{Links, firsts, StandFor}
-use Rattle.identity_carry.specs.Tables.{AreParents, parent_in}
+use Rattle.identity_counts.specs.Counting.{firsts, StandFor}
+use Rattle.identity_carry.specs.Tables.{AreParents}
 use Rattle.identity_constraints.specs.Seen.{KeyForest, none, element}
 use Rattle.path_walk.specs.inside.Walk.{size}
 use Rattle.forest_keys.specs.inside.Places.{placed, parents_along}

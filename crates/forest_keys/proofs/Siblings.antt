@@ -1,5 +1,5 @@
 -- Siblings by their first.
-use Rattle.std.proofs.Common.{◌≡◌, ◌+◌, ℕ, refl, sym, ap, subst, ◌∙◌}
+use Rattle.std.proofs.Common.{◌≡◌, ◌+◌, refl, sym, ap, subst, ◌∙◌}
 use Rattle.xs_names.specs.Names.{NameTable}
 use Rattle.identity_constraints.specs.Seen.{KeyElement, KeyForest, none, element}
 use Rattle.path_walk.specs.Sight.{IsFirst, AreNamed, below_first, behind_first}

@@ -1,5 +1,5 @@
 -- Elements by their places in document order.
-use Rattle.std.specs.Prelude.{ℕ, ◌+◌, List, [], ◌∷◌, ◌++◌, Option, None, Some}
+use Rattle.std.specs.Prelude.{ℕ, ◌+◌, List, [], ◌∷◌, ◌++◌, Option, Some}
 use Rattle.identity_constraints.specs.Seen.{KeyForest, none, element}
 use Rattle.path_walk.specs.inside.Walk.{size}
 use Rattle.identity_counts.specs.Counting.{Numbers, none as no_numbers, node}

@@ -1,6 +1,5 @@
-use Rattle.std.proofs.Common.{◌≡◌, ◌++◌, ◌+◌, ◌<◌, ◌^◌, [], List, ℕ, length, refl, sym, ap, ◌∙◌, subst, arith}
+use Rattle.std.proofs.Common.{◌≡◌, ◌++◌, List, ℕ, length, sym, ap, ◌∙◌, subst, arith}
 use Rattle.xs_codes.specs.declared.fault.Found.{Found}
-use Rattle.path_walk.specs.inside.Walk.{size}
 use Rattle.key_records.specs.Counted.{no_targets, plus}
 use Rattle.forest_keys.specs.Codes.{all_codes}
 use Rattle.forest_keys.specs.inside.Found.{targets_along}

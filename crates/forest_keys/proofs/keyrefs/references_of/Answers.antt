@@ -1,5 +1,4 @@
-use Rattle.std.proofs.Common.{◌∷◌, ◌++◌, List, map, sym, ap, ◌∙◌}
-use Rattle.xs_components.specs.declared.constraint.Constraint.{Constraint}
+use Rattle.std.proofs.Common.{◌++◌, map, ap, ◌∙◌}
 use Rattle.forest_keys.specs.inside.Keyrefs.{key_in}
 use Rattle.forest_keys.proofs.KeyrefLaws.{keys-next, keys-end}
 use Rattle.forest_keys.proofs.keyrefs.references_of.Goals as goal

@@ -1,5 +1,5 @@
-use Rattle.std.proofs.Common.{rules, ◌≡◌, ◌+◌, ◌<◌, length, refl, sym, ap, ◌∙◌, arith}
-use Rattle.path_walk.specs.Sight.{below_first, behind_first, seen}
+use Rattle.std.proofs.Common.{rules, ◌≡◌, length, refl, ap, arith}
+use Rattle.path_walk.specs.Sight.{seen}
 use Rattle.path_walk.specs.inside.Walk.{size}
 use Rattle.forest_keys.proofs.Siblings.{size_first}
 use Rattle.forest_keys.proofs.Parents.{parents-next, parents-end}

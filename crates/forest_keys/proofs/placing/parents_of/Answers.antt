@@ -1,4 +1,4 @@
-use Rattle.std.proofs.Common.{◌≡◌, ◌++◌, List, Option, None, ℕ, length, ap, ◌∙◌, arith}
+use Rattle.std.proofs.Common.{◌++◌, List, Option, None, ℕ, length, ap, ◌∙◌}
 use Rattle.forest_keys.specs.inside.Places.{parents_along}
 use Rattle.forest_keys.proofs.placing.parents_of.Goals as goal
 

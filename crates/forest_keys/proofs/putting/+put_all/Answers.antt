@@ -1,7 +1,7 @@
-use Rattle.std.proofs.Common.{◌≡◌, ◌+◌, List, refl, sym, ap, ◌∙◌, subst, arith}
+use Rattle.std.proofs.Common.{refl, sym, ap, subst, arith}
 use Rattle.path_walk.specs.Sight.{AreNamed, below_first, behind_first, seen}
 use Rattle.path_walk.specs.inside.Walk.{size}
-use Rattle.forest_keys.specs.inside.Found.{targets_along, targets_at}
+use Rattle.forest_keys.specs.inside.Found.{targets_along}
 use Rattle.forest_keys.proofs.Siblings.{opened, size_first, named_below, named_behind}
 use Rattle.forest_keys.proofs.Growing.{begun, all-in, reached-alike}
 use Rattle.forest_keys.proofs.Along.{element-in}

@@ -1,7 +1,6 @@
-use Rattle.std.proofs.Common.{List, ℕ, sym, ap, subst, ◌∙◌}
+use Rattle.std.proofs.Common.{List, ℕ, sym, ap, ◌∙◌}
 use Rattle.identity_constraints.specs.Targets.{constraints_of}
 use Rattle.path_walk.specs.Sight.{seen}
-use Rattle.key_records.specs.Counted.{Counted}
 use Rattle.forest_keys.specs.inside.Found.{targets_at, targets_for, targets_first}
 use Rattle.forest_keys.proofs.KeyrefLaws.{shorter, nothing-left}
 use Rattle.forest_keys.proofs.Siblings.{first_is, not_none}

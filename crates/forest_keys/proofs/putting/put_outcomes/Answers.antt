@@ -1,7 +1,7 @@
-use Rattle.std.proofs.Common.{◌∷◌, List, map, ap}
+use Rattle.std.proofs.Common.{List, map, ap}
 use Rattle.path_walk.specs.Outcomes.{outcome_of}
 use Rattle.path_walk.specs.declared.tuples.TargetOutcome.{TargetOutcome}
-use Rattle.key_records.specs.Counted.{Counted, one_target}
+use Rattle.key_records.specs.Counted.{one_target}
 use Rattle.forest_keys.specs.inside.Found.{targets_of}
 use Rattle.forest_keys.proofs.KeyrefLaws.{shorter, nothing-left}
 use Rattle.forest_keys.proofs.Growing.{begun, one-on, all-in, reached-alike, can-reached}

@@ -1,7 +1,6 @@
-use Rattle.std.proofs.Common.{rules, ◌≡◌, ◌+◌, ◌++◌, ◌∷◌, [], ℕ, List, length, refl, sym, ap, ◌∙◌, subst, arith}
-use Rattle.xs_codes.specs.declared.fault.Found.{Found}
+use Rattle.std.proofs.Common.{rules, ◌≡◌, ◌+◌, ◌++◌, ℕ, length, refl, sym, ap, ◌∙◌, subst, arith}
 use Rattle.identity_constraints.specs.Seen.{KeyForest}
-use Rattle.path_walk.specs.Sight.{below_first, behind_first, seen}
+use Rattle.path_walk.specs.Sight.{below_first, seen}
 use Rattle.path_walk.specs.inside.Walk.{size}
 use Rattle.forest_keys.specs.Codes.{all_codes}
 use Rattle.forest_keys.specs.inside.Records.{AreFilled, AreFilledAt}

@@ -1,4 +1,3 @@
-use Rattle.std.proofs.Common.{sym, ap, ◌∙◌}
 use Rattle.path_walk.specs.Sight.{seen}
 use Rattle.forest_keys.proofs.KeyrefLaws.{nothing-left, shorter}
 use Rattle.forest_keys.proofs.Codes.{codes-begun, codes-next, codes-end}
