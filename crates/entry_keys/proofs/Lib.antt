@@ -5,3 +5,4 @@ mod Naming
 mod Stepping
 mod Together
 mod There
+mod Spreading

@@ -1,16 +1,14 @@
 -- One entry more with the codes of its identity constraints, and what entries are by their first.
 use Rattle.std.proofs.Common.{◌≡◌, ℕ, zero, suc, ◌<◌, ◌||◌, Bool, true, false, List, [], ◌∷◌, ◌++◌, length, get_or, take, drop, refl, sym, ap, subst, ◌∙◌, arith}
-use Rattle.std.specs.Prelude.{All, slice_set, min}
+use Rattle.std.specs.Prelude.{slice_set, min}
 use Rattle.std.proofs.lemmas.List.{take_min, drop_min}
-use Rattle.std.proofs.lemmas.List.Elements.{All-cons, All-head, All-tail}
 use Rattle.xs_names.specs.Names.{NameTable}
 use Rattle.xs_codes.specs.declared.fault.Found.{Found}
 use Rattle.xs_components.specs.Tables.{Tables}
 use Rattle.assess_records.specs.declared.outcome.Validity.{Validity}
 use Rattle.assess_records.specs.declared.record.ElementRecord.{ElementRecord}
 use Rattle.identity_paths.specs.declared.paths.IdentityPaths.{IdentityPaths}
-use Rattle.identity_constraints.specs.Seen.{KeyElement, KeyForest, none, element}
-use Rattle.identity_constraints.specs.Satisfied.{identity_codes}
+use Rattle.identity_constraints.specs.Seen.{KeyElement, none}
 use Rattle.elem_codes.specs.Records.{is_invalid}
 use Rattle.elem_assess.specs.Marked.{validity_with, marked_record}
 use Rattle.assessment.specs.Assessment.{Assessed}
@@ -19,8 +17,8 @@ use Rattle.path_walk.specs.Sight.{IsFirst, below_first, behind_first}
 use Rattle.tree_assess.specs.Entries.{entry_of}
 use Rattle.tree_assess.specs.declared.entry.ElementEntry.{ElementEntry}
 use Rattle.entry_keys.specs.declared.siblings.Parted.{Parted}
-use Rattle.entry_keys.specs.inside.Parsed.{assessed_by, assessed_of, below_of, IsParted}
-use Rattle.entry_keys.specs.inside.Coded.{IsEntryNamed, first_codes, coded_first, coded, coded_at, coded_from}
+use Rattle.entry_keys.specs.inside.Parsed.{assessed_of, below_of, IsParted}
+use Rattle.entry_keys.specs.inside.Coded.{first_codes, coded, coded_at, coded_from}
 use Rattle.entry_keys.proofs.Parsing.{parse_parted, parted-length}
 
 -- ---- by the first
@@ -93,14 +91,6 @@ marked_above codes below v old new above is =
 -- ---- one entry after another
 
 module _ (names : NameTable) (t : Tables) (identities : List IdentityPaths) where
-  -- the codes of the first of some, of which there are any
-  pub first_by : (es : List ElementEntry) (codes : List Found) → 0 < length es
-      → ((own : KeyElement) (below next : KeyForest) → seen (assessed_of es) ≡ element own below next → codes ≡ identity_codes names t identities own below)
-      → codes ≡ first_codes names t identities (seen (assessed_of es))
-  first_by [] codes some is = absurd (omega (arith, some))
-  first_by (e ∷ es) codes some is =
-      is (seen_element (entry_of e)) (seen (assessed_by (length es) (take e.below es))) (seen (assessed_by (length es) (drop e.below es))) refl
-
   pub coded_there : (place : ℕ) (es : List ElementEntry) (e : ElementEntry) (codes : List Found) (below : Bool) → place < length es → e ≡ get_or es place e
       → codes ≡ first_codes names t identities (seen (assessed_of (drop place es))) → below ≡ has_invalid (below_of (assessed_of (drop place es)))
       → slice_set es place (record e { element = with_more codes below e.element }) ≡ coded_at names t identities place es
@@ -144,13 +134,3 @@ module _ (names : NameTable) (t : Tables) (identities : List IdentityPaths) wher
 
   pub all_coded : (place : ℕ) (es new : List ElementEntry) → place ≡ 0 → new ≡ coded_from names t identities place es → new ≡ coded names t identities es
   all_coded place es new zero_is is = is ∙ ap (λ n. coded_from names t identities n es) zero_is
-
-  named-at : (place : ℕ) (es : List ElementEntry) → All (IsEntryNamed names) es → All (IsEntryNamed names) (coded_at names t identities place es)
-  named-at place [] all = all
-  named-at zero (e ∷ es) all =
-      All-cons (IsEntryNamed names) (coded_first names t identities e es) es (All-head (IsEntryNamed names) e es all) (All-tail (IsEntryNamed names) e es all)
-  named-at (suc place) (e ∷ es) all =
-      All-cons (IsEntryNamed names) e (coded_at names t identities place es) (All-head (IsEntryNamed names) e es all) (named-at place es (All-tail (IsEntryNamed names) e es all))
-
-  pub still_named : (place : ℕ) (mid new : List ElementEntry) → new ≡ coded_at names t identities place mid → All (IsEntryNamed names) mid → All (IsEntryNamed names) new
-  still_named place mid new at all = subst (All (IsEntryNamed names)) (sym at) (named-at place mid all)

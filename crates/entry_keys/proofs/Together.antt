@@ -82,6 +82,9 @@ owns-flat (entry own below next) = ap (λ more. own ∷ more) (map-append own_of
 pub plain_entries : (found : Assessed) (es : List ElementEntry) → map placed_of es ≡ all_placed found → map entry_of es ≡ entries found
 plain_entries found es is = sym (owns es) ∙ ap (map own_of) (sym (sized-all es) ∙ ap (map sized_in) is ∙ sized-found found) ∙ owns-flat found
 
+pub sized_entries : (found : Assessed) (es : List ElementEntry) → map placed_of es ≡ all_placed found → map sized_of es ≡ flat found
+sized_entries found es is = sym (sized-all es) ∙ ap (map sized_in) is ∙ sized-found found
+
 -- ---- the codes of IDs behind those of identity constraints
 
 again : (codes more : List Found) (below : Bool) (validity : Validity) → validity_again (codes ++ more) below validity ≡ validity_with more (validity_again codes below validity)
@@ -143,7 +146,7 @@ module _ (s : SchemaSet) (identities : List IdentityPaths) (d : Document) (tree 
 
   flat-coded : map sized_of (coded s.names s.parts identities old) ≡ flat (with_all at_number plain.found)
   flat-coded =
-      coded_all s.names s.parts identities at_number plain.found old (sym (sized-all old) ∙ ap (map sized_in) plain.placed_are ∙ sized-found plain.found)
+      coded_all s.names s.parts identities at_number plain.found old (sized_entries plain.found old plain.placed_are)
       (at_agrees s.names s.parts identities plain.found once)
 
   coded-entries : map entry_of (coded s.names s.parts identities old) ≡ entries (with_all at_number plain.found)

@@ -1,11 +1,13 @@
 //! The assessment of a document, with the codes of its identity constraints and IDs.
 
-ghost use Rattle.std.specs.Prelude.{◌≡◌, All, IfOk, OnOk};
+ghost use Rattle.std.specs.Prelude.{◌≡◌, All, map, IfOk, OnOk};
 ghost use Rattle.xs_names.specs.Names.{IsSound};
+ghost use Rattle.assessment.specs.Assessment.{Assessed};
 ghost use Rattle.compiled_schema.specs.Usable.{IsUsable, set_of};
 ghost use Rattle.tree_names.specs.Found.{HasNames};
 ghost use Rattle.entry_keys.specs.Entries.{AreEntries};
 ghost use Rattle.entry_keys.specs.inside.Coded.{IsEntryNamed, coded};
+ghost use Rattle.entry_keys.specs.inside.Parsed.{flat, sized_of};
 ghost use Rattle.entry_keys.specs.inside.Marking.{codes_in, with_marks};
 
 use crate::ids::{id_codes, mark_first};
@@ -25,6 +27,7 @@ fn join_set(
 ) -> Result<(), AllocError>
     requires usable { IsUsable compiled.now }
     requires named { All (IsEntryNamed compiled.now.names) entries.old }
+    requires whole { (found : Assessed) × (map sized_of entries.old ≡ flat found) }
     ensures { OnOk result (entries.new ≡ coded compiled.now.names compiled.now.parts compiled.now.identities.items entries.old) }
 {
     let set = KeySet {
@@ -45,6 +48,7 @@ fn join_codes(
 ) -> Result<(), AllocError>
     requires usable { IsUsable compiled.now }
     requires named { All (IsEntryNamed compiled.now.names) entries.old.items }
+    requires whole { (found : Assessed) × (map sized_of entries.old.items ≡ flat found) }
     ensures { OnOk result (entries.new.items
         ≡ with_marks (codes_in entries.old.items) (coded compiled.now.names compiled.now.parts compiled.now.identities.items entries.old.items)) }
 {
@@ -59,7 +63,8 @@ fn join_codes(
 ///
 /// # Errors
 ///
-/// `AllocError` is want of memory, or a table of an identity constraint would have more than 4,294,967,295 tuples.
+/// `AllocError` is want of memory, or there would be more than 4,294,967,295 elements, or so many targets of one identity constraint of
+/// an element with a fault or with one key-sequence, or a constraint with a number of 2,147,483,648 or more.
 pub fn assess(
     alloc: Global,
     compiled: &mut Compiled,

@@ -1,16 +1,17 @@
 //! The codes of identity constraints, put to entries.
 
-ghost use Rattle.std.specs.Prelude.{◌≡◌, ◌<◌, [], All, drop, length, IfOk, OnOk};
+ghost use Rattle.std.specs.Prelude.{◌≡◌, ◌<◌, [], All, drop, length, map, OnOk};
+ghost use Rattle.assessment.specs.Assessment.{Assessed};
 ghost use Rattle.component_tables.specs.ContentTypes.{AreContentsOf};
 ghost use Rattle.elem_codes.specs.Records as records;
 ghost use Rattle.identity_assessment.specs.Identity as spec;
-ghost use Rattle.entry_keys.specs.inside.Parsed.{assessed_of, below_of};
+ghost use Rattle.entry_keys.specs.inside.Parsed.{assessed_of, below_of, flat, sized_of};
 ghost use Rattle.entry_keys.specs.inside.Coded.{IsEntryNamed, coded, coded_at, first_codes};
 
 use crate::siblings::{EntrySiblings, by_first};
 use assess_records::{ElementRecord, Validity};
 use assessment::mark;
-use key_codes::identity_codes;
+use forest_keys::forest_codes;
 use path_walk::KeySet;
 use std::alloc::AllocError;
 use tree_assess::ElementEntry;
@@ -52,22 +53,6 @@ fn has_invalid_below(entries: &[ElementEntry], place: usize) -> bool
     }
 }
 
-// The codes of the identity constraints of the entry of a place.
-fn codes_at(
-    set: &KeySet<'_>,
-    entries: &[ElementEntry],
-    place: usize,
-) -> Result<Vec<Found>, AllocError>
-    requires contents { AreContentsOf set.now.parts.now set.now.contents.now }
-    requires named { All (IsEntryNamed set.now.names.now) entries.now }
-    requires place { place < length entries.now }
-    ensures { IfOk result (λ codes. codes.items ≡ first_codes set.now.names.now set.now.parts.now set.now.identities.now (spec.seen (assessed_of (drop place entries.now)))) }
-{
-    let (_, from) = entries.split_at(place);
-    let codes = identity_codes(set, EntrySiblings { entries: from })?;
-    Ok(codes)
-}
-
 // The validity of an element without more codes, with invalid child elements or without (Structures 3.3.5).
 fn validity_above(below: bool, validity: Validity) -> Validity
     ensures { result ≡ spec.validity_again [] below validity }
@@ -94,33 +79,38 @@ fn add_codes(own: &mut ElementRecord, codes: &[Found], below: bool) -> Result<()
     Ok(())
 }
 
-// Puts the codes of the identity constraints of an element to its entry. Those behind it have theirs.
-fn join_at(set: &KeySet<'_>, entries: &mut [ElementEntry], place: usize) -> Result<(), AllocError>
-    requires contents { AreContentsOf set.now.parts.now set.now.contents.now }
-    requires named { All (IsEntryNamed set.now.names.now) entries.old }
+// Puts codes to the entry of a place. They are those of its identity constraints, and those behind it have theirs.
+fn join_at(
+    set: &KeySet<'_>,
+    codes: &[Found],
+    entries: &mut [ElementEntry],
+    place: usize,
+) -> Result<(), AllocError>
     requires place { place < length entries.old }
+    requires codes { codes.now ≡ first_codes set.now.names.now set.now.parts.now set.now.identities.now (spec.seen (assessed_of (drop place entries.old))) }
     ensures { OnOk result (entries.new ≡ coded_at set.now.names.now set.now.parts.now set.now.identities.now place entries.old) }
 {
-    let codes = codes_at(set, entries, place)?;
     let below = has_invalid_below(entries, place);
-    add_codes(&mut entries[place].element, codes.as_slice(), below)?;
+    add_codes(&mut entries[place].element, codes, below)?;
     Ok(())
 }
 
 /// Puts the codes of the identity constraints of each element behind the others of its record, from the last element to the first
-/// (cvc-identity-constraint, Structures 3.11.4).
+/// (cvc-identity-constraint, Structures 3.11.4). The entries are those of a document's elements.
 pub(crate) fn join_identity(
     set: &KeySet<'_>,
     entries: &mut [ElementEntry],
 ) -> Result<(), AllocError>
     requires contents { AreContentsOf set.now.parts.now set.now.contents.now }
     requires named { All (IsEntryNamed set.now.names.now) entries.old }
+    requires whole { (found : Assessed) × (map sized_of entries.old ≡ flat found) }
     ensures { OnOk result (entries.new ≡ coded set.now.names.now set.now.parts.now set.now.identities.now entries.old) }
 {
+    let codes = forest_codes(set, EntrySiblings { entries })?;
     let mut place = entries.len();
     while place > 0 {
         place -= 1;
-        join_at(set, entries, place)?;
+        join_at(set, codes[place].as_slice(), entries, place)?;
     }
     Ok(())
 }

@@ -6,7 +6,7 @@ use Rattle.compiled_schema.specs.declared.compiled.Compiled.{Compiled}
 use Rattle.entry_keys.specs.inside.Coded.{IsEntryNamed, coded}
 use Rattle.entry_keys.specs.inside.Marking.{codes_in, with_marks}
 use Rattle.entry_keys.proofs.There.{found_named}
-use Rattle.entry_keys.proofs.Together.{joined, plain_entries}
+use Rattle.entry_keys.proofs.Together.{joined, plain_entries, sized_entries}
 use Rattle.entry_keys.proofs.assessed.assess.Goals as goal
 
 pub join_codes-requires-clause-usable : goal.join_codes-requires-clause-usable
@@ -19,6 +19,9 @@ join_codes-requires-clause-named c =
     let plain = c.in_ok-entries.ensures.assessed in
     subst (λ (d : Compiled). All (IsEntryNamed d.names) entries) (sym c.assess_plain.ensures.same)
     (found_named k c.requires.usable plain_beside c.args.tree.now.forest plain.found c.requires.names plain.assessed entries (plain_entries plain.found entries plain.placed_are))
+
+pub join_codes-requires-clause-whole : goal.join_codes-requires-clause-whole
+join_codes-requires-clause-whole c = let plain = c.in_ok-entries.ensures.assessed in (plain.found, sized_entries plain.found c.in_ok-entries.entries.items plain.placed_are)
 
 pub returns-clause-assessed : goal.returns-clause-assessed
 returns-clause-assessed c =

@@ -1,6 +1,5 @@
-use Rattle.std.proofs.Common.{List, sym, ap, ◌∙◌}
+use Rattle.std.proofs.Common.{sym, ap, ◌∙◌}
 use Rattle.std.specs.Prelude.{slice_set}
-use Rattle.xs_codes.specs.declared.fault.Found.{Found}
 use Rattle.assess_records.specs.declared.record.ElementRecord.{ElementRecord}
 use Rattle.identity_assessment.specs.Identity.{with_more}
 use Rattle.tree_assess.specs.declared.entry.ElementEntry.{ElementEntry}
@@ -12,9 +11,8 @@ returns c =
     let set = c.args.set.now in
     let es = c.args.entries.now in
     let e = c.index-entries-place.result in
-    let codes = c.in_ok-codes.codes.items in
+    let codes = c.args.codes.now in
     let below = c.has_invalid_below-below.result in
     ap (λ (x : ElementEntry). slice_set es c.args.place (record x { element = c.add_codes.new.own })) (sym c.index-entries-place.is)
-    ∙ ap (λ (r : ElementRecord). slice_set es c.args.place (record e { element = r }))
-    (c.in_ok-add_codes.ensures ∙ ap (λ (x : ElementEntry). with_more c.as_slice.result.now below x.element) (sym c.index-entries-place.is) ∙ ap (λ (cs : List Found). with_more cs below e.element) c.as_slice.ensures.value)
-    ∙ coded_there set.names.now set.parts.now set.identities.now c.args.place es e codes below c.requires.place c.index-entries-place.is c.in_ok-codes.ensures c.has_invalid_below-below.ensures
+    ∙ ap (λ (r : ElementRecord). slice_set es c.args.place (record e { element = r })) (c.in_ok-add_codes.ensures ∙ ap (λ (x : ElementEntry). with_more codes below x.element) (sym c.index-entries-place.is))
+    ∙ coded_there set.names.now set.parts.now set.identities.now c.args.place es e codes below c.requires.place c.index-entries-place.is c.requires.codes c.has_invalid_below-below.ensures
