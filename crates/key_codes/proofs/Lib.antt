@@ -1,5 +1,0 @@
-mod Breaking
-mod Siblings
-mod Taking
-mod Timing
-mod Tuples
