@@ -1,16 +1,16 @@
 -- A trial, by how its session ended; and memory that was wanting for the words.
-use Rattle.std.proofs.Common.{◌≡◌, ℕ, ◌≤◌, List, [], ◌++◌, Bool, true, false, Option, Some, None, IfSome, refl, sym, subst, append-nil, is_some}
+use Rattle.std.proofs.Common.{◌≡◌, ℕ, List, [], true, Option, Some, None, IfSome, refl, sym, subst, append-nil, is_some}
 use Rattle.std.specs.Io.KnownBytes.{Appends}
 use Rattle.xsv_io.specs.Writing.{AppendsFront}
 use Rattle.generated_stream.specs.Lines.{stream_text}
 use Rattle.told.specs.Told.{Told}
-use Rattle.told.specs.Going.{Trace, trace, Goes, Breaks}
+use Rattle.told.specs.Going.{Trace, trace, Breaks}
 use Rattle.told.specs.declared.break_off.BreakOff.TheVariants as breaks
 use Rattle.told.proofs.Going.{goes_breaks}
 use Rattle.told.proofs.Saying.{memory_breaks}
 use Rattle.command_words.specs.declared.request.Request.{Request}
 use Rattle.command_words.specs.declared.request.Request.TheVariants.{Read, Generate, Trial}
-use Rattle.xsv_run.specs.Output.{Answers, EndsAs, IsWanting, RefusesWords, Runs, Tries, WritesTrial, told_of, trial_of, usual_session, wanted_of}
+use Rattle.xsv_run.specs.Output.{Answers, EndsAs, IsWanting, RefusesWords, Runs, Tries, told_of, trial_of, usual_session, wanted_of}
 use Rattle.xsv_run.specs.Statuses.{is_broken}
 use Rattle.xsv_run.specs.declared.status.Status.{Status}
 use Rattle.xsv_run.specs.declared.status.Status.TheVariants.{Valid, NotValid, SchemaRefused, ListingRefused, Limit, Unsupported, Words, ReadFault, WriteFault, Memory}

@@ -1,4 +1,3 @@
-use Rattle.std.proofs.Common.{refl}
 use Rattle.told.specs.Going.{trace}
 use Rattle.command_words.specs.Requests.{request}
 use Rattle.xsv_run.proofs.Trying.{no_memory, refused_runs, runs_as}
@@ -10,11 +9,11 @@ returns-in-Err-clause-runs g c =
 
 pub returns-in-Ok-None-clause-runs : goal.returns-in-Ok-None-clause-runs
 returns-in-Ok-None-clause-runs g c =
-    refused_runs (request c.args.words.now) c.in-Ok-None.ensures.asked c.refuse_words.result (trace (g.W.Sink.taken c.args.sink.now) c.args.steps.now)
+    refused_runs (request c.args.words.now) (rw c.in-Ok-None.field-0-is at c.in-Ok-None.ensures.asked) c.refuse_words.result (trace (g.W.Sink.taken c.args.sink.now) c.args.steps.now)
     (trace (g.W.Sink.taken c.refuse_words.new.sink) c.args.steps.now) (g.S.Source.rest c.args.source.now) (c.refuse_words.ensures.refuses c.args.steps.now)
 
 pub returns-in-Ok-Some-clause-runs : goal.returns-in-Ok-Some-clause-runs
 returns-in-Ok-Some-clause-runs g c =
-    runs_as (request c.args.words.now) c.in-Ok-Some.request c.in-Ok-Some.ensures.asked c.do_request.result
+    runs_as (request c.args.words.now) c.in-Ok-Some.request (rw c.in-Ok-Some.field-0-is at c.in-Ok-Some.ensures.asked) c.do_request.result
     (trace (g.W.Sink.taken c.args.sink.now) c.args.steps.now) (trace (g.W.Sink.taken c.do_request.new.sink) c.do_request.new.steps)
     (g.S.Source.rest c.args.source.now) (g.S.Source.rest c.do_request.new.source) c.do_request.ensures.runs
