@@ -49,6 +49,14 @@ impl EditSession {
 }
 
 impl Session for EditSession {
+    ghost use Rattle.edit_session.specs.Held.{state_of, edit_cost, opening_cost};
+
+    ghost state = { state_of };
+
+    ghost budget = { edit_cost };
+
+    ghost opening = { opening_cost };
+
     fn open<L: Ledger>(
         alloc: Global,
         set: Box<Compiled>,

@@ -66,6 +66,11 @@ pub(crate) fn sight_of<'a>(own: &'a KeptElement) -> KeySight<'a> {
 }
 
 impl<'a> KeySiblings for KeptSiblings<'a> {
+    ghost use Rattle.identity_constraints.specs.Seen.{none};
+
+    // to be: the forest of the elements from the place on, each seen as what is kept of it
+    ghost forest = { λ s. none };
+
     fn first(&self) -> Option<KeySight<'_>> {
         match self.node {
             None => None,
