@@ -71,26 +71,6 @@ impl DocumentIds {
         Ok(())
     }
 
-    /// Drops the IDs and references in a value, if there is one, once. They were added for this bearer. It takes no memory.
-    pub fn drop_value(&mut self, bearer: u32, value: &Option<Value>)
-    // requires { (atoms : List BorneAtom) × IsTableOf self.old (atoms ++ spec.borne_in bearer value.now) }
-    // ensures { (atoms : List BorneAtom) → IsTableOf self.old (atoms ++ spec.borne_in bearer value.now) → IsTableOf self.new atoms }
-    {
-        if let Some(value) = value {
-            self.drop_atoms(bearer, value);
-        }
-    }
-
-    /// Drops the IDs and references in the values of an element's attributes, once. The element has this number. It takes no memory.
-    pub fn drop_values(&mut self, bearer: u32, values: &[Option<Value>])
-    // requires { (atoms : List BorneAtom) × IsTableOf self.old (atoms ++ spec.borne_in_all bearer values.now) }
-    // ensures { (atoms : List BorneAtom) → IsTableOf self.old (atoms ++ spec.borne_in_all bearer values.now) → IsTableOf self.new atoms }
-    {
-        for value in values {
-            self.drop_value(bearer, value);
-        }
-    }
-
     /// The codes of the validation root: cvc-id.1 where a reference has no ID, then cvc-id.2 where an ID has two bearers
     /// (Structures 3.3.4).
     ///
@@ -134,45 +114,6 @@ impl DocumentIds {
         match atom {
             Atom::Text(text) => self.add_string(bearer, role_of(builtin), text.as_str()),
             _ => Ok(()),
-        }
-    }
-
-    // Drops the IDs and references in a value.
-    fn drop_atoms(&mut self, bearer: u32, value: &Value)
-    // ensures as drop_value, by spec.borne_by bearer (spec.atoms_of value.now)
-    {
-        match value {
-            Value::Atom { builtin, atom } => self.drop_atom(bearer, *builtin, atom),
-            Value::List(items) => self.drop_items(bearer, items.as_slice()),
-        }
-    }
-
-    // Drops the IDs and references among the items of a list.
-    fn drop_items(&mut self, bearer: u32, items: &[TypedAtom])
-    // ensures as drop_value, by spec.borne_by bearer items.now
-    {
-        for item in items {
-            self.drop_atom(bearer, item.builtin, &item.atom);
-        }
-    }
-
-    // Drops an atom, where it is an ID or a reference to one.
-    fn drop_atom(&mut self, bearer: u32, builtin: Builtin, atom: &Atom)
-    // ensures as drop_value, by spec.borne bearer (record { builtin = builtin; atom = atom.now }) ∷ []
-    {
-        if let Atom::Text(text) = atom {
-            self.drop_string(bearer, role_of(builtin), text.as_str());
-        }
-    }
-
-    // Drops a string, where it is an ID or a reference to one.
-    fn drop_string(&mut self, bearer: u32, role: IdRole, text: &str)
-    // ensures { IsGrown self.new self.old (spec.ids_if role bearer (text.now ∷ [])) (spec.references_if role (text.now ∷ [])) }
-    {
-        match role {
-            IdRole::Id => self.table.drop_id(text, bearer),
-            IdRole::Reference => self.table.drop_ref(text),
-            IdRole::Neither => {}
         }
     }
 
