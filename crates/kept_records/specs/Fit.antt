@@ -1,7 +1,6 @@
 -- When what is kept of the elements of a document fits: of each element what is kept of its child elements (Structures 3.3.4, 3.3.5,
 -- 3.4.4, 5.2).
-use Rattle.std.specs.Prelude.{◌≡◌, ◌==◌, ℕ, List, [], Option, None, Some, map, slice_get, if◌then◌else◌}
-use Rattle.std.specs.Option.{option_and_then}
+use Rattle.std.specs.Prelude.{◌≡◌, ◌==◌, ℕ, List, [], Option, None, Some, map, slice_get, slice_index_or, if◌then◌else◌}
 use Rattle.xs_codes.specs.declared.fault.Found.{Found}
 use Rattle.xs_components.specs.declared.common.TypeId.{TypeId}
 use Rattle.xs_components.specs.declared.common.TypeId.TheVariants.{AnyType, Builtin, Simple, Complex}
@@ -34,7 +33,7 @@ models_of c None = None
 models_of c (Some AnyType) = None
 models_of c (Some (Builtin kind)) = None
 models_of c (Some (Simple id)) = None
-models_of c (Some (Complex id)) = option_and_then (λ model. model) (slice_get c.models id)
+models_of c (Some (Complex id)) = slice_index_or c.models id None
 
 -- the codes of IDs stand at the root, whose number is 1
 abbrev pub root_codes : List Found → ℕ → List Found
@@ -47,37 +46,38 @@ IsListed v None (Some h) symbols = ⊥
 IsListed v (Some a) None symbols = ⊥
 IsListed v (Some a) (Some h) symbols = IsListOf v h a symbols
 
--- by a schema set with the automata of its types, a document's nodes by their numbers, lists of child elements, what is kept, and the
--- codes of the document's IDs
-module _ (s : SchemaSet) (models : Models) (ns : Nodes) (v : ListsView) (ks : KeptSlots) (ids : List Found) where
-  -- what governs an element goes by its name, xsi:type and scope
-  abbrev pub head_at : ℕ → Head
-  head_at n = record { name = name_at ns n; xsi = instance_text s.names (texts_named ns n) TypeName; scope = scope_at ns n }
+-- what governs an element of a document goes by its name, xsi:type and scope
+abbrev pub head_at : SchemaSet → Nodes → ℕ → Head
+head_at s ns n = record { name = name_at ns n; xsi = instance_text s.names (texts_named ns n) TypeName; scope = scope_at ns n }
 
-  -- the automaton of its type's content model, and the symbols of the names of its child elements
+-- the root is governed as the root, and bears the IDs of its text itself
+pub record IsTop (s : SchemaSet) (ns : Nodes) (ks : KeptSlots) : Type 0 where
+  pub made : IsMade ks 1
+  pub bearer_is : (kept_at ks 1).found.bearer ≡ 1
+  pub pair_is : pair_at ks 1 ≡ govern_root s.names s.parts (head_at s ns 1).name (head_at s ns 1).xsi (head_at s ns 1).scope
+
+-- by a schema set with the automata of its types, of a document's nodes by their numbers, with what is kept
+module _ (s : SchemaSet) (models : Models) (ns : Nodes) (ks : KeptSlots) where
+  -- the automaton of the content model of an element's type, and the symbols of the names of its child elements
   abbrev pub model_at : ℕ → Option ContentAutomaton
   model_at n = models (pair_at ks n).of
 
   abbrev pub symbols_at : ℕ → List ℕ
   symbols_at n = child_symbols s.names (model_at n) (map (name_at ns) (element_children ns n))
 
-  -- what it has to show
-  abbrev pub shape_at : ℕ → ElementShape
-  shape_at n = shape_of (head_at n) (texts_named ns n) (own_chars ns n) (kept_at ks n).stuck (kept_at ks n).counts (kept_at ks n).identity (root_codes ids n)
-
-  -- what governs an element at a place among its parent's child elements, by the term that it is attributed to
+  -- what governs the element at a place among the child elements of another, by the term that it is attributed to
   abbrev pub child_pair : ℕ → ℕ → ℕ → Governing
   child_pair n place child =
-      govern_child s.names s.parts (pair_at ks n).mode (term_in (model_at n) (symbols_at n) place) (head_at child).name (head_at child).xsi (head_at child).scope
+      govern_child s.names s.parts (pair_at ks n).mode (term_in (model_at n) (symbols_at n) place) (head_at s ns child).name (head_at s ns child).xsi (head_at s ns child).scope
 
-  -- this child element is there at the place, governed as its parent gives it, and the parent bears the IDs of its text
+  -- something is kept of the child element at the place: its parent gives it what governs it, and bears the IDs of its text
   pub record IsGiven (n place child : ℕ) : Type 0 where
     pub made : IsMade ks child
     pub bearer_is : (kept_at ks child).found.bearer ≡ n
     pub pair_is : pair_at ks child ≡ child_pair n place child
 
-  -- what an element is judged by is right: its child elements are governed, listed and counted
-  pub record IsGathered (n : ℕ) : Type 0 where
+  -- what an element is judged by is right, with these lists: its child elements are governed, listed and counted
+  pub record IsGathered (v : ListsView) (n : ℕ) : Type 0 where
     pub number_is : (kept_at ks n).found.number ≡ n
     pub text_is : (kept_at ks n).text ≡ own_chars ns n
     pub given : (place child : ℕ) → slice_get (element_children ns n) place ≡ Some child → IsGiven n place child
@@ -85,17 +85,17 @@ module _ (s : SchemaSet) (models : Models) (ns : Nodes) (v : ListsView) (ks : Ke
     pub stuck_is : (kept_at ks n).stuck ≡ stuck_in (model_at n) (symbols_at n)
     pub counts_are : (kept_at ks n).counts ≡ counts_of (map (record_at ks) (element_children ns n))
 
-  -- and it is judged by it
+-- what an element has to show, where these are the codes of the document's IDs
+abbrev pub shape_at : SchemaSet → Nodes → KeptSlots → List Found → ℕ → ElementShape
+shape_at s ns ks ids n =
+    shape_of (head_at s ns n) (texts_named ns n) (own_chars ns n) (kept_at ks n).stuck (kept_at ks n).counts (kept_at ks n).identity (root_codes ids n)
+
+module _ (s : SchemaSet) (models : Models) (ns : Nodes) (ks : KeptSlots) (v : ListsView) (ids : List Found) where
+  -- what is kept of an element is what it is judged to be, by what is right
   pub record IsFit (n : ℕ) : Type 0 where
-    pub gathered : IsGathered n
-    pub known : AreJudged s (shape_at n) (entry_at ks n)
+    pub gathered : IsGathered s models ns ks v n
+    pub known : AreJudged s (shape_at s ns ks ids n) (entry_at ks n)
 
   -- all elements of which something is kept fit, but for those that wait
   abbrev pub AllFitBut : List ℕ → Type 0
   AllFitBut waiting = (n : ℕ) → IsMade ks n → Lacks n waiting → IsFit n
-
-  -- the root is governed as the root, and bears the IDs of its text itself
-  pub record IsTop : Type 0 where
-    pub made : IsMade ks 1
-    pub bearer_is : (kept_at ks 1).found.bearer ≡ 1
-    pub pair_is : pair_at ks 1 ≡ govern_root s.names s.parts (head_at 1).name (head_at 1).xsi (head_at 1).scope

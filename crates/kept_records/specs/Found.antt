@@ -1,9 +1,8 @@
 -- What is kept of a document's elements as what is found of them.
-use Rattle.std.specs.Prelude.{◌≡◌, ℕ, true, List, Option}
+use Rattle.std.specs.Prelude.{◌≡◌, ℕ, true, List}
 use Rattle.xs_codes.specs.declared.fault.Found.{Found}
 use Rattle.tree_rows.specs.Forest.{Forest, Document}
-use Rattle.identity_tables.specs.Ids.{BorneAtom, ids, references}
-use Rattle.assessment.specs.Assessment.{Entry, Assessed, Beside}
+use Rattle.assessment.specs.Assessment.{Assessed, Beside}
 use Rattle.assessment.specs.Local.{Kept, kept_entries}
 use Rattle.compiled_schema.specs.Usable.{IsUsable, set_of}
 use Rattle.compiled_schema.specs.declared.compiled.Compiled.{Compiled}
@@ -21,10 +20,10 @@ pub record IsOver (c : Compiled) (ns : Nodes) (ks : KeptSlots) (d : Document) : 
   pub only : (n : ℕ) → IsMade ks n → is_element_at ns n ≡ true
 
 -- all that is kept fits, from the root on
-pub record AreSettled (c : Compiled) (ns : Nodes) (v : ListsView) (ks : KeptSlots) (ids : List Found) (d : Document) : Type 0 where
+pub record AreSettled (c : Compiled) (ns : Nodes) (ks : KeptSlots) (v : ListsView) (ids : List Found) (d : Document) : Type 0 where
   pub over : IsOver c ns ks d
-  pub top : IsTop (set_of c) (models_of c) ns v ks ids
-  pub fit : (n : ℕ) → IsMade ks n → IsFit (set_of c) (models_of c) ns v ks ids n
+  pub top : IsTop (set_of c) ns ks
+  pub fit : (n : ℕ) → IsMade ks n → IsFit (set_of c) (models_of c) ns ks v ids n
 
 -- by number, as assessment reads it
 abbrev pub read_as : Nodes → KeptSlots → ℕ → Kept

@@ -24,11 +24,11 @@ ghost use Rattle.kept_records.specs.Slots.{KeptSlots, IsMade};
 /// the codes that are kept beside: something is kept of exactly the elements; what is found of an element is what is kept of it; and
 /// the sums that are kept are those of what is found.
 pub fn fitting_slots_are_the_assessment()
-    ensures made { (c : CompiledData) (ns : Nodes) (v : ListsView) (ks : KeptSlots) (codes : List Found) (d : Document) → AreSettled c ns v ks codes d → (n : ℕ) → HasElement n d.forest ↔ IsMade ks n }
-    ensures assessed { (c : CompiledData) (ns : Nodes) (v : ListsView) (ks : KeptSlots) (codes : List Found) (d : Document) (b : Beside) → AreSettled c ns v ks codes d → SaysKept b ks codes →
+    ensures made { (c : CompiledData) (ns : Nodes) (ks : KeptSlots) (v : ListsView) (codes : List Found) (d : Document) → AreSettled c ns ks v codes d → (n : ℕ) → HasElement n d.forest ↔ IsMade ks n }
+    ensures assessed { (c : CompiledData) (ns : Nodes) (ks : KeptSlots) (v : ListsView) (codes : List Found) (d : Document) (b : Beside) → AreSettled c ns ks v codes d → SaysKept b ks codes →
         IsAssessment (set_of c) b d.forest (found_in ns ks d.forest) }
-    ensures entries { (c : CompiledData) (ns : Nodes) (v : ListsView) (ks : KeptSlots) (codes : List Found) (d : Document) → AreSettled c ns v ks codes d → (n : ℕ) →
+    ensures entries { (c : CompiledData) (ns : Nodes) (ks : KeptSlots) (v : ListsView) (codes : List Found) (d : Document) → AreSettled c ns ks v codes d → (n : ℕ) →
         asking.entry_at n (entries (found_in ns ks d.forest)) ≡ option_map (λ k. entry_of k.found) (at ks n) }
-    ensures sums { (c : CompiledData) (ns : Nodes) (v : ListsView) (r : KeptView) (codes : List Found) (d : Document) → AreSettled c ns v r.slots codes d → IsBooked r →
+    ensures sums { (c : CompiledData) (ns : Nodes) (r : KeptView) (v : ListsView) (codes : List Found) (d : Document) → AreSettled c ns r.slots v codes d → IsBooked r →
         (r.total ≡ code_total (entries (found_in ns r.slots d.forest))) × IsTableOf r.ids (borne_values (found_in ns r.slots d.forest)) }
 {}

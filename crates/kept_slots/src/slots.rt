@@ -76,9 +76,9 @@ impl<T: Drop> Slots<T> {
         ensures change { Writes self.old self.new number None }
         ensures size { length self.new ≡ length self.old }
     {
-        match self.slots.get_mut(number as usize) {
-            Some(slot) => slot.take(),
-            None => None,
+        if number as usize >= self.slots.len() {
+            return None;
         }
+        mem::replace(&mut self.slots[number as usize], None)
     }
 }
