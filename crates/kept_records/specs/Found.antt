@@ -1,5 +1,5 @@
 -- What is kept of a document's elements as what is found of them.
-use Rattle.std.specs.Prelude.{◌≡◌, ℕ, true, List}
+use Rattle.std.specs.Prelude.{◌≡◌, ℕ, true, List, []}
 use Rattle.xs_codes.specs.declared.fault.Found.{Found}
 use Rattle.tree_rows.specs.Forest.{Forest, Document}
 use Rattle.assessment.specs.Assessment.{Assessed, Beside}
@@ -11,7 +11,7 @@ use Rattle.doc_changes.specs.Stands.{StandsFor}
 use Rattle.doc_documents.specs.Readers.{scope_at}
 use Rattle.model_lists.specs.Lists.{ListsView}
 use Rattle.kept_records.specs.Slots.{KeptSlots, IsMade, kept_at, entry_at}
-use Rattle.kept_records.specs.Fit.{models_of, root_codes, IsFit, IsTop}
+use Rattle.kept_records.specs.Fit.{models_of, root_codes, IsTop, AllFitBut}
 
 -- the nodes are those of the document, by names of the set's table, and nothing is kept but of its elements
 pub record IsOver (c : Compiled) (ns : Nodes) (ks : KeptSlots) (d : Document) : Type 0 where
@@ -23,7 +23,7 @@ pub record IsOver (c : Compiled) (ns : Nodes) (ks : KeptSlots) (d : Document) : 
 pub record AreSettled (c : Compiled) (ns : Nodes) (ks : KeptSlots) (v : ListsView) (ids : List Found) (d : Document) : Type 0 where
   pub over : IsOver c ns ks d
   pub top : IsTop (set_of c) ns ks
-  pub fit : (n : ℕ) → IsMade ks n → IsFit (set_of c) (models_of c) ns ks v ids n
+  pub fit : AllFitBut (set_of c) (models_of c) ns ks v ids []
 
 -- by number, as assessment reads it
 abbrev pub read_as : Nodes → KeptSlots → ℕ → Kept
