@@ -1,0 +1,105 @@
+//! What is kept of all elements, by their numbers.
+
+ghost use Rattle.std.specs.Prelude.{◌≡◌, List, [], None, Some, IfOk, OnOk};
+ghost use Rattle.std.specs.Option.{option_copied, option_map};
+ghost use Rattle.identity_tables.specs.Ids.{BorneAtom, id_codes};
+ghost use Rattle.identity_tables.specs.Table.{IsTableOf};
+ghost use Rattle.kept_slots.specs.Slots.{at, Writes};
+ghost use Rattle.kept_records.specs.Books.{IsBooked};
+
+use crate::KeptElement;
+use assess_records::Codes;
+use kept_ids::KeptIds;
+use kept_slots::Slots;
+use std::alloc::{AllocError, Global};
+use std::marker::Model;
+use tree_assess::ElementEntry;
+
+/// What is kept of the elements of a document, each by its number, with the sum of their codes and the table of their IDs.
+///
+/// An element is rewritten by `take`, then `put`. Behind a call that ended in want of memory the sums are not stated.
+#[derive(Drop)]
+pub struct KeptRecords {
+    slots: Slots<KeptElement>,
+    total: u64,
+    ids: KeptIds,
+}
+
+impl Model for KeptRecords {
+    ghost use Rattle.kept_records.specs.Books.{KeptView};
+
+    ghost Value = { KeptView };
+
+    ghost view = { λ r. record { slots = r.slots; total = r.total; ids = r.ids } };
+}
+
+impl KeptRecords {
+    /// Nothing is kept.
+    ///
+    /// # Errors
+    ///
+    /// `AllocError` is want of memory.
+    pub fn new(alloc: Global) -> Result<KeptRecords, AllocError>
+        ensures none { IfOk result (λ records. records.slots ≡ []) }
+        ensures booked { IfOk result IsBooked }
+    {
+        Ok(KeptRecords {
+            slots: Slots::new(alloc),
+            total: 0,
+            ids: KeptIds::new(alloc)?,
+        })
+    }
+
+    /// What is kept of the element of a number.
+    pub fn get(&self, number: u32) -> Option<&KeptElement>
+        ensures { option_copied result ≡ at self.now.slots number }
+    {
+        self.slots.get(number)
+    }
+
+    /// Keeps this of the element of a number, of which nothing is kept.
+    ///
+    /// # Errors
+    ///
+    /// `AllocError` is want of memory, or there are more codes than 18,446,744,073,709,551,615.
+    pub fn put(&mut self, number: u32, kept: Box<KeptElement>) -> Result<(), AllocError>
+        requires { at self.old.slots number ≡ None }
+        ensures change { OnOk result (Writes self.old.slots self.new.slots number (Some kept.value)) }
+        ensures booked { OnOk result (IsBooked self.old → IsBooked self.new) }
+    {
+        self.add(&kept.found)?;
+        self.slots.reach(number)?;
+        self.slots.put(number, kept);
+        Ok(())
+    }
+
+    /// Takes out what is kept of the element of a number.
+    pub fn take(&mut self, number: u32) -> Option<Box<KeptElement>>
+        requires { IsBooked self.old }
+        ensures was { option_map (λ was. was.value) result ≡ at self.old.slots number }
+        ensures change { Writes self.old.slots self.new.slots number None }
+        ensures booked { IsBooked self.new }
+    {
+        let kept = self.slots.take(number)?;
+        self.drop(&kept.found);
+        Some(kept)
+    }
+
+    /// How many codes all records have.
+    pub fn total(&self) -> u64
+        ensures { result ≡ self.now.total }
+    {
+        self.total
+    }
+
+    /// The codes of the document's IDs (Structures 3.3.4).
+    ///
+    /// # Errors
+    ///
+    /// `AllocError` is want of memory.
+    pub fn id_codes(&self, alloc: Global) -> Result<Codes, AllocError>
+        ensures { IfOk result (λ codes. (atoms : List BorneAtom) → IsTableOf self.now.ids atoms → codes ≡ id_codes atoms) }
+    {
+        self.ids.codes(alloc)
+    }
+}
