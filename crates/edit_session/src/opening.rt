@@ -4,7 +4,7 @@ use compiled_schema::Compiled;
 use doc_tree::DocTree;
 use kept_below::open_records;
 use kept_keys::settle_keys;
-use kept_records::KeptState;
+use kept_state::KeptState;
 use plain_tree::Tree;
 use std::alloc::{AllocError, Global};
 use tree_names::add_names;

@@ -5,7 +5,7 @@ use doc_edits::{Change, prepare};
 use doc_tree::DocTree;
 use kept_changes::keep_change;
 use kept_keys::settle_keys;
-use kept_records::KeptState;
+use kept_state::KeptState;
 use plain_tree::Tree;
 use report_text::Records;
 use session_model::{Session, SessionError, records_of};
@@ -98,7 +98,7 @@ impl Session for EditSession {
     fn records(&self, node: u32) -> Option<Records<'_>> {
         match self.kept.records.get(node) {
             None => None,
-            Some(own) => Some(records_of(&own.entry)),
+            Some(own) => Some(records_of(&own.found)),
         }
     }
 
@@ -120,7 +120,7 @@ impl Session for EditSession {
     fn root_validity(&self) -> Validity {
         match self.kept.records.get(1) {
             None => Validity::NotKnown,
-            Some(root) => root.entry.element.validity,
+            Some(root) => root.found.element.validity,
         }
     }
 

@@ -3,7 +3,7 @@
 use compiled_schema::Compiled;
 use doc_tree::DocTree;
 use kept_judging::judge_if_apart;
-use kept_records::{KeptState, Outcome};
+use kept_state::{KeptState, Outcome};
 use std::alloc::AllocError;
 
 /// Counts a child element of an element by what it comes to now, in place of what it came to.
@@ -17,7 +17,7 @@ pub fn recount(kept: &mut KeptState, parent: u32, was: Outcome, now: Outcome)
     let mut children = kept.children(parent);
     children.counts.remove(was.validity, was.attempted);
     children.counts.add(now.validity, now.attempted);
-    kept.records.set_children(parent, children);
+    kept.set_children(parent, children);
 }
 
 // Makes the parent of an element that came to this before right, and answers what the parent came to.

@@ -5,7 +5,7 @@ use assess_records::ChildCounts;
 use compiled_schema::Compiled;
 use doc_tree::DocTree;
 use kept_judging::{judge, keep_judged, pair_of_root};
-use kept_records::{Governed, KeptChildren, KeptState};
+use kept_state::{Governed, KeptChildren, KeptState};
 use std::alloc::AllocError;
 use xsv_steps::{Ledger, Steps};
 
@@ -15,7 +15,7 @@ fn give_back(kept: &mut KeptState, node: u32)
 {
     let list = match kept.records.get(node) {
         None => None,
-        Some(own) => own.children.list,
+        Some(own) => own.list,
     };
     if let Some(list) = list {
         kept.lists.give(list);

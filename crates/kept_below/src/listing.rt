@@ -6,7 +6,7 @@ use content_models::ContentAutomaton;
 use doc_tree::DocTree;
 use elem_governing::Governing;
 use kept_judging::pair_below;
-use kept_records::{Governed, KeptState};
+use kept_state::{Governed, KeptState};
 use model_lists::ModelList;
 use std::alloc::AllocError;
 use xs_components::TermId;

@@ -6,7 +6,7 @@ use compiled_schema::Compiled;
 use doc_edits::{Change, make_change};
 use doc_tree::DocTree;
 use kept_children::{place_of, put_child, take_child};
-use kept_records::KeptState;
+use kept_state::KeptState;
 use std::alloc::AllocError;
 use tree_rows::NodeKind;
 use xsv_steps::{Ledger, Steps};

@@ -1,13 +1,17 @@
 //! What is kept of elements that go.
 
 use doc_tree::DocTree;
-use kept_records::KeptState;
+use kept_state::KeptState;
 
 // Keeps nothing of an element any more, and gives its list back.
 fn forget_one(kept: &mut KeptState, node: u32)
 // ensures { Puts at the node, None; its list is not live, others kept }
 {
-    if let Some(list) = kept.records.forget(node) {
+    let list = match kept.records.take(node) {
+        None => None,
+        Some(own) => own.list,
+    };
+    if let Some(list) = list {
         kept.lists.give(list);
     }
 }

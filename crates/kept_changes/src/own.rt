@@ -7,7 +7,7 @@ use kept_above::settle_above;
 use kept_below::settle_again;
 use kept_children::{name_child, place_of};
 use kept_judging::{judge, pair_again, pair_of_root};
-use kept_records::{Governed, KeptState};
+use kept_state::{Governed, KeptState};
 use std::alloc::AllocError;
 use xsv_steps::{Ledger, Steps};
 

@@ -8,7 +8,7 @@ use doc_tree::DocTree;
 use kept_above::{recount, settle_above};
 use kept_below::{settle_again, settle_below};
 use kept_judging::judge_if_apart;
-use kept_records::{KeptChildren, KeptState, Outcome};
+use kept_state::{KeptChildren, KeptState, Outcome};
 use std::alloc::AllocError;
 use xsv_steps::{Ledger, Steps};
 
@@ -44,14 +44,14 @@ fn note_more_stuck<L: Ledger>(
 fn count_in(kept: &mut KeptState, parent: u32, outcome: Outcome) {
     let mut children = kept.children(parent);
     children.counts.add(outcome.validity, outcome.attempted);
-    kept.records.set_children(parent, children);
+    kept.set_children(parent, children);
 }
 
 // Counts one child element less of an element.
 fn count_out(kept: &mut KeptState, parent: u32, outcome: Outcome) {
     let mut children = kept.children(parent);
     children.counts.remove(outcome.validity, outcome.attempted);
-    kept.records.set_children(parent, children);
+    kept.set_children(parent, children);
 }
 
 // Governs a child element that came, and counts it.

@@ -5,7 +5,7 @@ use compiled_schema::Compiled;
 use content_models::ContentAutomaton;
 use doc_tree::DocTree;
 use kept_judging::pair_below;
-use kept_records::{Governed, KeptState};
+use kept_state::{Governed, KeptState};
 use model_lists::ListedChild;
 use std::alloc::AllocError;
 use xs_components::TermId;
@@ -92,7 +92,7 @@ pub(crate) fn note_stuck<L: Ledger>(
     if let Some((list, automaton)) = list_of(set, kept, parent) {
         let mut children = kept.children(parent);
         children.stuck = kept.lists.stuck(list, automaton, count, steps);
-        kept.records.set_children(parent, children);
+        kept.set_children(parent, children);
     }
 }
 

@@ -6,7 +6,7 @@ use compiled_schema::Compiled;
 use doc_tree::DocTree;
 use kept_above::recount;
 use kept_below::settle_below;
-use kept_records::KeptState;
+use kept_state::KeptState;
 use std::alloc::AllocError;
 use xsv_steps::{Ledger, Steps};
 

@@ -3,7 +3,7 @@
 use compiled_schema::Compiled;
 use content_models::ContentAutomaton;
 use doc_tree::DocTree;
-use kept_records::KeptState;
+use kept_state::KeptState;
 use model_lists::ModelList;
 
 /// A child element, with its parent and its place among the child elements.

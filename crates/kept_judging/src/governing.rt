@@ -5,7 +5,7 @@ use compiled_schema::Compiled;
 use doc_tree::DocTree;
 use elem_governing::{Governing, govern_child, govern_root};
 use elem_regoverning::regovern;
-use kept_records::Governed;
+use kept_state::Governed;
 use std::alloc::{AllocError, Global};
 use xs_components::TermId;
 

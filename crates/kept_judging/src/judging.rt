@@ -6,7 +6,8 @@ use compiled_schema::Compiled;
 use doc_tree::DocTree;
 use elem_assess::{AssessSet, Judged, local};
 use elem_governing::{ElementHead, Governing, SchemaView};
-use kept_records::{Governed, KeptChildren, KeptElement, KeptState};
+use kept_records::KeptElement;
+use kept_state::{Governed, KeptChildren, KeptState};
 use std::alloc::AllocError;
 use tree_assess::ElementEntry;
 use xs_names::Text;
@@ -107,10 +108,10 @@ pub fn judge(
 // ensures same { set.new ≡ set.old }
 {
     let node = element.node;
-    let own = kept.records.at(node);
-    let shape = shape_of(doc, kept, node, &own.text, &own.children)?;
-    let entry = judged(doc, set, kept, element, &shape)?;
-    kept.records.set_entry(node, entry)
+    let children = kept.children(node);
+    let shape = shape_of(doc, kept, node, &kept.at(node).text, &children)?;
+    let found = judged(doc, set, kept, element, &shape)?;
+    kept.records.set_found(node, found)
 }
 
 /// Judges an element, where what is kept of its child elements was this and its records may differ by that.
@@ -154,12 +155,14 @@ pub fn keep_judged(
     let text = doc.text_of(node)?;
     let identity = kept.identity_codes(node)?;
     let shape = shape_of(doc, kept, node, &text, &children)?;
-    let entry = judged(doc, set, kept, element, &shape)?;
-    let judged = KeptElement {
-        entry,
+    let found = judged(doc, set, kept, element, &shape)?;
+    let element = KeptElement {
+        found,
         text,
+        stuck: children.stuck,
+        counts: children.counts,
+        list: children.list,
         identity,
-        children,
     };
-    kept.records.put(node, judged)
+    kept.put(node, element)
 }

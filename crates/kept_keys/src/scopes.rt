@@ -6,7 +6,7 @@ use compiled_schema::Compiled;
 use doc_tree::DocTree;
 use kept_above::settle_above;
 use kept_judging::judge;
-use kept_records::{Governed, KeptState};
+use kept_state::{Governed, KeptState};
 use key_codes::identity_codes;
 use path_walk::{KeySet, constraints_of};
 use std::alloc::AllocError;
@@ -46,7 +46,7 @@ fn judge_upwards(
 
 // Whether an element has these codes of its identity constraints.
 fn has_codes(kept: &KeptState, node: u32, codes: &Codes) -> bool {
-    kept.records.at(node).identity == *codes
+    kept.at(node).identity == *codes
 }
 
 // Finds the codes of the identity constraints of an element, and where they are others makes the records right.
@@ -73,7 +73,7 @@ fn settle_scopes(
     set: &mut Compiled,
     kept: &mut KeptState,
 ) -> Result<(), AllocError> {
-    for node in 1..kept.records.count() {
+    for node in 1..doc.next_free() {
         if has_constraints(set, kept, node) {
             settle_scope(doc, set, kept, node)?;
         }
@@ -83,7 +83,7 @@ fn settle_scopes(
 
 // Finds the codes of IDs at the root, and where they are others judges it again.
 fn settle_ids(doc: &DocTree, set: &mut Compiled, kept: &mut KeptState) -> Result<(), AllocError> {
-    let codes = kept.records.id_codes()?;
+    let codes = kept.records.id_codes(kept.alloc)?;
     if codes == kept.root_ids {
         return Ok(());
     }

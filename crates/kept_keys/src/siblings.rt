@@ -53,7 +53,7 @@ impl<'a> KeptSiblings<'a> {
 
 /// What identity constraints see of an element.
 pub(crate) fn sight_of<'a>(own: &'a KeptElement) -> KeySight<'a> {
-    let entry = &own.entry;
+    let entry = &own.found;
     KeySight {
         number: entry.number,
         name: entry.element.name,

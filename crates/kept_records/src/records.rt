@@ -8,12 +8,13 @@ ghost use Rattle.kept_slots.specs.Slots.{at, Writes};
 ghost use Rattle.kept_records.specs.Books.{IsBooked};
 
 use crate::KeptElement;
-use assess_records::Codes;
-use kept_ids::KeptIds;
+use crate::books::Books;
+use assess_records::{ChildCounts, Codes};
 use kept_slots::Slots;
 use std::alloc::{AllocError, Global};
 use std::marker::Model;
 use tree_assess::ElementEntry;
+use xs_names::Text;
 
 /// What is kept of the elements of a document, each by its number, with the sum of their codes and the table of their IDs.
 ///
@@ -21,8 +22,7 @@ use tree_assess::ElementEntry;
 #[derive(Drop)]
 pub struct KeptRecords {
     slots: Slots<KeptElement>,
-    total: u64,
-    ids: KeptIds,
+    books: Books,
 }
 
 impl Model for KeptRecords {
@@ -30,7 +30,7 @@ impl Model for KeptRecords {
 
     ghost Value = { KeptView };
 
-    ghost view = { λ r. record { slots = r.slots; total = r.total; ids = r.ids } };
+    ghost view = { λ r. record { slots = r.slots; total = r.books.total; ids = r.books.ids } };
 }
 
 impl KeptRecords {
@@ -45,8 +45,7 @@ impl KeptRecords {
     {
         Ok(KeptRecords {
             slots: Slots::new(alloc),
-            total: 0,
-            ids: KeptIds::new(alloc)?,
+            books: Books::new(alloc)?,
         })
     }
 
@@ -67,7 +66,7 @@ impl KeptRecords {
         ensures change { OnOk result (Writes self.old.slots self.new.slots number (Some kept.value)) }
         ensures booked { OnOk result (IsBooked self.old → IsBooked self.new) }
     {
-        self.add(&kept.found)?;
+        self.books.add(&kept.found)?;
         self.slots.reach(number)?;
         self.slots.put(number, kept);
         Ok(())
@@ -81,7 +80,7 @@ impl KeptRecords {
         ensures booked { IsBooked self.new }
     {
         let kept = self.slots.take(number)?;
-        self.drop(&kept.found);
+        self.books.remove(&kept.found);
         Some(kept)
     }
 
@@ -89,7 +88,7 @@ impl KeptRecords {
     pub fn total(&self) -> u64
         ensures { result ≡ self.now.total }
     {
-        self.total
+        self.books.total()
     }
 
     /// The codes of the document's IDs (Structures 3.3.4).
@@ -100,6 +99,65 @@ impl KeptRecords {
     pub fn id_codes(&self, alloc: Global) -> Result<Codes, AllocError>
         ensures { IfOk result (λ codes. (atoms : List BorneAtom) → IsTableOf self.now.ids atoms → codes ≡ id_codes atoms) }
     {
-        self.ids.codes(alloc)
+        self.books.id_codes(alloc)
+    }
+
+    /// Writes where the child elements of an element get stuck, and how many are of each kind. It takes no memory.
+    pub fn set_counts(&mut self, number: u32, stuck: Option<u32>, counts: ChildCounts)
+    // requires { IsMade self.old.slots number }
+    // ensures change { (k : KeptElement) → IsKept self.old.slots number k → Writes self.old.slots self.new.slots number (Some (record k { stuck = stuck; counts = counts })) }
+    // ensures booked { IsBooked self.old → IsBooked self.new }
+    {
+        if let Some(mut kept) = self.slots.take(number) {
+            kept.stuck = stuck;
+            kept.counts = counts;
+            self.replace(number, kept);
+        }
+    }
+
+    /// Writes the characters of an element's texts. It takes no memory.
+    pub fn set_text(&mut self, number: u32, text: Text)
+    // requires { IsMade self.old.slots number }
+    // ensures change { (k) → IsKept self.old.slots number k → Writes .. number (Some (record k { text = text })) }
+    // ensures booked { IsBooked self.old → IsBooked self.new }
+    {
+        if let Some(mut kept) = self.slots.take(number) {
+            kept.text = text;
+            self.replace(number, kept);
+        }
+    }
+
+    /// Writes the codes of an element's identity constraints. It takes no memory.
+    pub fn set_identity(&mut self, number: u32, identity: Codes)
+    // requires { IsMade self.old.slots number }
+    // ensures change { (k) → IsKept self.old.slots number k → Writes .. number (Some (record k { identity = identity })) }
+    // ensures booked { IsBooked self.old → IsBooked self.new }
+    {
+        if let Some(mut kept) = self.slots.take(number) {
+            kept.identity = identity;
+            self.replace(number, kept);
+        }
+    }
+
+    /// Writes what is found out about an element.
+    ///
+    /// # Errors
+    ///
+    /// As those of `put`.
+    pub fn set_found(&mut self, number: u32, found: ElementEntry) -> Result<(), AllocError>
+    // requires { IsMade self.old.slots number × IsBooked self.old }
+    // ensures change { OnOk result ((k) → IsKept self.old.slots number k → Writes .. number (Some (record k { found = found }))) }
+    // ensures booked { OnOk result (IsBooked self.new) }
+    {
+        let Some(mut kept) = self.take(number) else {
+            unreachable!()
+        };
+        kept.found = found;
+        self.put(number, kept)
+    }
+
+    // Keeps a value where one was taken out.
+    fn replace(&mut self, number: u32, kept: Box<KeptElement>) {
+        let _none = self.slots.put(number, kept);
     }
 }
