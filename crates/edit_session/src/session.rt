@@ -10,7 +10,6 @@ use plain_tree::Tree;
 use report_text::Records;
 use session_model::{Session, SessionError, records_of};
 use std::alloc::{AllocError, Global};
-use std::marker::Model;
 use tree_edits::{Edit, EditError};
 use tree_rows::NodeKind;
 use xsv_steps::{Ledger, Steps};

@@ -2,7 +2,6 @@
 
 use compiled_schema::Compiled;
 use doc_tree::DocTree;
-use elem_governing::Governing;
 use kept_above::settle_above;
 use kept_below::settle_again;
 use kept_children::{name_child, place_of};
@@ -39,7 +38,7 @@ pub(crate) fn reattribute<L: Ledger>(
     steps: &mut Steps<L>,
 ) -> Result<(), AllocError> {
     let was = kept.outcome(node);
-    let pair: Governing = kept.pair(node);
+    let pair = kept.pair(node);
     let element = pair_again(kept.alloc, doc, set, Governed { node, pair })?;
     settle_again(doc, set, kept, &element, steps)?;
     settle_above(doc, set, kept, node, was)
