@@ -23,11 +23,15 @@ fn key_set<'a>(set: &'a Compiled, kept: &KeptState) -> KeySet<'a> {
     }
 }
 
-// Whether a number is of an element that has identity constraints.
-fn has_constraints(set: &Compiled, kept: &KeptState, node: u32) -> bool {
+// Whether a number is of an element that has identity constraints, or had some that were broken.
+fn is_scope(set: &Compiled, kept: &KeptState, node: u32) -> bool
+// ensures { result ≡ false → IsMade node → (codes_at node ≡ []) × (identity_of kept.now node ≡ []) }
+{
     match kept.records.get(node) {
         None => false,
-        Some(own) => !constraints_of(&set.parts, &sight_of(own)).is_empty(),
+        Some(own) => {
+            !own.identity.is_empty() || !constraints_of(&set.parts, &sight_of(own)).is_empty()
+        }
     }
 }
 
@@ -74,7 +78,7 @@ fn settle_scopes(
     kept: &mut KeptState,
 ) -> Result<(), AllocError> {
     for node in 1..doc.next_free() {
-        if has_constraints(set, kept, node) {
+        if is_scope(set, kept, node) {
             settle_scope(doc, set, kept, node)?;
         }
     }
