@@ -6,5 +6,5 @@ mod lists;
 mod marked;
 mod place;
 
-pub use edits::{put_child, take_child, name_child};
+pub use edits::{name_child, put_child, take_child};
 pub use place::{ChildPlace, place_of};

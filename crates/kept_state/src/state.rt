@@ -133,7 +133,8 @@ impl KeptState {
     // requires { IsMade self.old.records.slots node }, with the list that is kept
     // ensures { slot node = record was { stuck = children.stuck; counts = children.counts } }, all else as before
     {
-        self.records.set_counts(node, children.stuck, children.counts);
+        self.records
+            .set_counts(node, children.stuck, children.counts);
     }
 
     /// Keeps this of an element, in place of what was kept of it.
