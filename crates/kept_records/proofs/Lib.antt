@@ -5,3 +5,5 @@ pub mod Settled
 pub mod Entries
 pub mod Sums
 pub mod Kept
+pub mod Booking
+pub mod Lists

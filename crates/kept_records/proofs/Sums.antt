@@ -23,7 +23,7 @@ use Rattle.doc_heads.specs.Heads.{readers_of}
 use Rattle.kept_slots.specs.Slots.{at, weigh, slot_sum}
 use Rattle.kept_records.specs.declared.element.KeptElement.{KeptElement}
 use Rattle.kept_records.specs.Slots.{KeptSlots, IsMade, blank, kept_at, entry_at}
-use Rattle.kept_records.specs.Books.{codes_in, atoms_in, all_atoms}
+use Rattle.kept_records.specs.Books.{codes_in, atoms_of, all_atoms}
 use Rattle.kept_records.specs.Found.{read_as, found_in}
 use Rattle.kept_records.proofs.Entries.{to-sums}
 
@@ -41,6 +41,17 @@ module _ (weight : Option KeptElement → ℕ) (light : weight None ≡ 0) (ks :
 
   pub over-elements : ((n : ℕ) → times n f ≤ 1) → sum_by weight ks ≡ element_sum (λ n. weight (at ks n)) f
   over-elements differ = sums_are weight None light f differ ks unmade
+
+-- ---- the atoms of values, weighed so that lists weigh as their parts
+
+abbrev pub own-weight : (List BorneAtom → ℕ) → KeptElement → ℕ
+own-weight w k = w (atoms_of k.found)
+
+pub all-atoms : (w : List BorneAtom → ℕ) → w [] ≡ 0 → ((xs ys : List BorneAtom) → w (xs ++ ys) ≡ w xs + w ys) → (xs : KeptSlots) → w (all_atoms xs) ≡ slot_sum (own-weight w) xs
+all-atoms w nil plus [] = nil
+all-atoms w nil plus (None ∷ xs) = let i = all-atoms w nil plus xs in let b = sum_by-cons (weigh (own-weight w)) None xs in omega (arith, i, b)
+all-atoms w nil plus (Some k ∷ xs) =
+    let a = plus (atoms_of k.found) (all_atoms xs) in let i = all-atoms w nil plus xs in let b = sum_by-cons (weigh (own-weight w)) (Some k) xs in omega (arith, a, i, b)
 
 -- ---- how many codes there are
 
@@ -60,26 +71,19 @@ module _ (ns : Nodes) (ks : KeptSlots) where
       let both = totals (entries (found_in ns ks children)) (entries (found_in ns ks next)) in
       omega (arith, one, below, later, both)
 
-  -- ---- the atoms of values, weighed so that lists weigh as their parts
-
   module _ (w : List BorneAtom → ℕ) (nil : w [] ≡ 0) (plus : (xs ys : List BorneAtom) → w (xs ++ ys) ≡ w xs + w ys) where
-    pub all-atoms : (xs : KeptSlots) → w (all_atoms xs) ≡ sum_by (λ o. w (atoms_in o)) xs
-    all-atoms [] = nil
-    all-atoms (x ∷ xs) =
-        let a = plus (atoms_in x) (all_atoms xs) in let i = all-atoms xs in let b = sum_by-cons (λ o. w (atoms_in o)) x xs in omega (arith, a, i, b)
-
     -- the atoms of an element, which this one bears
-    borne-own : (n bearer : ℕ) → IsMade ks n → (kept_at ks n).found.bearer ≡ bearer → w (borne_of (record { bearer = bearer; own = entry_at ks n })) ≡ w (atoms_in (at ks n))
+    borne-own : (n bearer : ℕ) → IsMade ks n → (kept_at ks n).found.bearer ≡ bearer → w (borne_of (record { bearer = bearer; own = entry_at ks n })) ≡ weigh (own-weight w) (at ks n)
     borne-own n bearer made is =
         let same = kept-is ks n made.0 made.1 in
         ap (λ m. w (borne_of (record { bearer = m; own = entry_at ks n }))) (sym is)
         ∙ ap (λ (x : KeptElement). w (borne_of (record { bearer = x.found.bearer; own = entry_of x.found }))) same
-        ∙ ap (λ o. w (atoms_in o)) (sym made.1)
+        ∙ ap (weigh (own-weight w)) (sym made.1)
 
     module _ (t : NameTable) (numbers : (n : ℕ) → IsMade ks n → (kept_at ks n).found.number ≡ n)
         (bearers : (n : ℕ) → IsMade ks n → All (λ m. (kept_at ks m).found.bearer ≡ n) (element_children ns n)) where
       abbrev weight : ℕ → ℕ
-      weight n = w (atoms_in (at ks n))
+      weight n = weigh (own-weight w) (at ks n)
 
       abbrev IsBorneBy : ℕ → ℕ → Type 0
       IsBorneBy bearer m = (kept_at ks m).found.bearer ≡ bearer
@@ -124,7 +128,7 @@ module _ (ns : Nodes) (ks : KeptSlots) where
 
       pub atoms-are : (f : Forest) → HasRoot f → ((n : ℕ) → times n f ≤ 1) → AreRead (readers_of t ns) f → ((n : ℕ) → HasElement n f → IsMade ks n) → ((n : ℕ) → IsMade ks n → HasElement n f) →
           (kept_at ks 1).found.bearer ≡ 1 → w (all_atoms ks) ≡ w (borne_values (found_in ns ks f))
-      atoms-are f root differ r made only top = all-atoms ks ∙ over-elements (λ o. w (atoms_in o)) nil ks f only differ ∙ sym (root-sum f root r made top)
+      atoms-are f root differ r made only top = all-atoms w nil plus ks ∙ over-elements (weigh (own-weight w)) refl ks f only differ ∙ sym (root-sum f root r made top)
 
 -- ---- the IDs and the references
 

@@ -6,6 +6,7 @@ use Rattle.identity_tables.specs.Ids.{BorneAtom}
 use Rattle.identity_tables.specs.Table.{IsTableOf}
 use Rattle.assessment.specs.Bearings.{borne_of}
 use Rattle.tree_assess.specs.Entries.{entry_of}
+use Rattle.tree_assess.specs.declared.entry.ElementEntry.{ElementEntry}
 use Rattle.session_model.specs.Asking.{entry_total}
 use Rattle.model_lists.specs.Lists.{ListsView, IsLive}
 use Rattle.model_lists.specs.declared.handle.ModelList.{ModelList}
@@ -26,9 +27,12 @@ abbrev pub codes_in : KeptElement → ℕ
 codes_in k = entry_total (entry_of k.found)
 
 -- the atoms of its values, with the elements that bear them where they are IDs (Structures 3.15.5)
+abbrev pub atoms_of : ElementEntry → List BorneAtom
+atoms_of e = borne_of (record { bearer = e.bearer; own = entry_of e })
+
 abbrev pub atoms_in : Option KeptElement → List BorneAtom
 atoms_in None = []
-atoms_in (Some k) = borne_of (record { bearer = k.found.bearer; own = entry_of k.found })
+atoms_in (Some k) = atoms_of k.found
 
 abbrev pub all_atoms : KeptSlots → List BorneAtom
 all_atoms ks = flat_map atoms_in ks

@@ -1,6 +1,7 @@
 //! What a session keeps of the elements of a document.
 #![tactic(auto)]
 
+mod books;
 mod element;
 mod laws;
 mod models;

@@ -8,12 +8,11 @@ ghost use Rattle.kept_slots.specs.Slots.{at, Writes};
 ghost use Rattle.kept_records.specs.Books.{IsBooked};
 
 use crate::KeptElement;
+use crate::books::Books;
 use assess_records::Codes;
-use kept_ids::KeptIds;
 use kept_slots::Slots;
 use std::alloc::{AllocError, Global};
 use std::marker::Model;
-use tree_assess::ElementEntry;
 
 /// What is kept of the elements of a document, each by its number, with the sum of their codes and the table of their IDs.
 ///
@@ -21,8 +20,7 @@ use tree_assess::ElementEntry;
 #[derive(Drop)]
 pub struct KeptRecords {
     slots: Slots<KeptElement>,
-    total: u64,
-    ids: KeptIds,
+    books: Books,
 }
 
 impl Model for KeptRecords {
@@ -30,7 +28,7 @@ impl Model for KeptRecords {
 
     ghost Value = { KeptView };
 
-    ghost view = { λ r. record { slots = r.slots; total = r.total; ids = r.ids } };
+    ghost view = { λ r. record { slots = r.slots; total = r.books.total; ids = r.books.ids } };
 }
 
 impl KeptRecords {
@@ -45,8 +43,7 @@ impl KeptRecords {
     {
         Ok(KeptRecords {
             slots: Slots::new(alloc),
-            total: 0,
-            ids: KeptIds::new(alloc)?,
+            books: Books::new(alloc)?,
         })
     }
 
@@ -67,7 +64,7 @@ impl KeptRecords {
         ensures change { OnOk result (Writes self.old.slots self.new.slots number (Some kept.value)) }
         ensures booked { OnOk result (IsBooked self.old → IsBooked self.new) }
     {
-        self.add(&kept.found)?;
+        self.books.add(&kept.found)?;
         self.slots.reach(number)?;
         self.slots.put(number, kept);
         Ok(())
@@ -81,7 +78,7 @@ impl KeptRecords {
         ensures booked { IsBooked self.new }
     {
         let kept = self.slots.take(number)?;
-        self.drop(&kept.found);
+        self.books.remove(&kept.found);
         Some(kept)
     }
 
@@ -89,7 +86,7 @@ impl KeptRecords {
     pub fn total(&self) -> u64
         ensures { result ≡ self.now.total }
     {
-        self.total
+        self.books.total()
     }
 
     /// The codes of the document's IDs (Structures 3.3.4).
@@ -100,6 +97,6 @@ impl KeptRecords {
     pub fn id_codes(&self, alloc: Global) -> Result<Codes, AllocError>
         ensures { IfOk result (λ codes. (atoms : List BorneAtom) → IsTableOf self.now.ids atoms → codes ≡ id_codes atoms) }
     {
-        self.ids.codes(alloc)
+        self.books.id_codes(alloc)
     }
 }
