@@ -7,3 +7,4 @@ pub mod Sums
 pub mod Kept
 pub mod Booking
 pub mod Lists
+pub mod Frames

@@ -6,13 +6,17 @@ ghost use Rattle.identity_tables.specs.Ids.{BorneAtom, id_codes};
 ghost use Rattle.identity_tables.specs.Table.{IsTableOf};
 ghost use Rattle.kept_slots.specs.Slots.{at, Writes};
 ghost use Rattle.kept_records.specs.Books.{IsBooked};
+ghost use Rattle.kept_records.specs.Slots.{IsKept, IsMade};
+ghost use Rattle.kept_records.specs.declared.element.KeptElement.{KeptElement as KeptData};
 
 use crate::KeptElement;
 use crate::books::Books;
-use assess_records::Codes;
+use assess_records::{ChildCounts, Codes};
 use kept_slots::Slots;
 use std::alloc::{AllocError, Global};
 use std::marker::Model;
+use tree_assess::ElementEntry;
+use xs_names::Text;
 
 /// What is kept of the elements of a document, each by its number, with the sum of their codes and the table of their IDs.
 ///
@@ -98,5 +102,65 @@ impl KeptRecords {
         ensures { IfOk result (λ codes. (atoms : List BorneAtom) → IsTableOf self.now.ids atoms → codes ≡ id_codes atoms) }
     {
         self.books.id_codes(alloc)
+    }
+
+    /// Writes where the child elements of an element get stuck, and how many are of each kind. It takes no memory.
+    pub fn set_counts(&mut self, number: u32, stuck: Option<u32>, counts: ChildCounts)
+        requires { IsMade self.old.slots number }
+        ensures change { (k : KeptData) → IsKept self.old.slots number k → Writes self.old.slots self.new.slots number (Some (record k { stuck = stuck; counts = counts })) }
+        ensures booked { IsBooked self.old → IsBooked self.new }
+    {
+        if let Some(mut kept) = self.slots.take(number) {
+            kept.stuck = stuck;
+            kept.counts = counts;
+            self.replace(number, kept);
+        }
+    }
+
+    /// Writes the characters of an element's texts. It takes no memory.
+    pub fn set_text(&mut self, number: u32, text: Text)
+        requires { IsMade self.old.slots number }
+        ensures change { (k : KeptData) → IsKept self.old.slots number k → Writes self.old.slots self.new.slots number (Some (record k { text = text })) }
+        ensures booked { IsBooked self.old → IsBooked self.new }
+    {
+        if let Some(mut kept) = self.slots.take(number) {
+            kept.text = text;
+            self.replace(number, kept);
+        }
+    }
+
+    /// Writes the codes of an element's identity constraints. It takes no memory.
+    pub fn set_identity(&mut self, number: u32, identity: Codes)
+        requires { IsMade self.old.slots number }
+        ensures change { (k : KeptData) → IsKept self.old.slots number k → Writes self.old.slots self.new.slots number (Some (record k { identity = identity })) }
+        ensures booked { IsBooked self.old → IsBooked self.new }
+    {
+        if let Some(mut kept) = self.slots.take(number) {
+            kept.identity = identity;
+            self.replace(number, kept);
+        }
+    }
+
+    /// Writes what is found out about an element.
+    ///
+    /// # Errors
+    ///
+    /// As those of `put`.
+    pub fn set_found(&mut self, number: u32, found: ElementEntry) -> Result<(), AllocError>
+        requires made { IsMade self.old.slots number }
+        requires booked { IsBooked self.old }
+        ensures change { OnOk result ((k : KeptData) → IsKept self.old.slots number k → Writes self.old.slots self.new.slots number (Some (record k { found = found }))) }
+        ensures booked { OnOk result (IsBooked self.new) }
+    {
+        let Some(mut kept) = self.take(number) else {
+            unreachable!()
+        };
+        kept.found = found;
+        self.put(number, kept)
+    }
+
+    // Keeps a value where one was taken out.
+    fn replace(&mut self, number: u32, kept: Box<KeptElement>) {
+        let _none = self.slots.put(number, kept);
     }
 }

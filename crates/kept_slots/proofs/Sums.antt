@@ -5,9 +5,6 @@ use Rattle.std.proofs.lemmas.List.Sums.{sum_by-cons}
 use Rattle.kept_slots.specs.Slots.{at, Writes, Keeps, weigh, slot_sum}
 
 module _ {T : Type 0} (weight : T → ℕ) where
-  at-none : (n : ℕ) → at {T} [] n ≡ None
-  at-none n = refl
-
   no-weight : (slots : List (Option T)) → ((m : ℕ) → at slots m ≡ None) → slot_sum weight slots ≡ 0
   no-weight [] none = refl
   no-weight (x ∷ xs) none =
