@@ -59,7 +59,7 @@ module _ (t : NameTable) (ns : Nodes) where
     ]
   ]
 
-by-node : (ns : Nodes) (n : ℕ) (o : Option Node) → node ns n ≡ o → is_element_by o ≡ true → (it : Node) × IsNode ns n it
+pub by-node : (ns : Nodes) (n : ℕ) (o : Option Node) → node ns n ≡ o → is_element_by o ≡ true → (it : Node) × IsNode ns n it
 by-node ns n None e is = absurd (false≢true is)
 by-node ns n (Some it) e is = (it, e)
 

@@ -19,7 +19,8 @@ use Rattle.model_terms.specs.Symbols.{child_symbols}
 use Rattle.model_terms.specs.Terms.{stuck_in, term_in}
 use Rattle.model_lists.specs.Lists.{ListsView, IsListOf}
 use Rattle.model_lists.specs.declared.handle.ModelList.{ModelList}
-use Rattle.doc_nodes.specs.Nodes.{Nodes, Lacks, element_children}
+use Rattle.doc_nodes.specs.Nodes.{Nodes, Has, Lacks, element_children}
+use Rattle.doc_changes.specs.Held.{parent_at}
 use Rattle.doc_documents.specs.Readers.{name_at, own_chars, scope_at}
 use Rattle.doc_heads.specs.Heads.{texts_named}
 use Rattle.kept_records.specs.Slots.{KeptSlots, IsMade, kept_at, entry_at, pair_at, record_at}
@@ -99,3 +100,7 @@ module _ (s : SchemaSet) (models : Models) (ns : Nodes) (ks : KeptSlots) (v : Li
   -- all elements of which something is kept fit, but for those that wait
   abbrev pub AllFitBut : List ℕ → Type 0
   AllFitBut waiting = (n : ℕ) → IsMade ks n → Lacks n waiting → IsFit n
+
+-- the parent of an element waits
+abbrev pub AboveIn : Nodes → ℕ → List ℕ → Type 0
+AboveIn ns n waiting = (p : ℕ) → parent_at ns n ≡ Some p → Has p waiting
