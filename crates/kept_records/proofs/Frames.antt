@@ -31,16 +31,14 @@ map-same : {X : Type 0} (f g : ℕ → X) (xs : List ℕ) → ((i c : ℕ) → s
 map-same f g [] same = refl
 map-same f g (x ∷ xs) same = ap (λ y. y ∷ map f xs) (same 0 x refl) ∙ ap (λ ys. g x ∷ ys) (map-same f g xs (λ i c e. same (suc i) c e))
 
--- what an element sees of a child element: that something is kept of it, who bears the IDs of its text, and what governs it
+-- what an element sees of a child element: that something is kept of it, and what governs it
 pub record SeesChild (ks new : KeptSlots) (c : ℕ) : Type 0 where
   pub made : IsMade ks c → IsMade new c
-  pub bearer_stays : (kept_at new c).found.bearer ≡ (kept_at ks c).found.bearer
   pub pair_stays : pair_at new c ≡ pair_at ks c
 
 pub sees-same : (ks new : KeptSlots) (c : ℕ) → at new c ≡ at ks c → SeesChild ks new c
 sees-same ks new c e = record {
   made = λ m. (m.0, e ∙ m.1);
-  bearer_stays = ap (λ o. (unwrap_or o blank).found.bearer) e;
   pair_stays = ap (λ o. (unwrap_or o blank).found.governing) e;
 }
 
@@ -62,13 +60,13 @@ module _ (s : SchemaSet) (models : Models) (ns : Nodes) (ks new : KeptSlots) (v 
       let seen = below place child e in
       record {
         made = seen.made g.made;
-        bearer_is = seen.bearer_stays ∙ g.bearer_is;
         pair_is = seen.pair_stays ∙ g.pair_is ∙ ap (λ (k : KeptElement). pair-by k.found.governing place child) (sym kept-same);
       }
 
   pub gathered-same : IsGathered s models ns ks v n → IsGathered s models ns new v n
   gathered-same g = record {
     number_is = ap (λ (k : KeptElement). k.found.number) kept-same ∙ g.number_is;
+    bearer_is = ap (λ (k : KeptElement). k.found.bearer) kept-same ∙ g.bearer_is;
     text_is = ap (λ (k : KeptElement). k.text) kept-same ∙ g.text_is;
     given = λ place child e. given-same place child e (g.given place child e);
     list_is = subst (λ (k : KeptElement). IsListed v (models k.found.governing.of) k.list (child_symbols s.names (models k.found.governing.of) names)) (sym kept-same) g.list_is;
@@ -129,6 +127,7 @@ pub fit-lists : (s : SchemaSet) (models : Models) (ns : Nodes) (ks : KeptSlots) 
 fit-lists s models ns ks v w ids but keeps n not_it f = record {
   gathered = record {
     number_is = f.gathered.number_is;
+    bearer_is = f.gathered.bearer_is;
     text_is = f.gathered.text_is;
     given = f.gathered.given;
     list_is = listed-kept v w but keeps (model_at s models ns ks n) (kept_at ks n).list (symbols_at s models ns ks n) not_it f.gathered.list_is;

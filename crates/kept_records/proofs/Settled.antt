@@ -2,7 +2,6 @@
 use Rattle.std.proofs.Common.{◌≡◌, ℕ, zero, suc, ◌+◌, List, [], ◌∷◌, ◌++◌, length, map, Option, None, Some, All, refl, sym, ap, ◌∙◌, subst, arith}
 use Rattle.std.specs.Prelude.{slice_get}
 use Rattle.std.specs.List.{range_with_len}
-use Rattle.std.specs.Option.{option_and_then}
 use Rattle.std.proofs.lemmas.List.{length-map}
 use Rattle.std.proofs.lemmas.List.Elements.{All-nil, All-cons, All-head, All-tail}
 use Rattle.xs_names.specs.Names.{NameTable}
@@ -28,8 +27,7 @@ use Rattle.model_terms.specs.Symbols.{child_symbols}
 use Rattle.model_terms.specs.Terms.{stuck_in, term_in, terms_in}
 use Rattle.model_terms.proofs.Runs.{runs-are}
 use Rattle.model_lists.specs.Lists.{ListsView}
-use Rattle.doc_nodes.specs.Nodes.{Node, Nodes, node, element_children}
-use Rattle.doc_changes.specs.Held.{parent_at}
+use Rattle.doc_nodes.specs.Nodes.{Nodes, element_children}
 use Rattle.doc_documents.specs.Readers.{name_at, own_chars, own_scope, scope_at}
 use Rattle.doc_documents.proofs.Reading.{scope_below, scope_root, depth_below}
 use Rattle.doc_heads.specs.Heads.{readers_of, texts_named}
@@ -38,8 +36,8 @@ use Rattle.kept_records.specs.Slots.{KeptSlots, IsMade, kept_at, entry_at, pair_
 use Rattle.kept_records.specs.Fit.{models_of, head_at, model_at, symbols_at, shape_at}
 use Rattle.kept_records.specs.Found.{AreSettled, SaysKept, read_as, found_in}
 use Rattle.kept_records.proofs.Modelled.{type-fits}
-use Rattle.kept_records.proofs.Nodes.{all-of, shown, there, child-parent, root-numbers, root-there}
-use Rattle.kept_records.proofs.Made.{fit-at, given-at, read, made-elements, elements-made, children-elements}
+use Rattle.kept_records.proofs.Nodes.{all-of, shown, child-parent, root-numbers, root-there}
+use Rattle.kept_records.proofs.Made.{fit-at, given-at, read, made-elements, elements-made, children-elements, node-there, root-parent}
 
 symbols-each : (t : NameTable) (m : Option ContentAutomaton) (names : List ℕ) → length (child_symbols t m names) ≡ length names
 symbols-each t None names = length-map names _
@@ -100,7 +98,7 @@ module _ (c : Compiled) (ns : Nodes) (ks : KeptSlots) (v : ListsView) (ids : Lis
 
     child-scope : (i x : ℕ) → slice_get children i ≡ Some x → IsScoped s b r k (scope_at ns n) x
     child-scope i x e =
-        let own = there c.names ns d.forest a.over.stands.nodes n (elements-made c ns ks v ids d a n made) in
+        let own = node-there c ns ks v ids d a n made in
         let up = child-parent ns a.over.stands.links n own.0 own.1 i x e in
         scope_below ns n x up (depth_below ns n x a.over.stands.links up) ∙ sym (scope_shown c.names ns d a.over.stands x (scope_at ns n))
 
@@ -158,10 +156,7 @@ module _ (c : Compiled) (ns : Nodes) (ks : KeptSlots) (v : ListsView) (ids : Lis
           ∷ heads c.names first_scope (h.1 i)
 
   root-scope : scope_at ns 1 ≡ scope_in c.names (r.bindings 1) first_scope
-  root-scope =
-      let own = there c.names ns d.forest a.over.stands.nodes 1 (root-there d.forest a.over.stands.tree.root) in
-      let up : parent_at ns 1 ≡ None = ap (option_and_then (λ (x : Node). x.parent)) own.1 ∙ (a.over.stands.root own.0 own.1).0 in
-      scope_root ns 1 up ∙ sym (scope_shown c.names ns d a.over.stands 1 first_scope)
+  root-scope = scope_root ns 1 (root-parent c ns ks v ids d a) ∙ sym (scope_shown c.names ns d a.over.stands 1 first_scope)
 
   root-heads : heads c.names first_scope d.forest ≡ head_at s ns 1 ∷ []
   root-heads =
