@@ -8,3 +8,4 @@ pub mod Kept
 pub mod Booking
 pub mod Lists
 pub mod Frames
+pub mod Said
