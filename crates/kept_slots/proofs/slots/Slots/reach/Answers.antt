@@ -1,4 +1,4 @@
-use Rattle.std.proofs.Common.{rules, ◌≡◌, ℕ, None, get_or, ap, ◌∙◌}
+use Rattle.std.proofs.Common.{None, get_or, ap, ◌∙◌}
 use Rattle.kept_slots.proofs.Reading.{seen-same}
 use Rattle.kept_slots.proofs.slots.Slots.reach.Goals as goal
 
