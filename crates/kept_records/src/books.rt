@@ -40,7 +40,8 @@ impl Books {
     {
         self.total = sum_of(self.total, found)?;
         self.ids.add_value(found.bearer, &found.value)?;
-        self.ids.add_values(found.number, found.attr_values.as_slice())
+        self.ids.add_values(found.number, found.attr_values.as_slice())?;
+        Ok(())
     }
 
     /// Takes an element out that was counted in.
