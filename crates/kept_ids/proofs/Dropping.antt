@@ -30,9 +30,9 @@ counted-first table a atoms t = record {
 pub table-without : (old new : IdEntries) (a : BorneAtom) (atoms : List BorneAtom) → IsTableOf old (a ∷ atoms) → IsGrown new old (ids_in a) (references_in a) → IsTableOf new atoms
 table-without old new a atoms t grown = record {
   ids_are = λ id bearer.
-    let e = t.ids_are id bearer in let s = sum_by-append (λ x. cond (is_borne id bearer x) 1 0) (ids_in a) (ids atoms) in let g = grown.ids_grown id bearer in omega (arith, e, s, g);
+      let e = t.ids_are id bearer in let s = sum_by-append (λ x. cond (is_borne id bearer x) 1 0) (ids_in a) (ids atoms) in let g = grown.ids_grown id bearer in omega (arith, e, s, g);
   references_are = λ id.
-    let e = t.references_are id in let s = sum_by-append (λ x. cond (is_reference id x) 1 0) (references_in a) (references atoms) in let g = grown.references_grown id in omega (arith, e, s, g);
+      let e = t.references_are id in let s = sum_by-append (λ x. cond (is_reference id x) 1 0) (references_in a) (references atoms) in let g = grown.references_grown id in omega (arith, e, s, g);
 }
 
 -- where an atom is no string, it is neither an ID nor a reference

@@ -92,9 +92,9 @@ booked-same r after keeps total ids-same booked = record {
   total_is = total ∙ booked.total_is ∙ sym (kept-sum codes_in r.slots after.slots keeps);
   ids_are = subst (λ (table : IdEntries). IsTableOf table (all_atoms after.slots)) (sym ids-same) (record {
     ids_are = λ id bearer.
-      booked.ids_are.ids_are id bearer ∙ same-weight r.slots after.slots keeps (λ atoms. sum_by (λ x. cond (is_borne id bearer x) 1 0) (ids atoms)) refl (count-ids id bearer);
+        booked.ids_are.ids_are id bearer ∙ same-weight r.slots after.slots keeps (λ atoms. sum_by (λ x. cond (is_borne id bearer x) 1 0) (ids atoms)) refl (count-ids id bearer);
     references_are = λ id.
-      booked.ids_are.references_are id ∙ same-weight r.slots after.slots keeps (λ atoms. sum_by (λ x. cond (is_reference id x) 1 0) (references atoms)) refl (count-references id);
+        booked.ids_are.references_are id ∙ same-weight r.slots after.slots keeps (λ atoms. sum_by (λ x. cond (is_reference id x) 1 0) (references atoms)) refl (count-references id);
   });
 }
 
@@ -103,16 +103,16 @@ pub booked-rewritten : (r after : KeptView) (n : ℕ) (k j : KeptElement) → at
     IsBooked r → IsBooked after
 booked-rewritten r after n k j was writes found total ids-same booked = record {
   total_is =
-    let moved = written-sum codes_in n r.slots after.slots (Some j) writes in
-    let before : weigh codes_in (at r.slots n) ≡ codes_in k = ap (weigh codes_in) was in
-    let same : codes_in j ≡ codes_in k = ap (λ (e : ElementEntry). entry_total (entry_of e)) found in
-    let own = booked.total_is in
-    omega (arith, moved, before, same, own, total);
+      let moved = written-sum codes_in n r.slots after.slots (Some j) writes in
+      let before : weigh codes_in (at r.slots n) ≡ codes_in k = ap (weigh codes_in) was in
+      let same : codes_in j ≡ codes_in k = ap (λ (e : ElementEntry). entry_total (entry_of e)) found in
+      let own = booked.total_is in
+      omega (arith, moved, before, same, own, total);
   ids_are = subst (λ (table : IdEntries). IsTableOf table (all_atoms after.slots)) (sym ids-same) (record {
     ids_are = λ id bearer.
-      booked.ids_are.ids_are id bearer ∙ weighs (λ atoms. sum_by (λ x. cond (is_borne id bearer x) 1 0) (ids atoms)) refl (count-ids id bearer);
+        booked.ids_are.ids_are id bearer ∙ weighs (λ atoms. sum_by (λ x. cond (is_borne id bearer x) 1 0) (ids atoms)) refl (count-ids id bearer);
     references_are = λ id.
-      booked.ids_are.references_are id ∙ weighs (λ atoms. sum_by (λ x. cond (is_reference id x) 1 0) (references atoms)) refl (count-references id);
+        booked.ids_are.references_are id ∙ weighs (λ atoms. sum_by (λ x. cond (is_reference id x) 1 0) (references atoms)) refl (count-references id);
   });
 }
   where

@@ -102,7 +102,7 @@ module _ (s : SchemaSet) (models : Models) (ns : Nodes) (ks new : KeptSlots) (v 
       let was : IsMade ks m = (made.0, sym (writes.others m other) ∙ made.1) in
       let own = by-node ns m (node ns m) refl (only m was) in
       let child-other : (i c : ℕ) → slice_get (element_children ns m) i ≡ Some c → c ≢ n = λ i c e q.
-          has-lacks m waiting (above m (subst (λ y. parent_at ns y ≡ Some m) q (child-parent ns sound m own.0 own.1 i c e))) lacks in
+      has-lacks m waiting (above m (subst (λ y. parent_at ns y ≡ Some m) q (child-parent ns sound m own.0 own.1 i c e))) lacks in
       fit-apart s models ns ks new v ids m (writes.others m other) (λ i c e. writes.others c (child-other i c e)) (all m was ((λ e. other (sym e)), lacks))
 
   -- so all do where it fits itself

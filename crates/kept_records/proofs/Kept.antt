@@ -60,9 +60,9 @@ pub ids-are : (c : Compiled) (ns : Nodes) (r : KeptView) (v : ListsView) (codes 
     IsTableOf r.ids (borne_values (found_in ns r.slots d.forest))
 ids-are c ns r v codes d a booked = record {
   ids_are = λ id bearer.
-    booked.ids_are.ids_are id bearer
-    ∙ atoms-weigh c ns r.slots v codes d a (λ atoms. sum_by (λ x. cond (is_borne id bearer x) 1 0) (ids atoms)) refl (count-ids id bearer);
+      booked.ids_are.ids_are id bearer
+      ∙ atoms-weigh c ns r.slots v codes d a (λ atoms. sum_by (λ x. cond (is_borne id bearer x) 1 0) (ids atoms)) refl (count-ids id bearer);
   references_are = λ id.
-    booked.ids_are.references_are id
-    ∙ atoms-weigh c ns r.slots v codes d a (λ atoms. sum_by (λ x. cond (is_reference id x) 1 0) (references atoms)) refl (count-references id);
+      booked.ids_are.references_are id
+      ∙ atoms-weigh c ns r.slots v codes d a (λ atoms. sum_by (λ x. cond (is_reference id x) 1 0) (references atoms)) refl (count-references id);
 }

@@ -35,8 +35,8 @@ module _ (c : Compiled) (ns : Nodes) (ks : KeptSlots) (v : ListsView) (codes : L
   says-kept = record {
     identity = λ n made. sym (says.identity n made);
     ids = λ n made.
-      ap (λ (b : Bool). if b then id_codes (borne_values (found_in ns ks d.forest)) else []) (root-test d.forest a.over.stands.tree.root n)
-      ∙ ap (λ (own : List Found). if n == 1 then own else []) (sym says.ids);
+        ap (λ (b : Bool). if b then id_codes (borne_values (found_in ns ks d.forest)) else []) (root-test d.forest a.over.stands.tree.root n)
+        ∙ ap (λ (own : List Found). if n == 1 then own else []) (sym says.ids);
   }
 
   pub is-found : IsFound (set_of c) d (entries (found_in ns ks d.forest))

@@ -119,7 +119,7 @@ module _ (c : Compiled) (ns : Nodes) (ks : KeptSlots) (v : ListsView) (ids : Lis
     pairs-are =
         let each : length children ≡ length symbols = sym (symbols-each c.names model (map (name_at ns) children) ∙ length-map children (name_at ns)) in
         governed-from s ks (pair_at ks n) model symbols (head_at s ns) children 0
-            (λ i x e. let same : i ≡ 0 + i = omega arith in (given-at c ns ks v ids d a n made i x e).pair_is ∙ ap (λ j. pair-by s ks (pair_at ks n) model symbols (head_at s ns) j x) same)
+        (λ i x e. let same : i ≡ 0 + i = omega arith in (given-at c ns ks v ids d a n made i x e).pair_is ∙ ap (λ j. pair-by s ks (pair_at ks n) model symbols (head_at s ns) j x) same)
         ∙ ap (λ size. governed s (pair_at ks n) (map (term_in model symbols) (range_with_len 0 size)) (map (head_at s ns) children)) each
         ∙ ap (governed s (pair_at ks n) (terms_in model symbols)) (sym child-heads)
 
@@ -153,7 +153,7 @@ module _ (c : Compiled) (ns : Nodes) (ks : KeptSlots) (v : ListsView) (ids : Lis
       let own_attributes = sym is.0.attributes_are ∙ ap r.attributes h.0 in
       let own_bindings = sym is.0.bindings_are ∙ ap r.bindings h.0 in
       λ i. record { name = name_in c.names (own_name i); xsi = instance_text c.names (named_texts c.names (own_attributes i)) TypeName; scope = scope_in c.names (own_bindings i) first_scope }
-          ∷ heads c.names first_scope (h.1 i)
+      ∷ heads c.names first_scope (h.1 i)
 
   root-scope : scope_at ns 1 ≡ scope_in c.names (r.bindings 1) first_scope
   root-scope = scope_root ns 1 (root-parent c ns ks v ids d a) ∙ sym (scope_shown c.names ns d a.over.stands 1 first_scope)
