@@ -9,3 +9,4 @@ pub mod Booking
 pub mod Lists
 pub mod Frames
 pub mod Said
+pub mod Counting
