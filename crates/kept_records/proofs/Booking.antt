@@ -1,7 +1,9 @@
 -- Sums over what is kept, before and after one element is written.
-use Rattle.std.proofs.Common.{◌≡◌, ℕ, ◌+◌, ◌≤◌, List, [], ◌∷◌, ◌++◌, Option, None, Some, cond, refl, sym, ap, ◌∙◌, subst, inl, inr, arith}
+use Rattle.std.proofs.Common.{◌≡◌, ℕ, ◌+◌, ◌<◌, List, [], ◌∷◌, ◌++◌, length, Option, None, Some, cond, refl, sym, ap, ◌∙◌, subst, inl, inr, arith}
 use Rattle.std.specs.Prelude.{sum_by}
-use Rattle.std.proofs.lemmas.Bool.{cases_eq}
+use Rattle.std.proofs.Math.ListN.{get_or-eq_default}
+use Rattle.std.proofs.lemmas.Bool.{cases_eq, cases_lt}
+use Rattle.std.proofs.lemmas.Option.{none-some}
 use Rattle.identity_tables.specs.Entries.{IdEntries}
 use Rattle.identity_tables.specs.Ids.{BorneAtom, ids, references}
 use Rattle.identity_tables.specs.Table.{is_borne, is_reference, IsTableOf}
@@ -124,3 +126,14 @@ booked-rewritten r after n k j was writes found total ids-same booked = record {
         let a = all-atoms w nil plus r.slots in
         let b = all-atoms w nil plus after.slots in
         omega (arith, moved, before, same, a, b)
+
+-- a number under which something is kept has a place
+pub within : (ks : KeptSlots) (n : ℕ) (k : KeptElement) → at ks n ≡ Some k → n < length ks
+within ks n k e = elim (cases_lt n (length ks)) [
+  | inl l ↦ l
+  | inr past ↦ absurd (none-some k (sym (get_or-eq_default ks None past) ∙ e))
+]
+
+-- one element is written twice
+pub writes-again : (old mid new : KeptSlots) (n : ℕ) (x y : Option KeptElement) → Writes old mid n x → Writes mid new n y → Writes old new n y
+writes-again old mid new n x y first second = record { here = second.here; others = λ m other. second.others m other ∙ first.others m other }

@@ -1,6 +1,6 @@
 //! What is kept of all elements, by their numbers.
 
-ghost use Rattle.std.specs.Prelude.{◌≡◌, List, [], None, Some, IfOk, OnOk};
+ghost use Rattle.std.specs.Prelude.{◌≡◌, ◌<◌, List, [], None, Some, length, IfOk, OnOk};
 ghost use Rattle.std.specs.Option.{option_copied, option_map};
 ghost use Rattle.identity_tables.specs.Ids.{BorneAtom, id_codes};
 ghost use Rattle.identity_tables.specs.Table.{IsTableOf};
@@ -160,7 +160,12 @@ impl KeptRecords {
     }
 
     // Keeps a value where one was taken out.
-    fn replace(&mut self, number: u32, kept: Box<KeptElement>) {
+    fn replace(&mut self, number: u32, kept: Box<KeptElement>)
+        requires { number < length self.old.slots }
+        ensures change { Writes self.old.slots self.new.slots number (Some kept.value) }
+        ensures total { self.new.total ≡ self.old.total }
+        ensures ids { self.new.ids ≡ self.old.ids }
+    {
         let _none = self.slots.put(number, kept);
     }
 }
