@@ -74,13 +74,14 @@ module _ (k : ℕ → Kept) where
   one-found (text number chars next) are n h = one-found next are n h
   one-found (element number name bindings attributes children next) are n h = elim (cases_eq number n) [
     | inl own ↦ here n number (found-of children ++ found-of next) (are number (inl refl)) own
-    | inr other ↦ here-not n number (found-of children ++ found-of next) (are number (inl refl)) other ∙ elim (decided n children) [
-      | inl below ↦ among n (found-of children) (found-of next) (k n).found (one-found children (λ m g. are m (inr (inl g))) n below)
-      | inr not_below ↦ past n (found-of children) (found-of next) (none-found children (λ m g. are m (inr (inl g))) n not_below) ∙ later other not_below h
-    ]
+    | inr other ↦ here-not n number (found-of children ++ found-of next) (are number (inl refl)) other ∙ beyond other (decided n children)
   ]
     where
       later : (number ≡ n → ⊥) → (HasElement n children → ⊥) → HasElement n (element number name bindings attributes children next) → entry_at n (found-of next) ≡ Some (k n).found
       later other not_below (inl e) = absurd (other e)
       later other not_below (inr (inl b)) = absurd (not_below b)
       later other not_below (inr (inr l)) = one-found next (λ m g. are m (inr (inr g))) n l
+
+      beyond : (number ≡ n → ⊥) → HasElement n children ⊎ (HasElement n children → ⊥) → entry_at n (found-of children ++ found-of next) ≡ Some (k n).found
+      beyond other (inl below) = among n (found-of children) (found-of next) (k n).found (one-found children (λ m g. are m (inr (inl g))) n below)
+      beyond other (inr not_below) = past n (found-of children) (found-of next) (none-found children (λ m g. are m (inr (inl g))) n not_below) ∙ later other not_below h

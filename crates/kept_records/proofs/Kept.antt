@@ -37,7 +37,7 @@ module _ (c : Compiled) (ns : Nodes) (ks : KeptSlots) (v : ListsView) (codes : L
 
       by : (o : Option KeptElement) → at ks n ≡ o → asking.entry_at n (entries (found_in ns ks d.forest)) ≡ option_map (λ (k : KeptElement). entry_of k.found) (at ks n)
       by None e =
-          none-found (read_as ns ks) d.forest each n (λ h. let made = made-elements c ns ks v codes d a n h in absurd (none-some made.0 (sym e ∙ made.1)))
+          none-found (read_as ns ks) d.forest each n (λ h. let made = made-elements c ns ks v codes d a n h in none-some made.0 (sym e ∙ made.1))
           ∙ sym (ap (option_map (λ (k : KeptElement). entry_of k.found)) e)
       by (Some k) e =
           one-found (read_as ns ks) d.forest each n (elements-made c ns ks v codes d a n (k, e))
