@@ -87,8 +87,8 @@ module _ (c : Compiled) (ns : Nodes) (ks : KeptSlots) (v : ListsView) (ids : Lis
       ap (λ l. l ∷ map local-head xs) (head-is x (All-head P x xs h)) ∙ ap (λ l. head_at s ns x ∷ l) (heads-are xs (All-tail P x xs h))
 
   module _ (n : ℕ) (made : IsMade ks n) where
-    abbrev children : List ℕ
-    children = element_children ns n
+    abbrev inner : List ℕ
+    inner = element_children ns n
 
     abbrev model : Option ContentAutomaton
     model = model_at s (models_of c) ns ks n
@@ -96,31 +96,31 @@ module _ (c : Compiled) (ns : Nodes) (ks : KeptSlots) (v : ListsView) (ids : Lis
     abbrev symbols : List ℕ
     symbols = symbols_at s (models_of c) ns ks n
 
-    child-scope : (i x : ℕ) → slice_get children i ≡ Some x → IsScoped s b r k (scope_at ns n) x
+    child-scope : (i x : ℕ) → slice_get inner i ≡ Some x → IsScoped s b r k (scope_at ns n) x
     child-scope i x e =
         let own = node-there c ns ks v ids d a n made in
         let up = child-parent ns a.over.stands.links n own.0 own.1 i x e in
         scope_below ns n x up (depth_below ns n x a.over.stands.links up) ∙ sym (scope_shown c.names ns d a.over.stands x (scope_at ns n))
 
-    child-heads : map local-head children ≡ map (head_at s ns) children
-    child-heads = heads-are children (children-elements c ns ks v ids d a n made)
+    child-heads : map local-head inner ≡ map (head_at s ns) inner
+    child-heads = heads-are inner (children-elements c ns ks v ids d a n made)
 
-    child-names : names_of (map local-head children) ≡ map (name_at ns) children
-    child-names = ap names_of child-heads ∙ names-of-heads s ns children
+    child-names : names_of (map local-head inner) ≡ map (name_at ns) inner
+    child-names = ap names_of child-heads ∙ names-of-heads s ns inner
 
-    terms-are : AreTerms s (content_particle s.parts (pair_at ks n).of) (names_of (map local-head children)) (kept_at ks n).stuck (terms_in model symbols)
+    terms-are : AreTerms s (content_particle s.parts (pair_at ks n).of) (names_of (map local-head inner)) (kept_at ks n).stuck (terms_in model symbols)
     terms-are =
-        let run = runs-are s (content_particle s.parts (pair_at ks n).of) model (map (name_at ns) children) (type-fits c a.over.usable.first a.over.usable.models_are (pair_at ks n).of) in
-        let placed = subst (λ (stuck : Option ℕ). AreTerms s (content_particle s.parts (pair_at ks n).of) (map (name_at ns) children) stuck (terms_in model symbols))
+        let run = runs-are s (content_particle s.parts (pair_at ks n).of) model (map (name_at ns) inner) (type-fits c a.over.usable.first a.over.usable.models_are (pair_at ks n).of) in
+        let placed = subst (λ (stuck : Option ℕ). AreTerms s (content_particle s.parts (pair_at ks n).of) (map (name_at ns) inner) stuck (terms_in model symbols))
         (sym (fit-at c ns ks v ids d a n made).gathered.stuck_is) run in
         subst (λ (names : List ℕ). AreTerms s (content_particle s.parts (pair_at ks n).of) names (kept_at ks n).stuck (terms_in model symbols)) (sym child-names) placed
 
-    pairs-are : map (pair_at ks) children ≡ governed s (pair_at ks n) (terms_in model symbols) (map local-head children)
+    pairs-are : map (pair_at ks) inner ≡ governed s (pair_at ks n) (terms_in model symbols) (map local-head inner)
     pairs-are =
-        let each : length children ≡ length symbols = sym (symbols-each c.names model (map (name_at ns) children) ∙ length-map children (name_at ns)) in
-        governed-from s ks (pair_at ks n) model symbols (head_at s ns) children 0
+        let each : length inner ≡ length symbols = sym (symbols-each c.names model (map (name_at ns) inner) ∙ length-map inner (name_at ns)) in
+        governed-from s ks (pair_at ks n) model symbols (head_at s ns) inner 0
         (λ i x e. let same : i ≡ 0 + i = omega arith in (given-at c ns ks v ids d a n made i x e).pair_is ∙ ap (λ j. pair-by s ks (pair_at ks n) model symbols (head_at s ns) j x) same)
-        ∙ ap (λ size. governed s (pair_at ks n) (map (term_in model symbols) (range_with_len 0 size)) (map (head_at s ns) children)) each
+        ∙ ap (λ size. governed s (pair_at ks n) (map (term_in model symbols) (range_with_len 0 size)) (map (head_at s ns) inner)) each
         ∙ ap (governed s (pair_at ks n) (terms_in model symbols)) (sym child-heads)
 
     shape-is : local.shape_at s b r k n ≡ shape_at s ns ks ids n
@@ -134,7 +134,7 @@ module _ (c : Compiled) (ns : Nodes) (ks : KeptSlots) (v : ListsView) (ids : Lis
     pub settled-at : IsSettled s b r k n
     settled-at = record {
       number_is = (fit-at c ns ks v ids d a n made).gathered.number_is;
-      scopes = all-of (IsScoped s b r k (scope_at ns n)) children child-scope;
+      scopes = all-of (IsScoped s b r k (scope_at ns n)) inner child-scope;
       terms = terms_in model symbols;
       attributed = terms-are;
       pairs = pairs-are;

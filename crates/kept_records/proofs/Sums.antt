@@ -27,7 +27,7 @@ use Rattle.kept_records.specs.Books.{codes_in, atoms_of, all_atoms}
 use Rattle.kept_records.specs.Found.{read_as, found_in}
 use Rattle.kept_records.proofs.Entries.{to-sums}
 
-kept-is : (ks : KeptSlots) (n : ℕ) (k : KeptElement) → at ks n ≡ Some k → kept_at ks n ≡ k
+pub kept-is : (ks : KeptSlots) (n : ℕ) (k : KeptElement) → at ks n ≡ Some k → kept_at ks n ≡ k
 kept-is ks n k e = ap (λ o. unwrap_or o blank) e
 
 -- what is not made weighs nothing
