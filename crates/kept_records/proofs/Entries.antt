@@ -27,25 +27,27 @@ from-sums n (element number name bindings attributes children next) (inr (inl be
 from-sums n (element number name bindings attributes children next) (inr (inr later)) = inr (inr (from-sums n next later))
 
 decided : (n : ℕ) (f : Forest) → HasElement n f ⊎ (HasElement n f → ⊥)
-decided n f = elim (has-or-not n f) [ inl h ↦ inl (from-sums n f h) | inr no ↦ inr (λ h. no (to-sums n f h)) ]
+decided n f = elim (has-or-not n f) [ inl h ↦ inl (from-sums n f h) | inr lacks ↦ inr (λ h. lacks (to-sums n f h)) ]
 
 -- ---- the entry of a number among entries
 
+past-by : (n : ℕ) (x : Entry) (xs ys : List Entry) (b : Bool) → (entry_at n xs ≡ None → entry_at n (xs ++ ys) ≡ entry_at n ys) → (if b then Some x else entry_at n xs) ≡ None →
+    (if b then Some x else entry_at n (xs ++ ys)) ≡ entry_at n ys
+past-by n x xs ys true on h = absurd (none-some x (sym h))
+past-by n x xs ys false on h = on h
+
 past : (n : ℕ) (xs ys : List Entry) → entry_at n xs ≡ None → entry_at n (xs ++ ys) ≡ entry_at n ys
 past n [] ys h = refl
-past n (x ∷ xs) ys h = by (x.number == n) h
-  where
-    by : (b : Bool) → (if b then Some x else entry_at n xs) ≡ None → (if b then Some x else entry_at n (xs ++ ys)) ≡ entry_at n ys
-    by true h = absurd (none-some x (sym h))
-    by false h = past n xs ys h
+past n (x ∷ xs) ys h = past-by n x xs ys (x.number == n) (past n xs ys) h
+
+among-by : (n : ℕ) (x : Entry) (xs ys : List Entry) (e : Entry) (b : Bool) → (entry_at n xs ≡ Some e → entry_at n (xs ++ ys) ≡ Some e) → (if b then Some x else entry_at n xs) ≡ Some e →
+    (if b then Some x else entry_at n (xs ++ ys)) ≡ Some e
+among-by n x xs ys e true on h = h
+among-by n x xs ys e false on h = on h
 
 among : (n : ℕ) (xs ys : List Entry) (e : Entry) → entry_at n xs ≡ Some e → entry_at n (xs ++ ys) ≡ Some e
 among n [] ys e h = absurd (none-some e h)
-among n (x ∷ xs) ys e h = by (x.number == n) h
-  where
-    by : (b : Bool) → (if b then Some x else entry_at n xs) ≡ Some e → (if b then Some x else entry_at n (xs ++ ys)) ≡ Some e
-    by true h = h
-    by false h = among n xs ys e h
+among n (x ∷ xs) ys e h = among-by n x xs ys e (x.number == n) (among n xs ys e) h
 
 module _ (k : ℕ → Kept) where
   abbrev AreNumbered : Forest → Type 0
@@ -69,18 +71,23 @@ module _ (k : ℕ → Kept) where
       ∙ past n (found-of children) (found-of next) (none-found children (λ m h. are m (inr (inl h))) n (λ h. lacks (inr (inl h))))
       ∙ none-found next (λ m h. are m (inr (inr h))) n (λ h. lacks (inr (inr h)))
 
+  beyond : (number n : ℕ) (children next : Forest) → AreNumbered children → (number ≡ n → ⊥) → (HasElement n children → entry_at n (found-of children) ≡ Some (k n).found) →
+      (HasElement n next → entry_at n (found-of next) ≡ Some (k n).found) → (number ≡ n) ⊎ (HasElement n children ⊎ HasElement n next) → HasElement n children ⊎ (HasElement n children → ⊥) →
+      entry_at n (found-of children ++ found-of next) ≡ Some (k n).found
+  beyond number n children next are other below later h (inl has) = among n (found-of children) (found-of next) (k n).found (below has)
+  beyond number n children next are other below later (inl e) (inr lacks) = absurd (other e)
+  beyond number n children next are other below later (inr (inl b)) (inr lacks) = absurd (lacks b)
+  beyond number n children next are other below later (inr (inr l)) (inr lacks) = past n (found-of children) (found-of next) (none-found children are n lacks) ∙ later l
+
   pub one-found : (f : Forest) → AreNumbered f → (n : ℕ) → HasElement n f → entry_at n (found-of f) ≡ Some (k n).found
   one-found none are n h = absurd h
   one-found (text number chars next) are n h = one-found next are n h
-  one-found (element number name bindings attributes children next) are n h = elim (cases_eq number n) [
-    | inl own ↦ here n number (found-of children ++ found-of next) (are number (inl refl)) own
-    | inr other ↦ here-not n number (found-of children ++ found-of next) (are number (inl refl)) other ∙ elim (decided n children) [
-      | inl below ↦ among n (found-of children) (found-of next) (k n).found (one-found children (λ m g. are m (inr (inl g))) n below)
-      | inr not_below ↦ past n (found-of children) (found-of next) (none-found children (λ m g. are m (inr (inl g))) n not_below) ∙ later other not_below h
-    ]
-  ]
-    where
-      later : (number ≡ n → ⊥) → (HasElement n children → ⊥) → HasElement n (element number name bindings attributes children next) → entry_at n (found-of next) ≡ Some (k n).found
-      later other not_below (inl e) = absurd (other e)
-      later other not_below (inr (inl b)) = absurd (not_below b)
-      later other not_below (inr (inr l)) = one-found next (λ m g. are m (inr (inr g))) n l
+  one-found (element number name bindings attributes children next) are n h =
+      let below : HasElement n children → entry_at n (found-of children) ≡ Some (k n).found = one-found children (λ m g. are m (inr (inl g))) n in
+      let later : HasElement n next → entry_at n (found-of next) ≡ Some (k n).found = one-found next (λ m g. are m (inr (inr g))) n in
+      elim (cases_eq number n) [
+        | inl own ↦ here n number (found-of children ++ found-of next) (are number (inl refl)) own
+        | inr other ↦
+            here-not n number (found-of children ++ found-of next) (are number (inl refl)) other
+            ∙ beyond number n children next (λ m g. are m (inr (inl g))) other below later h (decided n children)
+      ]

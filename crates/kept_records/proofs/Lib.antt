@@ -5,3 +5,8 @@ pub mod Settled
 pub mod Entries
 pub mod Sums
 pub mod Kept
+pub mod Booking
+pub mod Lists
+pub mod Frames
+pub mod Said
+pub mod Counting

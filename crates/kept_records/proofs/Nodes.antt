@@ -59,7 +59,7 @@ module _ (t : NameTable) (ns : Nodes) where
     ]
   ]
 
-by-node : (ns : Nodes) (n : ℕ) (o : Option Node) → node ns n ≡ o → is_element_by o ≡ true → (it : Node) × IsNode ns n it
+pub by-node : (ns : Nodes) (n : ℕ) (o : Option Node) → node ns n ≡ o → is_element_by o ≡ true → (it : Node) × IsNode ns n it
 by-node ns n None e is = absurd (false≢true is)
 by-node ns n (Some it) e is = (it, e)
 
@@ -79,14 +79,15 @@ root-there (element number name bindings attributes children next) h = inl h.0
 
 -- ---- child elements
 
+filtered-by : (p : ℕ → Bool) (x c : ℕ) (xs : List ℕ) (b : Bool) (i : ℕ) → ((j : ℕ) → slice_get (filter p xs) j ≡ Some c → Has c xs) →
+    slice_get (cond b (x ∷ filter p xs) (filter p xs)) i ≡ Some c → Has c (x ∷ xs)
+filtered-by p x c xs true zero on e = inl (same_Some x c e)
+filtered-by p x c xs true (suc i) on e = inr (on i e)
+filtered-by p x c xs false i on e = inr (on i e)
+
 among-filtered : (p : ℕ → Bool) (xs : List ℕ) (i c : ℕ) → slice_get (filter p xs) i ≡ Some c → Has c xs
 among-filtered p [] i c e = absurd (none-some c e)
-among-filtered p (x ∷ xs) i c e = by (p x) i e
-  where
-    by : (b : Bool) (i : ℕ) → slice_get (cond b (x ∷ filter p xs) (filter p xs)) i ≡ Some c → Has c (x ∷ xs)
-    by true zero e = inl (same_Some x c e)
-    by true (suc i) e = inr (among-filtered p xs i c e)
-    by false i e = inr (among-filtered p xs i c e)
+among-filtered p (x ∷ xs) i c e = filtered-by p x c xs (p x) i (λ j. among-filtered p xs j c) e
 
 pub child-parent : (ns : Nodes) → IsSound ns → (n : ℕ) (it : Node) → IsNode ns n it → (i c : ℕ) → slice_get (element_children ns n) i ≡ Some c → parent_at ns c ≡ Some n
 child-parent ns sound n it is i c e =

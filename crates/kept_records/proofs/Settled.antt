@@ -2,7 +2,6 @@
 use Rattle.std.proofs.Common.{◌≡◌, ℕ, zero, suc, ◌+◌, List, [], ◌∷◌, ◌++◌, length, map, Option, None, Some, All, refl, sym, ap, ◌∙◌, subst, arith}
 use Rattle.std.specs.Prelude.{slice_get}
 use Rattle.std.specs.List.{range_with_len}
-use Rattle.std.specs.Option.{option_and_then}
 use Rattle.std.proofs.lemmas.List.{length-map}
 use Rattle.std.proofs.lemmas.List.Elements.{All-nil, All-cons, All-head, All-tail}
 use Rattle.xs_names.specs.Names.{NameTable}
@@ -28,8 +27,7 @@ use Rattle.model_terms.specs.Symbols.{child_symbols}
 use Rattle.model_terms.specs.Terms.{stuck_in, term_in, terms_in}
 use Rattle.model_terms.proofs.Runs.{runs-are}
 use Rattle.model_lists.specs.Lists.{ListsView}
-use Rattle.doc_nodes.specs.Nodes.{Node, Nodes, node, element_children}
-use Rattle.doc_changes.specs.Held.{parent_at}
+use Rattle.doc_nodes.specs.Nodes.{Nodes, element_children}
 use Rattle.doc_documents.specs.Readers.{name_at, own_chars, own_scope, scope_at}
 use Rattle.doc_documents.proofs.Reading.{scope_below, scope_root, depth_below}
 use Rattle.doc_heads.specs.Heads.{readers_of, texts_named}
@@ -38,8 +36,8 @@ use Rattle.kept_records.specs.Slots.{KeptSlots, IsMade, kept_at, entry_at, pair_
 use Rattle.kept_records.specs.Fit.{models_of, head_at, model_at, symbols_at, shape_at}
 use Rattle.kept_records.specs.Found.{AreSettled, SaysKept, read_as, found_in}
 use Rattle.kept_records.proofs.Modelled.{type-fits}
-use Rattle.kept_records.proofs.Nodes.{all-of, shown, there, child-parent, root-numbers, root-there}
-use Rattle.kept_records.proofs.Made.{fit-at, given-at, read, made-elements, elements-made, children-elements}
+use Rattle.kept_records.proofs.Nodes.{all-of, shown, child-parent, root-numbers, root-there}
+use Rattle.kept_records.proofs.Made.{fit-at, given-at, read, made-elements, elements-made, children-elements, node-there, root-parent}
 
 symbols-each : (t : NameTable) (m : Option ContentAutomaton) (names : List ℕ) → length (child_symbols t m names) ≡ length names
 symbols-each t None names = length-map names _
@@ -89,8 +87,8 @@ module _ (c : Compiled) (ns : Nodes) (ks : KeptSlots) (v : ListsView) (ids : Lis
       ap (λ l. l ∷ map local-head xs) (head-is x (All-head P x xs h)) ∙ ap (λ l. head_at s ns x ∷ l) (heads-are xs (All-tail P x xs h))
 
   module _ (n : ℕ) (made : IsMade ks n) where
-    abbrev children : List ℕ
-    children = element_children ns n
+    abbrev inner : List ℕ
+    inner = element_children ns n
 
     abbrev model : Option ContentAutomaton
     model = model_at s (models_of c) ns ks n
@@ -98,31 +96,31 @@ module _ (c : Compiled) (ns : Nodes) (ks : KeptSlots) (v : ListsView) (ids : Lis
     abbrev symbols : List ℕ
     symbols = symbols_at s (models_of c) ns ks n
 
-    child-scope : (i x : ℕ) → slice_get children i ≡ Some x → IsScoped s b r k (scope_at ns n) x
+    child-scope : (i x : ℕ) → slice_get inner i ≡ Some x → IsScoped s b r k (scope_at ns n) x
     child-scope i x e =
-        let own = there c.names ns d.forest a.over.stands.nodes n (elements-made c ns ks v ids d a n made) in
+        let own = node-there c ns ks v ids d a n made in
         let up = child-parent ns a.over.stands.links n own.0 own.1 i x e in
         scope_below ns n x up (depth_below ns n x a.over.stands.links up) ∙ sym (scope_shown c.names ns d a.over.stands x (scope_at ns n))
 
-    child-heads : map local-head children ≡ map (head_at s ns) children
-    child-heads = heads-are children (children-elements c ns ks v ids d a n made)
+    child-heads : map local-head inner ≡ map (head_at s ns) inner
+    child-heads = heads-are inner (children-elements c ns ks v ids d a n made)
 
-    child-names : names_of (map local-head children) ≡ map (name_at ns) children
-    child-names = ap names_of child-heads ∙ names-of-heads s ns children
+    child-names : names_of (map local-head inner) ≡ map (name_at ns) inner
+    child-names = ap names_of child-heads ∙ names-of-heads s ns inner
 
-    terms-are : AreTerms s (content_particle s.parts (pair_at ks n).of) (names_of (map local-head children)) (kept_at ks n).stuck (terms_in model symbols)
+    terms-are : AreTerms s (content_particle s.parts (pair_at ks n).of) (names_of (map local-head inner)) (kept_at ks n).stuck (terms_in model symbols)
     terms-are =
-        let run = runs-are s (content_particle s.parts (pair_at ks n).of) model (map (name_at ns) children) (type-fits c a.over.usable.first a.over.usable.models_are (pair_at ks n).of) in
-        let placed = subst (λ (stuck : Option ℕ). AreTerms s (content_particle s.parts (pair_at ks n).of) (map (name_at ns) children) stuck (terms_in model symbols))
+        let run = runs-are s (content_particle s.parts (pair_at ks n).of) model (map (name_at ns) inner) (type-fits c a.over.usable.first a.over.usable.models_are (pair_at ks n).of) in
+        let placed = subst (λ (stuck : Option ℕ). AreTerms s (content_particle s.parts (pair_at ks n).of) (map (name_at ns) inner) stuck (terms_in model symbols))
         (sym (fit-at c ns ks v ids d a n made).gathered.stuck_is) run in
         subst (λ (names : List ℕ). AreTerms s (content_particle s.parts (pair_at ks n).of) names (kept_at ks n).stuck (terms_in model symbols)) (sym child-names) placed
 
-    pairs-are : map (pair_at ks) children ≡ governed s (pair_at ks n) (terms_in model symbols) (map local-head children)
+    pairs-are : map (pair_at ks) inner ≡ governed s (pair_at ks n) (terms_in model symbols) (map local-head inner)
     pairs-are =
-        let each : length children ≡ length symbols = sym (symbols-each c.names model (map (name_at ns) children) ∙ length-map children (name_at ns)) in
-        governed-from s ks (pair_at ks n) model symbols (head_at s ns) children 0
-            (λ i x e. let same : i ≡ 0 + i = omega arith in (given-at c ns ks v ids d a n made i x e).pair_is ∙ ap (λ j. pair-by s ks (pair_at ks n) model symbols (head_at s ns) j x) same)
-        ∙ ap (λ size. governed s (pair_at ks n) (map (term_in model symbols) (range_with_len 0 size)) (map (head_at s ns) children)) each
+        let each : length inner ≡ length symbols = sym (symbols-each c.names model (map (name_at ns) inner) ∙ length-map inner (name_at ns)) in
+        governed-from s ks (pair_at ks n) model symbols (head_at s ns) inner 0
+        (λ i x e. let same : i ≡ 0 + i = omega arith in (given-at c ns ks v ids d a n made i x e).pair_is ∙ ap (λ j. pair-by s ks (pair_at ks n) model symbols (head_at s ns) j x) same)
+        ∙ ap (λ size. governed s (pair_at ks n) (map (term_in model symbols) (range_with_len 0 size)) (map (head_at s ns) inner)) each
         ∙ ap (governed s (pair_at ks n) (terms_in model symbols)) (sym child-heads)
 
     shape-is : local.shape_at s b r k n ≡ shape_at s ns ks ids n
@@ -136,7 +134,7 @@ module _ (c : Compiled) (ns : Nodes) (ks : KeptSlots) (v : ListsView) (ids : Lis
     pub settled-at : IsSettled s b r k n
     settled-at = record {
       number_is = (fit-at c ns ks v ids d a n made).gathered.number_is;
-      scopes = all-of (IsScoped s b r k (scope_at ns n)) children child-scope;
+      scopes = all-of (IsScoped s b r k (scope_at ns n)) inner child-scope;
       terms = terms_in model symbols;
       attributed = terms-are;
       pairs = pairs-are;
@@ -155,13 +153,10 @@ module _ (c : Compiled) (ns : Nodes) (ks : KeptSlots) (v : ListsView) (ids : Lis
       let own_attributes = sym is.0.attributes_are ∙ ap r.attributes h.0 in
       let own_bindings = sym is.0.bindings_are ∙ ap r.bindings h.0 in
       λ i. record { name = name_in c.names (own_name i); xsi = instance_text c.names (named_texts c.names (own_attributes i)) TypeName; scope = scope_in c.names (own_bindings i) first_scope }
-          ∷ heads c.names first_scope (h.1 i)
+      ∷ heads c.names first_scope (h.1 i)
 
   root-scope : scope_at ns 1 ≡ scope_in c.names (r.bindings 1) first_scope
-  root-scope =
-      let own = there c.names ns d.forest a.over.stands.nodes 1 (root-there d.forest a.over.stands.tree.root) in
-      let up : parent_at ns 1 ≡ None = ap (option_and_then (λ (x : Node). x.parent)) own.1 ∙ (a.over.stands.root own.0 own.1).0 in
-      scope_root ns 1 up ∙ sym (scope_shown c.names ns d a.over.stands 1 first_scope)
+  root-scope = scope_root ns 1 (root-parent c ns ks v ids d a) ∙ sym (scope_shown c.names ns d a.over.stands 1 first_scope)
 
   root-heads : heads c.names first_scope d.forest ≡ head_at s ns 1 ∷ []
   root-heads =

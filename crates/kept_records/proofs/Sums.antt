@@ -27,7 +27,7 @@ use Rattle.kept_records.specs.Books.{codes_in, atoms_of, all_atoms}
 use Rattle.kept_records.specs.Found.{read_as, found_in}
 use Rattle.kept_records.proofs.Entries.{to-sums}
 
-kept-is : (ks : KeptSlots) (n : ℕ) (k : KeptElement) → at ks n ≡ Some k → kept_at ks n ≡ k
+pub kept-is : (ks : KeptSlots) (n : ℕ) (k : KeptElement) → at ks n ≡ Some k → kept_at ks n ≡ k
 kept-is ks n k e = ap (λ o. unwrap_or o blank) e
 
 -- what is not made weighs nothing
@@ -99,8 +99,8 @@ module _ (ns : Nodes) (ks : KeptSlots) where
           let one = borne-own number parent own (All-head (IsBorneBy parent) number (element_numbers next) all) in
           let children-borne = subst (All (IsBorneBy number)) r.0.children_are (bearers number own) in
           let below : w (flat_map borne_of inner) ≡ element_sum weight children =
-              ap (λ m. w (flat_map borne_of (bearings_below m (found_in ns ks children)))) (numbers number own)
-              ∙ below-sum children number r.1 (λ n h. made n (inr (inl h))) children-borne in
+          ap (λ m. w (flat_map borne_of (bearings_below m (found_in ns ks children)))) (numbers number own)
+          ∙ below-sum children number r.1 (λ n h. made n (inr (inl h))) children-borne in
           let later = below-sum next parent r.2 (λ n h. made n (inr (inr h))) (All-tail (IsBorneBy parent) number (element_numbers next) all) in
           let first = plus (borne_of (record { bearer = parent; own = entry_at ks number })) (flat_map borne_of (inner ++ outer)) in
           let apart = ap w (flat_map-append borne_of inner outer) ∙ plus (flat_map borne_of inner) (flat_map borne_of outer) in
@@ -114,12 +114,12 @@ module _ (ns : Nodes) (ks : KeptSlots) where
           let own = made number (inl refl) in
           let inner : List Bearing = bearings_below (entry_at ks number).number (found_in ns ks children) in
           let bearer : (kept_at ks number).found.bearer ≡ (entry_at ks number).number =
-              subst (λ m. (kept_at ks m).found.bearer ≡ m) (sym h.0) top ∙ sym (numbers number own) in
+          subst (λ m. (kept_at ks m).found.bearer ≡ m) (sym h.0) top ∙ sym (numbers number own) in
           let one = borne-own number (entry_at ks number).number own bearer in
           let children-borne = subst (All (IsBorneBy number)) r.0.children_are (bearers number own) in
           let below : w (flat_map borne_of inner) ≡ element_sum weight children =
-              ap (λ m. w (flat_map borne_of (bearings_below m (found_in ns ks children)))) (numbers number own)
-              ∙ below-sum children number r.1 (λ n h. made n (inr (inl h))) children-borne in
+          ap (λ m. w (flat_map borne_of (bearings_below m (found_in ns ks children)))) (numbers number own)
+          ∙ below-sum children number r.1 (λ n h. made n (inr (inl h))) children-borne in
           let none-later : w (flat_map borne_of (bearings (found_in ns ks next))) ≡ 0 = ap (λ g. w (flat_map borne_of (bearings (found_in ns ks g)))) h.1 ∙ nil in
           let none-summed : element_sum weight next ≡ 0 = ap (element_sum weight) h.1 in
           let first = plus (borne_of (record { bearer = (entry_at ks number).number; own = entry_at ks number })) (flat_map borne_of (inner ++ bearings (found_in ns ks next))) in

@@ -1,6 +1,6 @@
 -- When what is kept of the elements of a document fits: of each element what is kept of its child elements (Structures 3.3.4, 3.3.5,
 -- 3.4.4, 5.2).
-use Rattle.std.specs.Prelude.{◌≡◌, ◌==◌, ℕ, List, [], Option, None, Some, map, slice_get, slice_index_or, if◌then◌else◌}
+use Rattle.std.specs.Prelude.{◌≡◌, ◌==◌, ℕ, List, [], Option, None, Some, map, unwrap_or, slice_get, slice_index_or, if◌then◌else◌}
 use Rattle.xs_codes.specs.declared.fault.Found.{Found}
 use Rattle.xs_components.specs.declared.common.TypeId.{TypeId}
 use Rattle.xs_components.specs.declared.common.TypeId.TheVariants.{AnyType, Builtin, Simple, Complex}
@@ -19,7 +19,8 @@ use Rattle.model_terms.specs.Symbols.{child_symbols}
 use Rattle.model_terms.specs.Terms.{stuck_in, term_in}
 use Rattle.model_lists.specs.Lists.{ListsView, IsListOf}
 use Rattle.model_lists.specs.declared.handle.ModelList.{ModelList}
-use Rattle.doc_nodes.specs.Nodes.{Nodes, Lacks, element_children}
+use Rattle.doc_nodes.specs.Nodes.{Nodes, Has, Lacks, element_children}
+use Rattle.doc_changes.specs.Held.{parent_at}
 use Rattle.doc_documents.specs.Readers.{name_at, own_chars, scope_at}
 use Rattle.doc_heads.specs.Heads.{texts_named}
 use Rattle.kept_records.specs.Slots.{KeptSlots, IsMade, kept_at, entry_at, pair_at, record_at}
@@ -50,10 +51,13 @@ IsListed v (Some a) (Some h) symbols = IsListOf v h a symbols
 abbrev pub head_at : SchemaSet → Nodes → ℕ → Head
 head_at s ns n = record { name = name_at ns n; xsi = instance_text s.names (texts_named ns n) TypeName; scope = scope_at ns n }
 
--- the root is governed as the root, and bears the IDs of its text itself
+-- the parent of an element bears the IDs of its text; of the root the root itself (Structures 3.15.5)
+abbrev pub bearer_at : Nodes → ℕ → ℕ
+bearer_at ns n = unwrap_or (parent_at ns n) n
+
+-- the root is governed as the root
 pub record IsTop (s : SchemaSet) (ns : Nodes) (ks : KeptSlots) : Type 0 where
   pub made : IsMade ks 1
-  pub bearer_is : (kept_at ks 1).found.bearer ≡ 1
   pub pair_is : pair_at ks 1 ≡ govern_root s.names s.parts (head_at s ns 1).name (head_at s ns 1).xsi (head_at s ns 1).scope
 
 -- by a schema set with the automata of its types, of a document's nodes by their numbers, with what is kept
@@ -70,15 +74,15 @@ module _ (s : SchemaSet) (models : Models) (ns : Nodes) (ks : KeptSlots) where
   child_pair n place child =
       govern_child s.names s.parts (pair_at ks n).mode (term_in (model_at n) (symbols_at n) place) (head_at s ns child).name (head_at s ns child).xsi (head_at s ns child).scope
 
-  -- something is kept of the child element at the place: its parent gives it what governs it, and bears the IDs of its text
+  -- something is kept of the child element at the place, and what governs it is what its parent gives it
   pub record IsGiven (n place child : ℕ) : Type 0 where
     pub made : IsMade ks child
-    pub bearer_is : (kept_at ks child).found.bearer ≡ n
     pub pair_is : pair_at ks child ≡ child_pair n place child
 
   -- what an element is judged by is right, with these lists: its child elements are governed, listed and counted
   pub record IsGathered (v : ListsView) (n : ℕ) : Type 0 where
     pub number_is : (kept_at ks n).found.number ≡ n
+    pub bearer_is : (kept_at ks n).found.bearer ≡ bearer_at ns n
     pub text_is : (kept_at ks n).text ≡ own_chars ns n
     pub given : (place child : ℕ) → slice_get (element_children ns n) place ≡ Some child → IsGiven n place child
     pub list_is : IsListed v (model_at n) (kept_at ks n).list (symbols_at n)
@@ -99,3 +103,7 @@ module _ (s : SchemaSet) (models : Models) (ns : Nodes) (ks : KeptSlots) (v : Li
   -- all elements of which something is kept fit, but for those that wait
   abbrev pub AllFitBut : List ℕ → Type 0
   AllFitBut waiting = (n : ℕ) → IsMade ks n → Lacks n waiting → IsFit n
+
+-- the parent of an element waits
+abbrev pub AboveIn : Nodes → ℕ → List ℕ → Type 0
+AboveIn ns n waiting = (p : ℕ) → parent_at ns n ≡ Some p → Has p waiting

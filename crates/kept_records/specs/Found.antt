@@ -2,10 +2,14 @@
 use Rattle.std.specs.Prelude.{◌≡◌, ℕ, true, List, []}
 use Rattle.xs_codes.specs.declared.fault.Found.{Found}
 use Rattle.tree_rows.specs.Forest.{Forest, Document}
+use Rattle.identity_tables.specs.Ids.{id_codes}
+use Rattle.identity_constraints.specs.Satisfied.{identity_at}
 use Rattle.assessment.specs.Assessment.{Assessed, Beside}
+use Rattle.assessment.specs.Bearings.{borne_values}
 use Rattle.assessment.specs.Local.{Kept, kept_entries}
 use Rattle.compiled_schema.specs.Usable.{IsUsable, set_of}
 use Rattle.compiled_schema.specs.declared.compiled.Compiled.{Compiled}
+use Rattle.identity_assessment.specs.Identity.{seen}
 use Rattle.doc_nodes.specs.Nodes.{Nodes, is_element_at}
 use Rattle.doc_changes.specs.Stands.{StandsFor}
 use Rattle.doc_documents.specs.Readers.{scope_at}
@@ -37,3 +41,9 @@ found_in ns ks f = kept_entries (read_as ns ks) f
 pub record SaysKept (b : Beside) (ks : KeptSlots) (codes : List Found) : Type 0 where
   pub identity : (n : ℕ) → IsMade ks n → b.identity n ≡ (kept_at ks n).identity
   pub ids : (n : ℕ) → IsMade ks n → b.ids n ≡ root_codes codes n
+
+-- they are what is to be said beside of what is found: the codes of identity constraints (Structures 3.11.4) of each element, and those of
+-- IDs (3.3.4) at the root
+pub record SaysFound (c : Compiled) (ns : Nodes) (ks : KeptSlots) (codes : List Found) (d : Document) : Type 0 where
+  pub identity : (n : ℕ) → IsMade ks n → (kept_at ks n).identity ≡ identity_at c.names c.parts c.identities.items n (seen (found_in ns ks d.forest))
+  pub ids : codes ≡ id_codes (borne_values (found_in ns ks d.forest))

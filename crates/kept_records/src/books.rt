@@ -40,7 +40,9 @@ impl Books {
     {
         self.total = sum_of(self.total, found)?;
         self.ids.add_value(found.bearer, &found.value)?;
-        self.ids.add_values(found.number, found.attr_values.as_slice())
+        self.ids
+            .add_values(found.number, found.attr_values.as_slice())?;
+        Ok(())
     }
 
     /// Takes an element out that was counted in.
@@ -52,7 +54,8 @@ impl Books {
     {
         self.total = rest_of(self.total, found);
         self.ids.drop_value(found.bearer, &found.value);
-        self.ids.drop_values(found.number, found.attr_values.as_slice());
+        self.ids
+            .drop_values(found.number, found.attr_values.as_slice());
     }
 
     /// How many codes all records have.

@@ -1,11 +1,13 @@
 //! What is kept of all elements, by their numbers.
 
-ghost use Rattle.std.specs.Prelude.{◌≡◌, List, [], None, Some, IfOk, OnOk};
+ghost use Rattle.std.specs.Prelude.{◌≡◌, ◌<◌, List, [], None, Some, length, IfOk, OnOk};
 ghost use Rattle.std.specs.Option.{option_copied, option_map};
 ghost use Rattle.identity_tables.specs.Ids.{BorneAtom, id_codes};
 ghost use Rattle.identity_tables.specs.Table.{IsTableOf};
 ghost use Rattle.kept_slots.specs.Slots.{at, Writes};
 ghost use Rattle.kept_records.specs.Books.{IsBooked};
+ghost use Rattle.kept_records.specs.Slots.{IsKept, IsMade};
+ghost use Rattle.kept_records.specs.declared.element.KeptElement.{KeptElement as KeptData};
 
 use crate::KeptElement;
 use crate::books::Books;
@@ -104,9 +106,9 @@ impl KeptRecords {
 
     /// Writes where the child elements of an element get stuck, and how many are of each kind. It takes no memory.
     pub fn set_counts(&mut self, number: u32, stuck: Option<u32>, counts: ChildCounts)
-    // requires { IsMade self.old.slots number }
-    // ensures change { (k : KeptElement) → IsKept self.old.slots number k → Writes self.old.slots self.new.slots number (Some (record k { stuck = stuck; counts = counts })) }
-    // ensures booked { IsBooked self.old → IsBooked self.new }
+        requires { IsMade self.old.slots number }
+        ensures change { (k : KeptData) → IsKept self.old.slots number k → Writes self.old.slots self.new.slots number (Some (record k { stuck = stuck; counts = counts })) }
+        ensures booked { IsBooked self.old → IsBooked self.new }
     {
         if let Some(mut kept) = self.slots.take(number) {
             kept.stuck = stuck;
@@ -117,9 +119,9 @@ impl KeptRecords {
 
     /// Writes the characters of an element's texts. It takes no memory.
     pub fn set_text(&mut self, number: u32, text: Text)
-    // requires { IsMade self.old.slots number }
-    // ensures change { (k) → IsKept self.old.slots number k → Writes .. number (Some (record k { text = text })) }
-    // ensures booked { IsBooked self.old → IsBooked self.new }
+        requires { IsMade self.old.slots number }
+        ensures change { (k : KeptData) → IsKept self.old.slots number k → Writes self.old.slots self.new.slots number (Some (record k { text = text })) }
+        ensures booked { IsBooked self.old → IsBooked self.new }
     {
         if let Some(mut kept) = self.slots.take(number) {
             kept.text = text;
@@ -129,9 +131,9 @@ impl KeptRecords {
 
     /// Writes the codes of an element's identity constraints. It takes no memory.
     pub fn set_identity(&mut self, number: u32, identity: Codes)
-    // requires { IsMade self.old.slots number }
-    // ensures change { (k) → IsKept self.old.slots number k → Writes .. number (Some (record k { identity = identity })) }
-    // ensures booked { IsBooked self.old → IsBooked self.new }
+        requires { IsMade self.old.slots number }
+        ensures change { (k : KeptData) → IsKept self.old.slots number k → Writes self.old.slots self.new.slots number (Some (record k { identity = identity })) }
+        ensures booked { IsBooked self.old → IsBooked self.new }
     {
         if let Some(mut kept) = self.slots.take(number) {
             kept.identity = identity;
@@ -145,9 +147,10 @@ impl KeptRecords {
     ///
     /// As those of `put`.
     pub fn set_found(&mut self, number: u32, found: ElementEntry) -> Result<(), AllocError>
-    // requires { IsMade self.old.slots number × IsBooked self.old }
-    // ensures change { OnOk result ((k) → IsKept self.old.slots number k → Writes .. number (Some (record k { found = found }))) }
-    // ensures booked { OnOk result (IsBooked self.new) }
+        requires made { IsMade self.old.slots number }
+        requires booked { IsBooked self.old }
+        ensures change { OnOk result ((k : KeptData) → IsKept self.old.slots number k → Writes self.old.slots self.new.slots number (Some (record k { found = found }))) }
+        ensures booked { OnOk result (IsBooked self.new) }
     {
         let Some(mut kept) = self.take(number) else {
             unreachable!()
@@ -157,7 +160,12 @@ impl KeptRecords {
     }
 
     // Keeps a value where one was taken out.
-    fn replace(&mut self, number: u32, kept: Box<KeptElement>) {
+    fn replace(&mut self, number: u32, kept: Box<KeptElement>)
+        requires { number < length self.old.slots }
+        ensures change { Writes self.old.slots self.new.slots number (Some kept.value) }
+        ensures total { self.new.total ≡ self.old.total }
+        ensures ids { self.new.ids ≡ self.old.ids }
+    {
         let _none = self.slots.put(number, kept);
     }
 }

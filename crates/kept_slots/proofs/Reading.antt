@@ -1,14 +1,8 @@
 -- What is kept under numbers before and after a write, where it is read off what stands in the table.
-use Rattle.std.proofs.Common.{◌≡◌, ◌≢◌, ℕ, zero, suc, ◌<◌, ◌≤◌, List, [], ◌∷◌, ◌++◌, length, map, set, get_or, sym, ap, ◌∙◌, Option, None, refl, get_or-set_same, get_or-set_other, arith}
+use Rattle.std.proofs.Common.{◌≡◌, ◌≢◌, ℕ, ◌<◌, ◌≤◌, List, length, map, set, get_or, sym, ap, ◌∙◌, Option, None, refl, get_or-set_same, get_or-set_other}
 use Rattle.std.specs.Option.{option_map}
 use Rattle.std.proofs.Math.ListN.{get_or-map, get_or-eq_default}
 use Rattle.kept_slots.specs.Slots.{at, Writes, Keeps}
-
-pub push-none : {A : Type 0} (xs : List (Option A)) (n : ℕ) → get_or (xs ++ None ∷ []) n None ≡ get_or xs n None
-push-none [] zero = refl
-push-none [] (suc n) = refl
-push-none (x ∷ xs) zero = refl
-push-none (x ∷ xs) (suc n) = push-none xs n
 
 module _ {A B : Type 0} (f : A → B) where
   pub seen-at : (xs : List (Option A)) (n : ℕ) → at (map (option_map f) xs) n ≡ option_map f (get_or xs n None)

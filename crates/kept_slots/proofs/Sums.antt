@@ -1,13 +1,10 @@
 -- A change of what is kept under one number moves a sum by what it changes.
-use Rattle.std.proofs.Common.{◌≡◌, ◌≢◌, ℕ, zero, suc, ◌+◌, List, [], ◌∷◌, Option, None, Some, refl, sym, ap, ◌∙◌, arith}
-use Rattle.std.specs.Prelude.{sum_by, slice_index_or}
+use Rattle.std.proofs.Common.{◌≡◌, ◌≢◌, ℕ, zero, suc, ◌+◌, List, [], ◌∷◌, Option, None, refl, sym, ap, ◌∙◌, arith}
+use Rattle.std.specs.Prelude.{sum_by}
 use Rattle.std.proofs.lemmas.List.Sums.{sum_by-cons}
 use Rattle.kept_slots.specs.Slots.{at, Writes, Keeps, weigh, slot_sum}
 
 module _ {T : Type 0} (weight : T → ℕ) where
-  at-none : (n : ℕ) → at {T} [] n ≡ None
-  at-none n = refl
-
   no-weight : (slots : List (Option T)) → ((m : ℕ) → at slots m ≡ None) → slot_sum weight slots ≡ 0
   no-weight [] none = refl
   no-weight (x ∷ xs) none =

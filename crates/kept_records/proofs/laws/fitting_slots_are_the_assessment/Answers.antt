@@ -1,5 +1,6 @@
 use Rattle.kept_records.proofs.Made.{made-elements, elements-made}
 use Rattle.kept_records.proofs.Settled.{assessed}
+use Rattle.kept_records.proofs.Said.{is-found}
 use Rattle.kept_records.proofs.Kept.{entry-is, total-is, ids-are}
 use Rattle.kept_records.proofs.laws.fitting_slots_are_the_assessment.Goals as goal
 
@@ -8,6 +9,9 @@ returns-clause-made c = λ set ns ks v codes d a n. (made-elements set ns ks v c
 
 pub returns-clause-assessed : goal.returns-clause-assessed
 returns-clause-assessed c = λ set ns ks v codes d b a says. assessed set ns ks v codes d a b says
+
+pub returns-clause-found : goal.returns-clause-found
+returns-clause-found c = λ set ns ks v codes d a says. is-found set ns ks v codes d a says
 
 pub returns-clause-entries : goal.returns-clause-entries
 returns-clause-entries c = λ set ns ks v codes d a n. entry-is set ns ks v codes d a n
