@@ -4,5 +4,6 @@
 mod change;
 mod forget;
 mod own;
+mod texts;
 
 pub use change::keep_change;

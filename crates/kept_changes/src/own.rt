@@ -1,5 +1,6 @@
 //! Elements whose own texts, attributes or name are others.
 
+use crate::texts::chars_of;
 use compiled_schema::Compiled;
 use doc_tree::DocTree;
 use kept_above::settle_above;
@@ -20,7 +21,7 @@ pub(crate) fn retext(
 // requires { (old : Nodes) × nodes but texts of `node` as in doc.now × AllFitBut by `old` [] }
 // ensures { OnOk result (AllFitBut doc.now kept.new []) }
 {
-    let text = doc.text_of(node)?;
+    let text = chars_of(kept.alloc, doc, node)?;
     kept.records.set_text(node, text);
     let was = kept.outcome(node);
     let pair = kept.pair(node);
