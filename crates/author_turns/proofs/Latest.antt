@@ -113,6 +113,7 @@ latest_after p seen (t ∷ ts) =
     both r n false false f g =
         let one = ltb-false seen r f in let two = ltb-false seen n g in
         let h : ltb seen (max r n) ≡ false = le-ltb seen (max r n) (grind arith) in rw h refl
+
     choice : (a : Bool) (r : ℕ) (l : Option ℕ) → cond (a && ltb seen r) (later (Some r) (if_after seen l)) (if_after seen l) ≡ if_after seen (cond a (later (Some r) l) l)
     choice false r l = refl
     choice true r None = refl

@@ -6,9 +6,13 @@ use Rattle.author_turns.specs.declared.touch.Key.TheVariants.{Node, List as Chil
 use Rattle.author_turns.specs.declared.touch.Touch.{Touch}
 use Rattle.author_turns.specs.Turns.{Turn, same_node, latest}
 
--- what is kept of each thing that was touched, and how many more things fit without taking memory
+-- what is kept of each thing that was touched
+abbrev pub Touches : Type 0
+Touches = List (Key × Touch)
+
+-- that, and how many more things fit without taking memory
 pub record Table : Type 0 where
-  pub touches : List (Key × Touch)
+  pub touches : Touches
   pub spare : ℕ
 
 abbrev pub same_key : Key → Key → Bool
@@ -18,8 +22,8 @@ same_key (Children m) (Node n) = false
 same_key (Children m) (Children n) = m == n
 
 -- what is kept of a thing
-abbrev pub touch_of : Table → Key → Option Touch
-touch_of table key = lookup (same_key key) table.touches
+abbrev pub touch_of : Touches → Key → Option Touch
+touch_of all key = lookup (same_key key) all
 
 -- whether a turn touched the thing
 abbrev pub touches : Key → Turn → Bool
@@ -38,13 +42,13 @@ IsLatest (Some touch) test log =
     × (latest (λ t. is_by touch.author t && test t) log ≡ Some touch.revision)
     × (latest (λ t. not (is_by touch.author t) && test t) log ≡ touch.other)
 
--- the table is that of the log: it has the things that were touched, and of each the latest turn that touched it
-abbrev pub StandsFor : Table → List Turn → Type 0
-StandsFor table log = (key : Key) → IsLatest (touch_of table key) (touches key) log
+-- what is kept is that of the log: the things that were touched, and of each the latest turn that touched it
+abbrev pub StandFor : Touches → List Turn → Type 0
+StandFor all log = (key : Key) → IsLatest (touch_of all key) (touches key) log
 
 -- no revision that is kept is a later one
-abbrev pub IsUpTo : Table → ℕ → Type 0
-IsUpTo table revision = (key : Key) → IfSome (touch_of table key) (λ touch. touch.revision ≤ revision)
+abbrev pub AreUpTo : Touches → ℕ → Type 0
+AreUpTo all revision = (key : Key) → IfSome (touch_of all key) (λ touch. touch.revision ≤ revision)
 
 -- the latest revision by another author than this one
 abbrev pub by_others : ℕ → Option Touch → Option ℕ
@@ -56,11 +60,11 @@ abbrev pub touched_now : Option Touch → ℕ → ℕ → Touch
 touched_now touch author revision = record { revision = revision; author = author; other = by_others author touch }
 
 -- one thing was touched, and what is kept of others stays
-abbrev pub IsTouched : Table → Table → Key → ℕ → ℕ → Type 0
+abbrev pub IsTouched : Touches → Touches → Key → ℕ → ℕ → Type 0
 IsTouched old new key author revision =
     (other : Key) → touch_of new other ≡ cond (same_key key other) (Some (touched_now (touch_of old other) author revision)) (touch_of old other)
 
 -- the latest revision by another author of what is kept of a thing, where there is one
-abbrev pub latest_by_others : Table → ℕ → Option Key → Option ℕ
-latest_by_others table author None = None
-latest_by_others table author (Some key) = by_others author (touch_of table key)
+abbrev pub latest_by_others : Touches → ℕ → Option Key → Option ℕ
+latest_by_others all author None = None
+latest_by_others all author (Some key) = by_others author (touch_of all key)

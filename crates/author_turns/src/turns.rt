@@ -1,6 +1,6 @@
 ghost use Rattle.std.specs.Prelude.{◌≡◌, ℕ, ◌+◌, ◌≤◌, List, [], ◌∷◌, ◌++◌, IfOk, OnOk};
 ghost use Rattle.author_turns.specs.Turns.{Turn, turn, stale};
-ghost use Rattle.author_turns.specs.Table.{StandsFor, IsUpTo, IsTouched, latest_by_others};
+ghost use Rattle.author_turns.specs.Table.{StandFor, AreUpTo, IsTouched, latest_by_others};
 
 use crate::Touched;
 use crate::touch::{Key, Touch};
@@ -27,8 +27,8 @@ impl Model for Turns {
 impl Turns {
     /// Of no turns.
     pub fn new(alloc: Global) -> Result<Self, AllocError>
-        ensures log { IfOk result (λ turns. StandsFor turns []) }
-        ensures later { IfOk result (λ turns. (revision : ℕ) → IsUpTo turns revision) }
+        ensures log { IfOk result (λ turns. StandFor turns.touches []) }
+        ensures later { IfOk result (λ turns. (revision : ℕ) → AreUpTo turns.touches revision) }
     {
         Ok(Turns {
             touches: IndexMap::new(alloc),
@@ -38,7 +38,7 @@ impl Turns {
     /// The revision of the latest turn after `seen` by another author that touched one of the keys. `None` where there is none, so
     /// that what the author saw of them at `seen` is what is there now, but for turns of its own.
     pub fn stale(&self, author: u32, seen: u64, keys: &Touched) -> Option<u64>
-        ensures { (log : List Turn) → StandsFor self.now log → result ≡ stale log author seen keys.now }
+        ensures { (log : List Turn) → StandFor self.now.touches log → result ≡ stale log author seen keys.now }
     {
         let of_node = self.by_others(author, keys.node.map(Key::Node));
         let of_list = self.by_others(author, keys.list.map(Key::List));
@@ -57,9 +57,9 @@ impl Turns {
     /// Notes a turn, after all that were noted. It takes no memory.
     pub fn note(&mut self, author: u32, revision: u64, keys: &Touched)
         requires room { 2 ≤ self.old.spare }
-        requires later { IsUpTo self.old revision }
-        ensures log { (log : List Turn) → StandsFor self.old log → StandsFor self.new (log ++ turn revision author keys.now ∷ []) }
-        ensures later { IsUpTo self.new revision }
+        requires later { AreUpTo self.old.touches revision }
+        ensures log { (log : List Turn) → StandFor self.old.touches log → StandFor self.new.touches (log ++ turn revision author keys.now ∷ []) }
+        ensures later { (later : ℕ) → revision ≤ later → AreUpTo self.new.touches later }
     {
         if let Some(node) = keys.node {
             self.touch(Key::Node(node), author, revision);
@@ -71,7 +71,7 @@ impl Turns {
 
     // The revision of the latest turn by another author that touched the thing.
     fn by_others(&self, author: u32, key: Option<Key>) -> Option<u64>
-        ensures { result ≡ latest_by_others self.now author key }
+        ensures { result ≡ latest_by_others self.now.touches author key }
     {
         let touch = self.touches.get(&key?)?;
         if touch.author == author {
@@ -84,7 +84,7 @@ impl Turns {
     // Notes that a turn touched one thing.
     fn touch(&mut self, key: Key, author: u32, revision: u64)
         requires { 1 ≤ self.old.spare }
-        ensures touches { IsTouched self.old self.new key author revision }
+        ensures touches { IsTouched self.old.touches self.new.touches key author revision }
         ensures room { self.old.spare ≤ self.new.spare + 1 }
     {
         if let Some(touch) = self.touches.get_mut(&key) {

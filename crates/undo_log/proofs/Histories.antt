@@ -75,7 +75,7 @@ module _ {S D : Type 0} (Leads : S → D → D → Type 0) where
   abbrev pub UndoLeads : Log S → History D → Option S → Type 0
   UndoLeads log h step = MatchOption step (undone h ≡ None)
       (λ s. (g : History D) × (undone h ≡ Some g) × Leads s h.present g.present
-          × ((inverse : S) → Leads inverse g.present h.present → IsLogOf Leads (with_undo_answered (with_undo_taken log) inverse) g))
+      × ((inverse : S) → Leads inverse g.present h.present → IsLogOf Leads (with_undo_answered (with_undo_taken log) inverse) g))
 
   undone_at : (log : Log S) (h : History D) (ss : List S) (s : S) (ds : List D) (d : D) → log.past ≡ ss ++ s ∷ [] → h.past ≡ ds ++ d ∷ [] → IsLogOf Leads log h → UndoLeads log h (last_item log.past)
   undone_at log h ss s ds d steps docs is =
@@ -85,10 +85,15 @@ module _ {S D : Type 0} (Leads : S → D → D → Type 0) where
       let becomes : undone h ≡ Some g =
       (λ i. option_map (λ e. history_of (take (length (docs i) - 1) (docs i)) e (h.present ∷ h.future)) (last_item (docs i)))
       ∙ (λ i. option_map (λ e. history_of (take-but_last ds d i) e (h.present ∷ h.future)) (last_item-end ds d i)) in
-      subst (UndoLeads log h) (sym (ap last_item steps ∙ last_item-end ss s)) (g, becomes, parts.0, λ inverse leads. record {
-        past = subst (λ l. LeadBack Leads l ds d) (sym fewer) parts.1;
-        future = (leads, is.future);
-      })
+      subst (UndoLeads log h) (sym (ap last_item steps ∙ last_item-end ss s)) (
+        g,
+        becomes,
+        parts.0,
+        λ inverse leads. record {
+          past = subst (λ l. LeadBack Leads l ds d) (sym fewer) parts.1;
+          future = (leads, is.future);
+        },
+      )
 
   pub undone_on : (log : Log S) (h : History D) → IsLogOf Leads log h → UndoLeads log h (last_item log.past)
   undone_on log h is = by log.past h.past refl refl is.past
@@ -105,7 +110,7 @@ module _ {S D : Type 0} (Leads : S → D → D → Type 0) where
   abbrev pub RedoLeads : Log S → History D → Option S → Type 0
   RedoLeads log h step = MatchOption step (redone h ≡ None)
       (λ s. (g : History D) × (redone h ≡ Some g) × Leads s h.present g.present
-          × ((inverse : S) → Leads inverse g.present h.present → IsLogOf Leads (with_redo_answered (with_redo_taken log) inverse) g))
+      × ((inverse : S) → Leads inverse g.present h.present → IsLogOf Leads (with_redo_answered (with_redo_taken log) inverse) g))
 
   pub redone_on : (log : Log S) (h : History D) → IsLogOf Leads log h → RedoLeads log h (slice_get log.future 0)
   redone_on log h is = by log.future h.future refl refl is.future
@@ -115,7 +120,12 @@ module _ {S D : Type 0} (Leads : S → D → D → Type 0) where
       by [] (d ∷ ds) e f leads = absurd leads
       by (s ∷ ss) [] e f leads = absurd leads
       by (s ∷ ss) (d ∷ ds) e f leads =
-          subst (RedoLeads log h) (sym (ap (λ l. slice_get l 0) e)) (history_of (h.past ++ h.present ∷ []) d ds, ap (λ l. option_map (λ d. history_of (h.past ++ h.present ∷ []) d (drop 1 l)) (slice_get l 0)) f, leads.0, λ inverse back. record {
-            past = back_push log.past h.past h.present d inverse is.past back;
-            future = subst (λ l. LeadOn Leads (drop 1 l) ds d) (sym e) leads.1;
-          })
+          subst (RedoLeads log h) (sym (ap (λ l. slice_get l 0) e)) (
+            history_of (h.past ++ h.present ∷ []) d ds,
+            ap (λ l. option_map (λ d. history_of (h.past ++ h.present ∷ []) d (drop 1 l)) (slice_get l 0)) f,
+            leads.0,
+            λ inverse back. record {
+              past = back_push log.past h.past h.present d inverse is.past back;
+              future = subst (λ l. LeadOn Leads (drop 1 l) ds d) (sym e) leads.1;
+            },
+          )

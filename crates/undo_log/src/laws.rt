@@ -20,8 +20,8 @@ pub fn logs_lead_through_histories<D, S: Step<D>>()
         → IsLogOf S.leads (noted log inverse) (edited log.depth h d) }
     ensures undone { (log : Log S) (h : History D) → IsLogOf S.leads log h → MatchOption (last_item log.past) (undone h ≡ None)
         (λ step. (g : History D) × (undone h ≡ Some g) × S.leads step h.present g.present
-            × ((inverse : S) → S.leads inverse g.present h.present → IsLogOf S.leads (with_undo_answered (with_undo_taken log) inverse) g)) }
+        × ((inverse : S) → S.leads inverse g.present h.present → IsLogOf S.leads (with_undo_answered (with_undo_taken log) inverse) g)) }
     ensures redone { (log : Log S) (h : History D) → IsLogOf S.leads log h → MatchOption (slice_get log.future 0) (redone h ≡ None)
         (λ step. (g : History D) × (redone h ≡ Some g) × S.leads step h.present g.present
-            × ((inverse : S) → S.leads inverse g.present h.present → IsLogOf S.leads (with_redo_answered (with_redo_taken log) inverse) g)) }
+        × ((inverse : S) → S.leads inverse g.present h.present → IsLogOf S.leads (with_redo_answered (with_redo_taken log) inverse) g)) }
 {}
