@@ -1,5 +1,5 @@
 -- A log of turns, and what is stale by it.
-use Rattle.std.specs.Prelude.{◌≡◌, ℕ, List, [], ◌∷◌, Option, None, Some, refl}
+use Rattle.std.specs.Prelude.{◌≡◌, ℕ, List, [], ◌∷◌, None, Some, refl}
 use Rattle.author_turns.specs.declared.touched.Touched.{Touched}
 use Rattle.author_turns.specs.Turns.{Turn, turn, stale}
 
