@@ -9,6 +9,8 @@ ghost use Rattle.model_lists.specs.declared.around.Reached.TheVariants.{Row, See
 
 use crate::automata::{members_of, states_of};
 use content_models::{AllState, ContentAutomaton};
+use model_terms::{member_term, state_term};
+use xs_components::TermId;
 use xsv_steps::{Ledger, Steps};
 
 /// Where child elements lead to by the automaton of a content model (Structures 3.8.4).
@@ -27,6 +29,31 @@ pub(crate) enum Reached {
 }
 
 impl ChildState {
+    /// The state before any children.
+    pub fn start(automaton: &ContentAutomaton) -> ChildState
+    // ensures { LeadTo automaton.now [] result }
+    {
+        let reached = match automaton {
+            ContentAutomaton::States(states) => Reached::Row(states.start()),
+            ContentAutomaton::All(members) => Reached::Seen(members.all_start()),
+        };
+        ChildState { reached }
+    }
+
+    /// The term at the place that ends every marked prefix (Structures 3.4.4), of a child with this symbol with which the children
+    /// begin a word.
+    pub fn term(self, automaton: &ContentAutomaton, symbol: u32) -> Option<TermId>
+    // requires state { (before : List ℕ) × LeadTo automaton.now before self }
+    // requires symbol { AreSymbolsBy automaton.now (symbol ∷ []) }
+    // ensures { (before : List ℕ) → LeadTo automaton.now before self → begins automaton.now (before ++ symbol ∷ []) ≡ true
+    //     → result ≡ term_after automaton.now before symbol }
+    {
+        match automaton {
+            ContentAutomaton::States(states) => state_term(states, self.row(), symbol),
+            ContentAutomaton::All(members) => member_term(members, symbol),
+        }
+    }
+
     /// The state after one more child, with this symbol. It takes one step.
     pub fn with<L: Ledger>(
         self,

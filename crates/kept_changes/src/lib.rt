@@ -1,0 +1,9 @@
+//! A change of a document, with what is kept of its elements.
+#![tactic(auto)]
+
+mod change;
+mod forget;
+mod own;
+mod texts;
+
+pub use change::keep_change;

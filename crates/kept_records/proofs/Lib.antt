@@ -1,0 +1,12 @@
+pub mod Modelled
+pub mod Nodes
+pub mod Made
+pub mod Settled
+pub mod Entries
+pub mod Sums
+pub mod Kept
+pub mod Booking
+pub mod Lists
+pub mod Frames
+pub mod Said
+pub mod Counting

@@ -1,0 +1,4 @@
+pub mod Slots
+pub mod Fit
+pub mod Books
+pub mod Found

@@ -1,0 +1,6 @@
+//! A table of what is kept under numbers.
+#![tactic(auto)]
+
+mod slots;
+
+pub use slots::Slots;
