@@ -1,5 +1,14 @@
 //! What governs an element of a document.
 
+ghost use Rattle.std.specs.Prelude.{◌≡◌, true, IfOk};
+ghost use Rattle.tree_rows.specs.Forest.{Document};
+ghost use Rattle.compiled_schema.specs.Usable.{IsUsable, set_of};
+ghost use Rattle.doc_nodes.specs.Nodes.{is_element_at};
+ghost use Rattle.doc_changes.specs.Stands.{StandsFor};
+ghost use Rattle.kept_records.specs.Fit.{head_at};
+ghost use Rattle.kept_state.specs.Kept.{CanGovern};
+ghost use Rattle.kept_judging.specs.Judged.{root_pair, given_pair, again_pair};
+
 use crate::view::{head_of, local_type, view_of};
 use compiled_schema::Compiled;
 use doc_tree::DocTree;
@@ -15,8 +24,11 @@ use xs_components::TermId;
 ///
 /// `AllocError` is want of memory.
 pub fn pair_of_root(alloc: Global, doc: &DocTree, set: &Compiled) -> Result<Governed, AllocError>
-// requires { IsUsable set.now } and the names of the document are in its table
-// ensures { IfOk result (λ root. (root.node ≡ 1) × (root.pair ≡ root_pair_of (set_of set.now) (head_at doc.now 1))) }
+    requires usable { IsUsable set.now }
+    requires stands { (d : Document) × StandsFor set.now.names doc.now d }
+    ensures node { IfOk result (λ root. root.node ≡ 1) }
+    ensures pair { IfOk result (λ root. root.pair ≡ root_pair (set_of set.now) (head_at (set_of set.now) doc.now 1)) }
+    ensures governed { IfOk result (λ root. CanGovern set.now.parts root.pair) }
 {
     let head = head_of(alloc, doc, 1)?;
     let xsi = local_type(set, &head);
@@ -37,7 +49,12 @@ pub fn pair_below(
     parent: Governing,
     child: (u32, Option<TermId>),
 ) -> Result<Governed, AllocError>
-// ensures { IfOk result (λ it. (it.node ≡ child.0) × (it.pair ≡ pair_of (set_of set.now) parent child.1 (head_at doc.now child.0))) }
+    requires usable { IsUsable set.now }
+    requires stands { (d : Document) × StandsFor set.now.names doc.now d }
+    requires element { is_element_at doc.now child.0 ≡ true }
+    ensures node { IfOk result (λ it. it.node ≡ child.0) }
+    ensures pair { IfOk result (λ it. it.pair ≡ given_pair (set_of set.now) parent child.1 (head_at (set_of set.now) doc.now child.0)) }
+    ensures governed { IfOk result (λ it. CanGovern set.now.parts it.pair) }
 {
     let (node, term) = child;
     let head = head_of(alloc, doc, node)?;
@@ -58,7 +75,12 @@ pub fn pair_again(
     set: &Compiled,
     was: Governed,
 ) -> Result<Governed, AllocError>
-// ensures { IfOk result (λ it. it.pair ≡ regoverned names parts was.pair xsi scope) }
+    requires usable { IsUsable set.now }
+    requires stands { (d : Document) × StandsFor set.now.names doc.now d }
+    requires element { is_element_at doc.now was.node ≡ true }
+    ensures node { IfOk result (λ it. it.node ≡ was.node) }
+    ensures pair { IfOk result (λ it. it.pair ≡ again_pair (set_of set.now) was.pair (head_at (set_of set.now) doc.now was.node)) }
+    ensures governed { IfOk result (λ it. CanGovern set.now.parts it.pair) }
 {
     let head = head_of(alloc, doc, was.node)?;
     let xsi = local_type(set, &head);

@@ -1,5 +1,18 @@
 //! The records of an element by what is kept of it.
 
+ghost use Rattle.std.specs.Prelude.{◌≡◌, ◌<◌, All, length, true, IfOk, OnOk};
+ghost use Rattle.elem_governing.specs.View.{AreKnown};
+ghost use Rattle.assessment.specs.Attribution.{SchemaSet};
+ghost use Rattle.assessment.specs.Assessment.{AreJudged};
+ghost use Rattle.compiled_schema.specs.Usable.{IsUsable, set_of};
+ghost use Rattle.tree_assess.specs.Entries as entries;
+ghost use Rattle.doc_nodes.specs.Nodes.{is_element_at};
+ghost use Rattle.doc_documents.specs.Readers.{own_chars};
+ghost use Rattle.kept_records.specs.Fit.{bearer_at};
+ghost use Rattle.kept_records.specs.Slots.{IsMade, kept_at, pair_at};
+ghost use Rattle.kept_state.specs.Kept.{CanGovern, IsBeside, IsFreeFor, children_at};
+ghost use Rattle.kept_judging.specs.Judged.{IsJudgedBy, IsJudgedAnew, shape_with};
+
 use crate::view::head_of;
 use assess_records::ElementShape;
 use compiled_schema::Compiled;
@@ -14,7 +27,7 @@ use xs_names::Text;
 
 // The number of the element that bears the IDs of an element's text (Structures 3.15.5).
 fn bearer_of(doc: &DocTree, node: u32) -> u32
-// ensures { result ≡ bearer_at doc.now node }
+    ensures { result ≡ bearer_at doc.now node }
 {
     match doc.parent(node) {
         None => node,
@@ -23,7 +36,9 @@ fn bearer_of(doc: &DocTree, node: u32) -> u32
 }
 
 // The entry of an element with these records.
-fn entry_of(doc: &DocTree, node: u32, governing: Governing, judged: Judged) -> ElementEntry {
+fn entry_of(doc: &DocTree, node: u32, governing: Governing, judged: Judged) -> ElementEntry
+    ensures { result ≡ record { number = node; bearer = bearer_at doc.now node; below = 0; governing = governing; element = judged.element; value = judged.value; attrs = judged.attrs; attr_values = judged.attr_values } }
+{
     let Judged {
         element,
         value,
@@ -50,7 +65,9 @@ fn shape_of(
     text: &Text,
     children: &KeptChildren,
 ) -> Result<ElementShape, AllocError>
-// ensures { IfOk result (λ shape. shape ≡ shape_at names doc.now kept.now node text.now children.now) }
+    requires element { is_element_at doc.now node ≡ true }
+    requires text { text.now ≡ own_chars doc.now node }
+    ensures { IfOk result (λ shape. (s : SchemaSet) → shape ≡ shape_with s doc.now kept.now node children.now) }
 {
     let ElementHead { name, attrs, scope } = head_of(kept.alloc, doc, node)?;
     Ok(ElementShape {
@@ -73,8 +90,15 @@ fn judged(
     element: &Governed,
     shape: &ElementShape,
 ) -> Result<ElementEntry, AllocError>
-// ensures judged { IfOk result (λ entry. AreJudged (set_of set.old) shape.now (entry_of entry)) }, number, bearer, governing
-// ensures same { set.new ≡ set.old }
+    requires usable { IsUsable set.old }
+    requires governed { CanGovern set.old.parts element.now.pair }
+    requires known { AreKnown set.old.names shape.now.scope }
+    requires named { All (λ a. a.name < length set.old.names.names) shape.now.attrs }
+    ensures judged { IfOk result (λ entry. AreJudged (set_of set.old) shape.now (entries.entry_of entry)) }
+    ensures number { IfOk result (λ entry. entry.number ≡ element.now.node) }
+    ensures bearer { IfOk result (λ entry. entry.bearer ≡ bearer_at doc.now element.now.node) }
+    ensures governing { IfOk result (λ entry. entry.governing ≡ element.now.pair) }
+    ensures same { set.new ≡ set.old }
 {
     let view = SchemaView {
         names: &set.names,
@@ -102,10 +126,13 @@ pub fn judge(
     kept: &mut KeptState,
     element: &Governed,
 ) -> Result<(), AllocError>
-// requires made { IsMade kept.old element.now.node }
-// ensures { OnOk result ((ws : List ℕ) → AllFitBut (element.now.node ∷ ws), its parts but `known` right → AllFitBut ws) }: `known` at the
-// node is right, its pair is the given one, all other fields of all slots are as they were
-// ensures same { set.new ≡ set.old }
+    requires beside { IsBeside set.old doc.now kept.old }
+    requires made { IsMade kept.old.records.slots element.now.node }
+    requires governed { CanGovern set.old.parts element.now.pair }
+    requires text { (kept_at kept.old.records.slots element.now.node).text ≡ own_chars doc.now element.now.node }
+    ensures judged { OnOk result (IsJudgedAnew set.old doc.now kept.old kept.new element.now.node element.now.pair (children_at kept.old.records.slots element.now.node)) }
+    ensures beside { OnOk result (IsBeside set.old doc.now kept.new) }
+    ensures same { set.new ≡ set.old }
 {
     let node = element.node;
     let children = kept.children(node);
@@ -126,8 +153,12 @@ pub fn judge_if_apart(
     node: u32,
     was: &KeptChildren,
 ) -> Result<(), AllocError>
-// requires known { `known` is right at the node with `was` in place of its children }
-// ensures { OnOk result (as judge, the pair being the kept one) }
+    requires beside { IsBeside set.old doc.now kept.old }
+    requires made { IsMade kept.old.records.slots node }
+    requires was { IsJudgedBy (set_of set.old) doc.now kept.old node was.now }
+    ensures judged { OnOk result (IsJudgedAnew set.old doc.now kept.old kept.new node (pair_at kept.old.records.slots node) (children_at kept.old.records.slots node)) }
+    ensures beside { OnOk result (IsBeside set.old doc.now kept.new) }
+    ensures same { set.new ≡ set.old }
 {
     if !kept.children(node).tell_apart(was) {
         return Ok(());
@@ -148,8 +179,13 @@ pub fn keep_judged(
     element: &Governed,
     children: KeptChildren,
 ) -> Result<(), AllocError>
-// requires inner { given, list_is, stuck_is, counts_are hold of `children` and the pair }
-// ensures { OnOk result ((ws) → AllFitBut (node ∷ ws) → AllFitBut ws × IsMade node × (pair_of node ≡ pair)), Puts at the node alone }
+    requires beside { IsBeside set.old doc.now kept.old }
+    requires element { is_element_at doc.now element.now.node ≡ true }
+    requires governed { CanGovern set.old.parts element.now.pair }
+    requires list { IsFreeFor kept.old.lists kept.old.records.slots element.now.node children.list }
+    ensures judged { OnOk result (IsJudgedAnew set.old doc.now kept.old kept.new element.now.node element.now.pair children) }
+    ensures beside { OnOk result (IsBeside set.old doc.now kept.new) }
+    ensures same { set.new ≡ set.old }
 {
     let node = element.node;
     let text = doc.text_of(node)?;

@@ -1,5 +1,14 @@
 //! What governing and judging are read off.
 
+ghost use Rattle.std.specs.Prelude.{◌≡◌, ◌<◌, All, length, true, IfOk};
+ghost use Rattle.std.specs.Option.{option_map};
+ghost use Rattle.elem_governing.specs.Heads.{head_by};
+ghost use Rattle.doc_nodes.specs.Nodes.{is_element_at};
+ghost use Rattle.doc_changes.specs.Held.{parent_at};
+ghost use Rattle.doc_documents.specs.Readers as readers;
+ghost use Rattle.doc_documents.specs.Readers.{name_at};
+ghost use Rattle.doc_heads.specs.Heads.{texts_named};
+
 use assess_records::{InstanceAttribute, instance_text};
 use compiled_schema::Compiled;
 use doc_readers::head_at;
@@ -10,7 +19,10 @@ use xs_names::{Scope, Text};
 
 /// What governing is read off.
 pub(crate) fn view_of(set: &Compiled) -> SchemaView<'_>
-// ensures each part { result.names.now ≡ set.now.names } and so on
+    ensures names { result.names.now ≡ set.now.names }
+    ensures parts { result.parts.now ≡ set.now.parts }
+    ensures declarations { result.declarations.now ≡ set.now.declarations }
+    ensures named { result.named.now ≡ set.now.named }
 {
     SchemaView {
         names: &set.names,
@@ -22,7 +34,7 @@ pub(crate) fn view_of(set: &Compiled) -> SchemaView<'_>
 
 // The scope outside of an element.
 fn outer_scope(alloc: Global, doc: &DocTree, node: u32) -> Result<Scope, AllocError>
-// ensures { IfOk result (λ scope. scope ≡ outer_at doc.now node) }
+    ensures { IfOk result (λ scope. scope ≡ readers.outer_scope (readers.scope_at doc.now) (parent_at doc.now node)) }
 {
     match doc.parent(node) {
         None => Scope::new(alloc),
@@ -36,8 +48,10 @@ fn outer_scope(alloc: Global, doc: &DocTree, node: u32) -> Result<Scope, AllocEr
 ///
 /// `AllocError` is want of memory.
 pub(crate) fn head_of(alloc: Global, doc: &DocTree, node: u32) -> Result<ElementHead, AllocError>
-// requires { kind_at doc.now node ≡ Some kinds.Element }
-// ensures { IfOk result (IsHeadAt doc.now node (outer_at doc.now node)) }
+    requires { is_element_at doc.now node ≡ true }
+    ensures name { IfOk result (λ head. head.name ≡ name_at doc.now node) }
+    ensures attributes { IfOk result (λ head. head.attrs ≡ texts_named doc.now node) }
+    ensures scope { IfOk result (λ head. head.scope ≡ readers.scope_at doc.now node) }
 {
     let outer = outer_scope(alloc, doc, node)?;
     head_at(alloc, doc, node, &outer)
@@ -45,7 +59,8 @@ pub(crate) fn head_of(alloc: Global, doc: &DocTree, node: u32) -> Result<Element
 
 /// The text of the attribute xsi:type (Structures 2.6.1).
 pub(crate) fn local_type<'a>(set: &Compiled, head: &'a ElementHead) -> Option<&'a Text>
-// ensures { option_map (λ t. t.now) result ≡ (head_by set.now.names head.now).xsi }
+    requires { All (λ a. a.name < length set.now.names.names) head.now.attrs }
+    ensures { option_map (λ t. t.now) result ≡ (head_by set.now.names head.now).xsi }
 {
     let attrs = head.attrs.as_slice();
     instance_text(&set.names, attrs, InstanceAttribute::TypeName)

@@ -1,5 +1,8 @@
 //! What is kept of an element's child elements.
 
+ghost use Rattle.std.specs.Prelude.{◌≡◌, ◌==◌, false};
+ghost use Rattle.kept_state.specs.Kept.{HaveSameFlags};
+
 use assess_records::ChildCounts;
 use model_lists::ModelList;
 
@@ -18,7 +21,7 @@ impl KeptChildren {
     /// Whether a record may differ by these and by others: where it does not, both get stuck at one place, and there are child
     /// elements of each kind by both or by neither.
     pub fn tell_apart(&self, other: &KeptChildren) -> bool
-    // ensures { result ≡ false → (self.now.stuck ≡ other.now.stuck) × HaveSameFlags self.now.counts other.now.counts }
+        ensures { result ≡ false → (self.now.stuck ≡ other.now.stuck) × HaveSameFlags self.now.counts other.now.counts }
     {
         self.stuck != other.stuck || differ(&self.counts, &other.counts)
     }
@@ -26,7 +29,7 @@ impl KeptChildren {
 
 // Whether there are child elements of a kind by the one counts, and none by the others.
 fn differ(one: &ChildCounts, other: &ChildCounts) -> bool
-// ensures { result ≡ false → HaveSameFlags one.now other.now }
+    ensures { result ≡ false → HaveSameFlags one.now other.now }
 {
     differ_in(one.valid, other.valid)
         || differ_in(one.invalid, other.invalid)
@@ -36,6 +39,9 @@ fn differ(one: &ChildCounts, other: &ChildCounts) -> bool
         || differ_in(one.untried, other.untried)
 }
 
-fn differ_in(one: u32, other: u32) -> bool {
+// Whether one of the numbers is 0, and the other is not.
+fn differ_in(one: u32, other: u32) -> bool
+    ensures { result ≡ false → (one == 0) ≡ (other == 0) }
+{
     (one == 0) != (other == 0)
 }

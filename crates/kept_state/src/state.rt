@@ -1,5 +1,14 @@
 //! All that is kept beside a document.
 
+ghost use Rattle.std.specs.Prelude.{◌≡◌, ◌↔◌, [], Some, IsTrue, IfOk, OnOk};
+ghost use Rattle.model_lists.specs.Lists.{IsLive};
+ghost use Rattle.model_lists.specs.declared.handle.ModelList.{ModelList};
+ghost use Rattle.kept_records.specs.Slots.{IsKept, IsMade, kept_at, pair_at};
+ghost use Rattle.kept_records.specs.Fit.{root_codes};
+ghost use Rattle.kept_records.specs.Books.{IsBooked};
+ghost use Rattle.kept_records.specs.declared.element.KeptElement.{KeptElement as KeptData};
+ghost use Rattle.kept_state.specs.Kept.{Rewrites, children_at, outcome_at};
+
 use crate::{Governed, KeptChildren, Outcome};
 use assess_records::Codes;
 use elem_governing::Governing;
@@ -25,7 +34,10 @@ impl KeptState {
     ///
     /// `AllocError` is want of memory.
     pub fn new(alloc: Global) -> Result<Self, AllocError>
-    // ensures { IfOk result (λ kept. (n : ℕ) → slot kept n ≡ None) }
+        ensures none { IfOk result (λ kept. kept.records.slots ≡ []) }
+        ensures booked { IfOk result (λ kept. IsBooked kept.records) }
+        ensures lists { IfOk result (λ kept. (h : ModelList) → ¬ IsLive kept.lists h) }
+        ensures ids { IfOk result (λ kept. kept.root_ids ≡ []) }
     {
         Ok(KeptState {
             alloc,
@@ -37,8 +49,8 @@ impl KeptState {
 
     /// What is kept of an element of which something is.
     pub fn at(&self, node: u32) -> &KeptElement
-    // requires { IsMade self.now.records.slots node }
-    // ensures { IsKept self.now.records.slots node result.now }
+        requires { IsMade self.now.records.slots node }
+        ensures { IsKept self.now.records.slots node result.now }
     {
         match self.records.get(node) {
             Some(own) => own,
@@ -48,16 +60,16 @@ impl KeptState {
 
     /// What governs an element.
     pub fn pair(&self, node: u32) -> Governing
-    // requires { IsMade self.now node }
-    // ensures { result ≡ pair_of self.now node }
+        requires { IsMade self.now.records.slots node }
+        ensures { result ≡ pair_at self.now.records.slots node }
     {
         self.at(node).found.governing
     }
 
     /// What is kept of the child elements of an element.
     pub fn children(&self, node: u32) -> KeptChildren
-    // requires { IsMade self.now node }
-    // ensures { result ≡ children_of self.now node }
+        requires { IsMade self.now.records.slots node }
+        ensures { result ≡ children_at self.now.records.slots node }
     {
         let own = self.at(node);
         KeptChildren {
@@ -69,8 +81,8 @@ impl KeptState {
 
     /// What of an element enters its parent's record.
     pub fn outcome(&self, node: u32) -> Outcome
-    // requires { IsMade self.now node }
-    // ensures { result ≡ outcome_of self.now node }
+        requires { IsMade self.now.records.slots node }
+        ensures { result ≡ outcome_at self.now.records.slots node }
     {
         let element = &self.at(node).found.element;
         Outcome {
@@ -81,7 +93,7 @@ impl KeptState {
 
     /// Whether an element is governed so.
     pub fn is_governed(&self, element: &Governed) -> bool
-    // ensures { IsTrue result ↔ (IsMade self.now element.now.node × (pair_of self.now element.now.node ≡ element.now.pair)) }
+        ensures { IsTrue result ↔ (IsMade self.now.records.slots element.now.node × (pair_at self.now.records.slots element.now.node ≡ element.now.pair)) }
     {
         match self.records.get(element.node) {
             None => false,
@@ -91,7 +103,7 @@ impl KeptState {
 
     /// Whether an element has the type of what is to govern it.
     pub fn is_typed(&self, element: &Governed) -> bool
-    // ensures { IsTrue result ↔ (IsMade self.now element.now.node × ((pair_of self.now element.now.node).of ≡ element.now.pair.of)) }
+        ensures { IsTrue result ↔ (IsMade self.now.records.slots element.now.node × ((pair_at self.now.records.slots element.now.node).of ≡ element.now.pair.of)) }
     {
         match self.records.get(element.node) {
             None => false,
@@ -105,7 +117,7 @@ impl KeptState {
     ///
     /// `AllocError` is want of memory.
     pub fn identity_codes(&self, node: u32) -> Result<Codes, AllocError>
-    // ensures { IfOk result (λ codes. codes ≡ identity_of self.now node) }
+        ensures { IfOk result (λ codes. codes ≡ (kept_at self.now.records.slots node).identity) }
     {
         match self.records.get(node) {
             None => Ok(Listed::new(self.alloc)),
@@ -119,7 +131,7 @@ impl KeptState {
     ///
     /// `AllocError` is want of memory.
     pub fn ids_at(&self, node: u32) -> Result<Codes, AllocError>
-    // ensures { IfOk result (λ codes. codes ≡ if node == 1 then self.now.root_ids else []) }
+        ensures { IfOk result (λ codes. codes ≡ root_codes self.now.root_ids node) }
     {
         if node == 1 {
             self.root_ids.clone()
@@ -130,8 +142,9 @@ impl KeptState {
 
     /// Writes where the child elements of an element get stuck, and how many are of each kind. It takes no memory.
     pub fn set_children(&mut self, node: u32, children: KeptChildren)
-    // requires { IsMade self.old.records.slots node }, with the list that is kept
-    // ensures { slot node = record was { stuck = children.stuck; counts = children.counts } }, all else as before
+        requires { IsMade self.old.records.slots node }
+        ensures change { (k : KeptData) → IsKept self.old.records.slots node k → Rewrites self.old self.new node (Some (record k { stuck = children.stuck; counts = children.counts })) }
+        ensures booked { IsBooked self.old.records → IsBooked self.new.records }
     {
         self.records
             .set_counts(node, children.stuck, children.counts);
@@ -143,7 +156,9 @@ impl KeptState {
     ///
     /// `AllocError` is want of memory, or there are more codes than 18,446,744,073,709,551,615.
     pub fn put(&mut self, node: u32, element: KeptElement) -> Result<(), AllocError>
-    // ensures { OnOk result (Writes self.old.records.slots self.new.records.slots node (Some element)) }
+        requires { IsBooked self.old.records }
+        ensures change { OnOk result (Rewrites self.old self.new node (Some element)) }
+        ensures booked { OnOk result (IsBooked self.new.records) }
     {
         match self.records.take(node) {
             Some(mut own) => {
