@@ -27,7 +27,7 @@ use Rattle.kept_records.proofs.Lists.{listed-kept}
 use Rattle.kept_records.proofs.Nodes.{by-node, child-parent}
 
 -- functions that agree at each place map a list alike
-map-same : {X : Type 0} (f g : ℕ → X) (xs : List ℕ) → ((i c : ℕ) → slice_get xs i ≡ Some c → f c ≡ g c) → map f xs ≡ map g xs
+pub map-same : {X : Type 0} (f g : ℕ → X) (xs : List ℕ) → ((i c : ℕ) → slice_get xs i ≡ Some c → f c ≡ g c) → map f xs ≡ map g xs
 map-same f g [] same = refl
 map-same f g (x ∷ xs) same = ap (λ y. y ∷ map f xs) (same 0 x refl) ∙ ap (λ ys. g x ∷ ys) (map-same f g xs (λ i c e. same (suc i) c e))
 
