@@ -1,5 +1,15 @@
 //! From an element upwards, until one comes to what it came to before.
 
+ghost use Rattle.std.specs.Prelude.{◌≡◌, ◌<◌, ◌^◌, [], Some, IfOk, OnOk};
+ghost use Rattle.assess_records.specs.Counts.{child_count, attempt_count};
+ghost use Rattle.assess_records.specs.declared.counts.ChildCounts.{ChildCounts};
+ghost use Rattle.doc_changes.specs.Held.{parent_at};
+ghost use Rattle.kept_records.specs.Slots.{IsKept, IsMade, kept_at};
+ghost use Rattle.kept_records.specs.Books.{IsBooked};
+ghost use Rattle.kept_records.specs.declared.element.KeptElement.{KeptElement as KeptData};
+ghost use Rattle.kept_state.specs.Kept.{FitBut, IsBeside, Rewrites};
+ghost use Rattle.kept_above.specs.Climbing.{IsClimbing, KeepsRest, with_outcome};
+
 use compiled_schema::Compiled;
 use doc_tree::DocTree;
 use kept_judging::judge_if_apart;
@@ -8,8 +18,12 @@ use std::alloc::AllocError;
 
 /// Counts a child element of an element by what it comes to now, in place of what it came to.
 pub fn recount(kept: &mut KeptState, parent: u32, was: Outcome, now: Outcome)
-// requires counted { (rest : ChildCounts) × (counts_of kept.old parent ≡ with_outcome was rest) }
-// ensures { (rest) → counts_of kept.old parent ≡ with_outcome was rest → Puts at the parent, counts = with_outcome now rest }
+    requires made { IsMade kept.old.records.slots parent }
+    requires counted { (others : ChildCounts) × ((kept_at kept.old.records.slots parent).counts ≡ with_outcome was others) }
+    requires few { child_count (kept_at kept.old.records.slots parent).counts < 2 ^ 32 }
+    requires fewer { attempt_count (kept_at kept.old.records.slots parent).counts < 2 ^ 32 }
+    ensures change { (k : KeptData) (others : ChildCounts) → IsKept kept.old.records.slots parent k → k.counts ≡ with_outcome was others → Rewrites kept.old kept.new parent (Some (record k { counts = with_outcome now others })) }
+    ensures booked { IsBooked kept.old.records → IsBooked kept.new.records }
 {
     if now == was {
         return;
@@ -28,8 +42,13 @@ fn settle_parent(
     family: (u32, u32),
     was: Outcome,
 ) -> Result<Outcome, AllocError>
-// requires climbing { IsClimbing doc.now kept.old child was }
-// ensures climbing { IfOk result (λ before. IsClimbing doc.now kept.new parent before) }
+    requires beside { IsBeside set.old doc.now kept.old }
+    requires parent { parent_at doc.now family.1 ≡ Some family.0 }
+    requires climbing { IsClimbing set.old doc.now kept.old family.1 was }
+    ensures climbing { IfOk result (λ before. IsClimbing set.old doc.now kept.new family.0 before) }
+    ensures beside { OnOk result (IsBeside set.old doc.now kept.new) }
+    ensures rest { OnOk result (KeepsRest kept.old kept.new) }
+    ensures same { set.new ≡ set.old }
 {
     let (parent, child) = family;
     let before = kept.outcome(parent);
@@ -52,9 +71,12 @@ pub fn settle_above(
     node: u32,
     was: Outcome,
 ) -> Result<(), AllocError>
-// requires climbing { IsClimbing doc.now kept.old node was }: all made, and all fit but the parent, whose counts have `was` for the node
-// ensures fit { OnOk result (AllFitBut doc.now kept.new []) }
-// ensures same { set.new ≡ set.old }
+    requires beside { IsBeside set.old doc.now kept.old }
+    requires climbing { IsClimbing set.old doc.now kept.old node was }
+    ensures fit { OnOk result (FitBut set.old doc.now kept.new []) }
+    ensures beside { OnOk result (IsBeside set.old doc.now kept.new) }
+    ensures rest { OnOk result (KeepsRest kept.old kept.new) }
+    ensures same { set.new ≡ set.old }
 {
     let mut child = node;
     let mut was = was;
