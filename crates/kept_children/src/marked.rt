@@ -1,7 +1,18 @@
 //! The child elements whose terms go by their place, asked again.
 
+ghost use Rattle.std.specs.Prelude.{◌≡◌, ◌+◌, ◌*◌, ◌≤◌, ℕ, List, [], ◌∷◌, None, Some, length, slice_get, OnOk, MatchOption};
+ghost use Rattle.child_trees.specs.Bits.{bits};
+ghost use Rattle.model_lists.specs.Lists.{IsLive};
+ghost use Rattle.model_lists.specs.declared.handle.ModelList.{ModelList as ModelListData};
+ghost use Rattle.doc_nodes.specs.Nodes.{element_children};
+ghost use Rattle.kept_records.specs.Slots.{IsMade};
+ghost use Rattle.kept_state.specs.declared.children.KeptChildren.{KeptChildren as KeptChildrenData};
+ghost use Rattle.kept_children.specs.Places.{IsPlaceOf};
+ghost use Rattle.kept_children.specs.Family.{AreCounted, AreGivenBut, IsAttributed, IsListedBy, IsMidway, marked_places};
+ghost use Rattle.kept_children.specs.Family as family;
+
 use crate::lists::govern_at;
-use crate::place::ChildPlace;
+use crate::place::{ChildPlace, list_of};
 use compiled_schema::Compiled;
 use doc_tree::DocTree;
 use kept_above::recount;
@@ -17,7 +28,17 @@ fn settle_marked<L: Ledger>(
     kept: &mut KeptState,
     at: &ChildPlace,
     steps: &mut Steps<L>,
-) -> Result<(), AllocError> {
+) -> Result<(), AllocError>
+    requires place { IsPlaceOf doc.now at.now }
+    requires midway { (was : KeptChildrenData) × IsMidway set.old doc.now kept.old at.now.parent was [] }
+    requires attributed { IsAttributed set.old doc.now kept.old at.now.parent }
+    requires counted { AreCounted kept.old at.now.parent (element_children doc.now at.now.parent) }
+    ensures midway { OnOk result ((was : KeptChildrenData) → IsMidway set.old doc.now kept.old at.now.parent was [] → IsMidway set.old doc.now kept.new at.now.parent was []) }
+    ensures attributed { OnOk result (IsAttributed set.old doc.now kept.new at.now.parent) }
+    ensures counted { OnOk result (AreCounted kept.new at.now.parent (element_children doc.now at.now.parent)) }
+    ensures given { OnOk result ((places : List ℕ) → AreGivenBut set.old doc.now kept.old at.now.parent (at.now.place ∷ places) → AreGivenBut set.old doc.now kept.new at.now.parent places) }
+    ensures same { set.new ≡ set.old }
+{
     let was = kept.outcome(at.node);
     let child = govern_at(doc, set, kept, at, steps)?;
     settle_below(doc, set, kept, &child, steps)?;
@@ -27,10 +48,21 @@ fn settle_marked<L: Ledger>(
 }
 
 // The child element whose name is ambivalent of this number among those, from 0; `None` past the last.
-fn marked_at(doc: &DocTree, kept: &KeptState, parent: u32, number: u32) -> Option<ChildPlace>
-// ensures { MatchOption result (no such) (λ at. (at.parent ≡ parent) × (Some at.place ≡ slice_get (ambivalent_places ..) number) × child parent at.place ≡ at.node) }
+fn marked_at(
+    doc: &DocTree,
+    set: &Compiled,
+    kept: &KeptState,
+    parent: u32,
+    number: u32,
+) -> Option<ChildPlace>
+    requires made { IsMade kept.now.records.slots parent }
+    requires listed { IsListedBy set.now kept.now parent (family.symbols_of set.now doc.now kept.now parent) }
+    ensures { MatchOption result
+        (slice_get (marked_places (family.model_of set.now kept.now parent) (family.symbols_of set.now doc.now kept.now parent)) number ≡ None)
+        (λ at. (at.parent ≡ parent) × IsPlaceOf doc.now at ×
+            (slice_get (marked_places (family.model_of set.now kept.now parent) (family.symbols_of set.now doc.now kept.now parent)) number ≡ Some at.place)) }
 {
-    let list = kept.children(parent).list?;
+    let (list, _) = list_of(set, kept, parent)?;
     let place = kept.lists.marked(list, number)?;
     let node = doc.element_at(parent, place)?;
     Some(ChildPlace {
@@ -40,8 +72,8 @@ fn marked_at(doc: &DocTree, kept: &KeptState, parent: u32, number: u32) -> Optio
     })
 }
 
-/// Governs the child elements of an element whose names are ambivalent again, but for one. It takes at most 8 * B steps for each of them
-/// beside those of what is governed otherwise than before.
+/// Governs the child elements of an element whose names are ambivalent again. It takes at most `8 * (bits(n + 1) + 1)` steps for each of
+/// them, where there are `n` child elements, beside the steps of what is governed otherwise than before.
 ///
 /// # Errors
 ///
@@ -50,19 +82,24 @@ pub(crate) fn settle_all_marked<L: Ledger>(
     doc: &DocTree,
     set: &mut Compiled,
     kept: &mut KeptState,
-    family: (u32, Option<u32>),
+    parent: u32,
     steps: &mut Steps<L>,
 ) -> Result<(), AllocError>
-// ensures given { OnOk result ((k : ℕ) → IsGiven parent k), where it held of the unmarked and of the one }
-// ensures counts stay right; fit { but for the parent }
+    requires midway { (was : KeptChildrenData) × IsMidway set.old doc.now kept.old parent was [] }
+    requires attributed { IsAttributed set.old doc.now kept.old parent }
+    requires counted { AreCounted kept.old parent (element_children doc.now parent) }
+    requires given { AreGivenBut set.old doc.now kept.old parent (marked_places (family.model_of set.old kept.old parent) (family.symbols_of set.old doc.now kept.old parent)) }
+    ensures midway { OnOk result ((was : KeptChildrenData) → IsMidway set.old doc.now kept.old parent was [] → IsMidway set.old doc.now kept.new parent was []) }
+    ensures attributed { OnOk result (IsAttributed set.old doc.now kept.new parent) }
+    ensures counted { OnOk result (AreCounted kept.new parent (element_children doc.now parent)) }
+    ensures given { OnOk result (AreGivenBut set.old doc.now kept.new parent []) }
+    ensures same { set.new ≡ set.old }
 {
-    let (parent, edited) = family;
-    let mut number = 0;
-    'marked: while let Some(at) = marked_at(doc, kept, parent, number) {
-        if Some(at.node) != edited {
-            settle_marked(doc, set, kept, &at, steps)?;
-        }
-        number += 1;
+    for number in 0..doc.child_count(parent) {
+        let Some(at) = marked_at(doc, set, kept, parent, number) else {
+            return Ok(());
+        };
+        settle_marked(doc, set, kept, &at, steps)?;
     }
     Ok(())
 }

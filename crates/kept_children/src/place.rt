@@ -1,8 +1,16 @@
 //! A child element among those of its parent.
 
+ghost use Rattle.std.specs.Prelude.{◌≡◌, ◌⊎◌, None, Some, true, MatchOption};
+ghost use Rattle.doc_nodes.specs.Nodes.{is_element_at};
+ghost use Rattle.doc_changes.specs.Held.{parent_at};
+ghost use Rattle.kept_records.specs.Slots.{IsMade, kept_at};
+ghost use Rattle.kept_children.specs.Places.{IsPlaceOf};
+ghost use Rattle.kept_children.specs.Family as family;
+
 use compiled_schema::Compiled;
 use content_models::ContentAutomaton;
 use doc_tree::DocTree;
+use kept_records::model_of;
 use kept_state::KeptState;
 use model_lists::ModelList;
 
@@ -16,8 +24,8 @@ pub struct ChildPlace {
 
 /// Where an element stands; `None` for the root.
 pub fn place_of(doc: &DocTree, node: u32) -> Option<ChildPlace>
-// requires { kind_at doc.now node ≡ Some kinds.Element }
-// ensures { MatchOption result (parent_at doc.now node ≡ None) (IsPlaceOf doc.now node) }
+    requires { is_element_at doc.now node ≡ true }
+    ensures { MatchOption result (parent_at doc.now node ≡ None) (λ at. (at.node ≡ node) × IsPlaceOf doc.now at) }
 {
     match doc.parent(node) {
         None => None,
@@ -38,10 +46,12 @@ pub(crate) fn list_of<'a>(
     kept: &KeptState,
     node: u32,
 ) -> Option<(ModelList, &'a ContentAutomaton)>
-// requires { IsMade kept.now node × IsListed node }
-// ensures { MatchOption result (a node ≡ None) (λ r. (a node ≡ Some r.1.now) × IsListOf kept.now.lists r.0 r.1.now (syms before the edit)) }
+    requires { IsMade kept.now.records.slots node }
+    ensures { MatchOption result
+        (((kept_at kept.now.records.slots node).list ≡ None) ⊎ (family.model_of set.now kept.now node ≡ None))
+        (λ found. ((kept_at kept.now.records.slots node).list ≡ Some found.0) × (family.model_of set.now kept.now node ≡ Some found.1.now)) }
 {
     let list = kept.children(node).list?;
-    let automaton = set.model(&kept.pair(node).of)?;
+    let automaton = model_of(set, kept.pair(node).of)?;
     Some((list, automaton))
 }
