@@ -1,28 +1,67 @@
 //! From an element downwards, as far as what governs is another.
 
+ghost use Rattle.std.specs.Prelude.{◌≡◌, ◌≤◌, ◌+◌, ◌*◌, ℕ, List, [], ◌∷◌, Some, None, map, length, slice_get, true, IfOk, OnOk};
+ghost use Rattle.tree_rows.specs.Forest.{Forest, Document, count};
+ghost use Rattle.assess_records.specs.Counts.{counts_of};
+ghost use Rattle.elem_governing.specs.declared.pairs.Governing.{Governing};
+ghost use Rattle.compiled_schema.specs.Usable.{set_of};
+ghost use Rattle.doc_nodes.specs.Nodes.{Has, element_children, is_element_at};
+ghost use Rattle.doc_changes.specs.Stands.{StandsFor};
+ghost use Rattle.doc_documents.specs.Readers.{element_numbers};
+ghost use Rattle.kept_slots.specs.Slots.{at};
+ghost use Rattle.kept_records.specs.Slots.{IsMade, pair_at, kept_at, record_at};
+ghost use Rattle.kept_records.specs.Fit.{models_of, AboveIn, IsGathered, IsTop};
+ghost use Rattle.kept_state.specs.Kept.{CanGovern, FitBut, IsBeside};
+ghost use Rattle.kept_state.specs.declared.element.Governed.{Governed as GovernedData};
+ghost use Rattle.kept_judging.specs.Judged.{AreChildren, pair_by};
+ghost use Rattle.kept_below.specs.Below.{AreAbove, AreGoverned, IsBelow, IsMadeAnew, IsSettled, IsSpare, KeepsBut};
+ghost use Rattle.kept_below.specs.Moved.{AreGivenDown, moved};
+
 use crate::listing::list_children;
 use assess_records::ChildCounts;
 use compiled_schema::Compiled;
 use doc_tree::DocTree;
 use kept_judging::{judge, keep_judged, pair_of_root};
 use kept_state::{Governed, KeptChildren, KeptState};
+use model_lists::ModelList;
 use std::alloc::AllocError;
 use xsv_steps::{Ledger, Steps};
 
-// Gives back the list of an element that gets another one.
-fn give_back(kept: &mut KeptState, node: u32)
-// ensures { the list of the node, if it has one, is not live; all other lists are as they were }
+// The list of the child elements of an element, if it has one.
+fn list_of(kept: &KeptState, node: u32) -> Option<ModelList>
+    ensures { result ≡ (kept_at kept.now.records.slots node).list }
 {
-    let list = match kept.records.get(node) {
+    match kept.records.get(node) {
         None => None,
         Some(own) => own.list,
-    };
-    if let Some(list) = list {
-        kept.lists.give(list);
     }
 }
 
-// Governs these elements so, and counts what they come to.
+// Keeps an element that is governed so and has such child elements, with its records, and gives back the list that it had.
+fn keep_anew(
+    doc: &DocTree,
+    set: &mut Compiled,
+    kept: &mut KeptState,
+    element: &Governed,
+    children: KeptChildren,
+) -> Result<(), AllocError>
+    requires beside { IsBeside set.old doc.now kept.old }
+    requires element { is_element_at doc.now element.now.node ≡ true }
+    requires governed { CanGovern set.old.parts element.now.pair }
+    requires spare { IsSpare kept.old children.list }
+    ensures made { OnOk result (IsMadeAnew set.old doc.now kept.old kept.new element.now children) }
+    ensures beside { OnOk result (IsBeside set.old doc.now kept.new) }
+    ensures same { set.new ≡ set.old }
+{
+    let list = list_of(kept, element.node);
+    keep_judged(doc, set, kept, element, children)?;
+    if let Some(list) = list {
+        kept.lists.give(list);
+    }
+    Ok(())
+}
+
+// Governs these child elements of one that waits so, and counts what they come to.
 #[cycle(below)]
 fn settle_all<L: Ledger>(
     doc: &DocTree,
@@ -31,9 +70,17 @@ fn settle_all<L: Ledger>(
     children: &[Governed],
     steps: &mut Steps<L>,
 ) -> Result<ChildCounts, AllocError>
-// ensures given { IfOk result (λ _. (c : ℕ) → Has c children.now → IsMade kept.new c.node × (pair_of kept.new c.node ≡ c.pair)) }
-// ensures counts { IfOk result (λ counts. counts ≡ counts_of (map (rec kept.new) (map node children.now))) }
-// ensures fit, above, frame, steps, same as settle_below
+    requires beside { IsBeside set.old doc.now kept.old }
+    requires fit { (parent : GovernedData) × (waiting : List ℕ) × AreGoverned set.old doc.now parent children.now × (is_element_at doc.now parent.node ≡ true) × FitBut set.old doc.now kept.old (parent.node ∷ waiting) × AreAbove doc.now parent.node waiting }
+    ensures governed { OnOk result ((child : GovernedData) → Has child children.now → IsMade kept.new.records.slots child.node × (pair_at kept.new.records.slots child.node ≡ child.pair)) }
+    ensures counts { IfOk result (λ counts. counts ≡ counts_of (map (λ child. record_at kept.new.records.slots child.node) children.now)) }
+    ensures fit { OnOk result ((parent : GovernedData) (waiting : List ℕ) → AreGoverned set.old doc.now parent children.now → FitBut set.old doc.now kept.old (parent.node ∷ waiting) → FitBut set.old doc.now kept.new (parent.node ∷ waiting)) }
+    ensures rest { OnOk result ((parent : GovernedData) → AreGoverned set.old doc.now parent children.now → KeepsBut (IsBelow doc.now parent.node) kept.old kept.new) }
+    ensures beside { OnOk result (IsBeside set.old doc.now kept.new) }
+    ensures same { set.new ≡ set.old }
+    ensures least { steps.old ≤ steps.new }
+    ensures steps { (siblings : Forest) (governs : ℕ → Governing) → AreGivenDown set.old doc.now governs siblings → element_numbers siblings ≡ map (λ child. child.node) children.now →
+        ((child : GovernedData) → Has child children.now → governs child.node ≡ child.pair) → steps.new ≤ steps.old + 3 * moved kept.old.records.slots governs siblings }
 {
     let mut counts = ChildCounts::new();
     for child in children {
@@ -44,7 +91,7 @@ fn settle_all<L: Ledger>(
     Ok(counts)
 }
 
-// Makes what is kept of the child elements of an element that is to be governed so, and of all below.
+// Makes what is kept of the child elements of an element that waits, is to be governed so, and of all below.
 #[cycle(below)]
 fn settle_children<L: Ledger>(
     doc: &DocTree,
@@ -53,7 +100,19 @@ fn settle_children<L: Ledger>(
     parent: &Governed,
     steps: &mut Steps<L>,
 ) -> Result<KeptChildren, AllocError>
-// ensures inner { given, list_is, stuck_is, counts_are hold of the result and the pair }
+    requires beside { IsBeside set.old doc.now kept.old }
+    requires element { is_element_at doc.now parent.now.node ≡ true }
+    requires fit { (waiting : List ℕ) × FitBut set.old doc.now kept.old (parent.now.node ∷ waiting) × AreAbove doc.now parent.now.node waiting }
+    ensures children { IfOk result (λ children. AreChildren set.old doc.now kept.new parent.now.node parent.now.pair children) }
+    ensures spare { IfOk result (λ children. IsSpare kept.new children.list) }
+    ensures fit { OnOk result ((waiting : List ℕ) → FitBut set.old doc.now kept.old (parent.now.node ∷ waiting) → FitBut set.old doc.now kept.new (parent.now.node ∷ waiting)) }
+    ensures rest { OnOk result (KeepsBut (IsBelow doc.now parent.now.node) kept.old kept.new) }
+    ensures beside { OnOk result (IsBeside set.old doc.now kept.new) }
+    ensures same { set.new ≡ set.old }
+    ensures least { steps.old ≤ steps.new }
+    ensures steps { (siblings : Forest) (governs : ℕ → Governing) → AreGivenDown set.old doc.now governs siblings → element_numbers siblings ≡ element_children doc.now parent.now.node →
+        ((place child : ℕ) → slice_get (element_children doc.now parent.now.node) place ≡ Some child → governs child ≡ pair_by set.old doc.now parent.now.pair parent.now.node place child) →
+        steps.new ≤ steps.old + 3 * (length (element_numbers siblings) + moved kept.old.records.slots governs siblings) }
 {
     let listing = list_children(doc, set, kept, parent, steps)?;
     let counts = settle_all(doc, set, kept, listing.children.as_slice(), steps)?;
@@ -78,18 +137,29 @@ pub fn settle_again<L: Ledger>(
     element: &Governed,
     steps: &mut Steps<L>,
 ) -> Result<(), AllocError>
-// requires fit { (ws : List ℕ) × AllFitBut .. kept.old (element.now.node ∷ ws) × AboveIn doc.now node ws; and where it is made, IsOpen node }
-// ensures as settle_below
+    requires beside { IsBeside set.old doc.now kept.old }
+    requires element { is_element_at doc.now element.now.node ≡ true }
+    requires governed { CanGovern set.old.parts element.now.pair }
+    requires gathered { IsMade kept.old.records.slots element.now.node → (pair_at kept.old.records.slots element.now.node).of ≡ element.now.pair.of →
+        IsGathered (set_of set.old) (models_of set.old) doc.now kept.old.records.slots kept.old.lists element.now.node }
+    requires fit { (waiting : List ℕ) × FitBut set.old doc.now kept.old (element.now.node ∷ waiting) × AboveIn doc.now element.now.node waiting × AreAbove doc.now element.now.node waiting }
+    ensures settled { OnOk result (IsSettled doc.now kept.old kept.new element.now) }
+    ensures fit { OnOk result ((waiting : List ℕ) → FitBut set.old doc.now kept.old (element.now.node ∷ waiting) → AboveIn doc.now element.now.node waiting → FitBut set.old doc.now kept.new waiting) }
+    ensures beside { OnOk result (IsBeside set.old doc.now kept.new) }
+    ensures same { set.new ≡ set.old }
+    ensures least { steps.old ≤ steps.new }
+    ensures steps { (siblings : Forest) (governs : ℕ → Governing) → AreGivenDown set.old doc.now governs siblings → element_numbers siblings ≡ element.now.node ∷ [] →
+        governs element.now.node ≡ element.now.pair → steps.new ≤ steps.old + 3 * moved kept.old.records.slots governs siblings }
 {
     if kept.is_typed(element) {
         return judge(doc, set, kept, element);
     }
     let children = settle_children(doc, set, kept, element, steps)?;
-    give_back(kept, element.node);
-    keep_judged(doc, set, kept, element, children)
+    keep_anew(doc, set, kept, element, children)
 }
 
-/// Governs an element so. Where it is not so already, it is judged anew, and all below it follows as far as it must.
+/// Governs an element so, whose parent waits. Where it is not so already, it is judged anew, and all below it follows as far as it
+/// must. It takes as many steps as `settle_again`.
 ///
 /// # Errors
 ///
@@ -102,14 +172,17 @@ pub fn settle_below<L: Ledger>(
     element: &Governed,
     steps: &mut Steps<L>,
 ) -> Result<(), AllocError>
-// requires fit { (ws : List ℕ) × AllFitBut .. kept.old ws × AboveIn doc.now element.now.node ws }
-// ensures made { OnOk result (IsMade kept.new element.now.node) }
-// ensures own { OnOk result (pair_of kept.new element.now.node ≡ element.now.pair) }
-// ensures fit { OnOk result ((ws : List ℕ) → AllFitBut .. kept.old ws → AboveIn doc.now element.now.node ws → AllFitBut .. kept.new ws) }
-// ensures above { (m : ℕ) → depth m ≤ depth element.now.node → m ≢ element.now.node → slot kept.new m ≡ slot kept.old m }
-// ensures frame { (f : Forest) → IsOver doc.now element.now.node f → (m : ℕ) → (HasElement m f → ⊥) → m ≢ element.now.node → slot kept.new m ≡ slot kept.old m }
-// ensures steps { (f : Forest) → IsOver .. f → steps.new ≤ steps.old + 3 * moved kept.old (element.now.pair ∷ []) (element .. f none) }, on every result
-// ensures same { set.new ≡ set.old }
+    requires beside { IsBeside set.old doc.now kept.old }
+    requires element { is_element_at doc.now element.now.node ≡ true }
+    requires governed { CanGovern set.old.parts element.now.pair }
+    requires fit { (waiting : List ℕ) × FitBut set.old doc.now kept.old waiting × AboveIn doc.now element.now.node waiting × AreAbove doc.now element.now.node waiting }
+    ensures settled { OnOk result (IsSettled doc.now kept.old kept.new element.now) }
+    ensures fit { OnOk result ((waiting : List ℕ) → FitBut set.old doc.now kept.old waiting → AboveIn doc.now element.now.node waiting → FitBut set.old doc.now kept.new waiting) }
+    ensures beside { OnOk result (IsBeside set.old doc.now kept.new) }
+    ensures same { set.new ≡ set.old }
+    ensures least { steps.old ≤ steps.new }
+    ensures steps { (siblings : Forest) (governs : ℕ → Governing) → AreGivenDown set.old doc.now governs siblings → element_numbers siblings ≡ element.now.node ∷ [] →
+        governs element.now.node ≡ element.now.pair → steps.new ≤ steps.old + 3 * moved kept.old.records.slots governs siblings }
 {
     if kept.is_governed(element) {
         return Ok(());
@@ -117,7 +190,7 @@ pub fn settle_below<L: Ledger>(
     settle_again(doc, set, kept, element, steps)
 }
 
-/// Keeps all elements of a document of which nothing is kept yet. It takes at most three steps for each.
+/// Keeps all elements of a document of which nothing is kept yet. It takes at most three steps for each node.
 ///
 /// # Errors
 ///
@@ -128,9 +201,14 @@ pub fn open_records<L: Ledger>(
     kept: &mut KeptState,
     steps: &mut Steps<L>,
 ) -> Result<(), AllocError>
-// requires none { (n : ℕ) → slot kept.old n ≡ None }
-// ensures fit { OnOk result (AllFitBut .. kept.new [] × IsTop kept.new) }
-// ensures steps { (d) → StandsFor .. d → steps.new ≤ steps.old + 3 * element_count d.forest }, on every result
+    requires beside { IsBeside set.old doc.now kept.old }
+    requires none { (n : ℕ) → at kept.old.records.slots n ≡ None }
+    ensures fit { OnOk result (FitBut set.old doc.now kept.new []) }
+    ensures top { OnOk result (IsTop (set_of set.old) doc.now kept.new.records.slots) }
+    ensures beside { OnOk result (IsBeside set.old doc.now kept.new) }
+    ensures same { set.new ≡ set.old }
+    ensures least { steps.old ≤ steps.new }
+    ensures steps { (d : Document) → StandsFor set.old.names doc.now d → steps.new ≤ steps.old + 3 * count d.forest }
 {
     let root = pair_of_root(kept.alloc, doc, set)?;
     settle_below(doc, set, kept, &root, steps)

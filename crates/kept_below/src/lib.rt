@@ -1,7 +1,6 @@
 //! The records of an element that is governed otherwise than before, or is new, and of all below it.
 #![tactic(auto)]
 
-mod attribution;
 mod below;
 mod listing;
 

@@ -1,14 +1,31 @@
 //! The child elements of an element that is governed anew, listed and attributed.
 
-use crate::attribution::{Attribution, attribute, attribute_none};
+ghost use Rattle.std.specs.Prelude.{◌≡◌, ◌≤◌, ◌+◌, ◌*◌, ◌^◌, ◌<◌, ℕ, All, Some, None, true, map, length, slice_get, slice_index_or, IfOk};
+ghost use Rattle.tree_rows.specs.Forest.{Document};
+ghost use Rattle.content_automaton.specs.Symbols.{AreNamesOf};
+ghost use Rattle.content_models.specs.Built.{symbols_of};
+ghost use Rattle.compiled_schema.specs.Usable.{IsUsable, set_of};
+ghost use Rattle.model_terms.specs.Symbols.{AreSymbolsBy, child_symbols};
+ghost use Rattle.model_lists.specs.Lists.{KeepLists};
+ghost use Rattle.doc_nodes.specs.Nodes.{element_children, is_element_at};
+ghost use Rattle.doc_changes.specs.Stands.{StandsFor};
+ghost use Rattle.doc_documents.specs.Readers.{name_at};
+ghost use Rattle.kept_records.specs.Fit.{models_of, head_at};
+ghost use Rattle.kept_state.specs.Kept.{CanGovern, IsBeside};
+ghost use Rattle.kept_state.specs.declared.element.Governed.{Governed as GovernedData};
+ghost use Rattle.kept_judging.specs.Judged.{given_pair};
+ghost use Rattle.kept_below.specs.Below.{AreListed, IsListing};
+
+use child_terms::{Attribution, attribute, attribute_none};
 use compiled_schema::Compiled;
 use content_models::ContentAutomaton;
 use doc_tree::DocTree;
 use elem_governing::Governing;
 use kept_judging::pair_below;
+use kept_records::model_of;
 use kept_state::{Governed, KeptState};
-use model_lists::ModelList;
-use std::alloc::AllocError;
+use model_lists::{ModelList, ModelLists};
+use std::alloc::{AllocError, Global};
 use xs_components::TermId;
 use xs_names::{NameId, Names};
 use xsv_steps::{Ledger, Steps};
@@ -24,14 +41,14 @@ pub(crate) struct Listing {
 
 // The child elements of an element, in order, with the numbers of their names.
 fn elements_below(
+    alloc: Global,
     doc: &DocTree,
-    kept: &KeptState,
     node: u32,
 ) -> Result<Vec<(u32, NameId)>, AllocError>
-// ensures { IfOk result (λ found. found.items ≡ map (λ c. (c, name_at doc.now c)) (element_children doc.now node)) }
+    ensures { IfOk result (λ found. found.items ≡ map (λ child. (child, name_at doc.now child)) (element_children doc.now node)) }
 {
     let children = doc.children(node)?;
-    let mut found = Vec::new(kept.alloc);
+    let mut found = Vec::new(alloc);
     for child in &children {
         if let Some(name) = doc.name(*child) {
             found.push((*child, name))?;
@@ -40,70 +57,91 @@ fn elements_below(
     Ok(found)
 }
 
-// The symbols of names.
-fn symbols_of(
-    kept: &KeptState,
+// The symbols of the names of child elements.
+fn symbols_below(
+    alloc: Global,
     automaton: &ContentAutomaton,
     names: &Names,
     elements: &[(u32, NameId)],
 ) -> Result<Vec<u32>, AllocError>
-// ensures { IfOk result (λ symbols. symbols.items ≡ map (λ e. symbol_of names.now (symbols_of automaton.now) (name_at names.now e.1)) elements.now) }
+    requires names { All (λ e. e.1 < length names.now.names) elements.now }
+    requires within { AreNamesOf names.now (symbols_of automaton.now).names }
+    ensures { IfOk result (λ symbols. symbols.items ≡ child_symbols names.now (Some automaton.now) (map (λ e. e.1) elements.now)) }
 {
-    let mut symbols = Vec::new(kept.alloc);
-    for (_, name) in elements {
-        symbols.push(automaton.symbol(names, *name))?;
+    let mut symbols = Vec::new(alloc);
+    for element in elements {
+        symbols.push(automaton.symbol(names, element.1))?;
     }
     Ok(symbols)
 }
 
-// Makes the list of child elements, and attributes them.
+// Makes the list of child elements with these symbols, and attributes them.
 fn list_by<L: Ledger>(
-    set: &Compiled,
-    kept: &mut KeptState,
+    alloc: Global,
+    lists: &mut ModelLists,
     automaton: &ContentAutomaton,
-    elements: &[(u32, NameId)],
+    symbols: &[u32],
     steps: &mut Steps<L>,
-) -> Result<(ModelList, Attribution), AllocError>
-// ensures list { IfOk result (λ r. IsListOf kept.new.lists r.0 automaton.now symbols × ¬ IsLive kept.old.lists r.0) }, others kept
-// ensures steps { steps.new ≤ steps.old + 3 * length elements.now }, on every result
+) -> Result<(Option<ModelList>, Attribution), AllocError>
+    requires symbols { AreSymbolsBy automaton.now symbols.now }
+    requires few { length symbols.now < 2 ^ 32 }
+    ensures listed { IfOk result (λ r. AreListed lists.old lists.new (Some automaton.now) symbols.now r.0 r.1) }
+    ensures others { KeepLists lists.old lists.new (λ _. ⊥) }
+    ensures least { steps.old ≤ steps.new }
+    ensures steps { steps.new ≤ steps.old + 3 * length symbols.now }
 {
-    let symbols = symbols_of(kept, automaton, &set.names, elements)?;
-    let list = kept.lists.make(automaton, symbols.as_slice(), steps)?;
-    let found = attribute(kept.alloc, automaton, symbols.as_slice(), steps)?;
-    Ok((list, found))
+    let list = lists.make(automaton, symbols, steps)?;
+    let found = attribute(alloc, automaton, symbols, steps)?;
+    Ok((Some(list), found))
 }
 
-// The list of child elements, if their parent's type has a content model, and their attribution.
+// The list of the child elements of an element of a type, if this has a content model, and their attribution.
 fn attribute_below<L: Ledger>(
     set: &Compiled,
     kept: &mut KeptState,
-    parent: Governing,
+    of: Option<TypeId>,
     elements: &[(u32, NameId)],
     steps: &mut Steps<L>,
-) -> Result<(Option<ModelList>, Attribution), AllocError> {
-    match set.model(&parent.of) {
-        None => Ok((None, attribute_none(kept.alloc, elements.len())?)),
-        Some(automaton) => {
-            let (list, found) = list_by(set, kept, automaton, elements, steps)?;
-            Ok((Some(list), found))
-        }
-    }
+) -> Result<(Option<ModelList>, Attribution), AllocError>
+    requires usable { IsUsable set.now }
+    requires names { All (λ e. e.1 < length set.now.names.names) elements.now }
+    requires few { length elements.now < 2 ^ 32 }
+    ensures listed { IfOk result (λ r. AreListed kept.old.lists kept.new.lists (models_of set.now of) (child_symbols set.now.names (models_of set.now of) (map (λ e. e.1) elements.now)) r.0 r.1) }
+    ensures others { KeepLists kept.old.lists kept.new.lists (λ _. ⊥) }
+    ensures rest { kept.new ≡ record kept.old { lists = kept.new.lists } }
+    ensures least { steps.old ≤ steps.new }
+    ensures steps { steps.new ≤ steps.old + 3 * length elements.now }
+{
+    let Some(automaton) = model_of(set, of) else {
+        return Ok((None, attribute_none(kept.alloc, elements.len())?));
+    };
+    let symbols = symbols_below(kept.alloc, automaton, &set.names, elements)?;
+    let lists = &mut kept.lists;
+    list_by(kept.alloc, lists, automaton, symbols.as_slice(), steps)
 }
 
-// What governs child elements with these terms.
+// What governs child elements with these terms, by what governs their parent.
 fn pairs_below(
+    alloc: Global,
     doc: &DocTree,
     set: &Compiled,
-    kept: &KeptState,
     parent: Governing,
     children: (&[(u32, NameId)], &[Option<TermId>]),
 ) -> Result<Vec<Governed>, AllocError>
-// ensures { IfOk result (λ pairs. map node pairs.items ≡ element_children × map pair pairs.items ≡ governed (set_of set.now) parent terms heads) }
+    requires usable { IsUsable set.now }
+    requires stands { (d : Document) × StandsFor set.now.names doc.now d }
+    requires elements { All (λ e. is_element_at doc.now e.0 ≡ true) children.0.now }
+    requires each { length children.1.now ≡ length children.0.now }
+    ensures nodes { IfOk result (λ pairs. map (λ child. child.node) pairs.items ≡ map (λ e. e.0) children.0.now) }
+    ensures pairs { IfOk result (λ pairs. (place : ℕ) (child : GovernedData) → slice_get pairs.items place ≡ Some child →
+        child.pair ≡ given_pair (set_of set.now) parent (slice_index_or children.1.now place None) (head_at (set_of set.now) doc.now child.node)) }
+    ensures governed { IfOk result (λ pairs. (place : ℕ) (child : GovernedData) → slice_get pairs.items place ≡ Some child → CanGovern set.now.parts child.pair) }
 {
     let (elements, terms) = children;
-    let mut pairs = Vec::new(kept.alloc);
-    for ((node, _), term) in elements.iter().zip(terms) {
-        pairs.push(pair_below(kept.alloc, doc, set, parent, (*node, *term))?)?;
+    let mut pairs = Vec::new(alloc);
+    for (element, term) in elements.iter().zip(terms) {
+        let child = pair_below(alloc, doc, set, parent, (element.0, *term))?;
+        pairs.push(child)?;
     }
     Ok(pairs)
 }
@@ -120,12 +158,17 @@ pub(crate) fn list_children<L: Ledger>(
     parent: &Governed,
     steps: &mut Steps<L>,
 ) -> Result<Listing, AllocError>
-// ensures list, stuck, pairs, others (slots as they were; no list but the new one is another), steps 3 * children on every result
+    requires beside { IsBeside set.now doc.now kept.old }
+    ensures listing { IfOk result (IsListing set.now doc.now kept.new parent.now) }
+    ensures others { KeepLists kept.old.lists kept.new.lists (λ _. ⊥) }
+    ensures rest { kept.new ≡ record kept.old { lists = kept.new.lists } }
+    ensures least { steps.old ≤ steps.new }
+    ensures steps { steps.new ≤ steps.old + 3 * length (element_children doc.now parent.now.node) }
 {
-    let elements = elements_below(doc, kept, parent.node)?;
-    let (list, found) = attribute_below(set, kept, parent.pair, elements.as_slice(), steps)?;
+    let elements = elements_below(kept.alloc, doc, parent.node)?;
+    let (list, found) = attribute_below(set, kept, parent.pair.of, elements.as_slice(), steps)?;
     let listed = (elements.as_slice(), found.terms.as_slice());
-    let children = pairs_below(doc, set, kept, parent.pair, listed)?;
+    let children = pairs_below(kept.alloc, doc, set, parent.pair, listed)?;
     Ok(Listing {
         list,
         stuck: found.stuck,
