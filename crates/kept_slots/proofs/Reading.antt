@@ -1,5 +1,5 @@
 -- What is kept under numbers before and after a write, where it is read off what stands in the table.
-use Rattle.std.proofs.Common.{◌≡◌, ◌≢◌, ℕ, ◌<◌, ◌≤◌, List, length, map, set, get_or, sym, ap, ◌∙◌, Option, None, refl, get_or-set_same, get_or-set_other}
+use Rattle.std.proofs.Common.{◌≡◌, ℕ, ◌<◌, ◌≤◌, List, length, map, set, get_or, sym, ap, ◌∙◌, Option, None, refl, get_or-set_same, get_or-set_other}
 use Rattle.std.specs.Option.{option_map}
 use Rattle.std.proofs.Math.ListN.{get_or-map, get_or-eq_default}
 use Rattle.kept_slots.specs.Slots.{at, Writes, Keeps}
