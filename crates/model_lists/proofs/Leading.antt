@@ -98,6 +98,13 @@ row-states (All m) before s l = absurd l
 pub row-reached : (a : ContentAutomaton) (before : List ℕ) (m : ModelAutomaton) → a ≡ States m → (s : ℕ) → LeadIn a before (Row s) → s ≡ state_of m.machine before
 row-reached a before m a_is s l = subst (λ (a : ContentAutomaton). LeadIn a before (Row s)) a_is l
 
+pub row-led : (a : ContentAutomaton) (m : ModelAutomaton) → a ≡ States m → (before : List ℕ) (r : Reached) → LeadIn a before r → (state : ℕ) × (r ≡ Row state)
+row-led a m a_is before r l = by r (subst (λ (a : ContentAutomaton). LeadIn a before r) a_is l)
+  where
+    by : (r : Reached) → LeadIn (States m) before r → (state : ℕ) × (r ≡ Row state)
+    by (Row s) l = (s, refl)
+    by (Seen s) l = absurd l
+
 pub row-next : (a : ContentAutomaton) (before : List ℕ) (m : ModelAutomaton) → a ≡ States m → (s n next : ℕ) → LeadIn a before (Row s) → next ≡ step_of m.machine s n → LeadIn a (before ++ n ∷ []) (Row next)
 row-next a before m a_is s n next l e =
     let at : s ≡ state_of m.machine before = row-reached a before m a_is s l in

@@ -1,8 +1,8 @@
 //! States that child elements lead to, for children that may come to a place of a list.
 
-ghost use Rattle.std.specs.Prelude.{◌≡◌, ◌+◌, ℕ, List, [], ◌∷◌, ◌++◌};
+ghost use Rattle.std.specs.Prelude.{◌≡◌, ◌+◌, ℕ, true, List, [], ◌∷◌, ◌++◌};
 ghost use Rattle.model_terms.specs.Symbols.{AreSymbolsBy};
-ghost use Rattle.model_terms.specs.Terms.{begins, is_word};
+ghost use Rattle.model_terms.specs.Terms.{begins, is_word, term_after};
 ghost use Rattle.content_models.specs.declared.state.AllState.{AllState as AllStateData};
 ghost use Rattle.model_lists.specs.Around.{LeadTo};
 ghost use Rattle.model_lists.specs.declared.around.Reached.TheVariants.{Row, Seen};
@@ -31,7 +31,7 @@ pub(crate) enum Reached {
 impl ChildState {
     /// The state before any children.
     pub fn start(automaton: &ContentAutomaton) -> ChildState
-    // ensures { LeadTo automaton.now [] result }
+        ensures { LeadTo automaton.now [] result }
     {
         let reached = match automaton {
             ContentAutomaton::States(states) => Reached::Row(states.start()),
@@ -43,10 +43,10 @@ impl ChildState {
     /// The term at the place that ends every marked prefix (Structures 3.4.4), of a child with this symbol with which the children
     /// begin a word.
     pub fn term(self, automaton: &ContentAutomaton, symbol: u32) -> Option<TermId>
-    // requires state { (before : List ℕ) × LeadTo automaton.now before self }
-    // requires symbol { AreSymbolsBy automaton.now (symbol ∷ []) }
-    // ensures { (before : List ℕ) → LeadTo automaton.now before self → begins automaton.now (before ++ symbol ∷ []) ≡ true
-    //     → result ≡ term_after automaton.now before symbol }
+        requires state { (before : List ℕ) × LeadTo automaton.now before self }
+        requires symbol { AreSymbolsBy automaton.now (symbol ∷ []) }
+        ensures { (before : List ℕ) → LeadTo automaton.now before self → AreSymbolsBy automaton.now (before ++ symbol ∷ []) →
+            begins automaton.now (before ++ symbol ∷ []) ≡ true → result ≡ term_after automaton.now before symbol }
     {
         match automaton {
             ContentAutomaton::States(states) => state_term(states, self.row(), symbol),
