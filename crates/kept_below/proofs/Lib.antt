@@ -1,0 +1,7 @@
+pub mod Walks
+mod Distinct
+pub mod Keeping
+pub mod Fits
+mod Counts
+mod Children
+pub mod Moving

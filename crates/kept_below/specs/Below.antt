@@ -1,9 +1,7 @@
 -- What is settled from an element downwards, and what stays as it is.
 use Rattle.std.specs.Prelude.{◌≡◌, ◌≢◌, ◌<◌, ◌^◌, ℕ, zero, suc, List, Option, Some, map, length, slice_get}
 use Rattle.std.specs.Option.{option_and_then}
-use Rattle.xs_codes.specs.declared.fault.Found.{Found}
 use Rattle.content_models.specs.declared.automaton.ContentAutomaton.{ContentAutomaton}
-use Rattle.compiled_schema.specs.Usable.{set_of}
 use Rattle.compiled_schema.specs.declared.compiled.Compiled.{Compiled}
 use Rattle.model_terms.specs.Terms.{stuck_in, terms_in}
 use Rattle.model_lists.specs.Lists.{ListsView, IsListOf, IsLive, KeepLists}
@@ -11,15 +9,14 @@ use Rattle.model_lists.specs.declared.handle.ModelList.{ModelList}
 use Rattle.child_terms.specs.declared.attribution.Attribution.{Attribution}
 use Rattle.doc_nodes.specs.Nodes.{Nodes, node, depth_by, Has, element_children}
 use Rattle.doc_changes.specs.Held.{parent_at}
-use Rattle.kept_slots.specs.Slots.{at, Writes}
-use Rattle.kept_records.specs.declared.element.KeptElement.{KeptElement}
+use Rattle.kept_slots.specs.Slots.{at}
 use Rattle.kept_records.specs.Slots.{KeptSlots, IsMade, kept_at, pair_at}
 use Rattle.kept_records.specs.Fit.{models_of, IsListed}
-use Rattle.kept_state.specs.Kept.{CanGovern, children_of}
+use Rattle.kept_state.specs.Kept.{CanGovern, IsBeside}
 use Rattle.kept_state.specs.declared.children.KeptChildren.{KeptChildren}
 use Rattle.kept_state.specs.declared.element.Governed.{Governed}
 use Rattle.kept_state.specs.declared.state.KeptState.{KeptState}
-use Rattle.kept_judging.specs.Judged.{symbols_by, pair_by, IsJudgedBy}
+use Rattle.kept_judging.specs.Judged.{symbols_by, pair_by, IsJudgedAnew}
 use Rattle.kept_below.specs.declared.listing.Listing.{Listing}
 
 -- ---- what is below an element
@@ -66,10 +63,14 @@ pub record IsSettled (ns : Nodes) (old new : KeptState) (element : Governed) : T
 abbrev pub IsSpare : KeptState → Option ModelList → Type 0
 IsSpare k list = (h : ModelList) → list ≡ Some h → IsLive k.lists h × ((m : ℕ) → (kept_at k.records.slots m).list ≢ Some h)
 
+-- it was not there before
+abbrev pub IsFresh : ListsView → Option ModelList → Type 0
+IsFresh old list = (h : ModelList) → list ≡ Some h → ¬ IsLive old h
+
 -- child elements with these symbols are attributed by the automaton, if there is one, and listed exactly then, in a new list
 pub record AreListed (old new : ListsView) (a : Option ContentAutomaton) (symbols : List ℕ) (list : Option ModelList) (found : Attribution) : Type 0 where
   pub list_is : IsListed new a list symbols
-  pub fresh : (h : ModelList) → list ≡ Some h → ¬ IsLive old h
+  pub fresh : IsFresh old list
   pub stuck_is : found.stuck ≡ stuck_in a symbols
   pub terms_are : found.terms.items ≡ terms_in a symbols
 
@@ -82,18 +83,17 @@ module _ (c : Compiled) (ns : Nodes) where
     pub few : length children < 2 ^ 32
 
   -- they are listed and attributed, and their list, if they have one, is a new one
-  pub record IsListing (k : KeptState) (parent : Governed) (listing : Listing) : Type 0 where
+  pub record IsListing (old new : KeptState) (parent : Governed) (listing : Listing) : Type 0 where
     pub children_are : AreGoverned parent listing.children.items
-    pub list_is : IsListed k.lists (models_of c parent.pair.of) listing.list (symbols_by c ns parent.pair.of parent.node)
+    pub list_is : IsListed new.lists (models_of c parent.pair.of) listing.list (symbols_by c ns parent.pair.of parent.node)
     pub stuck_is : listing.stuck ≡ stuck_in (models_of c parent.pair.of) (symbols_by c ns parent.pair.of parent.node)
-    pub spare : IsSpare k listing.list
+    pub spare : IsSpare new listing.list
+    pub fresh : IsFresh old.lists listing.list
 
-  -- an element is kept anew: governed so, with this of its child elements, and judged by it; the list that it had is given back
+  -- an element is kept anew: governed so, with this of its child elements, and judged by it; then the list that it had is given back
   pub record IsMadeAnew (old new : KeptState) (element : Governed) (children : KeptChildren) : Type 0 where
-    pub kept : KeptElement
-    pub slots : Writes old.records.slots new.records.slots element.node (Some kept)
-    pub pair_is : kept.found.governing ≡ element.pair
-    pub children_are : children_of kept ≡ children
-    pub judged : IsJudgedBy (set_of c) ns new element.node children
-    pub lists : KeepLists old.lists new.lists (λ h. (kept_at old.records.slots element.node).list ≡ Some h)
-    pub ids : new.root_ids ≡ old.root_ids
+    pub mid : KeptState
+    pub anew : IsJudgedAnew c ns old mid element.node element.pair children
+    pub beside : IsBeside c ns mid
+    pub rest : new ≡ record mid { lists = new.lists }
+    pub lists : KeepLists mid.lists new.lists (λ h. (kept_at old.records.slots element.node).list ≡ Some h)

@@ -14,7 +14,7 @@ ghost use Rattle.kept_records.specs.Fit.{models_of, AboveIn, IsGathered, IsTop};
 ghost use Rattle.kept_state.specs.Kept.{CanGovern, FitBut, IsBeside};
 ghost use Rattle.kept_state.specs.declared.element.Governed.{Governed as GovernedData};
 ghost use Rattle.kept_judging.specs.Judged.{AreChildren, pair_by};
-ghost use Rattle.kept_below.specs.Below.{AreAbove, AreGoverned, IsBelow, IsMadeAnew, IsSettled, IsSpare, KeepsBut};
+ghost use Rattle.kept_below.specs.Below.{AreAbove, AreGoverned, IsBelow, IsFresh, IsMadeAnew, IsSettled, IsSpare, KeepsBut};
 ghost use Rattle.kept_below.specs.Moved.{AreGivenDown, moved};
 
 use crate::listing::list_children;
@@ -105,6 +105,7 @@ fn settle_children<L: Ledger>(
     requires fit { (waiting : List ℕ) × FitBut set.old doc.now kept.old (parent.now.node ∷ waiting) × AreAbove doc.now parent.now.node waiting }
     ensures children { IfOk result (λ children. AreChildren set.old doc.now kept.new parent.now.node parent.now.pair children) }
     ensures spare { IfOk result (λ children. IsSpare kept.new children.list) }
+    ensures fresh { IfOk result (λ children. IsFresh kept.old.lists children.list) }
     ensures fit { OnOk result ((waiting : List ℕ) → FitBut set.old doc.now kept.old (parent.now.node ∷ waiting) → FitBut set.old doc.now kept.new (parent.now.node ∷ waiting)) }
     ensures rest { OnOk result (KeepsBut (IsBelow doc.now parent.now.node) kept.old kept.new) }
     ensures beside { OnOk result (IsBeside set.old doc.now kept.new) }

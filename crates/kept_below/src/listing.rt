@@ -159,7 +159,7 @@ pub(crate) fn list_children<L: Ledger>(
     steps: &mut Steps<L>,
 ) -> Result<Listing, AllocError>
     requires beside { IsBeside set.now doc.now kept.old }
-    ensures listing { IfOk result (IsListing set.now doc.now kept.new parent.now) }
+    ensures listing { IfOk result (IsListing set.now doc.now kept.old kept.new parent.now) }
     ensures others { KeepLists kept.old.lists kept.new.lists (λ _. ⊥) }
     ensures rest { kept.new ≡ record kept.old { lists = kept.new.lists } }
     ensures least { steps.old ≤ steps.new }
