@@ -36,9 +36,9 @@ use Rattle.kept_state.specs.declared.element.Outcome.{Outcome}
 use Rattle.kept_state.specs.declared.state.KeptState.{KeptState}
 use Rattle.kept_state.proofs.Beside.{kept-there, rewrites-again}
 use Rattle.kept_judging.specs.Judged.{symbols_by, shape_with, AreChildren, IsJudgedBy, IsJudgedAnew}
-use Rattle.kept_judging.proofs.Anew.{not-own-parent, fit-judged, judged-fit, anew-pair, anew-all-fit, children-stay, rewritten-waits}
+use Rattle.kept_judging.proofs.Anew.{not-own-parent, fit-judged, judged-fit, anew-fits, children-stay, rewritten-fit}
 use Rattle.kept_above.specs.Climbing.{with_outcome, IsNearly, IsClimbing, KeepsRest}
-use Rattle.kept_above.proofs.Placed.{others-differ, children-differ, few-children, child-place, parent-element}
+use Rattle.kept_above.proofs.Placed.{others-differ, place-among, children-differ, few-children, child-place, parent-element}
 
 -- ---- how many are counted
 
@@ -122,6 +122,109 @@ keeps-again old mid new first second = record {
   ids = second.ids ∙ first.ids;
 }
 
+-- ---- the parent of an element counts it as what it came to before
+
+module _ (c : Compiled) (ns : Nodes) (old new : KeptState) (sound : IsSound ns) (n q : ℕ) (element : is_element_at ns n ≡ true) (above : parent_at ns n ≡ Some q)
+    (others : (place m : ℕ) → slice_get (element_children ns q) place ≡ Some m → m ≢ n → record_at new.records.slots m ≡ record_at old.records.slots m) where
+  abbrev inner : List ℕ
+  inner = element_children ns q
+
+  place : (i : ℕ) × (slice_get inner i ≡ Some n)
+  place = child-place ns sound n q above element
+
+  rest : ChildCounts
+  rest = counts_of (map (record_at old.records.slots) (remove inner place.0))
+
+  rest-now : rest ≡ counts_of (map (record_at new.records.slots) (remove inner place.0))
+  unfolding rest
+  rest-now =
+      ap counts_of (map-same (record_at old.records.slots) (record_at new.records.slots) (remove inner place.0)
+      (λ j m e. let among = place-among inner place.0 j m e in sym (others among.0 m among.1 (others-differ inner place.0 n place.1 (children-differ ns sound q) j m e))))
+
+  -- where all that is kept of its child elements is right but for the counts, and these were right before
+  pub nearly : AreChildren c ns new q (pair_at new.records.slots q) (record (children_at new.records.slots q) { counts = counts_of (map (record_at new.records.slots) inner) }) →
+      (kept_at new.records.slots q).counts ≡ counts_of (map (record_at old.records.slots) inner) → IsJudgedBy (set_of c) ns new q (children_at new.records.slots q) →
+      IsNearly c ns new q n (outcome_at old.records.slots n)
+  unfolding rest
+  nearly below counts judged = record {
+    others = rest;
+    counted = counts ∙ counts-at (record_at old.records.slots) inner place.0 n place.1;
+    children = subst (λ (counts : ChildCounts). AreChildren c ns new q (pair_at new.records.slots q) (record (children_at new.records.slots q) { counts = counts }))
+    (counts-at (record_at new.records.slots) inner place.0 n place.1 ∙ ap (with_outcome (outcome_at new.records.slots n)) (sym rest-now)) below;
+    judged = judged;
+  }
+
+-- ---- an element that fits is kept otherwise
+
+module _ (c : Compiled) (ns : Nodes) (old new : KeptState) (beside : IsBeside c ns old) (n : ℕ) (made : IsMade old.records.slots n) (kept : KeptElement) (rewrites : Rewrites old new n (Some kept))
+    (pair : kept.found.governing ≡ pair_at old.records.slots n) where
+  sound : IsSound ns
+  sound = beside.over.1.stands.links
+
+  element : is_element_at ns n ≡ true
+  element = beside.over.1.only n made
+
+  other-same : (m : ℕ) → m ≢ n → kept_at new.records.slots m ≡ kept_at old.records.slots m
+  other-same m other = ap (λ o. unwrap_or o blank) (rewrites.slots.others m other)
+
+  pub pair-stays : (m : ℕ) → pair_at new.records.slots m ≡ pair_at old.records.slots m
+  pair-stays m = elim (cases_eq m n) [
+    | inl e ↦ ap (pair_at new.records.slots) e ∙ ap (λ (x : KeptElement). x.found.governing) (kept-there new.records.slots n kept rewrites.slots.here) ∙ pair ∙ ap (pair_at old.records.slots) (sym e)
+    | inr other ↦ ap (λ (x : KeptElement). x.found.governing) (other-same m other)
+  ]
+
+  pub made-now : (m : ℕ) → IsMade old.records.slots m → IsMade new.records.slots m
+  made-now m was = elim (cases_eq m n) [
+    | inl e ↦ (kept, ap (at new.records.slots) e ∙ rewrites.slots.here)
+    | inr other ↦ (was.0, rewrites.slots.others m other ∙ was.1)
+  ]
+
+  pub made-before : (m : ℕ) → IsMade new.records.slots m → IsMade old.records.slots m
+  made-before m now = elim (cases_eq m n) [
+    | inl e ↦ (made.0, ap (at old.records.slots) e ∙ made.1)
+    | inr other ↦ (now.0, sym (rewrites.slots.others m other) ∙ now.1)
+  ]
+
+  module _ (fits : FitBut c ns old (n ∷ [])) (q : ℕ) (above : parent_at ns n ≡ Some q) (was : IsMade old.records.slots q) where
+    off : q ≢ n
+    off e = let own = by-node ns n (node ns n) refl element in not-own-parent ns sound n own.0 own.1 (above ∙ ap Some e)
+
+    fit-above : IsFit (set_of c) (models_of c) ns old.records.slots old.lists old.root_ids q
+    fit-above = fits q was ((λ e. off (sym e)), tt)
+
+    abbrev counts-now : ChildCounts
+    counts-now = counts_of (map (record_at new.records.slots) (element_children ns q))
+
+    below-above : AreChildren c ns new q (pair_at old.records.slots q) (record (children_at old.records.slots q) { counts = counts-now })
+    below-above = record {
+      given = λ i x e. record { made = made-now x (fit-above.gathered.given i x e).made; pair_is = pair-stays x ∙ (fit-above.gathered.given i x e).pair_is };
+      list_is = subst (λ (v : ListsView). IsListed v (models_of c (pair_at old.records.slots q).of) (kept_at old.records.slots q).list (symbols_by c ns (pair_at old.records.slots q).of q)) (sym rewrites.lists) fit-above.gathered.list_is;
+      stuck_is = fit-above.gathered.stuck_is;
+      counts_are = refl;
+    }
+
+    pub nearly-above : IsNearly c ns new q n (outcome_at old.records.slots n)
+    nearly-above =
+        nearly c ns old new sound n q element above (λ i m e other. ap (λ (x : KeptElement). x.found.element) (other-same m other))
+        (subst (λ (x : KeptElement). AreChildren c ns new q x.found.governing (record (children_of x) { counts = counts-now })) (sym (other-same q off)) below-above)
+        (ap (λ (x : KeptElement). x.counts) (other-same q off) ∙ fit-above.gathered.counts_are)
+        (subst (λ (x : KeptElement). IsJudgedBy (set_of c) ns new q (children_of x)) (sym (other-same q off))
+        (judged-kept (set_of c) ns old new q (children_at old.records.slots q) (ap (λ (x : KeptElement). x.found) (other-same q off)) (ap (λ (x : KeptElement). x.text) (other-same q off))
+        (ap (λ (x : KeptElement). x.identity) (other-same q off)) rewrites.ids (fit-judged c ns old q fit-above)))
+
+  -- it climbs
+  pub begun : ((m : ℕ) → is_element_at ns m ≡ true → IsMade old.records.slots m) → FitBut c ns old (n ∷ []) → IsFit (set_of c) (models_of c) ns new.records.slots new.lists new.root_ids n →
+      IsClimbing c ns new n (outcome_at old.records.slots n)
+  begun all fits fit = record {
+    element = element;
+    all = λ m is. made-now m (all m is);
+    root = λ e. rewritten-fit c ns old new n (Some kept) rewrites beside [] fits (λ q above. absurd (none-some q (sym e ∙ above))) fit;
+    parent = λ q above. (
+      rewritten-fit c ns old new n (Some kept) rewrites beside (q ∷ []) (λ m was lacks. fits m was (lacks.0, tt)) (λ r higher. inl (same_Some q r (sym above ∙ higher))) fit,
+      nearly-above fits q above (all q (parent-element c.names ns beside.over.0 beside.over.1.stands n q above)),
+    );
+  }
+
 -- ---- one level
 
 -- the parent is counted again
@@ -133,12 +236,6 @@ module _ (c : Compiled) (ns : Nodes) (old mid : KeptState) (beside : IsBeside c 
 
   abbrev again : KeptElement
   again = record k { counts = counted }
-
-  sound : IsSound ns
-  sound = beside.over.1.stands.links
-
-  element : is_element_at ns p ≡ true
-  element = beside.over.1.only p (k, is)
 
   kept-old : kept_at old.records.slots p ≡ k
   kept-old = kept-there old.records.slots p k is
@@ -163,99 +260,20 @@ module _ (c : Compiled) (ns : Nodes) (old mid : KeptState) (beside : IsBeside c 
   below-mid =
       subst (λ (g : Governing). AreChildren c ns mid p g (children_at mid.records.slots p)) pair-mid
       (subst (AreChildren c ns mid p (pair_at old.records.slots p)) children-mid
-      (children-stay c ns old mid p (Some again) recounted beside element (pair_at old.records.slots p) (record (children_at old.records.slots p) { counts = counted }) (h.parent p up).1.children))
+      (children-stay c ns old mid p (Some again) recounted beside (beside.over.1.only p (k, is)) (pair_at old.records.slots p) (record (children_at old.records.slots p) { counts = counted }) (h.parent p up).1.children))
 
   -- and judged by that
   module _ (new : KeptState) (between : IsBeside c ns mid) (after : IsBeside c ns new) (anew : IsJudgedAnew c ns mid new p (pair_at mid.records.slots p) (children_at mid.records.slots p)) where
-    all-fit : (waiting : List ℕ) → FitBut c ns old (p ∷ waiting) → AboveIn ns p waiting → FitBut c ns new waiting
-    all-fit waiting all above =
-        anew-all-fit c ns mid new p (pair_at mid.records.slots p) (children_at mid.records.slots p) anew between after below-mid waiting
-        (rewritten-waits c ns old mid p (Some again) recounted beside waiting all above) above
-
     whole : Rewrites old new p (Some anew.kept)
     whole = rewrites-again old mid new p (Some again) (Some anew.kept) recounted anew.rewrites
 
-    other-same : (m : ℕ) → m ≢ p → kept_at new.records.slots m ≡ kept_at old.records.slots m
-    other-same m other = ap (λ o. unwrap_or o blank) (whole.slots.others m other)
-
-    pair-stays : (m : ℕ) → pair_at new.records.slots m ≡ pair_at old.records.slots m
-    pair-stays m = elim (cases_eq m p) [
-      | inl e ↦
-          ap (pair_at new.records.slots) e ∙ anew-pair c ns mid new p (pair_at mid.records.slots p) (children_at mid.records.slots p) anew ∙ sym pair-mid ∙ ap (pair_at old.records.slots) (sym e)
-      | inr other ↦ ap (λ (x : KeptElement). x.found.governing) (other-same m other)
-    ]
-
-    made-now : (m : ℕ) → IsMade old.records.slots m → IsMade new.records.slots m
-    made-now m made = elim (cases_eq m p) [
-      | inl e ↦ (anew.kept, ap (at new.records.slots) e ∙ whole.slots.here)
-      | inr other ↦ (made.0, whole.slots.others m other ∙ made.1)
-    ]
-
-    made-before : (m : ℕ) → IsMade new.records.slots m → IsMade old.records.slots m
-    made-before m made = elim (cases_eq m p) [
-      | inl e ↦ (k, ap (at old.records.slots) e ∙ is)
-      | inr other ↦ (made.0, sym (whole.slots.others m other) ∙ made.1)
-    ]
-
-    -- the parent of the parent counts that as what it came to before
-    module _ (q : ℕ) (above : parent_at ns p ≡ Some q) where
-      off : q ≢ p
-      off e = let own = by-node ns p (node ns p) refl element in not-own-parent ns sound p own.0 own.1 (above ∙ ap Some e)
-
-      made-above : IsMade old.records.slots q
-      made-above = h.all q (parent-element c.names ns beside.over.0 beside.over.1.stands p q above)
-
-      fit-above : IsFit (set_of c) (models_of c) ns old.records.slots old.lists old.root_ids q
-      fit-above = (h.parent p up).0 q made-above ((λ e. off (sym e)), tt)
-
-      abbrev inner : List ℕ
-      inner = element_children ns q
-
-      place : (i : ℕ) × (slice_get inner i ≡ Some p)
-      place = child-place ns sound p q above element
-
-      rest : ChildCounts
-      rest = counts_of (map (record_at old.records.slots) (remove inner place.0))
-
-      rest-now : rest ≡ counts_of (map (record_at new.records.slots) (remove inner place.0))
-      unfolding rest
-      rest-now =
-          ap counts_of (map-same (record_at old.records.slots) (record_at new.records.slots) (remove inner place.0)
-          (λ j y e. ap (λ (x : KeptElement). x.found.element) (sym (other-same y (others-differ inner place.0 p place.1 (children-differ ns sound q) j y e)))))
-
-      abbrev nearly-children : KeptElement → KeptChildren
-      nearly-children x = record (children_of x) { counts = with_outcome (outcome_at new.records.slots p) rest }
-
-      children-above : AreChildren c ns new q (pair_at old.records.slots q) (nearly-children (kept_at old.records.slots q))
-      unfolding rest
-      children-above = record {
-        given = λ i x e. record { made = made-now x (fit-above.gathered.given i x e).made; pair_is = pair-stays x ∙ (fit-above.gathered.given i x e).pair_is };
-        list_is = subst (λ (v : ListsView). IsListed v (models_of c (pair_at old.records.slots q).of) (kept_at old.records.slots q).list (symbols_by c ns (pair_at old.records.slots q).of q)) (sym whole.lists) fit-above.gathered.list_is;
-        stuck_is = fit-above.gathered.stuck_is;
-        counts_are = ap (with_outcome (outcome_at new.records.slots p)) rest-now ∙ sym (counts-at (record_at new.records.slots) inner place.0 p place.1);
-      }
-
-      near-above : IsNearly c ns new q p (outcome_at old.records.slots p)
-      unfolding rest
-      near-above = record {
-        others = rest;
-        counted = ap (λ (x : KeptElement). x.counts) (other-same q off) ∙ fit-above.gathered.counts_are ∙ counts-at (record_at old.records.slots) inner place.0 p place.1;
-        children = subst (λ (x : KeptElement). AreChildren c ns new q x.found.governing (nearly-children x)) (sym (other-same q off)) children-above;
-        judged = subst (λ (x : KeptElement). IsJudgedBy (set_of c) ns new q (children_of x)) (sym (other-same q off))
-        (judged-kept (set_of c) ns old new q (children_at old.records.slots q) (ap (λ (x : KeptElement). x.found) (other-same q off)) (ap (λ (x : KeptElement). x.text) (other-same q off))
-        (ap (λ (x : KeptElement). x.identity) (other-same q off)) whole.ids (fit-judged c ns old q fit-above));
-      }
+    pair-same : anew.kept.found.governing ≡ pair_at old.records.slots p
+    pair-same = anew.pair_is ∙ sym pair-mid
 
     pub climbed : IsClimbing c ns new p (outcome_at old.records.slots p)
-    climbed = record {
-      element = element;
-      all = λ n there. made-now n (h.all n there);
-      root = λ e. all-fit [] (h.parent p up).0 (λ q above. absurd (none-some q (sym e ∙ above)));
-      parent = λ q above. (
-        all-fit (q ∷ []) (λ m made lacks. (h.parent p up).0 m made (lacks.0, tt)) (λ r higher. inl (same_Some q r (sym above ∙ higher))),
-        near-above q above,
-      );
-    }
+    climbed =
+        begun c ns old new beside p (k, is) anew.kept whole pair-same h.all (h.parent p up).0
+        (anew-fits c ns mid new p (pair_at mid.records.slots p) (children_at mid.records.slots p) anew between after below-mid)
 
     rest-here : kept_at new.records.slots p ≡ record (kept_at old.records.slots p) { counts = (kept_at new.records.slots p).counts; found = (kept_at new.records.slots p).found }
     rest-here =
@@ -274,11 +292,11 @@ module _ (c : Compiled) (ns : Nodes) (old mid : KeptState) (beside : IsBeside c 
 
     pub kept-rest : KeepsRest old new
     kept-rest = record {
-      made = λ n. (made-now n, made-before n);
-      pairs = pair-stays;
+      made = λ n. (made-now c ns old new beside p (k, is) anew.kept whole pair-same n, made-before c ns old new beside p (k, is) anew.kept whole pair-same n);
+      pairs = pair-stays c ns old new beside p (k, is) anew.kept whole pair-same;
       rest = λ n. elim (cases_eq n p) [
         | inl e ↦ subst (λ m. kept_at new.records.slots m ≡ record (kept_at old.records.slots m) { counts = (kept_at new.records.slots m).counts; found = (kept_at new.records.slots m).found }) (sym e) rest-here
-        | inr other ↦ ap (λ (x : KeptElement). record x { counts = (kept_at new.records.slots n).counts; found = (kept_at new.records.slots n).found }) (other-same n other)
+        | inr other ↦ ap (λ (x : KeptElement). record x { counts = (kept_at new.records.slots n).counts; found = (kept_at new.records.slots n).found }) (ap (λ o. unwrap_or o blank) (whole.slots.others n other))
       ];
       lists = whole.lists;
       ids = whole.ids;

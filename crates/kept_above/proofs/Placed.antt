@@ -58,6 +58,14 @@ has-at [] i x e = absurd (none-some x e)
 has-at (y ∷ ys) zero x e = inl (same_Some y x e)
 has-at (y ∷ ys) (suc i) x e = inr (has-at ys i x e)
 
+-- what is at a place of the others has one among all
+pub place-among : (xs : List ℕ) (i j x : ℕ) → slice_get (remove xs i) j ≡ Some x → (place : ℕ) × (slice_get xs place ≡ Some x)
+place-among [] zero j x e = absurd (none-some x e)
+place-among [] (suc i) j x e = absurd (none-some x e)
+place-among (y ∷ ys) zero j x e = (suc j, e)
+place-among (y ∷ ys) (suc i) zero x e = (0, e)
+place-among (y ∷ ys) (suc i) (suc j) x e = let r = place-among ys i j x e in (suc r.0, r.1)
+
 pub others-differ : (xs : List ℕ) (i x : ℕ) → slice_get xs i ≡ Some x → Distinct xs → (j y : ℕ) → slice_get (remove xs i) j ≡ Some y → y ≢ x
 others-differ xs i x e d j y f =
     lacks-has x y (remove xs i) (distinct-remove xs i x (slice_get_within xs i x e) (λ other. get_or_from_slice_get xs i x other e) d).1 (has-at (remove xs i) j y f)
