@@ -4,6 +4,5 @@
 mod change;
 mod forget;
 mod own;
-mod texts;
 
 pub use change::keep_change;
