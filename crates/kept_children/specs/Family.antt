@@ -53,5 +53,6 @@ module _ (c : Compiled) (ns : Nodes) (k : KeptState) (n : ℕ) where
     pub beside : IsBeside c ns k
     pub top : IsTop (set_of c) ns k.records.slots
     pub fit : FitBut c ns k (n ∷ waiting)
+    pub apart : Lacks n waiting
     pub gathered : (m : ℕ) → Has m waiting → IsGathered (set_of c) (models_of c) ns k.records.slots k.lists m
     pub judged : IsJudgedBy (set_of c) ns k n was
