@@ -1,6 +1,7 @@
 //! The codes of identity constraints and of IDs, over what is kept.
 #![tactic(auto)]
 
+mod codes;
 mod scopes;
 mod siblings;
 

@@ -1,58 +1,84 @@
 //! The elements of a document as identity constraints see them.
 
+ghost use Rattle.std.specs.Prelude.{◌≡◌, ◌+◌, ◌<◌, ◌^◌, [], ◌∷◌, drop, slice_get, Some, IfSome, MatchOption};
+ghost use Rattle.tree_rows.specs.Forest.{Document, count};
+ghost use Rattle.doc_changes.specs.Stands.{StandsFor};
+ghost use Rattle.identity_constraints.specs.Seen.{none};
+ghost use Rattle.identity_assessment.specs.Identity.{seen_element};
+ghost use Rattle.xs_names.specs.Names.{NameTable};
+ghost use Rattle.path_walk.specs.Sight as sight;
+ghost use Rattle.tree_assess.specs.Entries.{entry_of};
+ghost use Rattle.kept_keys.specs.Seen.{elements_under, seen_to, siblings_of, IsFirstKept};
+
 use doc_tree::DocTree;
 use kept_records::{KeptElement, KeptRecords};
 use path_walk::{KeySiblings, KeySight};
 
-/// The child elements of an element from a place on, each with all below it.
+/// Child elements of an element from a place on, each with all below it, as far as something is kept of them.
 #[derive(Clone, Copy)]
 pub(crate) struct KeptSiblings<'a> {
     pub doc: &'a DocTree,
     pub records: &'a KeptRecords,
-    /// The first of them.
-    pub node: Option<u32>,
-    /// Their parent, 0 where there is none.
-    pub parent: u32,
-    /// The place of the first.
+    /// Their parent, none where they are the root.
+    pub parent: Option<u32>,
+    /// The place of the first among the child elements of their parent.
     pub place: u32,
+    /// How many levels of elements there may be, theirs among them.
+    pub levels: u32,
+}
+
+/// An element of which something is kept.
+#[derive(Clone, Copy)]
+pub(crate) struct FirstKept<'a> {
+    pub node: u32,
+    pub kept: &'a KeptElement,
 }
 
 impl<'a> KeptSiblings<'a> {
-    /// An element, and those behind it among the child elements of its parent.
-    pub(crate) fn of(doc: &'a DocTree, records: &'a KeptRecords, node: u32) -> Self
-    // ensures { first (forest result) is the element }
+    /// The root with all elements below it. There are no more levels than nodes.
+    pub(crate) fn of(doc: &'a DocTree, records: &'a KeptRecords) -> Self
+        ensures { (t : NameTable) (d : Document) → StandsFor t doc.now d → siblings_of result ≡ seen_to records.now.slots doc.now (count d.forest) (1 ∷ []) }
     {
-        let parent = match doc.parent(node) {
-            None => 0,
-            Some(parent) => parent,
-        };
-        let place = match doc.element_place(node) {
-            None => 0,
-            Some(place) => place,
-        };
         KeptSiblings {
             doc,
             records,
-            node: Some(node),
-            parent,
-            place,
+            parent: None,
+            place: 0,
+            levels: doc.node_count(),
         }
     }
 
-    // Those from a place on among the child elements of an element.
-    fn among(&self, parent: u32, place: u32) -> KeptSiblings<'a> {
-        KeptSiblings {
-            doc: self.doc,
-            records: self.records,
-            node: self.doc.element_at(parent, place),
-            parent,
-            place,
+    // The number of the first, if there is one.
+    fn node(&self) -> Option<u32>
+        ensures node { result ≡ slice_get (elements_under self.now.doc.now self.now.parent) self.now.place }
+        ensures place { IfSome result (λ n. self.now.place + 1 < 2 ^ 32) }
+    {
+        match self.parent {
+            None if self.place == 0 => Some(1),
+            Some(parent) if self.place < self.doc.child_count(parent) => {
+                self.doc.element_at(parent, self.place)
+            }
+            _ => None,
         }
+    }
+
+    // What is kept of the first, if there is one.
+    fn first_kept(&self) -> Option<FirstKept<'a>>
+        ensures { MatchOption result (siblings_of self.now ≡ none) (λ first. IsFirstKept self.now first.node first.kept.now) }
+    {
+        if self.levels == 0 {
+            return None;
+        }
+        let node = self.node()?;
+        let kept = self.records.get(node)?;
+        Some(FirstKept { node, kept })
     }
 }
 
-/// What identity constraints see of an element.
-pub(crate) fn sight_of<'a>(own: &'a KeptElement) -> KeySight<'a> {
+// What identity constraints see of an element.
+fn sight_of<'a>(own: &'a KeptElement) -> KeySight<'a>
+    ensures { sight.seen result ≡ seen_element (entry_of own.now.found) }
+{
     let entry = &own.found;
     KeySight {
         number: entry.number,
@@ -66,32 +92,40 @@ pub(crate) fn sight_of<'a>(own: &'a KeptElement) -> KeySight<'a> {
 }
 
 impl<'a> KeySiblings for KeptSiblings<'a> {
-    ghost use Rattle.identity_constraints.specs.Seen.{none};
+    ghost use Rattle.kept_keys.specs.Seen.{siblings_of};
 
-    // to be: the forest of the elements from the place on, each seen as what is kept of it
-    ghost forest = { λ s. none };
+    ghost forest = { siblings_of };
 
     fn first(&self) -> Option<KeySight<'_>> {
-        match self.node {
+        match self.first_kept() {
             None => None,
-            Some(node) => match self.records.get(node) {
-                None => None,
-                Some(own) => Some(sight_of(own)),
-            },
+            Some(first) => Some(sight_of(first.kept)),
         }
     }
 
     fn below(&self) -> Self {
-        match self.node {
+        match self.first_kept() {
             None => *self,
-            Some(node) => self.among(node, 0),
+            Some(first) => KeptSiblings {
+                doc: self.doc,
+                records: self.records,
+                parent: Some(first.node),
+                place: 0,
+                levels: self.levels - 1,
+            },
         }
     }
 
     fn next(&self) -> Self {
-        match self.node {
+        match self.first_kept() {
             None => *self,
-            Some(_) => self.among(self.parent, self.place + 1),
+            Some(_) => KeptSiblings {
+                doc: self.doc,
+                records: self.records,
+                parent: self.parent,
+                place: self.place + 1,
+                levels: self.levels,
+            },
         }
     }
 }
