@@ -1,0 +1,3 @@
+mod Siblings
+mod Seeing
+mod Coding
