@@ -91,7 +91,7 @@ few xs n d below = length-le_from_distinct_below xs n (distinct xs d) (λ q h. b
 -- ---- child elements
 
 -- a number of a node is one that was given out
-in-table : (ns : Nodes) (n : ℕ) (it : Node) → IsNode ns n it → n < length ns
+pub in-table : (ns : Nodes) (n : ℕ) (it : Node) → IsNode ns n it → n < length ns
 in-table ns n it is = elim (cases_lt n (length ns)) [
   | inl lt ↦ lt
   | inr past ↦ absurd (none-some it (sym (get_or-eq_default ns None past) ∙ is))
