@@ -37,7 +37,7 @@ pub for-each : (h : ℕ → List Found) (ns : List ℕ) (xs : List (List Found))
 for-each h [] [] a = refl
 for-each h [] (x ∷ xs) a = absurd a
 for-each h (n ∷ ns) [] a = absurd a
-for-each h (n ∷ ns) (x ∷ xs) a = ap suc (for-each h ns xs a)
+for-each h (n ∷ ns) (x ∷ xs) a = ap suc (for-each h ns xs a.1)
 
 pub for-at : (h : ℕ → List Found) (ns : List ℕ) (xs : List (List Found)) → AreFor h ns xs → (i n : ℕ) (x : List Found) → slice_get ns i ≡ Some n → slice_get xs i ≡ Some x → x ≡ h n
 for-at h [] xs a i n x e f = absurd (none-some n e)
