@@ -8,14 +8,12 @@ use Rattle.xs_codes.specs.declared.fault.Found.{Found}
 use Rattle.assess_records.specs.Counts.{counts_of, child_count, attempt_count}
 use Rattle.assess_records.specs.Numbered.{shape_of}
 use Rattle.assess_records.specs.declared.counts.ChildCounts.{ChildCounts}
-use Rattle.assess_records.specs.declared.record.ElementRecord.{ElementRecord}
 use Rattle.assess_records.specs.declared.shape.ElementShape.{ElementShape}
 use Rattle.elem_governing.specs.declared.pairs.Governing.{Governing}
 use Rattle.assessment.specs.Attribution.{SchemaSet}
 use Rattle.assessment.specs.Assessment.{AreJudged}
 use Rattle.compiled_schema.specs.Usable.{set_of}
 use Rattle.compiled_schema.specs.declared.compiled.Compiled.{Compiled}
-use Rattle.tree_assess.proofs.Counting.{child_more, attempt_more}
 use Rattle.tree_assess.specs.Entries.{entry_of}
 use Rattle.tree_assess.specs.declared.entry.ElementEntry.{ElementEntry}
 use Rattle.model_lists.specs.Lists.{ListsView}
@@ -38,17 +36,10 @@ use Rattle.kept_state.proofs.Beside.{kept-there, rewrites-again}
 use Rattle.kept_judging.specs.Judged.{symbols_by, shape_with, AreChildren, IsJudgedBy, IsJudgedAnew}
 use Rattle.kept_judging.proofs.Anew.{not-own-parent, fit-judged, judged-fit, anew-fits, children-stay, rewritten-fit}
 use Rattle.kept_above.specs.Climbing.{with_outcome, IsNearly, IsClimbing, KeepsRest}
+use Rattle.kept_above.proofs.Counts.{child-more, attempt-more, all-counted, all-tried}
 use Rattle.kept_above.proofs.Placed.{others-differ, place-among, children-differ, few-children, child-place, parent-element}
 
 -- ---- how many are counted
-
-all-counted : (rs : List ElementRecord) → child_count (counts_of rs) ≡ length rs
-all-counted [] = refl
-all-counted (r ∷ rs) = let more = child_more r.validity r.attempted (counts_of rs) in let i = all-counted rs in omega (arith, more, i)
-
-all-tried : (rs : List ElementRecord) → attempt_count (counts_of rs) ≡ length rs
-all-tried [] = refl
-all-tried (r ∷ rs) = let more = attempt_more r.validity r.attempted (counts_of rs) in let i = all-tried rs in omega (arith, more, i)
 
 module _ (c : Compiled) (ns : Nodes) (k : KeptState) (sound : IsSound ns) (n child : ℕ) (was : Outcome) (near : IsNearly c ns k n child was) where
   size : length (map (record_at k.records.slots) (element_children ns n)) < 2 ^ 32
@@ -57,16 +48,16 @@ module _ (c : Compiled) (ns : Nodes) (k : KeptState) (sound : IsSound ns) (n chi
   pub nearly-few : child_count (kept_at k.records.slots n).counts < 2 ^ 32
   nearly-few =
       let now = outcome_at k.records.slots child in
-      let before = ap child_count near.counted ∙ child_more was.validity was.attempted near.others in
-      let after = sym (child_more now.validity now.attempted near.others) ∙ ap child_count near.children.counts_are ∙ all-counted (map (record_at k.records.slots) (element_children ns n)) in
+      let before = ap child_count near.counted ∙ child-more was near.others in
+      let after = sym (child-more now near.others) ∙ ap child_count near.children.counts_are ∙ all-counted (map (record_at k.records.slots) (element_children ns n)) in
       let few = size in
       omega (arith, before, after, few)
 
   pub nearly-fewer : attempt_count (kept_at k.records.slots n).counts < 2 ^ 32
   nearly-fewer =
       let now = outcome_at k.records.slots child in
-      let before = ap attempt_count near.counted ∙ attempt_more was.validity was.attempted near.others in
-      let after = sym (attempt_more now.validity now.attempted near.others) ∙ ap attempt_count near.children.counts_are ∙ all-tried (map (record_at k.records.slots) (element_children ns n)) in
+      let before = ap attempt_count near.counted ∙ attempt-more was near.others in
+      let after = sym (attempt-more now near.others) ∙ ap attempt_count near.children.counts_are ∙ all-tried (map (record_at k.records.slots) (element_children ns n)) in
       let few = size in
       omega (arith, before, after, few)
 
