@@ -1,3 +1,5 @@
 mod Siblings
 mod Seeing
 mod Coding
+mod Staying
+mod Found
