@@ -1,3 +1,9 @@
 pub mod Lists
 pub mod Still
+pub mod Terms
+pub mod Starting
+pub mod Planted
+pub mod Pruned
+pub mod Renamed
 pub mod Midway
+pub mod Ending

@@ -6,6 +6,8 @@ use Rattle.std.proofs.lemmas.Option.{same_Some, none-some}
 use Rattle.std.proofs.lemmas.List.{length-map}
 use Rattle.std.proofs.lemmas.List.Edits.{length-insert, length-remove}
 use Rattle.doc_nodes.specs.Nodes.{Has, Lacks, Distinct}
+use Rattle.doc_nodes.proofs.Among.{lacks-has}
+use Rattle.kept_above.proofs.Placed.{has-at}
 use Rattle.model_lists.specs.Lists.{places_from}
 
 -- ---- what stands at a place
@@ -69,12 +71,6 @@ module _ {X : Type 0} where
   among-more (z ∷ zs) (suc i) (suc j) y e = let h = among-more zs i j y e in record { place = suc h.place; there = h.there }
 
 module _ {X Y : Type 0} (f : X → Y) where
-  pub map-remove : (xs : List X) (i : ℕ) → map f (remove xs i) ≡ remove (map f xs) i
-  map-remove [] zero = refl
-  map-remove [] (suc i) = refl
-  map-remove (x ∷ xs) zero = refl
-  map-remove (x ∷ xs) (suc i) = ap (λ ys. f x ∷ ys) (map-remove xs i)
-
   pub get-map : (xs : List X) (i : ℕ) (x : X) → slice_get xs i ≡ Some x → slice_get (map f xs) i ≡ Some (f x)
   get-map [] i x e = absurd (none-some x e)
   get-map (y ∷ ys) zero x e = ap (λ z. Some (f z)) (same_Some y x e)
@@ -87,21 +83,11 @@ index-get (y ∷ ys) (suc i) x e = index-get ys i x e
 
 -- ---- places of numbers that come once
 
-pub has-get : (xs : List ℕ) (i x : ℕ) → slice_get xs i ≡ Some x → Has x xs
-has-get [] i x e = absurd (none-some x e)
-has-get (y ∷ ys) zero x e = inl (same_Some y x e)
-has-get (y ∷ ys) (suc i) x e = inr (has-get ys i x e)
-
-has-not : (x : ℕ) (xs : List ℕ) → Has x xs → Lacks x xs → ⊥
-has-not x [] has lacks = has
-has-not x (y ∷ ys) (inl e) lacks = lacks.0 e
-has-not x (y ∷ ys) (inr more) lacks = has-not x ys more lacks.1
-
 pub one-place : (xs : List ℕ) (i j x : ℕ) → Distinct xs → slice_get xs i ≡ Some x → slice_get xs j ≡ Some x → i ≡ j
 one-place [] i j x once e f = absurd (none-some x e)
 one-place (y ∷ ys) zero zero x once e f = refl
-one-place (y ∷ ys) zero (suc j) x once e f = absurd (has-not y ys (subst (λ z. Has z ys) (sym (same_Some y x e)) (has-get ys j x f)) once.0)
-one-place (y ∷ ys) (suc i) zero x once e f = absurd (has-not y ys (subst (λ z. Has z ys) (sym (same_Some y x f)) (has-get ys i x e)) once.0)
+one-place (y ∷ ys) zero (suc j) x once e f = absurd (lacks-has y x ys once.0 (has-at ys j x f) (sym (same_Some y x e)))
+one-place (y ∷ ys) (suc i) zero x once e f = absurd (lacks-has y x ys once.0 (has-at ys i x e) (sym (same_Some y x f)))
 one-place (y ∷ ys) (suc i) (suc j) x once e f = ap suc (one-place ys i j x once.1 e f)
 
 module _ (p : ℕ → Bool) where
@@ -115,28 +101,23 @@ module _ (p : ℕ → Bool) where
   has-filter [] i x e = absurd (none-some x e)
   has-filter (y ∷ ys) i x e = filter-at y ys (p y) (has-filter ys) i x e
 
-  lacks-at : (x y : ℕ) (ys : List ℕ) (b : Bool) → y ≢ x → Lacks x (filter p ys) → Lacks x (cond b (y ∷ filter p ys) (filter p ys))
-  lacks-at x y ys true other lacks = (other, lacks)
-  lacks-at x y ys false other lacks = lacks
+  passes-at : (y : ℕ) (ys : List ℕ) (b : Bool) → p y ≡ b → ((i x : ℕ) → slice_get (filter p ys) i ≡ Some x → p x ≡ true) →
+      (i x : ℕ) → slice_get (cond b (y ∷ filter p ys) (filter p ys)) i ≡ Some x → p x ≡ true
+  passes-at y ys true is on zero x e = ap p (sym (same_Some y x e)) ∙ is
+  passes-at y ys true is on (suc i) x e = on i x e
+  passes-at y ys false is on i x e = on i x e
 
-  lacks-filter : (x : ℕ) (xs : List ℕ) → Lacks x xs → Lacks x (filter p xs)
-  lacks-filter x [] lacks = tt
-  lacks-filter x (y ∷ ys) lacks = lacks-at x y ys (p y) lacks.0 (lacks-filter x ys lacks.1)
-
-  once-at : (y : ℕ) (ys : List ℕ) (b : Bool) → Lacks y ys → Distinct (filter p ys) → Distinct (cond b (y ∷ filter p ys) (filter p ys))
-  once-at y ys true lacks once = (lacks-filter y ys lacks, once)
-  once-at y ys false lacks once = once
-
-  pub once-filter : (xs : List ℕ) → Distinct xs → Distinct (filter p xs)
-  once-filter [] once = tt
-  once-filter (y ∷ ys) once = once-at y ys (p y) once.0 (once-filter ys once.1)
+  -- they pass
+  pub passes : (xs : List ℕ) (i x : ℕ) → slice_get (filter p xs) i ≡ Some x → p x ≡ true
+  passes [] i x e = absurd (none-some x e)
+  passes (y ∷ ys) i x e = passes-at y ys (p y) refl (passes ys) i x e
 
   -- without one of them, of those that pass it is missing
   remove-first : (x : ℕ) (ys : List ℕ) (b : Bool) → b ≡ true → Lacks x ys → (j : ℕ) → slice_get (cond b (x ∷ filter p ys) (filter p ys)) j ≡ Some x →
       filter p ys ≡ remove (cond b (x ∷ filter p ys) (filter p ys)) j
   remove-first x ys false is lacks j f = absurd (true≢false (sym is))
   remove-first x ys true is lacks zero f = refl
-  remove-first x ys true is lacks (suc j) f = absurd (has-not x ys (has-filter ys j x f) lacks)
+  remove-first x ys true is lacks (suc j) f = absurd (lacks-has x x ys lacks (has-filter ys j x f) refl)
 
   remove-later : (x y : ℕ) (ys : List ℕ) (b : Bool) (rest : List ℕ) → y ≢ x → ((j : ℕ) → slice_get (filter p ys) j ≡ Some x → filter p rest ≡ remove (filter p ys) j) →
       (j : ℕ) → slice_get (cond b (y ∷ filter p ys) (filter p ys)) j ≡ Some x → cond b (y ∷ filter p rest) (filter p rest) ≡ remove (cond b (y ∷ filter p ys) (filter p ys)) j
@@ -150,7 +131,7 @@ module _ (p : ℕ → Bool) where
       let same : y ≡ x = same_Some y x e in
       remove-first y ys (p y) (ap p same ∙ is) once.0 j (f ∙ ap Some (sym same))
   filter-remove (y ∷ ys) (suc i) j x once is e f =
-      remove-later x y ys (p y) (remove ys i) (λ same. has-not y ys (subst (λ z. Has z ys) (sym same) (has-get ys i x e)) once.0)
+      remove-later x y ys (p y) (remove ys i) (λ same. lacks-has y x ys once.0 (has-at ys i x e) (sym same))
       (λ k g. filter-remove ys i k x once.1 is e g) j f
 
 -- by tests that agree on all of them

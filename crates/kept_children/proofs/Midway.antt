@@ -19,6 +19,7 @@ use Rattle.model_terms.specs.Terms.{stuck_in}
 use Rattle.model_lists.specs.Lists.{ListsView, IsListOf, IsLive, KeepLists}
 use Rattle.model_lists.specs.declared.handle.ModelList.{ModelList}
 use Rattle.doc_nodes.specs.Nodes.{Node, Nodes, node, IsNode, Has, Lacks, IsSound, is_element_at, element_children, depth_by}
+use Rattle.doc_nodes.proofs.Among.{lacks-has}
 use Rattle.doc_changes.specs.Held.{parent_at}
 use Rattle.doc_documents.proofs.Reading.{depth_below}
 use Rattle.kept_slots.specs.Slots.{at}
@@ -44,11 +45,6 @@ use Rattle.kept_children.specs.Places.{IsPlaceOf}
 use Rattle.kept_children.specs.Family.{AreCounted, IsListedBy, IsAttributed, AreGivenBut, IsMidway, model_of, symbols_of}
 use Rattle.kept_children.specs.declared.place.ChildPlace.{ChildPlace}
 use Rattle.kept_children.proofs.Lists.{one-place}
-
-lacks-other : (x y : ℕ) (xs : List ℕ) → Lacks x xs → Has y xs → x ≢ y
-lacks-other x y [] lacks has e = has
-lacks-other x y (z ∷ zs) lacks (inl h) e = lacks.0 (h ∙ sym e)
-lacks-other x y (z ∷ zs) lacks (inr more) e = lacks-other x y zs lacks.1 more e
 
 -- ---- the list of the parent is edited
 
@@ -93,7 +89,7 @@ module _ (c : Compiled) (ns : Nodes) (k : KeptState) (w : ListsView) (p : ℕ) (
     fit = λ n made lacks.
         fit-lists (set_of c) (models_of c) ns k.records.slots k.lists w k.root_ids (λ x. x ≡ h) keeps n (other-list m.beside.own n (λ e. lacks.0 (sym e))) (m.fit n made lacks);
     apart = m.apart;
-    gathered = λ n has. gathered-edited m.beside.own n (λ e. lacks-other p n waiting m.apart has (sym e)) (m.gathered n has);
+    gathered = λ n has. gathered-edited m.beside.own n (lacks-has p n waiting m.apart has) (m.gathered n has);
     judged = judged-kept (set_of c) ns k edited p was refl refl refl refl m.judged;
   }
 
@@ -159,7 +155,7 @@ module _ (c : Compiled) (ns : Nodes) (old new : KeptState) (p : ℕ) (k : KeptEl
     top = record { made = made-stays 1 m.top.made; pair_is = pair-stays 1 ∙ m.top.pair_is };
     fit = λ n made lacks. let other : n ≢ p = λ e. lacks.0 (sym e) in fit-now n other (m.fit n (was-made n other made) lacks);
     apart = m.apart;
-    gathered = λ n has. gathered-now n (λ e. lacks-other p n waiting m.apart has (sym e)) (m.gathered n has);
+    gathered = λ n has. gathered-now n (lacks-has p n waiting m.apart has) (m.gathered n has);
     judged = judged-kept (set_of c) ns old new p was (ap (λ (x : KeptElement). x.found) kept-now ∙ sym (ap (λ (x : KeptElement). x.found) kept-was))
     (ap (λ (x : KeptElement). x.text) kept-now ∙ sym (ap (λ (x : KeptElement). x.text) kept-was))
     (ap (λ (x : KeptElement). x.identity) kept-now ∙ sym (ap (λ (x : KeptElement). x.identity) kept-was)) rewrites.ids m.judged;

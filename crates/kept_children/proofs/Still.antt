@@ -2,6 +2,7 @@
 use Rattle.std.proofs.Common.{◌≡◌, ◌≢◌, ◌⊎◌, ℕ, zero, suc, ◌+◌, ◌<◌, ◌≤◌, List, [], ◌∷◌, ◌++◌, length, map, Bool, true, false, Option, None, Some, refl, sym, ap, ◌∙◌, subst, inl, inr, arith}
 use Rattle.std.specs.Prelude.{filter, flat_map, reverse, slice_get, unwrap_or}
 use Rattle.std.specs.Option.{option_map, option_and_then}
+use Rattle.std.proofs.lemmas.Bool.{false≢true}
 use Rattle.xs_codes.specs.declared.fault.Found.{Found}
 use Rattle.xs_names.specs.Scope.{first_scope}
 use Rattle.assess_records.specs.Counts.{counts_of}
@@ -18,6 +19,7 @@ use Rattle.model_terms.specs.Terms.{stuck_in, term_in}
 use Rattle.model_lists.specs.Lists.{ListsView}
 use Rattle.doc_nodes.specs.Nodes.{Node, Nodes, node, IsNode, Has, IsSound, is_element, is_element_by, is_element_at, children_by, element_children, depth_by}
 use Rattle.doc_nodes.specs.declared.content.Content.{Content}
+use Rattle.doc_nodes.specs.declared.content.Content.TheVariants as contents
 use Rattle.doc_nodes.specs.declared.content.NameAttribute.{NameAttribute}
 use Rattle.doc_nodes.specs.declared.content.NameBinding.{NameBinding}
 use Rattle.doc_changes.specs.Held.{chars_in, attributes_in, attributes_by, attributes_at, bindings_in, bindings_by, bindings_at, parent_at}
@@ -27,6 +29,9 @@ use Rattle.doc_heads.specs.Heads.{text_named, texts_named}
 use Rattle.kept_records.specs.Slots.{KeptSlots, kept_at, entry_at, pair_at, record_at}
 use Rattle.kept_records.specs.Fit.{Models, bearer_at, head_at, root_codes, model_at, symbols_at, IsListed, IsGiven, IsGathered, IsFit}
 use Rattle.kept_records.proofs.Frames.{map-same}
+use Rattle.kept_state.specs.declared.children.KeptChildren.{KeptChildren}
+use Rattle.kept_state.specs.declared.state.KeptState.{KeptState}
+use Rattle.kept_judging.specs.Judged.{IsJudgedBy}
 use Rattle.kept_children.proofs.Lists.{has-filter, filter-same, flat-has}
 
 -- ---- nodes
@@ -179,3 +184,33 @@ module _ (old new : Nodes) (was : IsSound old) (now : IsSound new) (Stays : ℕ 
   -- an element that stays shows what it showed
   pub shows-still : (s : SchemaSet) (n : ℕ) → Stays n → name_at new n ≡ name_at old n → own_chars new n ≡ own_chars old n → ShowsSame s old new n
   shows-still s n stays name chars = record { head = head-still s n stays name; texts = texts-still n stays; bearer = bearer-still n stays; chars = chars }
+
+-- ---- an element by itself
+
+-- what is kept of it is right, where it shows what it showed
+pub judged-nodes : (s : SchemaSet) (old new : Nodes) (k : KeptState) (n : ℕ) (children : KeptChildren) → ShowsSame s old new n → IsJudgedBy s old k n children → IsJudgedBy s new k n children
+judged-nodes s old new k n children shows j = record {
+  number_is = j.number_is;
+  bearer_is = j.bearer_is ∙ sym shows.bearer;
+  text_is = j.text_is ∙ sym shows.chars;
+  known =
+      let head = shows.head in
+      let texts = shows.texts in
+      let chars = shows.chars in
+      subst (λ shape. AreJudged s shape (entry_at k.records.slots n))
+      (λ i. shape_of (sym head i) (sym texts i) (sym chars i) children.stuck children.counts (kept_at k.records.slots n).identity (root_codes k.root_ids n)) j.known;
+}
+
+-- ---- elements
+
+element-in : (content : Content) → is_element content ≡ true → unwrap_or (chars_in content) [] ≡ []
+element-in (contents.Element e) is = refl
+element-in (contents.Chars chars) is = absurd (false≢true is)
+
+element-by : (o : Option Node) → is_element_by o ≡ true → chars_by o ≡ []
+element-by None is = refl
+element-by (Some it) is = element-in it.content is
+
+-- an element is no text
+pub element-silent : (ns : Nodes) (n : ℕ) → is_element_at ns n ≡ true → chars_at ns n ≡ []
+element-silent ns n is = element-by (node ns n) is
