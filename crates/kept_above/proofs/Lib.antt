@@ -1,3 +1,4 @@
 pub mod Counts
 pub mod Placed
 pub mod Climbing
+pub mod Whole

@@ -42,28 +42,30 @@ pub texts-same : (old new : Nodes) (m : ℕ) → attributes_at new m ≡ attribu
 texts-same old new m attributes = ap (map text_named) attributes
 
 module _ (c : Compiled) (old new : Nodes) (k : KeptState) (n : ℕ) where
+  -- the symbols of child elements that have the same names
+  pub symbols-same : element_children new n ≡ element_children old n → ((place child : ℕ) → slice_get (element_children old n) place ≡ Some child → name_at new child ≡ name_at old child) →
+      (of : Option TypeId) → symbols_by c new of n ≡ symbols_by c old of n
+  symbols-same children names of =
+      ap (λ xs. child_symbols c.names (models_of c of) (map (name_at new) xs)) children
+      ∙ ap (child_symbols c.names (models_of c of)) (map-same (name_at new) (name_at old) (element_children old n) names)
+
+  -- what governs a child element by its parent
+  pub given-same : (pair : Governing) (place child : ℕ) → symbols_by c new pair.of n ≡ symbols_by c old pair.of n → head_at (set_of c) new child ≡ head_at (set_of c) old child →
+      pair_by c new pair n place child ≡ pair_by c old pair n place child
+  given-same pair place child symbols head = λ i. given_pair (set_of c) pair (term_in (models_of c pair.of) (symbols i) place) (head i)
+
   module _ (children : element_children new n ≡ element_children old n)
       (heads : (place child : ℕ) → slice_get (element_children old n) place ≡ Some child → head_at (set_of c) new child ≡ head_at (set_of c) old child) where
-    names-same : map (name_at new) (element_children new n) ≡ map (name_at old) (element_children old n)
-    names-same = ap (map (name_at new)) children ∙ map-same (name_at new) (name_at old) (element_children old n) (λ place child e. ap (λ (h : Head). h.name) (heads place child e))
-
-    pub symbols-same : (of : Option TypeId) → symbols_by c new of n ≡ symbols_by c old of n
-    symbols-same of = ap (child_symbols c.names (models_of c of)) names-same
-
-    -- what governs a child element by its parent
-    pub given-same : (pair : Governing) (place child : ℕ) → slice_get (element_children old n) place ≡ Some child → pair_by c new pair n place child ≡ pair_by c old pair n place child
-    given-same pair place child e =
-        let symbols = symbols-same pair.of in
-        let head = heads place child e in
-        λ i. given_pair (set_of c) pair (term_in (models_of c pair.of) (symbols i) place) (head i)
+    all-symbols : (of : Option TypeId) → symbols_by c new of n ≡ symbols_by c old of n
+    all-symbols = symbols-same children (λ place child e. ap (λ (h : Head). h.name) (heads place child e))
 
     pub children-reread : (pair : Governing) (kept : KeptChildren) → AreChildren c old k n pair kept → AreChildren c new k n pair kept
     children-reread pair kept a = record {
       given = λ place child e.
           let was = ap (λ xs. slice_get xs place) (sym children) ∙ e in
-          record { made = (a.given place child was).made; pair_is = (a.given place child was).pair_is ∙ sym (given-same pair place child was) };
-      list_is = subst (IsListed k.lists (models_of c pair.of) kept.list) (sym (symbols-same pair.of)) a.list_is;
-      stuck_is = a.stuck_is ∙ ap (stuck_in (models_of c pair.of)) (sym (symbols-same pair.of));
+          record { made = (a.given place child was).made; pair_is = (a.given place child was).pair_is ∙ sym (given-same pair place child (all-symbols pair.of) (heads place child was)) };
+      list_is = subst (IsListed k.lists (models_of c pair.of) kept.list) (sym (all-symbols pair.of)) a.list_is;
+      stuck_is = a.stuck_is ∙ ap (stuck_in (models_of c pair.of)) (sym (all-symbols pair.of));
       counts_are = a.counts_are ∙ ap (λ xs. counts_of (map (record_at k.records.slots) xs)) (sym children);
     }
 
