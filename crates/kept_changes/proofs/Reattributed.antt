@@ -34,6 +34,7 @@ use Rattle.kept_children.specs.Edited.{IsRightFor}
 use Rattle.kept_children.specs.Family.{AreGivenBut, IsAttributed}
 use Rattle.kept_children.specs.Places.{IsPlaceOf}
 use Rattle.kept_children.specs.declared.place.ChildPlace.{ChildPlace}
+use Rattle.kept_children.proofs.Lists.{one-place}
 use Rattle.kept_children.proofs.Midway.{parent-stays, sibling-stays, attributed-settled, given-settled}
 use Rattle.kept_changes.specs.Own.{Reattributes, IsReattributed}
 use Rattle.kept_changes.proofs.Reread.{head-same, texts-same, symbols-same, given-same, children-reread, judged-reread, right-made}
