@@ -5,3 +5,7 @@ pub mod Fits
 mod Counts
 mod Children
 pub mod Moving
+mod Depths
+mod Opening
+mod Symbols
+mod Listed
