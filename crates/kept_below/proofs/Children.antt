@@ -1,5 +1,5 @@
 -- The child elements of an element, settled one after another.
-use Rattle.std.proofs.Common.{◌≡◌, ◌≢◌, ◌⊎◌, ℕ, zero, suc, ◌+◌, ◌<◌, ◌≤◌, List, [], ◌∷◌, ◌++◌, map, take, length, true, Option, None, Some, refl, sym, ap, ◌∙◌, subst, inl, inr, arith}
+use Rattle.std.proofs.Common.{◌≡◌, ◌≢◌, ◌⊎◌, ℕ, zero, suc, ◌+◌, ◌*◌, ◌-◌, ◌<◌, ◌≤◌, List, [], ◌∷◌, ◌++◌, map, take, length, true, Option, None, Some, refl, sym, ap, ◌∙◌, subst, inl, inr, arith}
 use Rattle.std.specs.Prelude.{slice_get, unwrap_or}
 use Rattle.std.specs.Option.{option_map}
 use Rattle.std.proofs.lemmas.Option.{slice_get-map, same_Some, none-some}
@@ -36,6 +36,11 @@ IsSo k g = IsMade k.records.slots g.node × (pair_at k.records.slots g.node ≡ 
 
 abbrev pub record-of : KeptState → Governed → ElementRecord
 record-of k g = record_at k.records.slots g.node
+
+-- what the measure of all child elements is
+abbrev pub left-of : Nodes → List Governed → ℕ
+left-of ns [] = 0
+left-of ns (g ∷ gs) = 4 * (130 - depth_by (node ns g.node)) + 4
 
 map-through : {A : Type 0} (f : A → ℕ) (g : ℕ → ElementRecord) (xs : List A) → map (λ x. g (f x)) xs ≡ map g (map f xs)
 map-through f g [] = refl
@@ -85,6 +90,26 @@ module _ (c : Compiled) (ns : Nodes) (sound : IsSound ns) (parent : Governed) (e
       by : (m : ℕ) → Has m (parent.node ∷ waiting) → depth_by (node ns m) < depth_by (node ns g.node)
       by m (inl q) = let same : depth_by (node ns parent.node) ≡ depth_by (node ns m) = ap (λ x. depth_by (node ns x)) q in let d = deep in omega (arith, same, d)
       by m (inr k) = let less = above m k in let d = deep in omega (arith, less, d)
+
+  same-depth : (i : ℕ) (g : Governed) → slice_get children i ≡ Some g → depth_by (node ns g.node) ≡ depth_by (node ns parent.node) + 1
+  same-depth i g e = depth_below ns parent.node g.node sound (child-up i g e)
+
+  -- the measure of one of them is less than that of all, and that of all than that of the parent
+  pub one-less : (i : ℕ) (g : Governed) → slice_get children i ≡ Some g → 4 * (130 - depth_by (node ns g.node)) + 3 < left-of ns children
+  one-less i g e = by children e (λ f q. same-depth 0 f q)
+    where
+      by : (xs : List Governed) → slice_get xs i ≡ Some g → ((f : Governed) → slice_get xs 0 ≡ Some f → depth_by (node ns f.node) ≡ depth_by (node ns parent.node) + 1) →
+          4 * (130 - depth_by (node ns g.node)) + 3 < left-of ns xs
+      by [] q first = absurd (none-some g q)
+      by (f ∷ fs) q first = let a = first f refl in let b = same-depth i g e in omega (arith, a, b)
+
+  pub all-less : ((i : ℕ) (g : Governed) → slice_get children i ≡ Some g → depth_by (node ns g.node) ≤ 128) → left-of ns children < 4 * (130 - depth_by (node ns parent.node)) + 1
+  all-less low = by children (λ f q. same-depth 0 f q) (λ f q. low 0 f q)
+    where
+      by : (xs : List Governed) → ((f : Governed) → slice_get xs 0 ≡ Some f → depth_by (node ns f.node) ≡ depth_by (node ns parent.node) + 1) →
+          ((f : Governed) → slice_get xs 0 ≡ Some f → depth_by (node ns f.node) ≤ 128) → left-of ns xs < 4 * (130 - depth_by (node ns parent.node)) + 1
+      by [] first low = omega arith
+      by (f ∷ fs) first low = let a = first f refl in let b = low f refl in omega (arith, a, b)
 
   -- those before are not within the next
   before-outside : (i : ℕ) (g d : Governed) → slice_get children i ≡ Some g → Has d (take i children) → ¬ IsWithin ns g.node d.node
