@@ -1,4 +1,4 @@
-mod Siblings
+mod Firsts
 mod Seeing
 mod Coding
 mod Staying

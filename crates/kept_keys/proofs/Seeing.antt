@@ -15,7 +15,7 @@ use Rattle.kept_records.specs.declared.element.KeptElement.{KeptElement}
 use Rattle.kept_records.specs.Slots.{KeptSlots, IsMade, blank, entry_at}
 use Rattle.kept_records.specs.Found.{found_in}
 use Rattle.kept_keys.specs.Seen.{first_seen, along, seen_to}
-use Rattle.kept_keys.proofs.Siblings.{none-to}
+use Rattle.kept_keys.proofs.Firsts.{none-to}
 
 module _ (t : NameTable) (ns : Nodes) (ks : KeptSlots) where
   own-seen : (n : ℕ) → IsMade ks n → (below next : KeyForest) → first_seen (at ks n) below next ≡ keys.element (seen_element (entry_at ks n)) below next

@@ -1,11 +1,11 @@
 -- Siblings by the first of them.
-use Rattle.std.proofs.Common.{◌≡◌, ℕ, zero, suc, ◌+◌, ◌-◌, ◌<◌, List, [], ◌∷◌, drop, Option, None, Some, refl, sym, ap, ◌∙◌, arith}
-use Rattle.std.specs.Prelude.{slice_get}
-use Rattle.std.proofs.lemmas.Option.{same_Some, none-some}
+use Rattle.std.proofs.Common.{◌≡◌, ℕ, zero, suc, ◌+◌, ◌-◌, ◌<◌, ◌≤◌, Bool, true, false, cond, length, List, [], ◌∷◌, drop, Option, None, Some, refl, sym, ap, ◌∙◌, arith}
+use Rattle.std.specs.Prelude.{slice_get, filter}
+use Rattle.std.proofs.lemmas.Option.{same_Some, none-some, slice_get_past}
 use Rattle.identity_constraints.specs.Seen.{KeyForest, none, element}
 use Rattle.identity_assessment.specs.Identity.{seen_element}
 use Rattle.tree_assess.specs.Entries.{entry_of}
-use Rattle.doc_nodes.specs.Nodes.{Nodes, element_children}
+use Rattle.doc_nodes.specs.Nodes.{Nodes, node, children_by, is_element_at, element_children}
 use Rattle.kept_slots.specs.Slots.{at}
 use Rattle.kept_records.specs.declared.element.KeptElement.{KeptElement}
 use Rattle.kept_records.specs.Slots.{KeptSlots}
@@ -24,6 +24,19 @@ drop-past [] zero e = refl
 drop-past [] (suc p) e = refl
 drop-past (x ∷ xs) zero e = absurd (none-some x (sym e))
 drop-past (x ∷ xs) (suc p) e = drop-past xs p e
+
+-- some of them are no more than all
+fewer : (p : ℕ → Bool) (xs : List ℕ) → length (filter p xs) ≤ length xs
+fewer p [] = omega arith
+fewer p (x ∷ xs) = by (p x)
+  where
+    by : (b : Bool) → length (cond b (x ∷ filter p xs) (filter p xs)) ≤ length (x ∷ xs)
+    by true = omega (arith, fewer p xs)
+    by false = omega (arith, fewer p xs)
+
+-- there is no child element at a place past all children
+pub past-children : (ns : Nodes) (n place : ℕ) → length (children_by (node ns n)) ≤ place → slice_get (element_children ns n) place ≡ None
+past-children ns n place past = slice_get_past (element_children ns n) place (let less = fewer (is_element_at ns) (children_by (node ns n)) in omega (arith, less, past))
 
 module _ (ks : KeptSlots) (ns : Nodes) where
   pub none-to : (levels : ℕ) → seen_to ks ns levels [] ≡ none
