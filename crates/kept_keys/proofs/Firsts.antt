@@ -28,11 +28,11 @@ drop-past (x ∷ xs) (suc p) e = drop-past xs p e
 -- some of them are no more than all
 fewer : (p : ℕ → Bool) (xs : List ℕ) → length (filter p xs) ≤ length xs
 fewer p [] = omega arith
-fewer p (x ∷ xs) = by (p x)
+fewer p (x ∷ xs) = by (p x) (fewer p xs)
   where
-    by : (b : Bool) → length (cond b (x ∷ filter p xs) (filter p xs)) ≤ length (x ∷ xs)
-    by true = omega (arith, fewer p xs)
-    by false = omega (arith, fewer p xs)
+    by : (b : Bool) → length (filter p xs) ≤ length xs → length (cond b (x ∷ filter p xs) (filter p xs)) ≤ length (x ∷ xs)
+    by true less = omega (arith, less)
+    by false less = omega (arith, less)
 
 -- there is no child element at a place past all children
 pub past-children : (ns : Nodes) (n place : ℕ) → length (children_by (node ns n)) ≤ place → slice_get (element_children ns n) place ≡ None

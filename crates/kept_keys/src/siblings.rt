@@ -69,9 +69,13 @@ impl<'a> KeptSiblings<'a> {
         if self.levels == 0 {
             return None;
         }
-        let node = self.node()?;
-        let kept = self.records.get(node)?;
-        Some(FirstKept { node, kept })
+        let Some(node) = self.node() else {
+            return None;
+        };
+        match self.records.get(node) {
+            None => None,
+            Some(kept) => Some(FirstKept { node, kept }),
+        }
     }
 }
 
