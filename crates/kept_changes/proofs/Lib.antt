@@ -1,3 +1,5 @@
 pub mod Changed
 pub mod Reread
 pub mod Retexted
+pub mod Reattributed
+pub mod Grown

@@ -3,6 +3,8 @@
 
 mod change;
 mod forget;
+mod laws;
 mod own;
 
 pub use change::keep_change;
+pub use laws::records_stay_right_as_names_are_added;
