@@ -1,14 +1,16 @@
 -- The head of an element by numbers: its scope, and that its names are in the table.
-use Rattle.std.proofs.Common.{◌≡◌, ◌<◌, ℕ, zero, suc, List, [], ◌∷◌, ◌++◌, length, map, All, true, Option, None, Some, refl, sym, ap, ◌∙◌, subst, arith}
+use Rattle.std.proofs.Common.{◌≡◌, ◌<◌, ℕ, zero, suc, List, [], ◌∷◌, ◌++◌, length, map, All, Bool, true, false, Option, None, Some, refl, sym, ap, ◌∙◌, subst, arith}
 use Rattle.std.specs.Prelude.{reverse}
 use Rattle.std.specs.Option.{option_map}
 use Rattle.std.proofs.lemmas.Bool.{false≢true}
+use Rattle.std.proofs.lemmas.Option.{same_Some, none-some}
 use Rattle.std.proofs.lemmas.List.{reverse-append}
 use Rattle.std.proofs.lemmas.List.Elements.{All-nil, All-cons, All-head, All-tail, All-push, All-map, All-append}
 use Rattle.xs_names.specs.Names.{NameTable, IsSound}
 use Rattle.xs_names.specs.Scope.{first_scope}
 use Rattle.xs_names.proofs.GrownLaws.{two_spaces}
 use Rattle.tree_rows.specs.Forest.{Document}
+use Rattle.tree_rows.specs.declared.row.NodeKind.{NodeKind}
 use Rattle.tree_rows.specs.declared.row.NodeKind.TheVariants as kinds
 use Rattle.assess_records.specs.declared.shape.NamedText.{NamedText}
 use Rattle.elem_governing.specs.View.{AreKnown}
@@ -22,6 +24,7 @@ use Rattle.doc_documents.specs.Readers.{own_scope, outer_scope, scope_upto, scop
 use Rattle.doc_documents.proofs.Reading.{scope_below, scope_root, depth_below}
 use Rattle.doc_heads.specs.Heads.{text_named, texts_named, pair_of}
 use Rattle.doc_heads.proofs.Showing.{are_numbers}
+use Rattle.kept_records.proofs.Nodes.{shown, root-there}
 
 -- ---- a number of an element
 
@@ -35,6 +38,26 @@ kind-by (Some it) is = kind-in it.content is
 
 pub element-kind : (ns : Nodes) (n : ℕ) → is_element_at ns n ≡ true → kind_at ns n ≡ Some kinds.Element
 element-kind ns n is = kind-by (node ns n) is
+
+by-kind-in : (c : Content) → Some (kind_in c) ≡ Some kinds.Element → is_element c ≡ true
+by-kind-in (contents.Element e) is = refl
+by-kind-in (contents.Chars chars) is = absurd (no-element (same_Some kinds.Chars kinds.Element is))
+  where
+    told : NodeKind → Bool
+    told kinds.Element = true
+    told kinds.Chars = false
+
+    no-element : kinds.Chars ≡ kinds.Element → ⊥
+    unfolding told
+    no-element e = false≢true (ap told e)
+
+by-kind : (o : Option Node) → option_map (λ (it : Node). kind_in it.content) o ≡ Some kinds.Element → is_element_by o ≡ true
+by-kind None is = absurd (none-some kinds.Element is)
+by-kind (Some it) is = by-kind-in it.content is
+
+-- the root is an element
+pub root-element : (t : NameTable) (ns : Nodes) (d : Document) → StandsFor t ns d → is_element_at ns 1 ≡ true
+root-element t ns d z = by-kind (node ns 1) (shown t ns d.forest z.nodes 1 (root-there d.forest z.tree.root))
 
 -- ---- the scope
 

@@ -1,3 +1,5 @@
 pub mod Heads
+pub mod Governed
 pub mod Flags
+pub mod Keeping
 pub mod Anew

@@ -80,7 +80,6 @@ pub fn pair_again(
     requires element { is_element_at doc.now was.node ≡ true }
     ensures node { IfOk result (λ it. it.node ≡ was.node) }
     ensures pair { IfOk result (λ it. it.pair ≡ again_pair (set_of set.now) was.pair (head_at (set_of set.now) doc.now was.node)) }
-    ensures governed { IfOk result (λ it. CanGovern set.now.parts it.pair) }
 {
     let head = head_of(alloc, doc, was.node)?;
     let xsi = local_type(set, &head);

@@ -3,7 +3,7 @@
 ghost use Rattle.std.specs.Prelude.{◌≡◌, ◌<◌, All, length, true, IfOk};
 ghost use Rattle.std.specs.Option.{option_map};
 ghost use Rattle.elem_governing.specs.Heads.{head_by};
-ghost use Rattle.doc_nodes.specs.Nodes.{is_element_at};
+ghost use Rattle.doc_nodes.specs.Nodes.{IsSound, is_element_at};
 ghost use Rattle.doc_changes.specs.Held.{parent_at};
 ghost use Rattle.doc_documents.specs.Readers as readers;
 ghost use Rattle.doc_documents.specs.Readers.{name_at};
@@ -34,7 +34,8 @@ pub(crate) fn view_of(set: &Compiled) -> SchemaView<'_>
 
 // The scope outside of an element.
 fn outer_scope(alloc: Global, doc: &DocTree, node: u32) -> Result<Scope, AllocError>
-    ensures { IfOk result (λ scope. scope ≡ readers.outer_scope (readers.scope_at doc.now) (parent_at doc.now node)) }
+    ensures scope { IfOk result (λ scope. scope ≡ readers.outer_scope (readers.scope_at doc.now) (parent_at doc.now node)) }
+    ensures sound { IsSound doc.now }
 {
     match doc.parent(node) {
         None => Scope::new(alloc),
