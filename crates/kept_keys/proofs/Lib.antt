@@ -3,3 +3,4 @@ mod Seeing
 mod Coding
 mod Staying
 mod Found
+mod Numbers
