@@ -1,5 +1,5 @@
 pub mod Heads
-pub mod Governed
+pub mod Reading
 pub mod Flags
 pub mod Keeping
 pub mod Anew
