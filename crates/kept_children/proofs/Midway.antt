@@ -14,7 +14,6 @@ use Rattle.elem_governing.specs.declared.pairs.Governing.{Governing}
 use Rattle.content_models.specs.declared.automaton.ContentAutomaton.{ContentAutomaton}
 use Rattle.compiled_schema.specs.Usable.{set_of}
 use Rattle.compiled_schema.specs.declared.compiled.Compiled.{Compiled}
-use Rattle.tree_assess.proofs.Counting.{child_more, attempt_more}
 use Rattle.model_terms.specs.Terms.{stuck_in}
 use Rattle.model_lists.specs.Lists.{ListsView, IsListOf, IsLive, KeepLists}
 use Rattle.model_lists.specs.declared.handle.ModelList.{ModelList}

@@ -1,6 +1,7 @@
 -- What holds of an element as soon as a child element is gone.
-use Rattle.std.proofs.Common.{◌≡◌, ◌≢◌, ℕ, ◌<◌, List, [], length, map, true, Option, Some, refl, sym, ap, ◌∙◌, subst, inl, inr, arith, Bool, false}
+use Rattle.std.proofs.Common.{◌≡◌, ◌≢◌, ℕ, zero, suc, ◌<◌, List, [], length, map, true, Option, None, Some, refl, sym, ap, ◌∙◌, subst, inl, inr, arith, Bool, false}
 use Rattle.std.specs.Prelude.{filter, flat_map, remove, slice_get, unwrap_or}
+use Rattle.std.specs.Option.{option_and_then}
 use Rattle.std.proofs.lemmas.Bool.{cases_eq}
 use Rattle.tree_edits.specs.Edits.{has}
 use Rattle.assess_records.specs.Counts.{counts_of, with_child}
@@ -18,7 +19,8 @@ use Rattle.kept_state.specs.Kept.{IsBeside, children_at, children_of}
 use Rattle.kept_state.specs.declared.state.KeptState.{KeptState}
 use Rattle.kept_judging.proofs.Anew.{fit-judged}
 use Rattle.kept_above.proofs.Placed.{parent-has, parent-element}
-use Rattle.kept_children.specs.Edited.{IsPruned, IsIn}
+use Rattle.kept_below.specs.Below.{upwards, IsWithin}
+use Rattle.kept_children.specs.Edited.{IsPruned}
 use Rattle.kept_children.specs.Family.{IsListedBy, AreGivenBut, IsMidway, marked_places, model_of, symbols_of}
 use Rattle.kept_children.specs.declared.place.ChildPlace.{ChildPlace}
 use Rattle.kept_children.proofs.Lists.{passes, filter-remove, filter-same, flat-has, flat-remove, has-filter, get-within, IsAmong, among-more}
@@ -27,10 +29,11 @@ use Rattle.kept_children.proofs.Terms.{symbols-remove, many-symbols}
 use Rattle.kept_children.proofs.Starting.{all-made, given-moved}
 use Rattle.kept_records.proofs.Frames.{map-same, fit-lists, fit-apart}
 use Rattle.elem_governing.specs.Governing.{govern_root}
-use Rattle.std.proofs.lemmas.Option.{none-some}
+use Rattle.std.proofs.lemmas.Option.{none-some, same_Some}
 use Rattle.kept_judging.specs.Judged.{symbols_by, pair_by, IsJudgedBy}
 use Rattle.xs_codes.specs.declared.fault.Found.{Found}
 use Rattle.assess_records.specs.declared.counts.ChildCounts.{ChildCounts}
+use Rattle.model_lists.specs.Lists.{KeepLists}
 use Rattle.model_lists.specs.declared.handle.ModelList.{ModelList}
 use Rattle.kept_slots.specs.Slots.{at}
 use Rattle.kept_records.specs.declared.element.KeptElement.{KeptElement}
@@ -67,16 +70,12 @@ module _ (c : Compiled) (ns : Nodes) (k : KeptState) (spot : ChildPlace) (outcom
 
   -- ---- nodes that stay
 
-  out : (n : ℕ) → Stays n → ¬ IsIn n spot.node h.below
-  out n stays (inl e) = none-some stays.0 (sym h.prunes.here ∙ ap (node ns) (sym e) ∙ stays.1)
-  out n stays (inr within) = none-some stays.0 (sym (h.prunes.gone n within) ∙ stays.1)
-
   same-node : (n : ℕ) → n ≢ p → Stays n → node ns n ≡ node h.old n
   same-node n other stays = by (has n h.below) refl
     where
       by : (b : Bool) → has n h.below ≡ b → node ns n ≡ node h.old n
-      by true e = absurd (out n stays (inr e))
-      by false e = h.prunes.others n other (λ q. out n stays (inl q)) e
+      by true e = absurd (none-some stays.0 (sym (h.prunes.gone n e) ∙ stays.1))
+      by false e = h.prunes.others n other (λ q. none-some stays.0 (sym h.prunes.here ∙ ap (node ns) (sym q) ∙ stays.1)) e
 
   still : (n : ℕ) → Stays n → IsStill h.old ns n
   still n stays = elim (cases_eq n p) [
@@ -92,6 +91,21 @@ module _ (c : Compiled) (ns : Nodes) (k : KeptState) (spot : ChildPlace) (outcom
 
   up : (n q : ℕ) → Stays n → parent_at h.old n ≡ Some q → Stays q
   up n q stays e = let above = parent-has ns now-sound n q ((still n stays).parent ∙ e) in (above.0, above.1)
+
+  gone-not : ¬ Stays spot.node
+  gone-not stays = none-some stays.0 (sym h.prunes.here ∙ stays.1)
+
+  out-from : (levels n : ℕ) → Stays n → upwards h.old levels n ≡ Some spot.node → ⊥
+  out-from zero n stays e = gone-not (subst Stays (same_Some n spot.node e) stays)
+  out-from (suc levels) n stays e = by (parent_at h.old n) refl e
+    where
+      by : (o : Option ℕ) → parent_at h.old n ≡ o → option_and_then (upwards h.old levels) o ≡ Some spot.node → ⊥
+      by None q f = none-some spot.node f
+      by (Some m) q f = out-from levels m (up n m stays q) f
+
+  -- they are not below the one that is gone
+  out : (n : ℕ) → Stays n → ¬ IsWithin h.old spot.node n
+  out n stays (levels, e) = out-from levels n stays e
 
   below : (n : ℕ) → Stays n → (x : ℕ) → Has x (children_by (node ns n)) → Stays x
   below n stays x has =
@@ -109,7 +123,7 @@ module _ (c : Compiled) (ns : Nodes) (k : KeptState) (spot : ChildPlace) (outcom
   -- ---- what is kept of them
 
   slot-stays : (n : ℕ) → Stays n → at k.records.slots n ≡ at h.before.records.slots n
-  slot-stays n stays = h.forgets.others n (out n stays)
+  slot-stays n stays = h.forgets.rest.slots n (out n stays)
 
   kept-stays : (n : ℕ) → Stays n → kept_at k.records.slots n ≡ kept_at h.before.records.slots n
   kept-stays n stays = ap (λ o. unwrap_or o blank) (slot-stays n stays)
@@ -121,10 +135,13 @@ module _ (c : Compiled) (ns : Nodes) (k : KeptState) (spot : ChildPlace) (outcom
   made-before n made = (made.0, sym (slot-stays n (made-was n made)) ∙ made.1)
 
   abbrev IsGone : ModelList → Type 0
-  IsGone l = (m : ℕ) × IsIn m spot.node h.below × ((kept_at h.before.records.slots m).list ≡ Some l)
+  IsGone l = (m : ℕ) × IsWithin h.old spot.node m × ((kept_at h.before.records.slots m).list ≡ Some l)
+
+  lists-stay : KeepLists h.before.lists k.lists IsGone
+  lists-stay g a symbols there is = (h.forgets.rest.lists g a symbols (λ m within e. there (m, within, e)) is).0
 
   not-gone : (n : ℕ) → Stays n → (l : ModelList) → (kept_at h.before.records.slots n).list ≡ Some l → ¬ IsGone l
-  not-gone n stays l e (m, within, f) = out n stays (subst (λ x. IsIn x spot.node h.below) (h.right.beside.own.apart m n l f e) within)
+  not-gone n stays l e (m, within, f) = out n stays (subst (IsWithin h.old spot.node) (h.right.beside.own.apart m n l f e) within)
 
   child-same : (n : ℕ) → n ≢ p → (stays : Stays n) → (i x : ℕ) → slice_get (element_children h.old n) i ≡ Some x → at k.records.slots x ≡ at h.before.records.slots x
   child-same n other stays i x e =
@@ -137,9 +154,9 @@ module _ (c : Compiled) (ns : Nodes) (k : KeptState) (spot : ChildPlace) (outcom
       let m = models_of c in
       let stays = made-was n made in
       let seen = sees n other stays in
-      let listed = fit-lists s m h.old h.before.records.slots h.before.lists k.lists h.before.root_ids IsGone h.forgets.lists n (not-gone n stays) (h.right.fit n (made-before n made) tt) in
+      let listed = fit-lists s m h.old h.before.records.slots h.before.lists k.lists h.before.root_ids IsGone lists-stay n (not-gone n stays) (h.right.fit n (made-before n made) tt) in
       let kept = fit-apart s m h.old h.before.records.slots k.records.slots k.lists h.before.root_ids n (slot-stays n stays) (child-same n other stays) listed in
-      let codes = subst (λ (ids : List Found). IsFit s m h.old k.records.slots k.lists ids n) (sym h.forgets.ids) kept in
+      let codes = subst (λ (ids : List Found). IsFit s m h.old k.records.slots k.lists ids n) (sym h.forgets.rest.ids) kept in
       fit-nodes s h.old ns n seen m k.records.slots k.lists k.root_ids (shows n stays seen.chars) codes
 
   -- ---- the parent
@@ -213,7 +230,7 @@ module _ (c : Compiled) (ns : Nodes) (k : KeptState) (spot : ChildPlace) (outcom
     judged = judged-nodes (set_of c) h.old ns k p (children_at k.records.slots p) (shows p parent-stays parent-chars)
     (subst (λ (x : KeptElement). IsJudgedBy (set_of c) h.old k p (children_of x)) (sym parent-kept)
     (judged-kept (set_of c) h.old h.before k p (children_at h.before.records.slots p) (ap (λ (x : KeptElement). x.found) parent-kept) (ap (λ (x : KeptElement). x.text) parent-kept)
-    (ap (λ (x : KeptElement). x.identity) parent-kept) h.forgets.ids (fit-judged c h.old h.before p fit-parent)));
+    (ap (λ (x : KeptElement). x.identity) parent-kept) h.forgets.rest.ids (fit-judged c h.old h.before p fit-parent)));
   }
 
   -- ---- its child elements
@@ -224,7 +241,7 @@ module _ (c : Compiled) (ns : Nodes) (k : KeptState) (spot : ChildPlace) (outcom
   pub pruned-listed : IsListedBy c k p (symbols_of c h.old k p)
   pruned-listed =
       subst (λ (x : KeptElement). IsListed k.lists (models_of c x.found.governing.of) x.list (symbols_by c h.old x.found.governing.of p)) (sym parent-kept)
-      (listed-kept h.before.lists k.lists IsGone h.forgets.lists (model_of c h.before p) (kept_at h.before.records.slots p).list (symbols_of c h.old h.before p) (not-gone p parent-stays) fit-parent.gathered.list_is)
+      (listed-kept h.before.lists k.lists IsGone lists-stay (model_of c h.before p) (kept_at h.before.records.slots p).list (symbols_of c h.old h.before p) (not-gone p parent-stays) fit-parent.gathered.list_is)
 
   pub pruned-symbols : remove (symbols_of c h.old k p) spot.place ≡ symbols_of c ns k p
   pruned-symbols =

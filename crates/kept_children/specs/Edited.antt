@@ -1,21 +1,19 @@
 -- A child element that came, is gone or has another name, where what is kept is right for the document as it was before.
-use Rattle.std.specs.Prelude.{◌≡◌, ◌≢◌, ◌⊎◌, ℕ, List, [], None, Some, length, true}
+use Rattle.std.specs.Prelude.{◌≡◌, ℕ, [], None, length, true}
 use Rattle.tree_rows.specs.Forest.{Forest}
-use Rattle.tree_edits.specs.Edits.{has}
 use Rattle.compiled_schema.specs.Usable.{set_of}
 use Rattle.compiled_schema.specs.declared.compiled.Compiled.{Compiled}
-use Rattle.model_lists.specs.Lists.{KeepLists}
 use Rattle.doc_nodes.specs.Nodes.{Node, Nodes, IsNode, IsChildAt, Holds, is_element_at}
 use Rattle.doc_nodes.specs.declared.content.Content.TheVariants as contents
 use Rattle.doc_nodes.specs.declared.content.Element.{Element}
-use Rattle.doc_changes.specs.Parts.{IsOver, Prunes}
+use Rattle.doc_changes.specs.Parts.{Prunes}
 use Rattle.doc_planting.specs.Planted.{Plants}
 use Rattle.kept_slots.specs.Slots.{at}
-use Rattle.kept_records.specs.Slots.{kept_at}
 use Rattle.kept_records.specs.Fit.{IsTop}
 use Rattle.kept_state.specs.Kept.{FitBut, IsBeside, outcome_at}
 use Rattle.kept_state.specs.declared.element.Outcome.{Outcome}
 use Rattle.kept_state.specs.declared.state.KeptState.{KeptState}
+use Rattle.kept_below.specs.Below.{IsWithin, KeepsBut}
 use Rattle.kept_children.specs.Places.{IsPlaceOf}
 use Rattle.kept_children.specs.declared.place.ChildPlace.{ChildPlace}
 
@@ -35,16 +33,10 @@ pub record IsPlanted (c : Compiled) (ns : Nodes) (k : KeptState) (at : ChildPlac
   pub plants : Plants c.names old ns at.parent place part
   pub number : at.node ≡ length old
 
--- n is one of these, or below them
-abbrev pub IsIn : ℕ → ℕ → Forest → Type 0
-IsIn m n below = (m ≡ n) ⊎ (has m below ≡ true)
-
--- nothing is kept any more of n and of what is below it, nor any list of them
-pub record Forgets (old new : KeptState) (n : ℕ) (below : Forest) : Type 0 where
-  pub gone : (m : ℕ) → IsIn m n below → at new.records.slots m ≡ None
-  pub others : (m : ℕ) → ¬ IsIn m n below → at new.records.slots m ≡ at old.records.slots m
-  pub lists : KeepLists old.lists new.lists (λ h. (m : ℕ) × IsIn m n below × ((kept_at old.records.slots m).list ≡ Some h))
-  pub ids : new.root_ids ≡ old.root_ids
+-- nothing is kept any more of an element and of what is below it, and nothing else is kept otherwise
+pub record Forgets (ns : Nodes) (old new : KeptState) (n : ℕ) : Type 0 where
+  pub gone : (m : ℕ) → IsWithin ns n m → at new.records.slots m ≡ None
+  pub rest : KeepsBut (IsWithin ns n) old new
 
 -- the element is gone with all that was below it, and nothing is kept of these; it had come to this
 pub record IsPruned (c : Compiled) (ns : Nodes) (k : KeptState) (at : ChildPlace) (outcome : Outcome) : Type 0 where
@@ -53,10 +45,9 @@ pub record IsPruned (c : Compiled) (ns : Nodes) (k : KeptState) (at : ChildPlace
   pub right : IsRightFor c old before
   pub placed : IsPlaceOf old at
   pub outcome_is : outcome ≡ outcome_at before.records.slots at.node
-  pub below : Forest
-  pub over : IsOver c.names old at.node below
-  pub forgets : Forgets before k at.node below
+  pub forgets : Forgets old before k at.node
   pub place : ℕ
+  pub below : Forest
   pub child : IsChildAt old at.parent place at.node
   pub prunes : Prunes old ns at.parent place at.node below
 

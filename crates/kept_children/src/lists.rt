@@ -1,6 +1,6 @@
 //! Edits of a list, and what is read of it.
 
-ghost use Rattle.std.specs.Prelude.{◌≡◌, ◌+◌, ◌*◌, ◌<◌, ◌≤◌, ℕ, List, ◌∷◌, true, Some, length, remove, slice_set, IfOk, OnOk};
+ghost use Rattle.std.specs.Prelude.{◌≡◌, ◌+◌, ◌*◌, ◌<◌, ◌≤◌, ℕ, List, Option, true, Some, length, remove, slice_set, IfOk, OnOk};
 ghost use Rattle.child_trees.specs.Bits.{bits};
 ghost use Rattle.tree_rows.specs.Forest.{Document};
 ghost use Rattle.xs_components.specs.declared.common.TypeId.{TypeId as TypeIdData};
