@@ -91,14 +91,14 @@ pub one-id : (table : IdEntries) (id : List ℕ) (bearer : ℕ) (role : IdRole) 
 one-id table id bearer role e counted =
     let h = (subst (λ (q : IdRole). HasCounted table (ids_if q bearer (id ∷ [])) (references_if q (id ∷ []))) e counted).ids_have id bearer in
     let own = sum_by-cons (λ x. cond (is_borne id bearer x) 1 0) (record { id = id; bearer = bearer }) [] in
-    let one : cond (bytes_eq id id && (bearer == bearer)) 1 0 ≡ 1 = rw (bytes-same id, eq-eqb bearer bearer refl) refl in
+    let one : ◌≡◌ {A = ℕ} (cond (bytes_eq id id && (bearer == bearer)) 1 0) 1 = rw (bytes-same id, eq-eqb bearer bearer refl) refl in
     omega (arith, h, own, one)
 
 pub one-reference : (table : IdEntries) (id : List ℕ) (bearer : ℕ) (role : IdRole) → role ≡ Reference → HasCounted table (ids_if role bearer (id ∷ [])) (references_if role (id ∷ [])) → 1 ≤ reference_count table id
 one-reference table id bearer role e counted =
     let h = (subst (λ (q : IdRole). HasCounted table (ids_if q bearer (id ∷ [])) (references_if q (id ∷ []))) e counted).references_have id in
     let own = sum_by-cons (λ x. cond (is_reference id x) 1 0) id [] in
-    let one : cond (bytes_eq id id) 1 0 ≡ 1 = rw (bytes-same id) refl in
+    let one : ◌≡◌ {A = ℕ} (cond (bytes_eq id id) 1 0) 1 = rw (bytes-same id) refl in
     omega (arith, h, own, one)
 
 -- ---- items one after another
