@@ -1,5 +1,6 @@
 -- What is kept of an element that is judged, and beside it.
-use Rattle.std.proofs.Common.{◌≡◌, ◌==◌, ℕ, List, Option, None, Some, true, refl, sym, ap, ◌∙◌, subst}
+use Rattle.std.proofs.Common.{◌≡◌, ◌==◌, ℕ, List, Option, Some, refl, sym, ap, ◌∙◌, subst}
+use Rattle.std.specs.Prelude.{Result, Ok, Err, OnOk}
 use Rattle.xs_codes.specs.declared.fault.Found.{Found}
 use Rattle.assess_records.specs.Numbered.{shape_of}
 use Rattle.assess_records.specs.declared.counts.ChildCounts.{ChildCounts}
@@ -25,6 +26,11 @@ use Rattle.kept_state.specs.declared.state.KeptState.{KeptState}
 use Rattle.kept_state.proofs.Beside.{kept-there, rewrites-same, own-free, beside-written}
 use Rattle.kept_judging.specs.Judged.{shape_with, IsJudgedBy, IsJudgedAnew}
 use Rattle.kept_judging.proofs.Flags.{local-same}
+
+-- two facts of an Ok
+pub both-ok : {T E P Q R : Type 0} (r : Result T E) → (P → Q → R) → OnOk r P → OnOk r Q → OnOk r R
+both-ok (Ok x) f p q = f p q
+both-ok (Err e) f p q = tt
 
 -- what an element has to show, part by part
 pub shape-read : (s : SchemaSet) (ns : Nodes) (k : KeptState) (n : ℕ) (children : KeptChildren) (name : ℕ) (attrs : List NamedText) (text : List ℕ) (scope : List (List ℕ × ℕ)) (identity ids : List Found) →
