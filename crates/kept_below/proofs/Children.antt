@@ -1,6 +1,6 @@
 -- The child elements of an element, settled one after another.
-use Rattle.std.proofs.Common.{◌≡◌, ◌≢◌, ◌⊎◌, ℕ, zero, suc, ◌+◌, ◌*◌, ◌-◌, ◌<◌, ◌≤◌, List, [], ◌∷◌, ◌++◌, map, take, length, true, Option, None, Some, refl, sym, ap, ◌∙◌, subst, inl, inr, arith}
-use Rattle.std.specs.Prelude.{slice_get, unwrap_or}
+use Rattle.std.proofs.Common.{◌≡◌, ◌≢◌, ◌⊎◌, ℕ, zero, suc, ◌+◌, ◌*◌, ◌-◌, ◌<◌, ◌≤◌, List, [], ◌∷◌, ◌++◌, map, take, drop, length, true, Option, None, Some, refl, sym, ap, ◌∙◌, subst, inl, inr, arith}
+use Rattle.std.specs.Prelude.{filter, slice_get, unwrap_or}
 use Rattle.std.specs.Option.{option_map}
 use Rattle.std.proofs.lemmas.Option.{slice_get-map, same_Some, none-some}
 use Rattle.assess_records.specs.Counts.{with_child, counts_of}
@@ -9,13 +9,17 @@ use Rattle.assess_records.specs.declared.record.ElementRecord.{ElementRecord}
 use Rattle.compiled_schema.specs.declared.compiled.Compiled.{Compiled}
 use Rattle.content_models.specs.declared.automaton.ContentAutomaton.{ContentAutomaton}
 use Rattle.model_lists.specs.declared.handle.ModelList.{ModelList}
+use Rattle.elem_governing.specs.declared.pairs.Governing.{Governing}
+use Rattle.tree_rows.specs.Forest.{Forest}
+use Rattle.doc_nodes.proofs.Among.{from-map}
 use Rattle.doc_nodes.specs.Nodes.{Node, Nodes, node, IsNode, Has, Distinct, IsSound, depth_by, children_by, is_element_at, element_children}
 use Rattle.doc_changes.specs.Held.{parent_at}
+use Rattle.doc_documents.specs.Readers.{element_numbers}
 use Rattle.doc_documents.proofs.Reading.{depth_below}
 use Rattle.kept_slots.specs.Slots.{at}
-use Rattle.kept_records.specs.Slots.{IsMade, blank, kept_at, pair_at, record_at}
+use Rattle.kept_records.specs.Slots.{KeptSlots, IsMade, blank, kept_at, pair_at, record_at}
 use Rattle.kept_records.specs.Fit.{models_of, IsListed, AboveIn}
-use Rattle.kept_records.proofs.Nodes.{by-node, child-parent}
+use Rattle.kept_records.proofs.Nodes.{child-parent}
 use Rattle.kept_state.specs.declared.children.KeptChildren.{KeptChildren}
 use Rattle.kept_state.specs.declared.element.Governed.{Governed}
 use Rattle.kept_state.specs.declared.state.KeptState.{KeptState}
@@ -25,6 +29,8 @@ use Rattle.kept_below.specs.declared.listing.Listing.{Listing}
 use Rattle.kept_below.proofs.Counts.{counts-last}
 use Rattle.kept_below.proofs.Distinct.{distinct-filter, filtered, has-place, place-has, place-from, front-other, front-more}
 use Rattle.kept_below.proofs.Keeping.{keeps-then, keeps-wider}
+use Rattle.kept_below.specs.Moved.{moved, AreGivenDown}
+use Rattle.kept_below.proofs.Moving.{HasRoom, room-stopped, room-next}
 use Rattle.kept_below.proofs.Walks.{self-within, child-below, siblings-apart, has-get}
 
 abbrev pub number : Governed → ℕ
@@ -62,21 +68,26 @@ from-front (y ∷ ys) zero x h = absurd h
 from-front (y ∷ ys) (suc i) x (inl e) = inl e
 from-front (y ∷ ys) (suc i) x (inr k) = inr (from-front ys i x k)
 
-module _ (c : Compiled) (ns : Nodes) (sound : IsSound ns) (parent : Governed) (element : is_element_at ns parent.node ≡ true) (children : List Governed) (are : AreGoverned c ns parent children) where
-  own : (it : Node) × IsNode ns parent.node it
-  own = by-node ns parent.node (node ns parent.node) refl element
-
+module _ (c : Compiled) (ns : Nodes) (sound : IsSound ns) (parent : Governed) (children : List Governed) (are : AreGoverned c ns parent children) where
   pub child-place : (i : ℕ) (g : Governed) → slice_get children i ≡ Some g → slice_get (element_children ns parent.node) i ≡ Some g.node
   child-place i g e = ap (λ xs. slice_get xs i) (sym are.nodes) ∙ slice_get-map number children i ∙ ap (option_map number) e
 
   pub child-up : (i : ℕ) (g : Governed) → slice_get children i ≡ Some g → parent_at ns g.node ≡ Some parent.node
-  child-up i g e = child-parent ns sound parent.node own.0 own.1 i g.node (child-place i g e)
+  child-up i g e = by (node ns parent.node) refl (child-place i g e)
+    where
+      by : (o : Option Node) → node ns parent.node ≡ o → slice_get (filter (is_element_at ns) (children_by o)) i ≡ Some g.node → parent_at ns g.node ≡ Some parent.node
+      by None q h = absurd (none-some g.node h)
+      by (Some it) q h = child-parent ns sound parent.node it q i g.node (child-place i g e)
 
   pub child-element : (i : ℕ) (g : Governed) → slice_get children i ≡ Some g → is_element_at ns g.node ≡ true
   child-element i g e = (filtered (is_element_at ns) (children_by (node ns parent.node)) g.node (has-get (element_children ns parent.node) i g.node (child-place i g e))).1
 
   pub apart : Distinct (map number children)
-  apart = subst Distinct (sym are.nodes) (distinct-filter (is_element_at ns) (children_by (node ns parent.node)) (subst (λ o. Distinct (children_by o)) (sym own.1) (sound.once parent.node own.0 own.1)))
+  apart = subst Distinct (sym are.nodes) (by (node ns parent.node) refl)
+    where
+      by : (o : Option Node) → node ns parent.node ≡ o → Distinct (filter (is_element_at ns) (children_by o))
+      by None q = tt
+      by (Some it) q = distinct-filter (is_element_at ns) it.children (sound.once parent.node it q)
 
   pub child-above : (i : ℕ) (g : Governed) → slice_get children i ≡ Some g → (waiting : List ℕ) → AboveIn ns g.node (parent.node ∷ waiting)
   child-above i g e waiting = λ p up. inl (same_Some parent.node p (sym (child-up i g e) ∙ up))
@@ -144,6 +155,49 @@ module _ (c : Compiled) (ns : Nodes) (sound : IsSound ns) (parent : Governed) (e
     keeps-next first keeps =
         keeps-then (IsBelow ns parent.node) first a b keeps
         (keeps-wider (IsWithin ns g.node) (IsBelow ns parent.node) (λ m w. child-below ns g.node parent.node m (child-up i g e) w) a b settled.rest)
+
+-- ---- those that are left
+
+left-step : (xs : List Governed) (i : ℕ) (g : Governed) → slice_get xs i ≡ Some g → drop i xs ≡ g ∷ drop (suc i) xs
+left-step [] i g e = absurd (none-some g e)
+left-step (x ∷ xs) zero g e = ap (λ y. y ∷ xs) (same_Some x g e)
+left-step (x ∷ xs) (suc i) g e = left-step xs i g e
+
+left-among : (xs : List Governed) (i : ℕ) (g : Governed) → Has g (drop i xs) → Has g xs
+left-among [] zero g h = absurd h
+left-among [] (suc i) g h = absurd h
+left-among (x ∷ xs) zero g h = h
+left-among (x ∷ xs) (suc i) g h = inr (left-among xs i g h)
+
+left-distinct : (xs : List Governed) (i : ℕ) → Distinct (map number xs) → Distinct (map number (drop i xs))
+left-distinct [] zero d = tt
+left-distinct [] (suc i) d = tt
+left-distinct (x ∷ xs) zero d = d
+left-distinct (x ∷ xs) (suc i) d = left-distinct xs i d.1
+
+module _ (c : Compiled) (ns : Nodes) (sound : IsSound ns) (parent : Governed) (children : List Governed) (are : AreGoverned c ns parent children) where
+  left-up : (i d : ℕ) → Has d (map number (drop i children)) → parent_at ns d ≡ Some parent.node
+  left-up i d h =
+      let from = from-map number (drop i children) d h in
+      let at = place-has number children from.item (left-among children i from.item from.has) in
+      subst (λ m. parent_at ns m ≡ Some parent.node) from.is (child-up c ns sound parent children are at.0 from.item at.1)
+
+  module _ (governs : ℕ → Governing) (i : ℕ) (g : Governed) (e : slice_get children i ≡ Some g) (ks new : KeptSlots) (steps now most : ℕ)
+      (room : HasRoom c ns ks governs (map number (drop i children)) steps most)
+      (own : (f : Forest) → AreGivenDown c ns governs f → element_numbers f ≡ g.node ∷ [] → now ≤ steps + 3 * moved ks governs f) where
+    left-is : map number (drop i children) ≡ g.node ∷ map number (drop (suc i) children)
+    left-is = ap (map number) (left-step children i g e)
+
+    room-here : HasRoom c ns ks governs (g.node ∷ map number (drop (suc i) children)) steps most
+    room-here = subst (λ xs. HasRoom c ns ks governs xs steps most) left-is room
+
+    pub steps-stopped : now ≤ most
+    steps-stopped = room-stopped c ns governs sound ks new g.node (map number (drop (suc i) children)) steps now most room-here own
+
+    pub steps-next : ((m : ℕ) → ¬ IsWithin ns g.node m → at new m ≡ at ks m) → HasRoom c ns new governs (map number (drop (suc i) children)) now most
+    steps-next frame =
+        room-next c ns governs sound ks new g.node (map number (drop (suc i) children)) steps now most room-here own parent.node
+        (λ d h. left-up i d (subst (Has d) (sym left-is) h)) (subst Distinct left-is (left-distinct children i (apart c ns sound parent children are))) frame
 
 -- ---- all of them are settled
 

@@ -4,6 +4,7 @@ pub mod Keeping
 pub mod Fits
 mod Counts
 mod Children
+mod Again
 pub mod Moving
 mod Depths
 mod Opening

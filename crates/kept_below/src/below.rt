@@ -5,6 +5,8 @@ ghost use Rattle.tree_rows.specs.Forest.{Forest, Document, count};
 ghost use Rattle.assess_records.specs.Counts.{counts_of};
 ghost use Rattle.elem_governing.specs.declared.pairs.Governing.{Governing};
 ghost use Rattle.compiled_schema.specs.Usable.{set_of};
+ghost use Rattle.model_lists.specs.Lists.{IsLive, KeepLists};
+ghost use Rattle.model_lists.specs.declared.handle.ModelList.{ModelList as ModelListData};
 ghost use Rattle.doc_nodes.specs.Nodes.{Has, element_children, is_element_at};
 ghost use Rattle.doc_changes.specs.Stands.{StandsFor};
 ghost use Rattle.doc_documents.specs.Readers.{element_numbers};
@@ -23,7 +25,7 @@ use compiled_schema::Compiled;
 use doc_tree::DocTree;
 use kept_judging::{judge, keep_judged, pair_of_root};
 use kept_state::{Governed, KeptChildren, KeptState};
-use model_lists::ModelList;
+use model_lists::{ModelList, ModelLists};
 use std::alloc::AllocError;
 use xsv_steps::{Ledger, Steps};
 
@@ -34,6 +36,16 @@ fn list_of(kept: &KeptState, node: u32) -> Option<ModelList>
     match kept.records.get(node) {
         None => None,
         Some(own) => own.list,
+    }
+}
+
+// Gives a list back, if there is one.
+fn give_back(lists: &mut ModelLists, list: Option<ModelList>)
+    requires { (h : ModelListData) → list ≡ Some h → IsLive lists.old h }
+    ensures { KeepLists lists.old lists.new (λ h. list ≡ Some h) }
+{
+    if let Some(list) = list {
+        lists.give(list);
     }
 }
 
@@ -55,9 +67,7 @@ fn keep_anew(
 {
     let list = list_of(kept, element.node);
     keep_judged(doc, set, kept, element, children)?;
-    if let Some(list) = list {
-        kept.lists.give(list);
-    }
+    give_back(&mut kept.lists, list);
     Ok(())
 }
 
