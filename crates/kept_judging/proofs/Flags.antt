@@ -104,15 +104,11 @@ module _ (shape : ElementShape) (counts : ChildCounts) (same : HaveSameFlags sha
         (front i ++
         (governed-same names is content (text_used (is_taken is c other) c shape) outcome missing i ++
         fixed-same is content (fixed_value (is_taken is c other) c) outcome i)))) ++ (shape.identity ++ shape.ids))
-        ∙ ap (λ chars. local_codes_with d c xsi is content chars) (sym text)
-      where
-        abbrev local_codes_with : Option ElementDecl → Option ValueConstraint → Option (List ℕ) → Bool → Option ContentType → List ℕ → List Found
-        local_codes_with d c xsi is content chars =
-            (declaration_codes g said d ++
-            (type_codes t g said ++
-            (nil_codes d c xsi is other ++
-            (governed_codes names is content other chars outcome missing ++
-            fixed_codes is content (fixed_value (is_taken is c other) c) other outcome)))) ++ (shape.identity ++ shape.ids)
+        ∙ ap (λ (chars : List ℕ). (declaration_codes g said d ++
+        (type_codes t g said ++
+        (nil_codes d c xsi is other ++
+        (governed_codes names is content other chars outcome missing ++
+        fixed_codes is content (fixed_value (is_taken is c other) c) other outcome)))) ++ (shape.identity ++ shape.ids)) (sym text)
 
     -- ---- the record
 

@@ -38,14 +38,17 @@ module _ (c : Compiled) (ns : Nodes) (old new : KeptState) (n : ℕ) (k : KeptEl
   -- with a list of its own, governed as it may be, and the sums kept
   pub beside-written : is_element_at ns n ≡ true → CanGovern c.parts k.found.governing → IsFreeFor old.lists old.records.slots n k.list → IsBooked new.records → IsBeside c ns new
   beside-written element governed free booked = record {
-    over = (beside.over.0, record {
-      usable = beside.over.1.usable;
-      stands = beside.over.1.stands;
-      only = λ m made. elim (cases_eq m n) [
-        | inl e ↦ subst (λ (q : ℕ). is_element_at ns q ≡ true) (sym e) element
-        | inr other ↦ beside.over.1.only m (made.0, sym (rewrites.slots.others m other) ∙ made.1)
-      ];
-    });
+    over = (
+      beside.over.0,
+      record {
+        usable = beside.over.1.usable;
+        stands = beside.over.1.stands;
+        only = λ m made. elim (cases_eq m n) [
+          | inl e ↦ subst (λ (q : ℕ). is_element_at ns q ≡ true) (sym e) element
+          | inr other ↦ beside.over.1.only m (made.0, sym (rewrites.slots.others m other) ∙ made.1)
+        ];
+      },
+    );
     governed = λ m made. elim (cases_eq m n) [
       | inl e ↦ subst (CanGovern c.parts) (sym (ap (pair_at new.records.slots) e ∙ ap (λ (x : KeptElement). x.found.governing) (kept-there new.records.slots n k rewrites.slots.here))) governed
       | inr other ↦
