@@ -39,17 +39,17 @@ kind-by (Some it) is = kind-in it.content is
 pub element-kind : (ns : Nodes) (n : ℕ) → is_element_at ns n ≡ true → kind_at ns n ≡ Some kinds.Element
 element-kind ns n is = kind-by (node ns n) is
 
+told : NodeKind → Bool
+told kinds.Element = true
+told kinds.Chars = false
+
+not-element : kinds.Chars ≡ kinds.Element → ⊥
+unfolding told
+not-element e = false≢true (ap told e)
+
 by-kind-in : (c : Content) → Some (kind_in c) ≡ Some kinds.Element → is_element c ≡ true
 by-kind-in (contents.Element e) is = refl
-by-kind-in (contents.Chars chars) is = absurd (no-element (same_Some kinds.Chars kinds.Element is))
-  where
-    told : NodeKind → Bool
-    told kinds.Element = true
-    told kinds.Chars = false
-
-    no-element : kinds.Chars ≡ kinds.Element → ⊥
-    unfolding told
-    no-element e = false≢true (ap told e)
+by-kind-in (contents.Chars chars) is = absurd (not-element (same_Some kinds.Chars kinds.Element is))
 
 by-kind : (o : Option Node) → option_map (λ (it : Node). kind_in it.content) o ≡ Some kinds.Element → is_element_by o ≡ true
 by-kind None is = absurd (none-some kinds.Element is)
