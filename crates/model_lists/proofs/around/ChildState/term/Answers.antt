@@ -11,16 +11,16 @@ use Rattle.model_lists.proofs.around.ChildState.term.Goals as goal
 pub row-requires : goal.row-requires
 row-requires c =
     let q = c.requires.state in
-    row-led c.args.automaton.now c.in-States.states.now c.in-States.is q.0 c.args.self.reached q.1
+    row-led c.args.automaton.now c.in-States.states c.in-States.is q.0 c.args.self.reached q.1
 
 pub state_term-requires : goal.state_term-requires
-state_term-requires c = one-below c.args.automaton.now c.in-States.states.now c.in-States.is c.args.symbol c.requires.symbol
+state_term-requires c = one-below c.args.automaton.now c.in-States.states c.in-States.is c.args.symbol c.requires.symbol
 
 pub returns-in-States : goal.returns-in-States
 returns-in-States c = λ before l of begun.
     let symbol = c.args.symbol in
     let a_is = c.in-States.is in
-    let led = row-reached c.args.automaton.now before c.in-States.states.now a_is c.row.result (subst (λ (r : Reached). LeadIn c.args.automaton.now before r) c.row.ensures l) in
+    let led = row-reached c.args.automaton.now before c.in-States.states a_is c.row.result (subst (λ (r : Reached). LeadIn c.args.automaton.now before r) c.row.ensures l) in
     subst (λ (a : ContentAutomaton). c.state_term.result ≡ term_after a before symbol) (sym a_is)
     (c.state_term.ensures before (subst (λ (a : ContentAutomaton). AreSymbolsBy a (before ++ symbol ∷ [])) a_is of) led
     (subst (λ (a : ContentAutomaton). begins a (before ++ symbol ∷ []) ≡ true) a_is begun))
