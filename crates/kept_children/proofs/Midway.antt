@@ -20,7 +20,6 @@ use Rattle.model_lists.specs.declared.handle.ModelList.{ModelList}
 use Rattle.doc_nodes.specs.Nodes.{Node, Nodes, node, IsNode, Has, Lacks, IsSound, is_element_at, element_children, depth_by}
 use Rattle.doc_nodes.proofs.Among.{lacks-has}
 use Rattle.doc_changes.specs.Held.{parent_at}
-use Rattle.doc_documents.proofs.Reading.{depth_below}
 use Rattle.kept_slots.specs.Slots.{at}
 use Rattle.kept_records.specs.declared.element.KeptElement.{KeptElement}
 use Rattle.kept_records.specs.Slots.{KeptSlots, IsKept, IsMade, blank, kept_at, pair_at, record_at}
@@ -40,6 +39,7 @@ use Rattle.kept_judging.specs.Judged.{symbols_by, pair_by, IsGivenBy, IsJudgedBy
 use Rattle.kept_above.proofs.Climbing.{judged-kept}
 use Rattle.kept_above.proofs.Placed.{others-differ, children-differ, few-children}
 use Rattle.kept_below.specs.Below.{upwards, IsWithin, IsNoneOf, KeepsBut, IsSettled}
+use Rattle.kept_below.proofs.Walks.{self-within, parent-outside, siblings-apart}
 use Rattle.kept_children.specs.Places.{IsPlaceOf}
 use Rattle.kept_children.specs.Family.{AreCounted, IsListedBy, IsAttributed, AreGivenBut, IsMidway, model_of, symbols_of}
 use Rattle.kept_children.specs.declared.place.ChildPlace.{ChildPlace}
@@ -208,22 +208,6 @@ module _ (c : Compiled) (ns : Nodes) (old new : KeptState) (p : ℕ) (k : KeptEl
 
 -- ---- a child element is governed anew
 
-module _ (ns : Nodes) (sound : IsSound ns) where
-  -- what is below an element stands deeper
-  depth-step : (levels m n : ℕ) → ((q : ℕ) → upwards ns levels q ≡ Some n → depth_by (node ns q) ≡ depth_by (node ns n) + levels) →
-      (o : Option ℕ) → parent_at ns m ≡ o → option_and_then (upwards ns levels) o ≡ Some n → depth_by (node ns m) ≡ depth_by (node ns n) + suc levels
-  depth-step levels m n on None e f = absurd (none-some n f)
-  depth-step levels m n on (Some q) e f = let a = on q f in let b = depth_below ns q m sound e in omega (arith, a, b)
-
-  depth-upwards : (levels m n : ℕ) → upwards ns levels m ≡ Some n → depth_by (node ns m) ≡ depth_by (node ns n) + levels
-  depth-upwards zero m n e = let same : m ≡ n = same_Some m n e in ap (λ x. depth_by (node ns x)) same ∙ omega arith
-  depth-upwards (suc levels) m n e = depth-step levels m n (λ q. depth-upwards levels q n) (parent_at ns m) refl e
-
-  -- an element at the same depth is not below another
-  pub same-depth : (m n : ℕ) → depth_by (node ns m) ≤ depth_by (node ns n) → IsWithin ns n m → m ≡ n
-  same-depth m n low (zero, e) = same_Some m n e
-  same-depth m n low (suc levels, e) = let deep = depth-upwards (suc levels) m n e in absurd (omega (arith, deep, low))
-
 module _ (c : Compiled) (ns : Nodes) (old new : KeptState) (spot : ChildPlace) (place : IsPlaceOf ns spot) (element : Governed) (node_is : element.node ≡ spot.node)
     (settled : IsSettled ns old new element) (before : IsBeside c ns old) (after : IsBeside c ns new) (there : IsMade old.records.slots spot.parent) where
   abbrev p : ℕ
@@ -232,15 +216,11 @@ module _ (c : Compiled) (ns : Nodes) (old new : KeptState) (spot : ChildPlace) (
   sound : IsSound ns
   sound = before.over.1.stands.links
 
-  deeper : depth_by (node ns element.node) ≡ depth_by (node ns p) + 1
-  deeper = ap (λ x. depth_by (node ns x)) node_is ∙ depth_below ns p spot.node sound place.parent_is
+  up : parent_at ns element.node ≡ Some p
+  up = ap (parent_at ns) node_is ∙ place.parent_is
 
   not-parent : ¬ IsWithin ns element.node p
-  not-parent w =
-      let d = deeper in
-      let same = same-depth ns sound p element.node (omega (arith, d)) w in
-      let depths : depth_by (node ns p) ≡ depth_by (node ns element.node) = ap (λ x. depth_by (node ns x)) same in
-      absurd (omega (arith, d, depths))
+  not-parent = parent-outside ns sound p element.node p up (omega arith)
 
   pub parent-stays : at new.records.slots p ≡ at old.records.slots p
   parent-stays = settled.rest.slots p not-parent
@@ -253,9 +233,7 @@ module _ (c : Compiled) (ns : Nodes) (old new : KeptState) (spot : ChildPlace) (
   sibling-stays i m e other =
       settled.rest.slots m (λ w.
         let own = by-node ns p (node ns p) refl (before.over.1.only p there) in
-        let mine = depth_below ns p m sound (child-parent ns sound p own.0 own.1 i m e) in
-        let d = deeper in
-        other (same-depth ns sound m element.node (omega (arith, mine, d)) w ∙ node_is))
+        siblings-apart ns sound p m element.node m (child-parent ns sound p own.0 own.1 i m e) up (λ q. other (q ∙ node_is)) (self-within ns m) w)
 
   -- the list of the parent
   listed-stays : (a : Option ContentAutomaton) (list : Option ModelList) → (kept_at old.records.slots p).list ≡ list → (symbols : List ℕ) → IsListed old.lists a list symbols → IsListed new.lists a list symbols
