@@ -7,4 +7,5 @@ pub mod Planted
 pub mod Pruned
 pub mod Renamed
 pub mod Midway
+pub mod Counted
 pub mod Ending

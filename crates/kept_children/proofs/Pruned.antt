@@ -95,13 +95,14 @@ module _ (c : Compiled) (ns : Nodes) (k : KeptState) (spot : ChildPlace) (outcom
   gone-not : ¬ Stays spot.node
   gone-not stays = none-some stays.0 (sym h.prunes.here ∙ stays.1)
 
+  out-by : (levels n : ℕ) → Stays n → ((m : ℕ) → Stays m → upwards h.old levels m ≡ Some spot.node → ⊥) →
+      (o : Option ℕ) → parent_at h.old n ≡ o → option_and_then (upwards h.old levels) o ≡ Some spot.node → ⊥
+  out-by levels n stays on None q f = none-some spot.node f
+  out-by levels n stays on (Some m) q f = on m (up n m stays q) f
+
   out-from : (levels n : ℕ) → Stays n → upwards h.old levels n ≡ Some spot.node → ⊥
   out-from zero n stays e = gone-not (subst Stays (same_Some n spot.node e) stays)
-  out-from (suc levels) n stays e = by (parent_at h.old n) refl e
-    where
-      by : (o : Option ℕ) → parent_at h.old n ≡ o → option_and_then (upwards h.old levels) o ≡ Some spot.node → ⊥
-      by None q f = none-some spot.node f
-      by (Some m) q f = out-from levels m (up n m stays q) f
+  out-from (suc levels) n stays e = out-by levels n stays (out-from levels) (parent_at h.old n) refl e
 
   -- they are not below the one that is gone
   out : (n : ℕ) → Stays n → ¬ IsWithin h.old spot.node n

@@ -87,6 +87,7 @@ fn settle_new<L: Ledger>(
     ensures attributed { OnOk result (IsAttributed set.old doc.now kept.new at.now.parent) }
     ensures counted { OnOk result (AreCounted kept.new at.now.parent (element_children doc.now at.now.parent)) }
     ensures given { OnOk result ((places : List ℕ) → AreGivenBut set.old doc.now kept.old at.now.parent (at.now.place ∷ places) → AreGivenBut set.old doc.now kept.new at.now.parent places) }
+    ensures pair { OnOk result (pair_at kept.new.records.slots at.now.parent ≡ pair_at kept.old.records.slots at.now.parent) }
     ensures same { set.new ≡ set.old }
 {
     let child = govern_at(doc, set, kept, at, steps)?;
@@ -112,6 +113,7 @@ fn settle_named<L: Ledger>(
     ensures attributed { OnOk result (IsAttributed set.old doc.now kept.new at.now.parent) }
     ensures counted { OnOk result (AreCounted kept.new at.now.parent (element_children doc.now at.now.parent)) }
     ensures given { OnOk result ((places : List ℕ) → AreGivenBut set.old doc.now kept.old at.now.parent (at.now.place ∷ places) → AreGivenBut set.old doc.now kept.new at.now.parent places) }
+    ensures pair { OnOk result (pair_at kept.new.records.slots at.now.parent ≡ pair_at kept.old.records.slots at.now.parent) }
     ensures same { set.new ≡ set.old }
 {
     let was = kept.outcome(at.node);

@@ -173,6 +173,7 @@ pub(crate) fn note_stuck<L: Ledger>(
     ensures midway { (was : KeptChildrenData) (waiting : List ℕ) → IsMidway set.now doc.now kept.old parent was waiting → IsMidway set.now doc.now kept.new parent was waiting }
     ensures attributed { IsAttributed set.now doc.now kept.new parent }
     ensures given { (places : List ℕ) → AreGivenBut set.now doc.now kept.old parent places → AreGivenBut set.now doc.now kept.new parent places }
+    ensures pair { pair_at kept.new.records.slots parent ≡ pair_at kept.old.records.slots parent }
     ensures counted { (children : List ℕ) → AreCounted kept.old parent children → AreCounted kept.new parent children }
     ensures least { steps.old ≤ steps.new }
     ensures steps { steps.new ≤ steps.old + (8 * (bits (length (element_children doc.now parent) + 1) + 1) + 1) }

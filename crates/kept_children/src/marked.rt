@@ -1,11 +1,8 @@
 //! The child elements whose terms go by their place, asked again.
 
 ghost use Rattle.std.specs.Prelude.{◌≡◌, ◌+◌, ◌*◌, ◌≤◌, ℕ, List, [], ◌∷◌, None, Some, length, slice_get, OnOk, MatchOption};
-ghost use Rattle.child_trees.specs.Bits.{bits};
-ghost use Rattle.model_lists.specs.Lists.{IsLive};
-ghost use Rattle.model_lists.specs.declared.handle.ModelList.{ModelList as ModelListData};
 ghost use Rattle.doc_nodes.specs.Nodes.{element_children};
-ghost use Rattle.kept_records.specs.Slots.{IsMade};
+ghost use Rattle.kept_records.specs.Slots.{IsMade, pair_at};
 ghost use Rattle.kept_state.specs.declared.children.KeptChildren.{KeptChildren as KeptChildrenData};
 ghost use Rattle.kept_children.specs.Places.{IsPlaceOf};
 ghost use Rattle.kept_children.specs.Family.{AreCounted, AreGivenBut, IsAttributed, IsListedBy, IsMidway, marked_places};
@@ -37,6 +34,7 @@ fn settle_marked<L: Ledger>(
     ensures attributed { OnOk result (IsAttributed set.old doc.now kept.new at.now.parent) }
     ensures counted { OnOk result (AreCounted kept.new at.now.parent (element_children doc.now at.now.parent)) }
     ensures given { OnOk result ((places : List ℕ) → AreGivenBut set.old doc.now kept.old at.now.parent (at.now.place ∷ places) → AreGivenBut set.old doc.now kept.new at.now.parent places) }
+    ensures pair { OnOk result (pair_at kept.new.records.slots at.now.parent ≡ pair_at kept.old.records.slots at.now.parent) }
     ensures same { set.new ≡ set.old }
 {
     let was = kept.outcome(at.node);
