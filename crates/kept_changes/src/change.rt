@@ -1,5 +1,18 @@
 //! Changes, one by one.
 
+ghost use Rattle.std.specs.Prelude.{◌≡◌, ◌≢◌, None, Some, true, OnOk};
+ghost use Rattle.tree_rows.specs.Forest.{Document};
+ghost use Rattle.tree_edits.specs.Tests.{made};
+ghost use Rattle.tree_edits.specs.declared.edit.Edit.TheVariants as edits;
+ghost use Rattle.xs_names.specs.Names.{NameTable};
+ghost use Rattle.doc_nodes.specs.Nodes.{is_element_at};
+ghost use Rattle.doc_changes.specs.Held.{parent_at};
+ghost use Rattle.doc_changes.specs.Stands.{StandsFor};
+ghost use Rattle.doc_edits.specs.Changes.{CanMake, changed};
+ghost use Rattle.kept_state.specs.Kept.{IsBeside};
+ghost use Rattle.kept_children.specs.Edited.{IsRightFor};
+ghost use Rattle.kept_changes.specs.Spots.{CameAt, IsRemoval, IsSpot};
+
 use crate::forget::forget_below;
 use crate::own::{reattribute, rename, retext};
 use compiled_schema::Compiled;
@@ -26,19 +39,22 @@ enum Spot {
     Renamed(u32),
 }
 
-// The parent of a text.
-fn owner_of(doc: &DocTree, text: u32) -> u32
-// requires { kind_at doc.now text ≡ Some kinds.Chars }
-// ensures { parent_at doc.now text ≡ Some result }
+// The parent of a node that has one.
+fn owner_of(doc: &DocTree, node: u32) -> u32
+    requires { parent_at doc.now node ≢ None }
+    ensures { parent_at doc.now node ≡ Some result }
 {
-    match doc.parent(text) {
+    match doc.parent(node) {
         Some(parent) => parent,
         None => unreachable!(),
     }
 }
 
 // Where a node goes.
-fn removal(doc: &DocTree, node: u32) -> Spot {
+fn removal(doc: &DocTree, node: u32) -> Spot
+    requires { parent_at doc.now node ≢ None }
+    ensures { IsRemoval doc.now node result }
+{
     match doc.live(node) {
         Some(NodeKind::Element) => Spot::Pruned(node),
         _ => Spot::Retexted(owner_of(doc, node)),
@@ -46,7 +62,10 @@ fn removal(doc: &DocTree, node: u32) -> Spot {
 }
 
 // Which element a change begins at.
-fn spot_of(doc: &DocTree, change: &Change) -> Spot {
+fn spot_of(doc: &DocTree, change: &Change) -> Spot
+    requires { (t : NameTable) × (d : Document) × StandsFor t doc.now d × CanMake t doc.now d change.now }
+    ensures { IsSpot doc.now change.now result }
+{
     match change {
         Change::Insert { .. } => Spot::Planted(doc.next_free()),
         Change::AddText { parent, .. } => Spot::Retexted(*parent),
@@ -57,7 +76,7 @@ fn spot_of(doc: &DocTree, change: &Change) -> Spot {
     }
 }
 
-// Takes an element out of what is kept and out of the document.
+// Takes an element that is not the root out of what is kept and out of the document.
 fn prune<L: Ledger>(
     doc: &mut DocTree,
     set: &mut Compiled,
@@ -65,11 +84,15 @@ fn prune<L: Ledger>(
     node: u32,
     steps: &mut Steps<L>,
 ) -> Result<(), AllocError>
-// requires { an element that is not the root }
-// ensures { OnOk result (AllFitBut doc.new kept.new []) }
+    requires right { IsRightFor set.old doc.old kept.old }
+    requires element { is_element_at doc.old node ≡ true }
+    requires below { parent_at doc.old node ≢ None }
+    ensures tree { (t : NameTable) (d : Document) → StandsFor t doc.old d → StandsFor t doc.new (made d (edits.Remove node)) }
+    ensures right { OnOk result (IsRightFor set.old doc.new kept.new) }
+    ensures same { set.new ≡ set.old }
 {
     let Some(at) = place_of(doc, node) else {
-        return Ok(());
+        unreachable!()
     };
     let outcome = kept.outcome(node);
     forget_below(doc, kept, node);
@@ -84,9 +107,16 @@ fn plant<L: Ledger>(
     kept: &mut KeptState,
     node: u32,
     steps: &mut Steps<L>,
-) -> Result<(), AllocError> {
+) -> Result<(), AllocError>
+    requires beside { IsBeside set.old doc.now kept.old }
+    requires element { is_element_at doc.now node ≡ true }
+    requires below { parent_at doc.now node ≢ None }
+    requires planted { CameAt set.old doc.now kept.old node }
+    ensures right { OnOk result (IsRightFor set.old doc.now kept.new) }
+    ensures same { set.new ≡ set.old }
+{
     match place_of(doc, node) {
-        None => Ok(()),
+        None => unreachable!(),
         Some(at) => put_child(doc, set, kept, &at, steps),
     }
 }
@@ -95,7 +125,8 @@ fn plant<L: Ledger>(
 ///
 /// # Errors
 ///
-/// `AllocError` is want of memory, or there are too many codes. Nothing is stated of the records then.
+/// `AllocError` is want of memory, or there are too many codes. The document is as it was, or changed; nothing is stated of what is
+/// kept.
 pub fn keep_change<L: Ledger>(
     doc: &mut DocTree,
     set: &mut Compiled,
@@ -103,12 +134,12 @@ pub fn keep_change<L: Ledger>(
     change: Change,
     steps: &mut Steps<L>,
 ) -> Result<(), AllocError>
-// requires can { (d : Document) × StandsFor set.old.names doc.old d × CanMake set.old.names doc.old d change }
-// requires fit { AllFitBut doc.old kept.old [] × IsTop kept.old }
-// ensures stands { (d : Document) → StandsFor set.old.names doc.old d → (e) × StandsFor set.new.names doc.new e }, on every result
-// ensures made { OnOk result ((d) → StandsFor .. doc.old d → StandsFor .. doc.new (changed names d change)) }
-// ensures fit { OnOk result (AllFitBut doc.new kept.new [] × IsTop kept.new) }
-// ensures steps { as the sum of 3.2, on every result }
+    requires right { IsRightFor set.old doc.old kept.old }
+    requires can { (d : Document) × StandsFor set.old.names doc.old d × CanMake set.old.names doc.old d change }
+    ensures stands { (d : Document) → StandsFor set.old.names doc.old d → (e : Document) × StandsFor set.old.names doc.new e }
+    ensures made { OnOk result ((d : Document) → StandsFor set.old.names doc.old d → StandsFor set.old.names doc.new (changed set.old.names d change)) }
+    ensures right { OnOk result (IsRightFor set.old doc.new kept.new) }
+    ensures same { set.new ≡ set.old }
 {
     let spot = spot_of(doc, &change);
     if let Spot::Pruned(node) = spot {
