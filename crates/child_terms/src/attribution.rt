@@ -41,14 +41,13 @@ fn next_term(
 ) -> Option<TermId>
     requires state { (symbols : List ℕ) × LeadTo automaton.now symbols before }
     requires symbol { AreSymbolsBy automaton.now (symbol ∷ []) }
-    ensures { (symbols : List ℕ) (place : ℕ) → place < length symbols → slice_index symbols place ≡ symbol → LeadTo automaton.now (take place symbols) before →
+    ensures { (symbols : List ℕ) (place : ℕ) → AreSymbolsBy automaton.now symbols → place < length symbols → slice_index symbols place ≡ symbol → LeadTo automaton.now (take place symbols) before →
         goes_on ≡ begins automaton.now (take (suc place) symbols) → result ≡ term_in (Some automaton.now) symbols place }
 {
-    if goes_on && is_ambivalent_symbol(automaton, symbol) {
-        before.term(automaton, symbol)
-    } else {
-        first_term(automaton, symbol)
+    if !goes_on || !is_ambivalent_symbol(automaton, symbol) {
+        return first_term(automaton, symbol);
     }
+    before.term(automaton, symbol)
 }
 
 /// The terms of child elements with these symbols, and the place where they get stuck (Structures 3.4.4). It takes a step for each.

@@ -1,5 +1,6 @@
 -- The counts of child elements, one after another.
-use Rattle.std.proofs.Common.{◌≡◌, ℕ, ◌+◌, List, [], ◌∷◌, ◌++◌, length, refl, ap, ◌∙◌, arith}
+use Rattle.std.proofs.Common.{◌≡◌, ℕ, zero, suc, ◌+◌, ◌^◌, ◌<◌, ◌≤◌, List, [], ◌∷◌, ◌++◌, map, take, length, refl, ap, ◌∙◌, arith}
+use Rattle.std.proofs.lemmas.List.{length-map}
 use Rattle.assess_records.specs.Counts.{with_child, counts_of, child_count, attempt_count}
 use Rattle.assess_records.specs.declared.counts.ChildCounts.{ChildCounts}
 use Rattle.assess_records.specs.declared.outcome.Attempted.{Attempted}
@@ -43,3 +44,19 @@ child-total (r ∷ rs) = omega (arith, child-more r.validity r.attempted (counts
 pub attempt-total : (rs : List ElementRecord) → attempt_count (counts_of rs) ≡ length rs
 attempt-total [] = refl
 attempt-total (r ∷ rs) = omega (arith, attempt-more r.validity r.attempted (counts_of rs), attempt-total rs)
+
+short : {A : Type 0} (xs : List A) (i : ℕ) → length (take i xs) ≤ i
+short [] zero = omega arith
+short [] (suc i) = omega arith
+short (x ∷ xs) zero = omega arith
+short (x ∷ xs) (suc i) = let more = short xs i in omega (arith, more)
+
+-- one more can be counted
+pub room-for-one : {A : Type 0} (f : A → ElementRecord) (xs : List A) (i : ℕ) (counts : ChildCounts) → counts ≡ counts_of (map f (take i xs)) → i < length xs → length xs < 2 ^ 32 →
+    (child_count counts + 1 < 2 ^ 32) × (attempt_count counts + 1 < 2 ^ 32)
+room-for-one f xs i counts is within few =
+    let so-many = length-map (take i xs) f in
+    let less = short xs i in
+    let a = ap child_count is ∙ child-total (map f (take i xs)) in
+    let b = ap attempt_count is ∙ attempt-total (map f (take i xs)) in
+    (omega (arith, so-many, less, a, within, few), omega (arith, so-many, less, b, within, few))

@@ -1,0 +1,176 @@
+use Rattle.std.proofs.Common.{◌≡◌, ◌≢◌, ◌+◌, ◌*◌, ◌<◌, ◌≤◌, ℕ, suc, List, [], ◌∷◌, map, take, drop, length, get_or, Option, Some, None, true, false, refl, sym, ap, subst, ◌∙◌, add-one, arith}
+use Rattle.std.specs.Prelude.{slice_get}
+use Rattle.std.proofs.lemmas.List.{take_all, length-map}
+use Rattle.std.proofs.lemmas.Option.{slice_get_read}
+use Rattle.tree_rows.specs.Forest.{Forest}
+use Rattle.assess_records.specs.Counts.{with_child, counts_of, child_count, attempt_count}
+use Rattle.assess_records.specs.declared.counts.ChildCounts.{ChildCounts}
+use Rattle.elem_governing.specs.declared.pairs.Governing.{Governing}
+use Rattle.compiled_schema.specs.declared.compiled.Compiled.{Compiled}
+use Rattle.doc_nodes.specs.Nodes.{Nodes, Has, Lacks, IsSound, node, depth_by, element_children}
+use Rattle.doc_documents.specs.Readers.{element_numbers}
+use Rattle.kept_slots.specs.Slots.{at}
+use Rattle.kept_records.specs.Slots.{IsMade, kept_at, pair_at, record_at}
+use Rattle.kept_records.specs.Fit.{AboveIn, IsGathered}
+use Rattle.kept_state.specs.Kept.{CanGovern, FitBut, IsBeside, children_at}
+use Rattle.kept_state.specs.declared.element.Governed.{Governed}
+use Rattle.kept_state.specs.declared.state.KeptState.{KeptState}
+use Rattle.kept_judging.specs.Judged.{AreChildren}
+use Rattle.kept_below.specs.Below.{IsBelow, IsWithin, KeepsBut, IsSettled, AreGoverned, AreAbove}
+use Rattle.kept_below.specs.Moved.{moved, is_typed, AreGivenDown}
+use Rattle.kept_below.proofs.Again.{on-both, on-one, above-lacks, settled-same, typed-settled, typed-fit, anew-settled, anew-fits}
+use Rattle.kept_below.proofs.Children.{number, IsSo, record-of, left-of, child-up, child-element, child-above, all-above, one-less, all-less, governed-next, counts-next, keeps-next, steps-next, steps-stopped, are-children}
+use Rattle.kept_below.proofs.Counts.{room-for-one}
+use Rattle.kept_below.proofs.Depths.{element-depth}
+use Rattle.kept_below.proofs.Distinct.{has-place}
+use Rattle.kept_below.proofs.Fits.{more-fit, more-beside}
+use Rattle.kept_below.proofs.Keeping.{keeps-same, keeps-lists, keeps-then, spare-kept}
+use Rattle.kept_below.proofs.Moving.{CountsOwn, counts-own, not-typed, room-first, room-ended, HasRoom}
+use Rattle.kept_below.proofs.below.+below.Goals as goal
+
+-- ---- all child elements
+
+pub settle_all-settle_below-requires : goal.settle_all-settle_below-requires
+settle_all-settle_below-requires g t c κs within =
+    let set = c.args.set.now in
+    let ns = c.args.doc.now in
+    let cs = c.args.children.now in
+    let i = c.loop-child.child-index in
+    let inv = c.loop-child.invariant in
+    let r = c.requires.fit in
+    let sound = c.requires.beside.over.1.stands.links in
+    let child = c.child-item.result in
+    let here = slice_get_read cs (length cs) i child refl c.loop-child-test.true c.child-item.is in
+    (one-less set ns sound r.0 cs r.2 i child here, (within,
+      (subst (λ (s : Compiled). IsBeside s ns c.loop-child.kept) (sym inv.same) inv.beside,
+      (child-element set ns sound r.0 cs r.2 i child here,
+      (subst (λ (s : Compiled). CanGovern s.parts child.pair) (sym inv.same) (r.2.may i child here),
+      (r.0.node ∷ r.1, subst (λ (s : Compiled). FitBut s ns c.loop-child.kept (r.0.node ∷ r.1)) (sym inv.same) (inv.fit r.0 r.1 r.2 r.4), child-above set ns sound r.0 cs r.2 i child here r.1,
+       all-above set ns sound r.0 cs r.2 i child here r.1 r.5))))))
+
+pub settle_all-outcome-requires : goal.settle_all-outcome-requires
+settle_all-outcome-requires g t c = c.in_ok-settle_below.ensures.settled.made
+
+pub settle_all-add-requires-clause-few : goal.settle_all-add-requires-clause-few
+settle_all-add-requires-clause-few g t c =
+    (room-for-one (record-of c.loop-child.kept) c.args.children.now c.loop-child.child-index c.loop-child.counts c.loop-child.invariant.counts c.loop-child-test.true c.requires.fit.2.few).0
+
+pub settle_all-add-requires-clause-fewer : goal.settle_all-add-requires-clause-fewer
+settle_all-add-requires-clause-fewer g t c =
+    (room-for-one (record-of c.loop-child.kept) c.args.children.now c.loop-child.child-index c.loop-child.counts c.loop-child.invariant.counts c.loop-child-test.true c.requires.fit.2.few).1
+
+pub settle_all-loop-child-init : goal.settle_all-loop-child-init
+settle_all-loop-child-init g t c = record {
+  same = refl;
+  beside = c.requires.beside;
+  governed = λ child h. absurd h;
+  counts = c.new-counts.ensures;
+  fit = λ parent waiting are all. all;
+  rest = λ parent are. keeps-same (IsBelow c.args.doc.now parent.node) c.args.kept.now;
+  least = omega arith;
+  steps = λ siblings governs down are so. room-first c.args.set.now c.args.doc.now governs c.args.kept.now.records.slots siblings (map number c.args.children.now) c.args.steps.now down are;
+}
+
+pub settle_all-loop-child-preserved : goal.settle_all-loop-child-preserved
+settle_all-loop-child-preserved g t c =
+    let set = c.args.set.now in
+    let ns = c.args.doc.now in
+    let cs = c.args.children.now in
+    let i = c.loop-child.child-index in
+    let inv = c.loop-child.invariant in
+    let r = c.requires.fit in
+    let sound = c.requires.beside.over.1.stands.links in
+    let child = c.child-item.result in
+    let here = slice_get_read cs (length cs) i child refl c.loop-child-test.true c.child-item.is in
+    let a = c.loop-child.kept in
+    let b = c.settle_below.new.kept in
+    let done = c.in_ok-settle_below.ensures in
+    record {
+      same = done.same ∙ inv.same;
+      beside = subst (λ (s : Compiled). IsBeside s ns b) inv.same done.beside;
+      governed = λ d h. governed-next set ns sound r.0 cs r.2 a b i child here done.settled inv.governed d (subst (λ k. Has d (take k cs)) (add-one i) h);
+      counts =
+          c.add.ensures ∙ (λ k. with_child (c.outcome-outcome.ensures k).validity (c.outcome-outcome.ensures k).attempted c.loop-child.counts)
+          ∙ counts-next set ns sound r.0 cs r.2 a b i child here done.settled c.loop-child.counts inv.counts
+          ∙ ap (λ k. counts_of (map (record-of b) (take k cs))) (sym (add-one i));
+      fit = λ parent waiting are all.
+          subst (λ (s : Compiled). FitBut s ns b (parent.node ∷ waiting)) inv.same
+          (done.fit (parent.node ∷ waiting) (subst (λ (s : Compiled). FitBut s ns a (parent.node ∷ waiting)) (sym inv.same) (inv.fit parent waiting are all)) (child-above set ns sound parent cs are i child here waiting));
+      rest = λ parent are. keeps-next set ns sound parent cs are a b i child here done.settled c.args.kept.now (inv.rest parent are);
+      least = omega (arith, inv.least, done.least);
+      steps = λ siblings governs down are so.
+          subst (λ k. HasRoom set ns b.records.slots governs (map number (drop k cs)) c.settle_below.new.steps (c.args.steps.now + 3 * moved c.args.kept.now.records.slots governs siblings)) (sym (add-one i))
+          (steps-next set ns sound r.0 cs r.2 governs i child here a.records.slots b.records.slots c.loop-child.steps c.settle_below.new.steps (c.args.steps.now + 3 * moved c.args.kept.now.records.slots governs siblings)
+          (inv.steps siblings governs down are so)
+          (λ f given numbers. done.steps f governs (subst (λ (s : Compiled). AreGivenDown s ns governs f) (sym inv.same) given) numbers (so child (has-place number cs i child here)))
+          done.settled.rest.slots);
+    }
+
+pub settle_all-returns-in_err-settle_below-clause-same : goal.settle_all-returns-in_err-settle_below-clause-same
+settle_all-returns-in_err-settle_below-clause-same g t c = c.in_err-settle_below.ensures.same ∙ c.loop-child.invariant.same
+
+pub settle_all-returns-in_err-settle_below-clause-steps : goal.settle_all-returns-in_err-settle_below-clause-steps
+settle_all-returns-in_err-settle_below-clause-steps g t c = λ siblings governs down are so.
+    let set = c.args.set.now in
+    let ns = c.args.doc.now in
+    let cs = c.args.children.now in
+    let i = c.loop-child.child-index in
+    let inv = c.loop-child.invariant in
+    let r = c.requires.fit in
+    let child = c.child-item.result in
+    let here = slice_get_read cs (length cs) i child refl c.loop-child-test.true c.child-item.is in
+    steps-stopped set ns c.requires.beside.over.1.stands.links r.0 cs r.2 governs i child here c.loop-child.kept.records.slots c.loop-child.kept.records.slots c.loop-child.steps c.settle_below.new.steps
+    (c.args.steps.now + 3 * moved c.args.kept.now.records.slots governs siblings) (inv.steps siblings governs down are so)
+    (λ f given numbers. c.in_err-settle_below.ensures.steps f governs (subst (λ (s : Compiled). AreGivenDown s ns governs f) (sym inv.same) given) numbers (so child (has-place number cs i child here)))
+
+all-taken : (cs : List Governed) (i : ℕ) → length cs ≤ i → take i cs ≡ cs
+all-taken cs i past = take_all i cs past
+
+pub settle_all-returns-clause-governed : goal.settle_all-returns-clause-governed
+settle_all-returns-clause-governed g t c = λ child h.
+    c.loop-child.invariant.governed child (subst (Has child) (sym (all-taken c.args.children.now c.loop-child.child-index c.loop-child-test.false)) h)
+
+pub settle_all-returns-clause-counts : goal.settle_all-returns-clause-counts
+settle_all-returns-clause-counts g t c =
+    c.loop-child.invariant.counts ∙ ap (λ xs. counts_of (map (record-of c.loop-child.kept) xs)) (all-taken c.args.children.now c.loop-child.child-index c.loop-child-test.false)
+
+pub settle_all-returns-clause-steps : goal.settle_all-returns-clause-steps
+settle_all-returns-clause-steps g t c = λ siblings governs down are so.
+    room-ended c.args.set.now c.args.doc.now governs c.loop-child.kept.records.slots (map number (drop c.loop-child.child-index c.args.children.now)) c.loop-child.steps _ (c.loop-child.invariant.steps siblings governs down are so)
+
+-- ---- the child elements of one
+
+pub settle_children-settle_all-requires : goal.settle_children-settle_all-requires
+settle_children-settle_all-requires g t c κs within =
+    let set = c.args.set.now in
+    let ns = c.args.doc.now in
+    let old = c.args.kept.now in
+    let mid = c.list_children-listing.new.kept in
+    let parent = c.args.parent.now in
+    let over = c.requires.beside.over in
+    let sound = over.1.stands.links in
+    let done = c.in_ok-listing.ensures in
+    let cs = c.in_ok-listing.listing.children.items in
+    let are : AreGoverned set ns parent c.as_slice.result.now = subst (AreGoverned set ns parent) (sym c.as_slice.ensures) done.listing.children_are in
+    (all-less set ns sound parent c.as_slice.result.now are (λ i child e. element-depth set.names ns over.0 over.1.stands child.node (child-element set ns sound parent c.as_slice.result.now are i child e)), (within,
+      (more-beside set ns old mid done.rest done.others c.requires.beside,
+      (parent, c.requires.fit.0, are, c.requires.element, more-fit set ns old mid done.rest done.others (parent.node ∷ c.requires.fit.0) c.requires.fit.1, c.requires.fit.2))))
+
+-- ---- one element
+
+pub settle_below-settle_again-requires : goal.settle_below-settle_again-requires
+settle_below-settle_again-requires g t c κs within =
+    let r = c.requires.fit in
+    let n = c.args.element.now.node in
+    (omega arith, (within, (c.requires.beside, (c.requires.element, (c.requires.governed,
+      (λ made same. (r.1 n made (above-lacks c.args.doc.now n r.0 r.3)).gathered,
+      (r.0, λ m made lacks. r.1 m made lacks.1, r.2, r.3)))))))
+
+pub settle_below-returns-then-is_governed-clause-settled : goal.settle_below-returns-then-is_governed-clause-settled
+settle_below-returns-then-is_governed-clause-settled g t c =
+    let so = c.is_governed.ensures.0 ? in
+    settled-same c.args.doc.now c.args.kept.now c.args.element.now so.0 so.1
+
+pub settle_below-returns-clause-fit : goal.settle_below-returns-clause-fit
+settle_below-returns-clause-fit g t c =
+    on-one c.settle_again.result _ _ (λ fit waiting all above. fit waiting (λ m made lacks. all m made lacks.1) above) c.settle_again.ensures.fit
