@@ -1,7 +1,8 @@
 use Rattle.std.proofs.Common.{◌≡◌, ◌≢◌, ◌+◌, ◌*◌, ◌<◌, ◌≤◌, ℕ, suc, List, [], ◌∷◌, map, take, drop, length, get_or, Option, Some, None, true, false, refl, sym, ap, subst, ◌∙◌, add-one, arith}
 use Rattle.std.specs.Prelude.{slice_get}
+use Rattle.std.specs.Option.{option_map}
 use Rattle.std.proofs.lemmas.List.{take_all, length-map}
-use Rattle.std.proofs.lemmas.Option.{slice_get_read}
+use Rattle.std.proofs.lemmas.Option.{slice_get_read, slice_get-map}
 use Rattle.tree_rows.specs.Forest.{Forest}
 use Rattle.assess_records.specs.Counts.{with_child, counts_of, child_count, attempt_count}
 use Rattle.assess_records.specs.declared.counts.ChildCounts.{ChildCounts}
@@ -15,14 +16,14 @@ use Rattle.kept_records.specs.Fit.{AboveIn, IsGathered}
 use Rattle.kept_state.specs.Kept.{CanGovern, FitBut, IsBeside, children_at}
 use Rattle.kept_state.specs.declared.element.Governed.{Governed}
 use Rattle.kept_state.specs.declared.state.KeptState.{KeptState}
-use Rattle.kept_judging.specs.Judged.{AreChildren}
-use Rattle.kept_below.specs.Below.{IsBelow, IsWithin, KeepsBut, IsSettled, AreGoverned, AreAbove}
+use Rattle.kept_judging.specs.Judged.{AreChildren, pair_by}
+use Rattle.kept_below.specs.Below.{IsBelow, IsWithin, KeepsBut, IsSettled, IsMadeAnew, AreGoverned, AreAbove}
 use Rattle.kept_below.specs.Moved.{moved, is_typed, AreGivenDown}
 use Rattle.kept_below.proofs.Again.{on-both, on-one, above-lacks, settled-same, typed-settled, typed-fit, anew-settled, anew-fits}
 use Rattle.kept_below.proofs.Children.{number, IsSo, record-of, left-of, child-up, child-element, child-above, all-above, one-less, all-less, governed-next, counts-next, keeps-next, steps-next, steps-stopped, are-children}
 use Rattle.kept_below.proofs.Counts.{room-for-one}
 use Rattle.kept_below.proofs.Depths.{element-depth}
-use Rattle.kept_below.proofs.Distinct.{has-place}
+use Rattle.kept_below.proofs.Distinct.{has-place, place-has}
 use Rattle.kept_below.proofs.Fits.{more-fit, more-beside}
 use Rattle.kept_below.proofs.Keeping.{keeps-same, keeps-lists, keeps-then, spare-kept}
 use Rattle.kept_below.proofs.Moving.{CountsOwn, counts-own, not-typed, room-first, room-ended, HasRoom}
@@ -140,6 +141,14 @@ settle_all-returns-clause-steps g t c = λ siblings governs down are so.
 
 -- ---- the child elements of one
 
+-- they are governed as their parent gives it
+settled-given : (set : Compiled) (ns : Nodes) (parent : Governed) (governs : ℕ → Governing) (cs : List Governed) (are : AreGoverned set ns parent cs) →
+    ((place child : ℕ) → slice_get (element_children ns parent.node) place ≡ Some child → governs child ≡ pair_by set ns parent.pair parent.node place child) →
+    (map number cs ≡ element_children ns parent.node) × ((child : Governed) → Has child cs → governs child.node ≡ child.pair)
+settled-given set ns parent governs cs are given = (are.nodes, λ child h.
+    let at = place-has number cs child h in
+    given at.0 child.node (ap (λ xs. slice_get xs at.0) (sym are.nodes) ∙ slice_get-map number cs at.0 ∙ ap (option_map number) at.1) ∙ sym (are.pairs at.0 child at.1))
+
 pub settle_children-settle_all-requires : goal.settle_children-settle_all-requires
 settle_children-settle_all-requires g t c κs within =
     let set = c.args.set.now in
@@ -155,6 +164,48 @@ settle_children-settle_all-requires g t c κs within =
     (all-less set ns sound parent c.as_slice.result.now are (λ i child e. element-depth set.names ns over.0 over.1.stands child.node (child-element set ns sound parent c.as_slice.result.now are i child e)), (within,
       (more-beside set ns old mid done.rest done.others c.requires.beside,
       (parent, c.requires.fit.0, are, c.requires.element, more-fit set ns old mid done.rest done.others (parent.node ∷ c.requires.fit.0) c.requires.fit.1, c.requires.fit.2))))
+
+pub settle_children-returns-in_err-listing-clause-steps : goal.settle_children-returns-in_err-listing-clause-steps
+settle_children-returns-in_err-listing-clause-steps g t c = λ siblings governs down are given.
+    let many = ap length are in
+    omega (arith, many, c.list_children-listing.ensures.steps)
+
+pub settle_children-returns-in_err-counts-clause-steps : goal.settle_children-returns-in_err-counts-clause-steps
+settle_children-returns-in_err-counts-clause-steps g t c = λ siblings governs down are given.
+    let all = settled-given c.args.set.now c.args.doc.now c.args.parent.now governs c.as_slice.result.now (subst (AreGoverned c.args.set.now c.args.doc.now c.args.parent.now) (sym c.as_slice.ensures) c.in_ok-listing.ensures.listing.children_are) given in
+    let more = c.in_err-counts.ensures.steps siblings governs down (are ∙ sym all.0) all.1 in
+    let many = ap length are in
+    omega (arith, many, c.list_children-listing.ensures.steps, more)
+
+pub settle_children-returns : goal.settle_children-returns
+settle_children-returns g t c =
+    let set = c.args.set.now in
+    let ns = c.args.doc.now in
+    let old = c.args.kept.now in
+    let mid = c.list_children-listing.new.kept in
+    let new = c.settle_all-counts.new.kept in
+    let parent = c.args.parent.now in
+    let listed = c.in_ok-listing.ensures in
+    let done = c.in_ok-counts.ensures in
+    let listing = c.in_ok-listing.listing in
+    let are : AreGoverned set ns parent c.as_slice.result.now = subst (AreGoverned set ns parent) (sym c.as_slice.ensures) listed.listing.children_are in
+    let below = done.rest parent are in
+    record {
+      children = are-children set ns old mid new parent listing listed.listing below
+          (λ d h. done.governed d (subst (Has d) (sym c.as_slice.ensures) h)) c.in_ok-counts.counts (done.counts ∙ ap (λ xs. counts_of (map (record-of new) xs)) c.as_slice.ensures);
+      spare = spare-kept (IsBelow ns parent.node) mid new below listing.list listed.listing.spare;
+      fresh = listed.listing.fresh;
+      fit = λ waiting all. done.fit parent waiting are (more-fit set ns old mid listed.rest listed.others (parent.node ∷ waiting) all);
+      rest = keeps-then (IsBelow ns parent.node) old mid new (keeps-lists (IsBelow ns parent.node) old mid listed.rest listed.others) below;
+      beside = done.beside;
+      same = done.same;
+      least = omega (arith, c.list_children-listing.ensures.least, done.least);
+      steps = λ siblings governs down numbers given.
+          let all = settled-given set ns parent governs c.as_slice.result.now are given in
+          let more = done.steps siblings governs down (numbers ∙ sym all.0) all.1 in
+          let many = ap length numbers in
+          omega (arith, many, c.list_children-listing.ensures.steps, more);
+    }
 
 -- ---- one element
 
@@ -174,3 +225,52 @@ settle_below-returns-then-is_governed-clause-settled g t c =
 pub settle_below-returns-clause-fit : goal.settle_below-returns-clause-fit
 settle_below-returns-clause-fit g t c =
     on-one c.settle_again.result _ _ (λ fit waiting all above. fit waiting (λ m made lacks. all m made lacks.1) above) c.settle_again.ensures.fit
+
+pub settle_again-settle_children-requires : goal.settle_again-settle_children-requires
+settle_again-settle_children-requires g t c κs within =
+    let r = c.requires.fit in
+    (omega arith, (within, (c.requires.beside, (c.requires.element, (r.0, r.1, r.3)))))
+
+pub settle_again-returns-then-is_typed-clause-settled : goal.settle_again-returns-then-is_typed-clause-settled
+settle_again-returns-then-is_typed-clause-settled g t c =
+    on-one c.judge.result _ _ (λ anew. typed-settled c.args.set.now c.args.doc.now c.args.element.now c.args.kept.now c.judge.new.kept anew) c.judge.ensures.judged
+
+pub settle_again-returns-then-is_typed-clause-fit : goal.settle_again-returns-then-is_typed-clause-fit
+settle_again-returns-then-is_typed-clause-fit g t c =
+    let typed = c.is_typed.ensures.0 c.if-is_typed.true in
+    on-both c.judge.result _ _ _
+    (λ anew beside. typed-fit c.args.set.now c.args.doc.now c.args.element.now c.args.kept.now c.judge.new.kept anew c.requires.beside c.requires.governed typed.0 typed.1 (c.requires.gathered typed.0 typed.1) beside)
+    c.judge.ensures.judged c.judge.ensures.beside
+
+pub settle_again-returns-clause-settled : goal.settle_again-returns-clause-settled
+settle_again-returns-clause-settled g t c =
+    let done = c.in_ok-children.ensures in
+    on-one c.keep_anew.result _ _
+    (λ made. anew-settled c.args.set.now c.args.doc.now c.args.element.now c.in_ok-children.children c.args.kept.now c.settle_children-children.new.kept c.keep_anew.new.kept done.rest
+      (subst (λ (s : Compiled). IsMadeAnew s c.args.doc.now c.settle_children-children.new.kept c.keep_anew.new.kept c.args.element.now c.in_ok-children.children) done.same made) done.fresh)
+    c.keep_anew.ensures.made
+
+pub settle_again-returns-clause-fit : goal.settle_again-returns-clause-fit
+settle_again-returns-clause-fit g t c =
+    let done = c.in_ok-children.ensures in
+    on-one c.keep_anew.result _ _
+    (λ made. anew-fits c.args.set.now c.args.doc.now c.args.element.now c.in_ok-children.children c.args.kept.now c.settle_children-children.new.kept c.keep_anew.new.kept done.rest
+      (subst (λ (s : Compiled). IsMadeAnew s c.args.doc.now c.settle_children-children.new.kept c.keep_anew.new.kept c.args.element.now c.in_ok-children.children) done.same made) done.beside done.spare done.children done.fit)
+    c.keep_anew.ensures.made
+
+pub settle_again-returns-clause-beside : goal.settle_again-returns-clause-beside
+settle_again-returns-clause-beside g t c = on-one c.keep_anew.result _ _ (λ w. subst (λ (s : Compiled). IsBeside s c.args.doc.now c.keep_anew.new.kept) c.in_ok-children.ensures.same w) c.keep_anew.ensures.beside
+
+-- an element that is not of the type counts its own child elements
+other-steps : (set : Compiled) (ns : Nodes) (k : KeptState) (element : Governed) (old new : ℕ) → is_typed (at k.records.slots element.node) element.pair.of ≡ false →
+    ((siblings : Forest) (governs : ℕ → Governing) → AreGivenDown set ns governs siblings → element_numbers siblings ≡ element_children ns element.node →
+      ((place child : ℕ) → slice_get (element_children ns element.node) place ≡ Some child → governs child ≡ pair_by set ns element.pair element.node place child) →
+      new ≤ old + 3 * (length (element_numbers siblings) + moved k.records.slots governs siblings)) →
+    (siblings : Forest) (governs : ℕ → Governing) → AreGivenDown set ns governs siblings → element_numbers siblings ≡ element.node ∷ [] → governs element.node ≡ element.pair →
+    new ≤ old + 3 * moved k.records.slots governs siblings
+other-steps set ns k element old new other steps siblings governs down are so =
+    let own = counts-own set ns k.records.slots governs element.node siblings down are (subst (λ (g : Governing). is_typed (at k.records.slots element.node) g.of ≡ false) (sym so) other) in
+    let more = steps own.below governs own.down own.are (λ place child e. own.given place child e ∙ ap (λ (g : Governing). pair_by set ns g element.node place child) so) in
+    let fewer = own.fewer in
+    omega (arith, more, fewer)
+
