@@ -67,7 +67,7 @@ scope-outer ns sound n = by (parent_at ns n) refl
   where
     by : (o : Option ℕ) → parent_at ns n ≡ o → own_scope ns n ++ outer_scope (scope_at ns) o ≡ scope_at ns n
     by None e = sym (scope_root ns n e)
-    by (Some p) e = sym (scope_below ns p n e (depth_below ns n p sound e))
+    by (Some p) e = sym (scope_below ns p n e (depth_below ns p n sound e))
 
 -- ---- what is in the table
 
@@ -85,14 +85,15 @@ module _ (t : NameTable) (ns : Nodes) (d : Document) (z : StandsFor t ns d) wher
   own-known : (n : ℕ) → AreKnown t (own_scope ns n)
   own-known n = all-reverse IsSpace (map pair_of (bindings_at ns n)) (All-map IsSpace pair_of (bindings_at ns n) (are_numbers t ns d z n).spaces)
 
+  outer-known : (scope : ℕ → List (List ℕ × ℕ)) → ((p : ℕ) → AreKnown t (scope p)) → (o : Option ℕ) → AreKnown t (outer_scope scope o)
+  outer-known scope all None = first-known
+  outer-known scope all (Some p) = all p
+
   upto-known : (levels n : ℕ) → AreKnown t (scope_upto ns levels n)
   unfolding scope_upto
   upto-known zero n = All-append IsSpace (own_scope ns n) first_scope (own-known n) first-known
-  upto-known (suc levels) n = All-append IsSpace (own_scope ns n) (outer_scope (scope_upto ns levels) (parent_at ns n)) (own-known n) (outer (parent_at ns n))
-    where
-      outer : (o : Option ℕ) → AreKnown t (outer_scope (scope_upto ns levels) o)
-      outer None = first-known
-      outer (Some p) = upto-known levels p
+  upto-known (suc levels) n =
+      All-append IsSpace (own_scope ns n) (outer_scope (scope_upto ns levels) (parent_at ns n)) (own-known n) (outer-known (scope_upto ns levels) (λ p. upto-known levels p) (parent_at ns n))
 
   -- the namespaces of its scope
   pub scope-known : (n : ℕ) → AreKnown t (scope_at ns n)
