@@ -9,3 +9,5 @@ pub mod Renamed
 pub mod Midway
 pub mod Counted
 pub mod Ending
+pub mod Moves
+pub mod Marked

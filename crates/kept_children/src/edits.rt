@@ -1,18 +1,24 @@
 //! A child element that comes, goes, or has another name.
 
-ghost use Rattle.std.specs.Prelude.{◌≡◌, ◌+◌, ◌^◌, ◌<◌, ℕ, List, [], ◌∷◌, Some, remove, OnOk};
+ghost use Rattle.std.specs.Prelude.{◌≡◌, ◌+◌, ◌*◌, ◌^◌, ◌<◌, ◌≤◌, ℕ, List, [], ◌∷◌, Some, remove, OnOk};
 ghost use Rattle.assess_records.specs.Counts.{attempt_count, child_count, with_child};
 ghost use Rattle.assess_records.specs.declared.counts.ChildCounts.{ChildCounts};
-ghost use Rattle.doc_nodes.specs.Nodes.{element_children};
+ghost use Rattle.tree_rows.specs.Forest.{Forest};
+ghost use Rattle.elem_governing.specs.declared.pairs.Governing.{Governing};
+ghost use Rattle.doc_nodes.specs.Nodes.{Lacks, element_children};
+ghost use Rattle.doc_documents.specs.Readers.{element_numbers};
 ghost use Rattle.kept_records.specs.Books.{IsBooked};
 ghost use Rattle.kept_records.specs.declared.element.KeptElement.{KeptElement as KeptData};
 ghost use Rattle.kept_records.specs.Slots.{IsKept, IsMade, kept_at, pair_at};
 ghost use Rattle.kept_state.specs.Kept.{IsBeside, Rewrites, children_at};
 ghost use Rattle.kept_state.specs.declared.children.KeptChildren.{KeptChildren as KeptChildrenData};
-ghost use Rattle.kept_judging.specs.Judged.{AreChildren};
+ghost use Rattle.kept_judging.specs.Judged.{AreChildren, pair_by};
+ghost use Rattle.kept_below.specs.Moved.{AreGivenDown, moved};
 ghost use Rattle.kept_children.specs.Places.{IsPlaceOf};
 ghost use Rattle.kept_children.specs.Edited.{IsPlanted, IsPruned, IsRenamed, IsRightFor};
-ghost use Rattle.kept_children.specs.Family.{AreCounted, AreGivenBut, IsAttributed, IsMidway};
+ghost use Rattle.kept_children.specs.Family.{AreCounted, AreGivenBut, IsAttributed, IsMidway, marked_places};
+ghost use Rattle.kept_children.specs.Family as family;
+ghost use Rattle.kept_children.specs.Steps.{GovernsBelow, digits, marked_count, width};
 
 use crate::lists::{govern_at, list_child, note_stuck, relist_child, unlist_child};
 use crate::marked::settle_all_marked;
@@ -89,6 +95,14 @@ fn settle_new<L: Ledger>(
     ensures given { OnOk result ((places : List ℕ) → AreGivenBut set.old doc.now kept.old at.now.parent (at.now.place ∷ places) → AreGivenBut set.old doc.now kept.new at.now.parent places) }
     ensures pair { OnOk result (pair_at kept.new.records.slots at.now.parent ≡ pair_at kept.old.records.slots at.now.parent) }
     ensures same { set.new ≡ set.old }
+    ensures least { steps.old ≤ steps.new }
+    ensures steps { (siblings : Forest) (governs : ℕ → Governing) → AreGivenDown set.old doc.now governs siblings → element_numbers siblings ≡ at.now.node ∷ [] →
+        governs at.now.node ≡ pair_by set.old doc.now (pair_at kept.old.records.slots at.now.parent) at.now.parent at.now.place at.now.node →
+        steps.new ≤ steps.old + (8 * digits (width doc.now at.now.parent) + 3 * moved kept.old.records.slots governs siblings) }
+    ensures unmarked { (siblings : Forest) (governs : ℕ → Governing) → AreGivenDown set.old doc.now governs siblings → element_numbers siblings ≡ at.now.node ∷ [] →
+        governs at.now.node ≡ pair_by set.old doc.now (pair_at kept.old.records.slots at.now.parent) at.now.parent at.now.place at.now.node →
+        Lacks at.now.place (marked_places (family.model_of set.old kept.old at.now.parent) (family.symbols_of set.old doc.now kept.old at.now.parent)) →
+        steps.new ≤ steps.old + 3 * moved kept.old.records.slots governs siblings }
 {
     let child = govern_at(doc, set, kept, at, steps)?;
     settle_below(doc, set, kept, &child, steps)?;
@@ -115,6 +129,14 @@ fn settle_named<L: Ledger>(
     ensures given { OnOk result ((places : List ℕ) → AreGivenBut set.old doc.now kept.old at.now.parent (at.now.place ∷ places) → AreGivenBut set.old doc.now kept.new at.now.parent places) }
     ensures pair { OnOk result (pair_at kept.new.records.slots at.now.parent ≡ pair_at kept.old.records.slots at.now.parent) }
     ensures same { set.new ≡ set.old }
+    ensures least { steps.old ≤ steps.new }
+    ensures steps { (siblings : Forest) (governs : ℕ → Governing) → AreGivenDown set.old doc.now governs siblings → element_numbers siblings ≡ at.now.node ∷ [] →
+        governs at.now.node ≡ pair_by set.old doc.now (pair_at kept.old.records.slots at.now.parent) at.now.parent at.now.place at.now.node →
+        steps.new ≤ steps.old + (8 * digits (width doc.now at.now.parent) + 3 * moved kept.old.records.slots governs siblings) }
+    ensures unmarked { (siblings : Forest) (governs : ℕ → Governing) → AreGivenDown set.old doc.now governs siblings → element_numbers siblings ≡ at.now.node ∷ [] →
+        governs at.now.node ≡ pair_by set.old doc.now (pair_at kept.old.records.slots at.now.parent) at.now.parent at.now.place at.now.node →
+        Lacks at.now.place (marked_places (family.model_of set.old kept.old at.now.parent) (family.symbols_of set.old doc.now kept.old at.now.parent)) →
+        steps.new ≤ steps.old + 3 * moved kept.old.records.slots governs siblings }
 {
     let was = kept.outcome(at.node);
     let child = govern_at(doc, set, kept, at, steps)?;
@@ -143,6 +165,9 @@ pub fn put_child<L: Ledger>(
     requires planted { IsPlanted set.old doc.now kept.old at.now }
     ensures right { OnOk result (IsRightFor set.old doc.now kept.new) }
     ensures same { set.new ≡ set.old }
+    ensures least { steps.old ≤ steps.new }
+    ensures steps { (siblings : Forest) (governs : ℕ → Governing) → GovernsBelow set.old doc.now (pair_at kept.old.records.slots at.now.parent) at.now.parent governs siblings →
+        steps.new ≤ steps.old + (24 * digits (width doc.now at.now.parent) + 1 + 16 * digits (width doc.now at.now.parent) * marked_count set.old doc.now kept.old at.now.parent + 3 * moved kept.old.records.slots governs siblings) }
 {
     let parent = at.parent;
     let was = kept.children(parent);
@@ -170,6 +195,9 @@ pub fn take_child<L: Ledger>(
     requires pruned { IsPruned set.old doc.now kept.old taken.0.now taken.1 }
     ensures right { OnOk result (IsRightFor set.old doc.now kept.new) }
     ensures same { set.new ≡ set.old }
+    ensures least { steps.old ≤ steps.new }
+    ensures steps { (siblings : Forest) (governs : ℕ → Governing) → GovernsBelow set.old doc.now (pair_at kept.old.records.slots taken.0.now.parent) taken.0.now.parent governs siblings →
+        steps.new ≤ steps.old + (24 * digits (width doc.now taken.0.now.parent + 1) + 1 + 16 * digits (width doc.now taken.0.now.parent + 1) * marked_count set.old doc.now kept.old taken.0.now.parent + 3 * moved kept.old.records.slots governs siblings) }
 {
     let (at, outcome) = taken;
     let parent = at.parent;
@@ -198,6 +226,9 @@ pub fn name_child<L: Ledger>(
     requires renamed { IsRenamed set.old doc.now kept.old at.now }
     ensures right { OnOk result (IsRightFor set.old doc.now kept.new) }
     ensures same { set.new ≡ set.old }
+    ensures least { steps.old ≤ steps.new }
+    ensures steps { (siblings : Forest) (governs : ℕ → Governing) → GovernsBelow set.old doc.now (pair_at kept.old.records.slots at.now.parent) at.now.parent governs siblings →
+        steps.new ≤ steps.old + (24 * digits (width doc.now at.now.parent) + 1 + 16 * digits (width doc.now at.now.parent) * marked_count set.old doc.now kept.old at.now.parent + 3 * moved kept.old.records.slots governs siblings) }
 {
     let parent = at.parent;
     let was = kept.children(parent);

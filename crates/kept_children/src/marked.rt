@@ -1,12 +1,18 @@
 //! The child elements whose terms go by their place, asked again.
 
 ghost use Rattle.std.specs.Prelude.{◌≡◌, ◌+◌, ◌*◌, ◌≤◌, ℕ, List, [], ◌∷◌, None, Some, length, slice_get, OnOk, MatchOption};
+ghost use Rattle.tree_rows.specs.Forest.{Forest};
+ghost use Rattle.elem_governing.specs.declared.pairs.Governing.{Governing};
 ghost use Rattle.doc_nodes.specs.Nodes.{element_children};
+ghost use Rattle.doc_documents.specs.Readers.{element_numbers};
 ghost use Rattle.kept_records.specs.Slots.{IsMade, pair_at};
 ghost use Rattle.kept_state.specs.declared.children.KeptChildren.{KeptChildren as KeptChildrenData};
+ghost use Rattle.kept_judging.specs.Judged.{pair_by};
+ghost use Rattle.kept_below.specs.Moved.{AreGivenDown, moved};
 ghost use Rattle.kept_children.specs.Places.{IsPlaceOf};
 ghost use Rattle.kept_children.specs.Family.{AreCounted, AreGivenBut, IsAttributed, IsListedBy, IsMidway, marked_places};
 ghost use Rattle.kept_children.specs.Family as family;
+ghost use Rattle.kept_children.specs.Steps.{GovernsBelow, digits, marked_count, width};
 
 use crate::lists::govern_at;
 use crate::place::{ChildPlace, list_of};
@@ -36,6 +42,10 @@ fn settle_marked<L: Ledger>(
     ensures given { OnOk result ((places : List ℕ) → AreGivenBut set.old doc.now kept.old at.now.parent (at.now.place ∷ places) → AreGivenBut set.old doc.now kept.new at.now.parent places) }
     ensures pair { OnOk result (pair_at kept.new.records.slots at.now.parent ≡ pair_at kept.old.records.slots at.now.parent) }
     ensures same { set.new ≡ set.old }
+    ensures least { steps.old ≤ steps.new }
+    ensures steps { (siblings : Forest) (governs : ℕ → Governing) → AreGivenDown set.old doc.now governs siblings → element_numbers siblings ≡ at.now.node ∷ [] →
+        governs at.now.node ≡ pair_by set.old doc.now (pair_at kept.old.records.slots at.now.parent) at.now.parent at.now.place at.now.node →
+        steps.new ≤ steps.old + (8 * digits (width doc.now at.now.parent) + 3 * moved kept.old.records.slots governs siblings) }
 {
     let was = kept.outcome(at.node);
     let child = govern_at(doc, set, kept, at, steps)?;
@@ -91,7 +101,11 @@ pub(crate) fn settle_all_marked<L: Ledger>(
     ensures attributed { OnOk result (IsAttributed set.old doc.now kept.new parent) }
     ensures counted { OnOk result (AreCounted kept.new parent (element_children doc.now parent)) }
     ensures given { OnOk result (AreGivenBut set.old doc.now kept.new parent []) }
+    ensures pair { OnOk result (pair_at kept.new.records.slots parent ≡ pair_at kept.old.records.slots parent) }
     ensures same { set.new ≡ set.old }
+    ensures least { steps.old ≤ steps.new }
+    ensures steps { (siblings : Forest) (governs : ℕ → Governing) → GovernsBelow set.old doc.now (pair_at kept.old.records.slots parent) parent governs siblings →
+        steps.new ≤ steps.old + (8 * digits (width doc.now parent) * marked_count set.old doc.now kept.old parent + 3 * moved kept.old.records.slots governs siblings) }
 {
     for number in 0..doc.child_count(parent) {
         let Some(at) = marked_at(doc, set, kept, parent, number) else {
