@@ -10,13 +10,14 @@ use Rattle.std.proofs.lemmas.Option.{none-some, same_Some, get_or_from_slice_get
 use Rattle.std.proofs.Math.ListN.{get_or-eq_default}
 use Rattle.xs_names.specs.Names.{NameTable}
 use Rattle.tree_rows.specs.Forest.{Forest, none, text, element, Document}
+use Rattle.tree_rows.specs.Whole.{HasRoot}
 use Rattle.tree_edits.specs.Edits.{has}
 use Rattle.doc_nodes.specs.Nodes.{Node, Nodes, node, IsNode, IsSound, Has, Lacks, Distinct, is_element, is_element_by, is_element_at, children_by, element_children}
 use Rattle.doc_nodes.specs.declared.content.Content.{Content}
 use Rattle.doc_nodes.specs.declared.content.Content.TheVariants as contents
 use Rattle.doc_nodes.proofs.Among.{distinct-remove, lacks-has}
 use Rattle.doc_changes.specs.Held.{parent_at}
-use Rattle.doc_changes.specs.Stands.{StandFor, StandsFor}
+use Rattle.doc_changes.specs.Stands.{firsts, StandFor, StandsFor}
 
 -- ---- what passes a test among others
 
@@ -156,3 +157,37 @@ module _ (t : NameTable) (ns : Nodes) where
   parent-element d z n p up =
       let u = parent-has ns z.links n p up in
       ap is_element_by u.1 ∙ with-children p n u.0 u.1 u.2 d.forest z.nodes (z.only p u.0 u.1)
+
+  -- the root alone has no parent
+
+  top-node : IsSound ns → (n : ℕ) → parent_at ns n ≡ None → (f : Forest) → StandFor t ns f → has n f ≡ true → Has n (firsts f)
+  top-node sound n bare none s here = absurd (false≢true here)
+  top-node sound n bare (text number chars next) s here = elim (or_cases (number == n) (has n next) here) [
+    | inl own ↦ inl (eqb-true number n own)
+    | inr later ↦ inr (top-node sound n bare next s.1 later)
+  ]
+  top-node sound n bare (element number name bindings attributes children next) s here = elim (or_cases (number == n) (has n children || has n next) here) [
+    | inl own ↦ inl (eqb-true number n own)
+    | inr more ↦ elim (or_cases (has n children) (has n next) more) [
+      | inl below ↦
+          let c = sound.down number n s.0.it s.0.is (subst (Has n) (sym s.0.children_are) (top-node sound n bare children s.1 below)) in
+          absurd (none-some number (sym bare ∙ ap (option_and_then (λ (y : Node). y.parent)) c.is ∙ c.parent))
+      | inr later ↦ inr (top-node sound n bare next s.2 later)
+    ]
+  ]
+
+  first-is-root : (n : ℕ) (f : Forest) → HasRoot f → Has n (firsts f) → n ≡ 1
+  first-is-root n none r h = absurd r
+  first-is-root n (text number chars next) r h = absurd r
+  first-is-root n (element number name bindings attributes children next) r h = elim h [
+    | inl e ↦ sym e ∙ r.0
+    | inr later ↦ absurd (subst (λ g. Has n (firsts g)) r.1 later)
+  ]
+
+  pub root-alone : (d : Document) → StandsFor t ns d → (n : ℕ) → is_element_at ns n ≡ true → parent_at ns n ≡ None → n ≡ 1
+  root-alone d z n is bare =
+      let it = node-there (node ns n) is in first-is-root n d.forest z.tree.root (top-node z.links n bare d.forest z.nodes (z.only n it.0 it.1))
+    where
+      node-there : (o : Option Node) → is_element_by o ≡ true → (it : Node) × (o ≡ Some it)
+      node-there None e = absurd (false≢true e)
+      node-there (Some it) e = (it, refl)

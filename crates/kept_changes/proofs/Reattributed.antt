@@ -20,14 +20,15 @@ use Rattle.kept_records.specs.Slots.{IsMade, blank, kept_at, pair_at, record_at}
 use Rattle.kept_records.specs.Fit.{models_of, head_at, AboveIn, IsListed, IsGathered, IsFit, IsTop}
 use Rattle.kept_records.proofs.Made.{root-parent}
 use Rattle.kept_records.proofs.Nodes.{by-node, child-parent}
-use Rattle.kept_state.specs.Kept.{FitBut, IsBeside, children_of, children_at, outcome_at}
+use Rattle.kept_state.specs.Kept.{CanGovern, FitBut, IsBeside, children_of, children_at, outcome_at}
 use Rattle.kept_state.specs.declared.element.Governed.{Governed}
 use Rattle.kept_state.specs.declared.state.KeptState.{KeptState}
 use Rattle.kept_judging.specs.Judged.{symbols_by, root_pair, given_pair, again_pair, pair_by, AreChildren, IsJudgedBy}
 use Rattle.kept_judging.proofs.Anew.{not-own-parent, gathered-children, fit-judged, judged-fit}
+use Rattle.kept_judging.proofs.Reading.{root-can, given-can}
 use Rattle.kept_above.specs.Climbing.{IsNearly, IsClimbing, KeepsRest}
 use Rattle.kept_above.proofs.Climbing.{judged-kept, nearly}
-use Rattle.kept_above.proofs.Placed.{children-differ, child-place, parent-element}
+use Rattle.kept_above.proofs.Placed.{children-differ, child-place, parent-element, root-alone}
 use Rattle.kept_above.proofs.Whole.{all-made}
 use Rattle.kept_below.specs.Below.{upwards, IsWithin, AreAbove, IsSettled}
 use Rattle.kept_children.specs.Edited.{IsRightFor}
@@ -141,69 +142,93 @@ module _ (c : Compiled) (ns : Nodes) (old : KeptState) (n : ℕ) (beside : IsBes
   root-outside other (zero, e) = other (same_Some 1 n e)
   root-outside other (suc levels, e) = none-some n (ap (option_and_then (upwards ns levels)) (sym root-parent-now) ∙ e)
 
+  module _ (p : ℕ) (up : parent_at ns n ≡ Some p) where
+    above-made : IsMade old.records.slots p
+    above-made = right-made c h.old old h.right p (sym (h.reattributes.elements.elements p) ∙ parent-element c.names ns beside.over.0 beside.over.1.stands n p up)
+
+    off : p ≢ n
+    off e = own-parent (up ∙ ap Some e)
+
+    abbrev inner : List ℕ
+    inner = element_children ns p
+
+    place : (i : ℕ) × (slice_get inner i ≡ Some n)
+    place = child-place ns sound n p up own-element
+
+    abbrev spot : ChildPlace
+    spot = record { parent = p; place = place.0; node = n }
+
+    placed : IsPlaceOf ns spot
+    placed = record { parent_is = up; node_is = place.1 }
+
+    was-children : AreChildren c h.old old p (pair_at old.records.slots p) (children_at old.records.slots p)
+    was-children = gathered-children c h.old old p (was-fit p above-made).gathered
+
+    at-before : (i m : ℕ) → slice_get inner i ≡ Some m → slice_get (element_children h.old p) i ≡ Some m
+    at-before i m e = ap (λ xs. slice_get xs i) (sym (inner-same p above-made)) ∙ e
+
+    symbols-stay : symbols_by c ns (pair_at old.records.slots p).of p ≡ symbols_by c h.old (pair_at old.records.slots p).of p
+    symbols-stay =
+        symbols-same c h.old ns old p (inner-same p above-made)
+        (λ i m e. h.reattributes.names m (was-element m (was-children.given i m e).made)) (pair_at old.records.slots p).of
+
+    attributed : IsAttributed c ns old p
+    attributed = record {
+      listed = subst (IsListed old.lists (models_of c (pair_at old.records.slots p).of) (kept_at old.records.slots p).list) (sym symbols-stay) was-children.list_is;
+      stuck_is = was-children.stuck_is ∙ ap (stuck_in (models_of c (pair_at old.records.slots p).of)) (sym symbols-stay);
+    }
+
+    given-others : AreGivenBut c ns old p (place.0 ∷ [])
+    given-others i m e lacks =
+        let g = was-children.given i m (at-before i m e) in
+        let other : m ≢ n = λ q. lacks.0 (one-place inner place.0 i n (children-differ ns sound p) place.1 (e ∙ ap Some q)) in
+        record { made = g.made; pair_is = g.pair_is ∙ sym (given-same c h.old ns old p (pair_at old.records.slots p) i m symbols-stay (heads-stay m (was-element m g.made) other)) }
+
+    -- what governs it is what its parent gives it
+    given-own : again.pair ≡ pair_by c ns (pair_at old.records.slots p) p place.0 n
+    given-own =
+        let g = was-children.given place.0 n (at-before place.0 n place.1) in
+        let was = head_at (set_of c) h.old n in
+        let now = head_at (set_of c) ns n in
+        let term = term_in (models_of c (pair_at old.records.slots p).of) (symbols_by c h.old (pair_at old.records.slots p).of p) place.0 in
+        ap (λ (g : Governing). again_pair (set_of c) g now) g.pair_is
+        ∙ child-again c.names c.parts was.xsi now.xsi was.scope now.scope (pair_at old.records.slots p).mode term was.name
+        ∙ (λ i. given_pair (set_of c) (pair_at old.records.slots p) (term_in (models_of c (pair_at old.records.slots p).of) (sym symbols-stay i) place.0)
+            (record { name = sym (h.reattributes.names n h.element) i; xsi = now.xsi; scope = now.scope }))
+
+  -- where it has no parent, it is governed as the root
+  root-own : n ≡ 1 → again.pair ≡ root_pair (set_of c) (head_at (set_of c) ns 1)
+  root-own e =
+      let was = head_at (set_of c) h.old 1 in
+      let now = head_at (set_of c) ns 1 in
+      (λ i. again_pair (set_of c) (pair_at old.records.slots (e i)) (head_at (set_of c) ns (e i)))
+      ∙ ap (λ (g : Governing). again_pair (set_of c) g now) h.right.top.pair_is
+      ∙ root-again c.names c.parts was.xsi now.xsi was.scope now.scope was.name
+      ∙ (λ i. root_pair (set_of c) (record { name = sym (h.reattributes.names 1 (was-element 1 h.right.top.made)) i; xsi = now.xsi; scope = now.scope }))
+
+  -- so it may be governed
+  pub again-can : CanGovern c.parts again.pair
+  again-can = by (parent_at ns n) refl
+    where
+      by : (o : Option ℕ) → parent_at ns n ≡ o → CanGovern c.parts again.pair
+      by None e =
+          let one = root-alone c.names ns beside.over.0 beside.over.1.stands n own-element e in
+          subst (CanGovern c.parts) (sym (root-own one)) (root-can c beside.over.1.usable (head_at (set_of c) ns 1))
+      by (Some p) up =
+          let pair = pair_at old.records.slots p in
+          subst (CanGovern c.parts) (sym (given-own p up))
+          (given-can c beside.over.1.usable (head_at (set_of c) ns n) pair (term_in (models_of c pair.of) (symbols_by c ns pair.of p) (place p up).0))
+
   module _ (new : KeptState) (settled : IsSettled ns old new again) (after : IsBeside c ns new) (fits : FitBut c ns new (above-of (parent_at ns n))) where
     module _ (p : ℕ) (up : parent_at ns n ≡ Some p) where
-      above-made : IsMade old.records.slots p
-      above-made = right-made c h.old old h.right p (sym (h.reattributes.elements.elements p) ∙ parent-element c.names ns beside.over.0 beside.over.1.stands n p up)
-
-      off : p ≢ n
-      off e = own-parent (up ∙ ap Some e)
-
-      abbrev inner : List ℕ
-      inner = element_children ns p
-
-      place : (i : ℕ) × (slice_get inner i ≡ Some n)
-      place = child-place ns sound n p up own-element
-
-      abbrev spot : ChildPlace
-      spot = record { parent = p; place = place.0; node = n }
-
-      placed : IsPlaceOf ns spot
-      placed = record { parent_is = up; node_is = place.1 }
-
-      was-children : AreChildren c h.old old p (pair_at old.records.slots p) (children_at old.records.slots p)
-      was-children = gathered-children c h.old old p (was-fit p above-made).gathered
-
-      at-before : (i m : ℕ) → slice_get inner i ≡ Some m → slice_get (element_children h.old p) i ≡ Some m
-      at-before i m e = ap (λ xs. slice_get xs i) (sym (inner-same p above-made)) ∙ e
-
-      symbols-stay : symbols_by c ns (pair_at old.records.slots p).of p ≡ symbols_by c h.old (pair_at old.records.slots p).of p
-      symbols-stay =
-          symbols-same c h.old ns old p (inner-same p above-made)
-          (λ i m e. h.reattributes.names m (was-element m (was-children.given i m e).made)) (pair_at old.records.slots p).of
-
-      attributed : IsAttributed c ns old p
-      attributed = record {
-        listed = subst (IsListed old.lists (models_of c (pair_at old.records.slots p).of) (kept_at old.records.slots p).list) (sym symbols-stay) was-children.list_is;
-        stuck_is = was-children.stuck_is ∙ ap (stuck_in (models_of c (pair_at old.records.slots p).of)) (sym symbols-stay);
-      }
-
-      given-others : AreGivenBut c ns old p (place.0 ∷ [])
-      given-others i m e lacks =
-          let g = was-children.given i m (at-before i m e) in
-          let other : m ≢ n = λ q. lacks.0 (one-place inner place.0 i n (children-differ ns sound p) place.1 (e ∙ ap Some q)) in
-          record { made = g.made; pair_is = g.pair_is ∙ sym (given-same c h.old ns old p (pair_at old.records.slots p) i m symbols-stay (heads-stay m (was-element m g.made) other)) }
-
-      -- what governs it is what its parent gives it
-      given-own : again.pair ≡ pair_by c ns (pair_at old.records.slots p) p place.0 n
-      given-own =
-          let g = was-children.given place.0 n (at-before place.0 n place.1) in
-          let was = head_at (set_of c) h.old n in
-          let now = head_at (set_of c) ns n in
-          let term = term_in (models_of c (pair_at old.records.slots p).of) (symbols_by c h.old (pair_at old.records.slots p).of p) place.0 in
-          ap (λ (g : Governing). again_pair (set_of c) g now) g.pair_is
-          ∙ child-again c.names c.parts was.xsi now.xsi was.scope now.scope (pair_at old.records.slots p).mode term was.name
-          ∙ (λ i. given_pair (set_of c) (pair_at old.records.slots p) (term_in (models_of c (pair_at old.records.slots p).of) (sym symbols-stay i) place.0)
-              (record { name = sym (h.reattributes.names n h.element) i; xsi = now.xsi; scope = now.scope }))
-
       given-now : AreGivenBut c ns new p []
-      given-now = given-settled c ns old new spot placed again refl settled beside after above-made given-own [] given-others
+      given-now = given-settled c ns old new (spot p up) (placed p up) again refl settled beside after (above-made p up) (given-own p up) [] (given-others p up)
 
       attributed-now : IsAttributed c ns new p
-      attributed-now = attributed-settled c ns old new spot placed again refl settled beside after above-made attributed
+      attributed-now = attributed-settled c ns old new (spot p up) (placed p up) again refl settled beside after (above-made p up) (attributed p up)
 
       stays : at new.records.slots p ≡ at old.records.slots p
-      stays = parent-stays c ns old new spot placed again refl settled beside after above-made
+      stays = parent-stays c ns old new (spot p up) (placed p up) again refl settled beside after (above-made p up)
 
       same : kept_at new.records.slots p ≡ kept_at old.records.slots p
       same = ap (λ o. unwrap_or o blank) stays
@@ -211,12 +236,12 @@ module _ (c : Compiled) (ns : Nodes) (old : KeptState) (n : ℕ) (beside : IsBes
       pub near : IsNearly c ns new p n (outcome_at old.records.slots n)
       near =
           nearly c ns old new sound n p own-element up
-          (λ i m e other. ap (λ o. (unwrap_or o blank).found.element) (sibling-stays c ns old new spot placed again refl settled beside after above-made i m e other))
+          (λ i m e other. ap (λ o. (unwrap_or o blank).found.element) (sibling-stays c ns old new (spot p up) (placed p up) again refl settled beside after (above-made p up) i m e other))
           (record { given = λ i m e. given-now i m e tt; list_is = attributed-now.listed; stuck_is = attributed-now.stuck_is; counts_are = refl })
-          (ap (λ (x : KeptElement). x.counts) same ∙ was-children.counts_are ∙ ap (λ xs. counts_of (map (record_at old.records.slots) xs)) (sym (inner-same p above-made)))
+          (ap (λ (x : KeptElement). x.counts) same ∙ (was-children p up).counts_are ∙ ap (λ xs. counts_of (map (record_at old.records.slots) xs)) (sym (inner-same p (above-made p up))))
           (subst (λ (x : KeptElement). IsJudgedBy (set_of c) ns new p (children_of x)) (sym same)
           (judged-kept (set_of c) ns old new p (children_at old.records.slots p) (ap (λ (x : KeptElement). x.found) same) (ap (λ (x : KeptElement). x.text) same)
-          (ap (λ (x : KeptElement). x.identity) same) settled.rest.ids (judged-stay p above-made off)))
+          (ap (λ (x : KeptElement). x.identity) same) settled.rest.ids (judged-stay p (above-made p up) (off p up))))
 
     root-made : IsMade new.records.slots 1
     root-made = elim (cases_eq 1 n) [
@@ -244,20 +269,11 @@ module _ (c : Compiled) (ns : Nodes) (old : KeptState) (n : ℕ) (beside : IsBes
 
     root-pair-now : pair_at new.records.slots 1 ≡ root_pair (set_of c) (head_at (set_of c) ns 1)
     root-pair-now = elim (cases_eq 1 n) [
-      | inl e ↦ ap (pair_at new.records.slots) e ∙ settled.pair_is ∙ root-again-own (sym e)
+      | inl e ↦ ap (pair_at new.records.slots) e ∙ settled.pair_is ∙ root-own (sym e)
       | inr other ↦
           ap (λ o. (unwrap_or o blank).found.governing) (settled.rest.slots 1 (root-outside other)) ∙ h.right.top.pair_is
           ∙ ap (root_pair (set_of c)) (sym (heads-stay 1 (was-element 1 h.right.top.made) other))
     ]
-      where
-        root-again-own : n ≡ 1 → again.pair ≡ root_pair (set_of c) (head_at (set_of c) ns 1)
-        root-again-own e =
-            let was = head_at (set_of c) h.old 1 in
-            let now = head_at (set_of c) ns 1 in
-            (λ i. again_pair (set_of c) (pair_at old.records.slots (e i)) (head_at (set_of c) ns (e i)))
-            ∙ ap (λ (g : Governing). again_pair (set_of c) g now) h.right.top.pair_is
-            ∙ root-again c.names c.parts was.xsi now.xsi was.scope now.scope was.name
-            ∙ (λ i. root_pair (set_of c) (record { name = sym (h.reattributes.names 1 (was-element 1 h.right.top.made)) i; xsi = now.xsi; scope = now.scope }))
 
     -- then all is right
     pub reattribute-right : (last : KeptState) → FitBut c ns last [] → IsBeside c ns last → KeepsRest new last → IsRightFor c ns last
