@@ -48,7 +48,8 @@ module _ (c : Compiled) (ns : Nodes) where
   pub places-next : (k : KeptState) (n : ℕ) (places : List ℕ) (number place : ℕ) → slice_get places number ≡ Some place → AreGivenBut c ns k n (drop number places) →
       AreGivenBut c ns k n (place ∷ drop (number + 1) places)
   places-next k n places number place e given =
-      subst (AreGivenBut c ns k n) (drop-get places number place e ∙ ap (λ m. place ∷ drop m places) (omega arith)) given
+      let next : suc number ≡ number + 1 = omega arith in
+      subst (AreGivenBut c ns k n) (drop-get places number place e ∙ ap (λ m. place ∷ drop m places) next) given
 
   pub places-ended : (k : KeptState) (n : ℕ) (places : List ℕ) (number : ℕ) → slice_get places number ≡ None → AreGivenBut c ns k n (drop number places) → AreGivenBut c ns k n []
   places-ended k n places number e given = subst (AreGivenBut c ns k n) (drop-none places number e) given
