@@ -11,3 +11,4 @@ pub mod Counted
 pub mod Ending
 pub mod Moves
 pub mod Marked
+pub mod Rooms

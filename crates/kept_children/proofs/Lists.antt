@@ -179,7 +179,7 @@ few-marked (true ∷ bs) from = let h = few-marked bs (suc from) in omega (arith
 few-marked (false ∷ bs) from = let h = few-marked bs (suc from) in omega (arith, h)
 
 -- a place that is among them is one of a list
-marked-within : (bs : List Bool) (from k i : ℕ) → slice_get (places_from from bs) k ≡ Some i → (from ≤ i) × (i < from + length bs)
+pub marked-within : (bs : List Bool) (from k i : ℕ) → slice_get (places_from from bs) k ≡ Some i → (from ≤ i) × (i < from + length bs)
 marked-within [] from k i e = absurd (none-some i e)
 marked-within (true ∷ bs) from zero i e = let same : from ≡ i = same_Some from i e in (omega (arith, same), omega (arith, same))
 marked-within (true ∷ bs) from (suc k) i e = let h = marked-within bs (suc from) k i e in let a = h.0 in let b = h.1 in (omega (arith, a), omega (arith, b))
