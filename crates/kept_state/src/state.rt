@@ -97,7 +97,7 @@ impl KeptState {
     {
         match self.records.get(element.node) {
             None => false,
-            Some(kept) => kept.found.governing == element.pair,
+            Some(kept) => is_same(&kept.found.governing, &element.pair),
         }
     }
 
@@ -107,7 +107,7 @@ impl KeptState {
     {
         match self.records.get(element.node) {
             None => false,
-            Some(kept) => kept.found.governing.of == element.pair.of,
+            Some(kept) => is_same_type(&kept.found.governing, &element.pair),
         }
     }
 
@@ -171,4 +171,18 @@ impl KeptState {
             },
         }
     }
+}
+
+// Whether the two govern alike.
+fn is_same(one: &Governing, other: &Governing) -> bool
+    ensures { IsTrue result ↔ (one.now ≡ other.now) }
+{
+    one.declaration == other.declaration && is_same_type(one, other) && one.mode == other.mode
+}
+
+// Whether they govern by one type.
+fn is_same_type(one: &Governing, other: &Governing) -> bool
+    ensures { IsTrue result ↔ (one.now.of ≡ other.now.of) }
+{
+    one.of == other.of
 }
