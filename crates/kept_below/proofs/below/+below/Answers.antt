@@ -1,17 +1,18 @@
 use Rattle.std.proofs.Common.{◌≡◌, ◌≢◌, ◌+◌, ◌*◌, ◌<◌, ◌≤◌, ℕ, suc, List, [], ◌∷◌, map, take, drop, length, get_or, Option, Some, None, true, false, refl, sym, ap, subst, ◌∙◌, add-one, arith}
-use Rattle.std.specs.Prelude.{slice_get}
+use Rattle.std.specs.Prelude.{slice_get, unwrap_or}
 use Rattle.std.specs.Option.{option_map}
 use Rattle.std.proofs.lemmas.List.{take_all, length-map}
-use Rattle.std.proofs.lemmas.Option.{slice_get_read, slice_get-map}
+use Rattle.std.proofs.lemmas.Option.{slice_get-get_or, slice_get-map}
 use Rattle.tree_rows.specs.Forest.{Forest}
 use Rattle.assess_records.specs.Counts.{with_child, counts_of, child_count, attempt_count}
 use Rattle.assess_records.specs.declared.counts.ChildCounts.{ChildCounts}
 use Rattle.elem_governing.specs.declared.pairs.Governing.{Governing}
+use Rattle.elem_governing.specs.declared.pairs.Mode.TheVariants.{Strict}
 use Rattle.compiled_schema.specs.declared.compiled.Compiled.{Compiled}
 use Rattle.doc_nodes.specs.Nodes.{Nodes, Has, Lacks, IsSound, node, depth_by, element_children}
 use Rattle.doc_documents.specs.Readers.{element_numbers}
 use Rattle.kept_slots.specs.Slots.{at}
-use Rattle.kept_records.specs.Slots.{IsMade, kept_at, pair_at, record_at}
+use Rattle.kept_records.specs.Slots.{IsMade, blank, kept_at, pair_at, record_at}
 use Rattle.kept_records.specs.Fit.{AboveIn, IsGathered}
 use Rattle.kept_state.specs.Kept.{CanGovern, FitBut, IsBeside, children_at}
 use Rattle.kept_state.specs.declared.element.Governed.{Governed}
@@ -29,6 +30,10 @@ use Rattle.kept_below.proofs.Keeping.{keeps-same, keeps-lists, keeps-then, spare
 use Rattle.kept_below.proofs.Moving.{CountsOwn, counts-own, not-typed, room-first, room-ended, HasRoom}
 use Rattle.kept_below.proofs.below.+below.Goals as goal
 
+-- what is read past the end
+abbrev zero-child : Governed
+zero-child = record { node = 0; pair = record { declaration = None; of = None; mode = Strict } }
+
 -- ---- all child elements
 
 pub settle_all-settle_below-requires : goal.settle_all-settle_below-requires
@@ -40,8 +45,8 @@ settle_all-settle_below-requires g t c κs within =
     let inv = c.loop-child.invariant in
     let r = c.requires.fit in
     let sound = c.requires.beside.over.1.stands.links in
-    let child = c.child-item.result in
-    let here = slice_get_read cs (length cs) i child refl c.loop-child-test.true c.child-item.is in
+    let child = get_or cs i zero-child in
+    let here = slice_get-get_or cs i zero-child c.loop-child-test.true in
     (one-less set ns sound r.0 cs r.2 i child here, (within,
       (subst (λ (s : Compiled). IsBeside s ns c.loop-child.kept) (sym inv.same) inv.beside,
       (child-element set ns sound r.0 cs r.2 i child here,
@@ -49,8 +54,8 @@ settle_all-settle_below-requires g t c κs within =
       (r.0.node ∷ r.1, subst (λ (s : Compiled). FitBut s ns c.loop-child.kept (r.0.node ∷ r.1)) (sym inv.same) (inv.fit r.0 r.1 r.2 r.4), child-above set ns sound r.0 cs r.2 i child here r.1,
        all-above set ns sound r.0 cs r.2 i child here r.1 r.5))))))
 
-pub settle_all-outcome-requires : goal.settle_all-outcome-requires
-settle_all-outcome-requires g t c = c.in_ok-settle_below.ensures.settled.made
+pub settle_all-outcome-outcome-requires : goal.settle_all-outcome-outcome-requires
+settle_all-outcome-outcome-requires g t c = c.in_ok-settle_below.ensures.settled.made
 
 pub settle_all-add-requires-clause-few : goal.settle_all-add-requires-clause-few
 settle_all-add-requires-clause-few g t c =
@@ -81,8 +86,8 @@ settle_all-loop-child-preserved g t c =
     let inv = c.loop-child.invariant in
     let r = c.requires.fit in
     let sound = c.requires.beside.over.1.stands.links in
-    let child = c.child-item.result in
-    let here = slice_get_read cs (length cs) i child refl c.loop-child-test.true c.child-item.is in
+    let child = get_or cs i zero-child in
+    let here = slice_get-get_or cs i zero-child c.loop-child-test.true in
     let a = c.loop-child.kept in
     let b = c.settle_below.new.kept in
     let done = c.in_ok-settle_below.ensures in
@@ -118,8 +123,8 @@ settle_all-returns-in_err-settle_below-clause-steps g t c = λ siblings governs 
     let i = c.loop-child.child-index in
     let inv = c.loop-child.invariant in
     let r = c.requires.fit in
-    let child = c.child-item.result in
-    let here = slice_get_read cs (length cs) i child refl c.loop-child-test.true c.child-item.is in
+    let child = get_or cs i zero-child in
+    let here = slice_get-get_or cs i zero-child c.loop-child-test.true in
     steps-stopped set ns c.requires.beside.over.1.stands.links r.0 cs r.2 governs i child here c.loop-child.kept.records.slots c.loop-child.kept.records.slots c.loop-child.steps c.settle_below.new.steps
     (c.args.steps.now + 3 * moved c.args.kept.now.records.slots governs siblings) (inv.steps siblings governs down are so)
     (λ f given numbers. c.in_err-settle_below.ensures.steps f governs (subst (λ (s : Compiled). AreGivenDown s ns governs f) (sym inv.same) given) numbers (so child (has-place number cs i child here)))
@@ -219,7 +224,7 @@ settle_below-settle_again-requires g t c κs within =
 
 pub settle_below-returns-then-is_governed-clause-settled : goal.settle_below-returns-then-is_governed-clause-settled
 settle_below-returns-then-is_governed-clause-settled g t c =
-    let so = c.is_governed.ensures.0 ? in
+    let so = c.if-is_governed.ensures.0 tt in
     settled-same c.args.doc.now c.args.kept.now c.args.element.now so.0 so.1
 
 pub settle_below-returns-clause-fit : goal.settle_below-returns-clause-fit
@@ -237,7 +242,7 @@ settle_again-returns-then-is_typed-clause-settled g t c =
 
 pub settle_again-returns-then-is_typed-clause-fit : goal.settle_again-returns-then-is_typed-clause-fit
 settle_again-returns-then-is_typed-clause-fit g t c =
-    let typed = c.is_typed.ensures.0 c.if-is_typed.true in
+    let typed = c.if-is_typed.ensures.0 tt in
     on-both c.judge.result _ _ _
     (λ anew beside. typed-fit c.args.set.now c.args.doc.now c.args.element.now c.args.kept.now c.judge.new.kept anew c.requires.beside c.requires.governed typed.0 typed.1 (c.requires.gathered typed.0 typed.1) beside)
     c.judge.ensures.judged c.judge.ensures.beside
@@ -274,3 +279,34 @@ other-steps set ns k element old new other steps siblings governs down are so =
     let fewer = own.fewer in
     omega (arith, more, fewer)
 
+
+pub settle_again-judge-requires-clause-made : goal.settle_again-judge-requires-clause-made
+settle_again-judge-requires-clause-made g t c = (c.if-is_typed.ensures.0 tt).0
+
+pub settle_again-judge-requires-clause-text : goal.settle_again-judge-requires-clause-text
+settle_again-judge-requires-clause-text g t c = let typed = c.if-is_typed.ensures.0 tt in (c.requires.gathered typed.0 typed.1).text_is
+
+pub settle_again-keep_anew-requires-clause-beside : goal.settle_again-keep_anew-requires-clause-beside
+settle_again-keep_anew-requires-clause-beside g t c =
+    let done = c.in_ok-children.ensures in
+    subst (λ (s : Compiled). IsBeside s c.args.doc.now c.settle_children-children.new.kept) (sym done.same) done.beside
+
+pub settle_again-keep_anew-requires-clause-governed : goal.settle_again-keep_anew-requires-clause-governed
+settle_again-keep_anew-requires-clause-governed g t c = subst (λ (s : Compiled). CanGovern s.parts c.args.element.now.pair) (sym c.in_ok-children.ensures.same) c.requires.governed
+
+pub settle_again-returns-clause-same : goal.settle_again-returns-clause-same
+settle_again-returns-clause-same g t c = c.keep_anew.ensures.same ∙ c.in_ok-children.ensures.same
+
+pub settle_again-returns-in_err-children-clause-steps : goal.settle_again-returns-in_err-children-clause-steps
+settle_again-returns-in_err-children-clause-steps g t c =
+    other-steps c.args.set.now c.args.doc.now c.args.kept.now c.args.element.now c.args.steps.now c.settle_children-children.new.steps
+    (not-typed (at c.args.kept.now.records.slots c.args.element.now.node) c.args.element.now.pair.of
+      (λ k e q. c.if-is_typed.ensures.1 ((k, e), ap (λ o. (unwrap_or o blank).found.governing.of) e ∙ q)))
+    c.in_err-children.ensures.steps
+
+pub settle_again-returns-clause-steps : goal.settle_again-returns-clause-steps
+settle_again-returns-clause-steps g t c =
+    other-steps c.args.set.now c.args.doc.now c.args.kept.now c.args.element.now c.args.steps.now c.settle_children-children.new.steps
+    (not-typed (at c.args.kept.now.records.slots c.args.element.now.node) c.args.element.now.pair.of
+      (λ k e q. c.if-is_typed.ensures.1 ((k, e), ap (λ o. (unwrap_or o blank).found.governing.of) e ∙ q)))
+    c.in_ok-children.ensures.steps
