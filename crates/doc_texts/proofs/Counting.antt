@@ -55,8 +55,8 @@ module _ (p : ℕ → Bool) where
     same-upto (x ∷ xs) zero (suc k) le e =
         let a = upto-cons x xs k in
         elim (p x) as (λ b. p x ≡ b → flat_map f (x ∷ take k xs) ≡ []) [
-          true ↦ λ is. ap (λ y. y ++ flat_map f (take k xs)) (silent x is) ∙ same-upto xs zero k (omega arith) (omega (arith, a, e))
-        | false ↦ λ is. let own : weight x ≡ 1 = ap (λ b. cond (not b) 1 0) is in absurd (omega (arith, a, own, e))
+          | true ↦ λ is. ap (λ y. y ++ flat_map f (take k xs)) (silent x is) ∙ same-upto xs zero k (omega arith) (omega (arith, a, e))
+          | false ↦ λ is. let own : weight x ≡ 1 = ap (λ b. cond (not b) 1 0) is in absurd (omega (arith, a, own, e))
         ] refl
     same-upto (x ∷ xs) (suc j) (suc k) le e =
         let a = upto-cons x xs j in let b = upto-cons x xs k in ap (λ ys. f x ++ ys) (same-upto xs j k (omega arith) (omega (arith, a, b, e)))
@@ -66,8 +66,8 @@ module _ (p : ℕ → Bool) where
   next-passes xs k lt more =
       let own = upto-more xs k lt in
       elim (passes (get_or xs k 0)) as (λ b. passes (get_or xs k 0) ≡ b → upto xs (k + 1) ≡ upto xs k + 1) [
-        true ↦ λ is. let one : weight (get_or xs k 0) ≡ 1 = ap (λ b. cond b 1 0) is in omega (arith, own, one)
-      | false ↦ λ is. let no : weight (get_or xs k 0) ≡ 0 = ap (λ b. cond b 1 0) is in absurd (more (omega (arith, own, no)))
+        | true ↦ λ is. let one : weight (get_or xs k 0) ≡ 1 = ap (λ b. cond b 1 0) is in omega (arith, own, one)
+        | false ↦ λ is. let no : weight (get_or xs k 0) ≡ 0 = ap (λ b. cond b 1 0) is in absurd (more (omega (arith, own, no)))
       ] refl
 
   -- it stands there

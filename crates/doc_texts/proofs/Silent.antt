@@ -1,5 +1,5 @@
 -- What an element and a text show of characters.
-use Rattle.std.proofs.Common.{◌≡◌, ℕ, List, [], Option, None, Some, Bool, true, false, refl}
+use Rattle.std.proofs.Common.{◌≡◌, ℕ, [], Option, None, Some, true, false, refl}
 use Rattle.std.specs.Prelude.{unwrap_or}
 use Rattle.std.specs.Option.{option_and_then}
 use Rattle.doc_nodes.specs.Nodes.{Node, Nodes, node, is_element, is_element_by, is_element_at}

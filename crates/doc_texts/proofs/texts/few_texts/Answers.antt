@@ -25,12 +25,12 @@ texts-preserved c =
     record {
       within = omega (arith, lt, c.requires);
       so_far = elim c.match-chars_at.branch [
-        in-Some-chars_at+in_ok-push_str w ↦
-          ap string_bytes w.chars-is ∙ w.in_ok-push_str.ensures.bytes ∙ ap (λ (l : List ℕ). l ++ w.as_str.result.now) c.texts.invariant.so_far
-          ∙ ap (λ (l : List ℕ). before ++ l) (w.as_str.ensures ∙ w.in-Some-chars_at.ensures (get_or xs c.in-Some.place 0) child) ∙ sym more
-      | in_default-chars_at w ↦
-          ap string_bytes w.chars-is ∙ c.texts.invariant.so_far ∙ sym (append-nil before)
-          ∙ ap (λ (l : List ℕ). before ++ l) (w.in_default-chars_at.ensures (get_or xs c.in-Some.place 0) child) ∙ sym more
+        | in-Some-chars_at+in_ok-push_str w ↦
+            ap string_bytes w.chars-is ∙ w.in_ok-push_str.ensures.bytes ∙ ap (λ (l : List ℕ). l ++ w.as_str.result.now) c.texts.invariant.so_far
+            ∙ ap (λ (l : List ℕ). before ++ l) (w.as_str.ensures ∙ w.in-Some-chars_at.ensures (get_or xs c.in-Some.place 0) child) ∙ sym more
+        | in_default-chars_at w ↦
+            ap string_bytes w.chars-is ∙ c.texts.invariant.so_far ∙ sym (append-nil before)
+            ∙ ap (λ (l : List ℕ). before ++ l) (w.in_default-chars_at.ensures (get_or xs c.in-Some.place 0) child) ∙ sym more
       ];
     }
 

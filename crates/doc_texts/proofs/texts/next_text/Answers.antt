@@ -13,5 +13,5 @@ returns c =
       past = inv.past;
       none_between = inv.none;
       is_text = next-passes (is_element_at c.args.doc.now) (children_by (node c.args.doc.now c.args.node)) c.halves.low (omega (arith, inv.apart, inv.within))
-      (λ e. inv.some (ap (texts_upto c.args.doc.now c.args.node) (sym next) ∙ e ∙ inv.none));
+          (λ e. inv.some (ap (texts_upto c.args.doc.now c.args.node) (sym next) ∙ e ∙ inv.none));
     }
