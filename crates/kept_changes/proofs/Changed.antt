@@ -100,7 +100,7 @@ module _ (t : NameTable) (old new : Nodes) (d : Document) (z : StandsFor t old d
       parents = λ m e. held-read (option_and_then (λ (x : Node). x.parent)) refl m;
       children = λ m e. filter-same (is_element_at new) (is_element_at old) (children_by (node new m)) (held-read is_element_by kind) ∙ ap (filter (is_element_at old)) (held-children m);
       scopes = scopes-stay t old new d z (λ m e. held-read (option_and_then (λ (x : Node). x.parent)) refl m) (λ m e. held-read bindings_by bound m)
-      (λ m e. held-read depth_by refl m);
+          (λ m e. held-read depth_by refl m);
     }
 
     -- the texts of elements, but of the parent of a text that is another
@@ -206,7 +206,7 @@ module _ (t : NameTable) (old new : Nodes) (d : Document) (z : StandsFor t old d
         parents = λ m k. alike (option_and_then (λ (x : Node). x.parent)) refl m (known m k);
         children = same-children;
         scopes = scopes-stay t old new d z (λ m k. alike (option_and_then (λ (x : Node). x.parent)) refl m (known m k)) (λ m k. alike bindings_by refl m (known m k))
-        (λ m k. alike depth_by refl m (known m k));
+            (λ m k. alike depth_by refl m (known m k));
       };
       names = λ m k. alike name_by refl m (known m k);
       attributes = λ m k. alike attributes_by refl m (known m k);
@@ -260,7 +260,7 @@ module _ (t : NameTable) (old new : Nodes) (d : Document) (z : StandsFor t old d
         parents = λ m k. left (option_and_then (λ (x : Node). x.parent)) refl m (other m k);
         children = children-left;
         scopes = scopes-stay t old new d z (λ m k. left (option_and_then (λ (x : Node). x.parent)) refl m (other m k)) (λ m k. left bindings_by refl m (other m k))
-        (λ m k. left depth_by refl m (other m k));
+            (λ m k. left depth_by refl m (other m k));
       };
       names = λ m k. left name_by refl m (other m k);
       attributes = λ m k. left attributes_by refl m (other m k);

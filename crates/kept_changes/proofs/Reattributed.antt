@@ -194,7 +194,7 @@ module _ (c : Compiled) (ns : Nodes) (old : KeptState) (n : ℕ) (beside : IsBes
         ap (λ (g : Governing). again_pair (set_of c) g now) g.pair_is
         ∙ child-again c.names c.parts was.xsi now.xsi was.scope now.scope (pair_at old.records.slots p).mode term was.name
         ∙ (λ i. given_pair (set_of c) (pair_at old.records.slots p) (term_in (models_of c (pair_at old.records.slots p).of) (sym symbols-stay i) place.0)
-            (record { name = sym (h.reattributes.names n h.element) i; xsi = now.xsi; scope = now.scope }))
+        (record { name = sym (h.reattributes.names n h.element) i; xsi = now.xsi; scope = now.scope }))
 
   -- where it has no parent, it is governed as the root
   root-own : n ≡ 1 → again.pair ≡ root_pair (set_of c) (head_at (set_of c) ns 1)

@@ -76,7 +76,7 @@ module _ (c : Compiled) (old new : Nodes) (k : KeptState) (n : ℕ) where
     bearer_is = j.bearer_is ∙ ap (λ o. unwrap_or o n) (sym parent);
     text_is = j.text_is ∙ sym chars;
     known = subst (λ shape. AreJudged s shape (entry_at k.records.slots n))
-    (λ i. shape_of (sym head i) (sym texts i) (sym chars i) kept.stuck kept.counts (kept_at k.records.slots n).identity (root_codes k.root_ids n)) j.known;
+        (λ i. shape_of (sym head i) (sym texts i) (sym chars i) kept.stuck kept.counts (kept_at k.records.slots n).identity (root_codes k.root_ids n)) j.known;
   }
 
 -- ---- all

@@ -124,8 +124,8 @@ module _ (c : Compiled) (ns : Nodes) (old : KeptState) (n : ℕ) (was : KeptChil
         counted = ap (λ (x : KeptElement). x.counts) (other-same q off) ∙ fit-above.gathered.counts_are ∙ counts-at (record_at old.records.slots) inner place.0 n place.1;
         children = subst (λ (x : KeptElement). AreChildren c ns new q x.found.governing (nearly x)) (sym (other-same q off)) children-above;
         judged = subst (λ (x : KeptElement). IsJudgedBy (set_of c) ns new q (children_of x)) (sym (other-same q off))
-        (judged-kept (set_of c) ns old new q (children_at old.records.slots q) (ap (λ (x : KeptElement). x.found) (other-same q off)) (ap (λ (x : KeptElement). x.text) (other-same q off))
-        (ap (λ (x : KeptElement). x.identity) (other-same q off)) anew.rewrites.ids (fit-judged c ns old q fit-above));
+            (judged-kept (set_of c) ns old new q (children_at old.records.slots q) (ap (λ (x : KeptElement). x.found) (other-same q off)) (ap (λ (x : KeptElement). x.text) (other-same q off))
+            (ap (λ (x : KeptElement). x.identity) (other-same q off)) anew.rewrites.ids (fit-judged c ns old q fit-above));
       }
 
     pub climbing : IsClimbing c ns new n (outcome_at old.records.slots n)

@@ -75,7 +75,7 @@ module _ (c : Compiled) (ns : Nodes) (k : KeptState) (w : ListsView) (p : ℕ) (
     text_is = g.text_is;
     given = g.given;
     list_is = listed-kept k.lists w (λ x. x ≡ h) keeps (model_at (set_of c) (models_of c) ns k.records.slots m) (kept_at k.records.slots m).list (symbols_at (set_of c) (models_of c) ns k.records.slots m)
-    (other-list lists m other) g.list_is;
+        (other-list lists m other) g.list_is;
     stuck_is = g.stuck_is;
     counts_are = g.counts_are;
   }
@@ -156,8 +156,8 @@ module _ (c : Compiled) (ns : Nodes) (old new : KeptState) (p : ℕ) (k : KeptEl
     apart = m.apart;
     gathered = λ n has. gathered-now n (lacks-has p n waiting m.apart has) (m.gathered n has);
     judged = judged-kept (set_of c) ns old new p was (ap (λ (x : KeptElement). x.found) kept-now ∙ sym (ap (λ (x : KeptElement). x.found) kept-was))
-    (ap (λ (x : KeptElement). x.text) kept-now ∙ sym (ap (λ (x : KeptElement). x.text) kept-was))
-    (ap (λ (x : KeptElement). x.identity) kept-now ∙ sym (ap (λ (x : KeptElement). x.identity) kept-was)) rewrites.ids m.judged;
+        (ap (λ (x : KeptElement). x.text) kept-now ∙ sym (ap (λ (x : KeptElement). x.text) kept-was))
+        (ap (λ (x : KeptElement). x.identity) kept-now ∙ sym (ap (λ (x : KeptElement). x.identity) kept-was)) rewrites.ids m.judged;
   }
 
   list-stays : (kept_at new.records.slots p).list ≡ (kept_at old.records.slots p).list
@@ -232,8 +232,8 @@ module _ (c : Compiled) (ns : Nodes) (old new : KeptState) (spot : ChildPlace) (
   pub sibling-stays : (i m : ℕ) → slice_get (element_children ns p) i ≡ Some m → m ≢ spot.node → at new.records.slots m ≡ at old.records.slots m
   sibling-stays i m e other =
       settled.rest.slots m (λ w.
-        let own = by-node ns p (node ns p) refl (before.over.1.only p there) in
-        siblings-apart ns sound p m element.node m (child-parent ns sound p own.0 own.1 i m e) up (λ q. other (q ∙ node_is)) (self-within ns m) w)
+      let own = by-node ns p (node ns p) refl (before.over.1.only p there) in
+      siblings-apart ns sound p m element.node m (child-parent ns sound p own.0 own.1 i m e) up (λ q. other (q ∙ node_is)) (self-within ns m) w)
 
   -- the list of the parent
   listed-stays : (a : Option ContentAutomaton) (list : Option ModelList) → (kept_at old.records.slots p).list ≡ list → (symbols : List ℕ) → IsListed old.lists a list symbols → IsListed new.lists a list symbols
@@ -242,7 +242,6 @@ module _ (c : Compiled) (ns : Nodes) (old new : KeptState) (spot : ChildPlace) (
   listed-stays (Some a) None own symbols l = l
   listed-stays (Some a) (Some h) own symbols l =
       (settled.rest.lists h a symbols (λ m within e. not-parent (subst (IsWithin ns element.node) (before.own.apart m p h e own) within)) l).0
-
 
   pub attributed-settled : IsAttributed c ns old p → IsAttributed c ns new p
   attributed-settled a = record {

@@ -49,10 +49,10 @@ module _ (same : (of : Option TypeId) → same_governing of of ≡ true) (c : Co
       let inner = r.0.children_are in
       let here = typed-so same k.records.slots number (governs number) own.0 own.1 in
       let below = nothing-moves t children s.1 r.1 (λ m h. apart m (inr (inl h))) (λ n place child h. given n place child (inr (inl h))) (λ m h.
-        let at-place = has-place (element_numbers children) m h in
-        let e : slice_get (element_children ns number) at-place.0 ≡ Some m = ap (λ xs. slice_get xs at-place.0) inner ∙ at-place.1 in
-        let g = (fit number own.0 ((λ q. apart number (inl refl) (sym q)), tt)).gathered.given at-place.0 m e in
-        (g.made, g.pair_is ∙ ap (λ (x : Governing). pair_by c ns x number at-place.0 m) own.1 ∙ sym (given number at-place.0 m (inl refl) e))) in
+      let at-place = has-place (element_numbers children) m h in
+      let e : slice_get (element_children ns number) at-place.0 ≡ Some m = ap (λ xs. slice_get xs at-place.0) inner ∙ at-place.1 in
+      let g = (fit number own.0 ((λ q. apart number (inl refl) (sym q)), tt)).gathered.given at-place.0 m e in
+      (g.made, g.pair_is ∙ ap (λ (x : Governing). pair_by c ns x number at-place.0 m) own.1 ∙ sym (given number at-place.0 m (inl refl) e))) in
       let later = nothing-moves t next s.2 r.2 (λ m h. apart m (inr (inr h))) (λ n place child h. given n place child (inr (inr h))) (λ m h. so m (inr h)) in
       ap (λ (b : Bool). (if b then 0 else length (element_numbers children)) + (moved k.records.slots governs children + moved k.records.slots governs next)) here
       ∙ ap (λ x. 0 + (x + moved k.records.slots governs next)) below ∙ ap (λ x. 0 + (0 + x)) later

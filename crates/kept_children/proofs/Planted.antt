@@ -54,7 +54,7 @@ module _ (c : Compiled) (ns : Nodes) (k : KeptState) (spot : ChildPlace) (place 
   still : (n : ℕ) → Stays n → IsStill h.old ns n
   still n stays = elim (cases_eq n p) [
     | inl e ↦ subst (IsStill h.old ns) (sym e) (still-held h.old ns p parent-node.0 (record parent-node.0 { children = insert parent-node.0.children h.place (length h.old) }) parent-node.1 parent-now refl
-      (says-same parent-node.0.content))
+        (says-same parent-node.0.content))
     | inr other ↦ still-node h.old ns n (same-node n other stays)
   ]
 

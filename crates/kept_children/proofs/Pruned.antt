@@ -229,9 +229,9 @@ module _ (c : Compiled) (ns : Nodes) (k : KeptState) (spot : ChildPlace) (outcom
     apart = tt;
     gathered = λ n has. absurd has;
     judged = judged-nodes (set_of c) h.old ns k p (children_at k.records.slots p) (shows p parent-stays parent-chars)
-    (subst (λ (x : KeptElement). IsJudgedBy (set_of c) h.old k p (children_of x)) (sym parent-kept)
-    (judged-kept (set_of c) h.old h.before k p (children_at h.before.records.slots p) (ap (λ (x : KeptElement). x.found) parent-kept) (ap (λ (x : KeptElement). x.text) parent-kept)
-    (ap (λ (x : KeptElement). x.identity) parent-kept) h.forgets.rest.ids (fit-judged c h.old h.before p fit-parent)));
+        (subst (λ (x : KeptElement). IsJudgedBy (set_of c) h.old k p (children_of x)) (sym parent-kept)
+        (judged-kept (set_of c) h.old h.before k p (children_at h.before.records.slots p) (ap (λ (x : KeptElement). x.found) parent-kept) (ap (λ (x : KeptElement). x.text) parent-kept)
+        (ap (λ (x : KeptElement). x.identity) parent-kept) h.forgets.rest.ids (fit-judged c h.old h.before p fit-parent)));
   }
 
   -- ---- its child elements

@@ -173,9 +173,10 @@ module _ (c : Compiled) (ns : Nodes) (k : KeptState) (spot : ChildPlace) (place 
   renamed-listed =
       let a = model_of c k p in
       let xs = element_children ns p in
-      let same = symbols-set c.names a (name_at h.old) (name_at ns) xs spot.place spot.node (children-differ ns now-sound p) place.node_is (λ y other. sym (name-still y other)) in
-      (symbol_by c.names a (name_at h.old spot.node),
-        subst (IsListedBy c k p) (ap (λ ys. child_symbols c.names a (map (name_at h.old) ys)) (sym renamed-children) ∙ same) fit-parent.gathered.list_is)
+      let same = symbols-set c.names a (name_at h.old) (name_at ns) xs spot.place spot.node (children-differ ns now-sound p) place.node_is (λ y other. sym (name-still y other)) in (
+        symbol_by c.names a (name_at h.old spot.node),
+        subst (IsListedBy c k p) (ap (λ ys. child_symbols c.names a (map (name_at h.old) ys)) (sym renamed-children) ∙ same) fit-parent.gathered.list_is,
+      )
 
   pub renamed-counted : AreCounted k p (element_children ns p)
   renamed-counted = record {

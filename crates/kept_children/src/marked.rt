@@ -68,7 +68,7 @@ fn marked_at(
     ensures { MatchOption result
         (slice_get (marked_places (family.model_of set.now kept.now parent) (family.symbols_of set.now doc.now kept.now parent)) number ≡ None)
         (λ at. (at.parent ≡ parent) × IsPlaceOf doc.now at ×
-            (slice_get (marked_places (family.model_of set.now kept.now parent) (family.symbols_of set.now doc.now kept.now parent)) number ≡ Some at.place)) }
+        (slice_get (marked_places (family.model_of set.now kept.now parent) (family.symbols_of set.now doc.now kept.now parent)) number ≡ Some at.place)) }
 {
     let (list, _) = list_of(set, kept, parent)?;
     let place = kept.lists.marked(list, number)?;
