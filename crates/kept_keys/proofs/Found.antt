@@ -1,10 +1,9 @@
 -- All that identity constraints and IDs see of what is found, where of each element they see the same.
-use Rattle.std.proofs.Common.{◌≡◌, ℕ, List, [], ◌∷◌, ◌++◌, Option, refl, sym, ap, ◌∙◌, inl, inr}
+use Rattle.std.proofs.Common.{◌≡◌, ℕ, ◌++◌, refl, sym, ◌∙◌, inl, inr}
 use Rattle.std.specs.List.{flat_map}
 use Rattle.std.proofs.lemmas.Grind.{flat_map-append}
-use Rattle.simple_values.specs.declared.value.Value.{Value}
 use Rattle.tree_rows.specs.Forest.{Forest, none, text, element}
-use Rattle.identity_tables.specs.Ids.{BorneAtom, borne_in, borne_in_all}
+use Rattle.identity_tables.specs.Ids.{borne_in, borne_in_all}
 use Rattle.assessment.specs.Bearings.{bearings_below, bearings, borne_of, borne_values}
 use Rattle.assessment.specs.Local.{HasElement}
 use Rattle.identity_constraints.specs.Seen as keys

@@ -75,11 +75,7 @@ fn settle_scope(
 }
 
 // Finds the codes of the identity constraints of all elements, and makes the records right, the last in document order first.
-fn settle_scopes(
-    doc: &DocTree,
-    set: &mut Compiled,
-    kept: &mut KeptState,
-) -> Result<(), AllocError>
+fn settle_scopes(doc: &DocTree, set: &mut Compiled, kept: &mut KeptState) -> Result<(), AllocError>
     requires whole { IsWhole set.old doc.now kept.old }
     ensures whole { OnOk result (IsWhole set.old doc.now kept.new) }
     ensures elements { OnOk result (KeepsElements kept.old kept.new) }
