@@ -75,8 +75,8 @@ judged-kept s ns old new n children found text identity ids j = record {
   bearer_is = ap (λ (e : ElementEntry). e.bearer) found ∙ j.bearer_is;
   text_is = text ∙ j.text_is;
   known = subst (λ (e : ElementEntry). AreJudged s (shape_with s ns new n children) (entry_of e)) (sym found)
-  (subst (λ (codes : List Found). AreJudged s (shape-by s ns n children codes new.root_ids) (entry_at old.records.slots n)) (sym identity)
-  (subst (λ (codes : List Found). AreJudged s (shape-by s ns n children (kept_at old.records.slots n).identity codes) (entry_at old.records.slots n)) (sym ids) j.known));
+      (subst (λ (codes : List Found). AreJudged s (shape-by s ns n children codes new.root_ids) (entry_at old.records.slots n)) (sym identity)
+      (subst (λ (codes : List Found). AreJudged s (shape-by s ns n children (kept_at old.records.slots n).identity codes) (entry_at old.records.slots n)) (sym ids) j.known));
 }
 
 -- ---- the climb ends
@@ -141,7 +141,7 @@ module _ (c : Compiled) (ns : Nodes) (old new : KeptState) (sound : IsSound ns) 
     others = rest;
     counted = counts ∙ counts-at (record_at old.records.slots) inner place.0 n place.1;
     children = subst (λ (counts : ChildCounts). AreChildren c ns new q (pair_at new.records.slots q) (record (children_at new.records.slots q) { counts = counts }))
-    (counts-at (record_at new.records.slots) inner place.0 n place.1 ∙ ap (with_outcome (outcome_at new.records.slots n)) (sym rest-now)) below;
+        (counts-at (record_at new.records.slots) inner place.0 n place.1 ∙ ap (with_outcome (outcome_at new.records.slots n)) (sym rest-now)) below;
     judged = judged;
   }
 
@@ -217,6 +217,20 @@ module _ (c : Compiled) (ns : Nodes) (old new : KeptState) (beside : IsBeside c 
   }
 
 -- ---- one level
+
+-- something is kept of the parent
+pub parent-made : (c : Compiled) (ns : Nodes) (k : KeptState) (child p : ℕ) (was : Outcome) → IsBeside c ns k → parent_at ns child ≡ Some p → IsClimbing c ns k child was → IsMade k.records.slots p
+parent-made c ns k child p was beside up h = h.all p (parent-element c.names ns beside.over.0 beside.over.1.stands child p up)
+
+-- what a child element comes to now is counted in the place of what it came to
+pub recounted-by : (c : Compiled) (ns : Nodes) (old mid : KeptState) (child p : ℕ) (was now : Outcome) (up : parent_at ns child ≡ Some p) (h : IsClimbing c ns old child was) (k : KeptElement) →
+    IsKept old.records.slots p k → now ≡ outcome_at old.records.slots child →
+    ((x : KeptElement) (others : ChildCounts) → IsKept old.records.slots p x → x.counts ≡ with_outcome was others → Rewrites old mid p (Some (record x { counts = with_outcome now others }))) →
+    Rewrites old mid p (Some (record k { counts = with_outcome (outcome_at old.records.slots child) (h.parent p up).1.others }))
+recounted-by c ns old mid child p was now up h k is same change =
+    let near = (h.parent p up).1 in
+    subst (λ (o : Outcome). Rewrites old mid p (Some (record k { counts = with_outcome o near.others }))) same
+    (change k near.others is (ap (λ (x : KeptElement). x.counts) (sym (kept-there old.records.slots p k is)) ∙ near.counted))
 
 -- the parent is counted again
 module _ (c : Compiled) (ns : Nodes) (old mid : KeptState) (beside : IsBeside c ns old) (child p : ℕ) (was : Outcome) (up : parent_at ns child ≡ Some p) (h : IsClimbing c ns old child was)
