@@ -44,10 +44,11 @@ fn next_term(
     ensures { (symbols : List ℕ) (place : ℕ) → AreSymbolsBy automaton.now symbols → place < length symbols → slice_index symbols place ≡ symbol → LeadTo automaton.now (take place symbols) before →
         goes_on ≡ begins automaton.now (take (suc place) symbols) → result ≡ term_in (Some automaton.now) symbols place }
 {
-    if !goes_on || !is_ambivalent_symbol(automaton, symbol) {
-        return first_term(automaton, symbol);
+    if goes_on && is_ambivalent_symbol(automaton, symbol) {
+        before.term(automaton, symbol)
+    } else {
+        first_term(automaton, symbol)
     }
-    before.term(automaton, symbol)
 }
 
 /// The terms of child elements with these symbols, and the place where they get stuck (Structures 3.4.4). It takes a step for each.
@@ -79,8 +80,12 @@ pub fn attribute<L: Ledger>(
         stuck = stuck_by(stuck, place as u32, begins);
         state = next;
     }
-    let stuck = stuck_by(stuck, symbols.len() as u32, state.is_word(automaton));
-    Ok(Attribution { stuck, terms })
+    let is_word = state.is_word(automaton);
+    let place = stuck_by(stuck, symbols.len() as u32, is_word);
+    Ok(Attribution {
+        stuck: place,
+        terms,
+    })
 }
 
 /// So many child elements of an element whose type has no content model: none of them has a term, and none gets stuck.

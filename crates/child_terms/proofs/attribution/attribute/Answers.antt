@@ -1,4 +1,4 @@
-use Rattle.std.proofs.Common.{◌≡◌, ◌++◌, ◌+◌, ◌<◌, ℕ, suc, List, [], ◌∷◌, Option, None, Some, map, take, length, get_or, refl, sym, ap, subst, ◌∙◌, add-one, arith}
+use Rattle.std.proofs.Common.{◌≡◌, ◌++◌, ◌+◌, ◌<◌, ◌≤◌, ℕ, suc, List, [], ◌∷◌, Option, None, Some, map, take, length, get_or, refl, sym, ap, subst, ◌∙◌, add-one, arith, rules}
 use Rattle.std.specs.List.{range_with_len}
 use Rattle.std.proofs.lemmas.List.{take_all}
 use Rattle.std.proofs.lemmas.List.FromFn.{map-range_with_len_more}
@@ -9,7 +9,7 @@ use Rattle.child_terms.proofs.Walking.{IsLost, lost-none, lost-next, stuck-at-en
 use Rattle.child_terms.proofs.attribution.attribute.Goals as goal
 
 pub loop-place-init : goal.loop-place-init
-loop-place-init g c = record { state = c.start-state.ensures; stuck = lost-none c.args.automaton.now c.args.symbols.now; terms = refl; steps = omega arith }
+loop-place-init g c = record { state = c.start-state.ensures; stuck = lost-none c.args.automaton.now c.args.symbols.now; terms = search rules; within = omega arith; steps = omega arith }
 
 pub loop-place-preserved : goal.loop-place-preserved
 loop-place-preserved g c =
@@ -26,5 +26,23 @@ loop-place-preserved g c =
       state = subst (λ k. LeadTo a (take k xs) c.with-next.result) (sym (add-one i)) led;
       stuck = subst (IsLost a xs (i + 1)) (sym c.stuck_by-stuck.ensures) (lost-next a xs i c.loop-place.stuck inv.stuck c.begins-begins.result begun);
       terms = c.in_ok-push.ensures.items ∙ (λ k. inv.terms k ++ term k ∷ []) ∙ sym (map-range_with_len_more (term_in (Some a) xs) 0 i i (omega arith));
+      within = omega (arith, c.loop-place-test.true);
       steps = omega (arith, inv.steps, c.with-next.ensures.steps);
     }
+
+pub with-next-requires-clause-symbol : goal.with-next-requires-clause-symbol
+with-next-requires-clause-symbol g c = one-of c.args.automaton.now c.args.symbols.now c.requires.symbols c.loop-place.place c.loop-place-test.true
+
+pub next_term-term-requires-clause-symbol : goal.next_term-term-requires-clause-symbol
+next_term-term-requires-clause-symbol g c = one-of c.args.automaton.now c.args.symbols.now c.requires.symbols c.loop-place.place c.loop-place-test.true
+
+pub returns-clause-stuck : goal.returns-clause-stuck
+returns-clause-stuck g c =
+    let a = c.args.automaton.now in
+    let xs = c.args.symbols.now in
+    let inv = c.loop-place.invariant in
+    let past = c.loop-place-test.false in
+    let end : c.loop-place.place ≡ length xs = omega (arith, past, inv.within) in
+    c.stuck_by-place.ensures
+    ∙ stuck-at-end a xs c.loop-place.stuck (subst (λ k. IsLost a xs k c.loop-place.stuck) end inv.stuck) c.is_word-is_word.result
+      (c.is_word-is_word.ensures xs (subst (λ ys. LeadTo a ys c.loop-place.state) (take_all c.loop-place.place xs past) inv.state))
