@@ -1,13 +1,12 @@
 -- What is kept beside a document, as one element is kept otherwise.
-use Rattle.std.proofs.Common.{◌≡◌, ◌≢◌, ◌⊎◌, ℕ, true, Option, Some, refl, sym, ap, ◌∙◌, subst, inl, inr}
+use Rattle.std.proofs.Common.{◌≡◌, ℕ, true, Option, Some, refl, sym, ap, ◌∙◌, subst, inl, inr}
 use Rattle.std.specs.Prelude.{unwrap_or}
 use Rattle.std.proofs.lemmas.Bool.{cases_eq}
 use Rattle.compiled_schema.specs.declared.compiled.Compiled.{Compiled}
-use Rattle.elem_governing.specs.declared.pairs.Governing.{Governing}
 use Rattle.model_lists.specs.Lists.{ListsView}
 use Rattle.doc_nodes.specs.Nodes.{Nodes, is_element_at}
 use Rattle.kept_records.specs.declared.element.KeptElement.{KeptElement}
-use Rattle.kept_records.specs.Slots.{KeptSlots, IsKept, IsMade, blank, kept_at, pair_at}
+use Rattle.kept_records.specs.Slots.{KeptSlots, IsKept, blank, kept_at, pair_at}
 use Rattle.kept_records.specs.Books.{IsBooked, HaveOwnLists}
 use Rattle.kept_records.proofs.Lists.{own-lists-written}
 use Rattle.kept_state.specs.Kept.{CanGovern, IsBeside, IsFreeFor, Rewrites}
