@@ -1,28 +1,25 @@
 -- An element that is judged anew fits by its child elements, and the others as before.
-use Rattle.std.proofs.Common.{◌≡◌, ◌≢◌, ◌⊎◌, ◌+◌, ℕ, List, [], ◌∷◌, map, true, Option, None, Some, refl, sym, ap, ◌∙◌, subst, inl, inr, arith}
+use Rattle.std.proofs.Common.{◌≡◌, ◌≢◌, ℕ, List, [], ◌∷◌, map, true, Option, Some, refl, sym, ap, ◌∙◌, subst, inl, inr, arith}
 use Rattle.std.specs.Prelude.{slice_get, unwrap_or}
 use Rattle.std.specs.Option.{option_and_then}
 use Rattle.std.proofs.lemmas.Bool.{cases_eq}
-use Rattle.std.proofs.lemmas.Option.{same_Some, none-some}
+use Rattle.std.proofs.lemmas.Option.{same_Some}
 use Rattle.xs_codes.specs.declared.fault.Found.{Found}
-use Rattle.xs_components.specs.Tables.{Tables}
 use Rattle.xs_components.specs.declared.particle.Particle.{Particle}
 use Rattle.assess_records.specs.Counts.{with_child, counts_of}
-use Rattle.assess_records.specs.declared.counts.ChildCounts.{ChildCounts}
 use Rattle.assess_records.specs.declared.record.ElementRecord.{ElementRecord}
 use Rattle.elem_governing.specs.Governing.{child_mode, particle_declaration, accepting_particle, governed}
 use Rattle.elem_governing.specs.declared.pairs.Governing.{Governing}
 use Rattle.elem_governing.specs.declared.pairs.Mode.{Mode}
 use Rattle.elem_governing.specs.declared.pairs.Mode.TheVariants.{Strict, Lax, Skip}
-use Rattle.assessment.specs.Assessment.{AreJudged}
 use Rattle.compiled_schema.specs.Usable.{set_of}
 use Rattle.compiled_schema.specs.declared.compiled.Compiled.{Compiled}
 use Rattle.model_terms.specs.Terms.{stuck_in, term_in}
 use Rattle.model_lists.specs.Lists.{ListsView}
-use Rattle.doc_nodes.specs.Nodes.{Node, Nodes, node, IsNode, Lacks, IsSound, is_element_at, element_children}
+use Rattle.doc_nodes.specs.Nodes.{Node, Nodes, node, IsNode, IsSound, is_element_at, element_children}
 use Rattle.doc_changes.specs.Held.{parent_at}
 use Rattle.kept_records.specs.declared.element.KeptElement.{KeptElement}
-use Rattle.kept_records.specs.Slots.{KeptSlots, IsMade, blank, kept_at, entry_at, pair_at, record_at}
+use Rattle.kept_records.specs.Slots.{IsMade, blank, kept_at, pair_at, record_at}
 use Rattle.kept_records.specs.Fit.{models_of, head_at, IsListed, IsGathered, IsFit, AllFitBut, AboveIn}
 use Rattle.kept_slots.specs.Slots.{at}
 use Rattle.kept_records.proofs.Frames.{map-same, SeesChild, sees-same, fit-same, rest-fit, put-fit}
@@ -32,7 +29,7 @@ use Rattle.kept_state.specs.declared.children.KeptChildren.{KeptChildren}
 use Rattle.kept_state.specs.declared.element.Outcome.{Outcome}
 use Rattle.kept_state.specs.declared.state.KeptState.{KeptState}
 use Rattle.kept_state.proofs.Beside.{kept-there}
-use Rattle.kept_judging.specs.Judged.{symbols_by, pair_by, AreChildren, shape_with, IsJudgedBy, IsJudgedAnew}
+use Rattle.kept_judging.specs.Judged.{symbols_by, pair_by, AreChildren, IsJudgedBy, IsJudgedAnew}
 
 -- ---- nodes
 

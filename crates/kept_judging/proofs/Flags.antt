@@ -10,10 +10,8 @@ use Rattle.xs_components.specs.declared.common.TypeId.{TypeId}
 use Rattle.xs_components.specs.declared.common.ValueConstraint.{ValueConstraint}
 use Rattle.xs_components.specs.declared.element.ElementDecl.{ElementDecl}
 use Rattle.assess_records.specs.declared.counts.ChildCounts.{ChildCounts}
-use Rattle.assess_records.specs.declared.outcome.Attempted.{Attempted}
 use Rattle.assess_records.specs.declared.outcome.Attempted.TheVariants.{Full, Partial, Untried}
 use Rattle.assess_records.specs.declared.record.AttrRecord.{AttrRecord}
-use Rattle.assess_records.specs.declared.record.ElementRecord.{ElementRecord}
 use Rattle.assess_records.specs.declared.shape.ElementShape.{ElementShape}
 use Rattle.component_tables.specs.ContentTypes.{content_of}
 use Rattle.component_tables.specs.declared.content_types.ContentType.{ContentType}
@@ -25,7 +23,6 @@ use Rattle.elem_codes.specs.Facts.{has_children, is_fixed, governing_content, is
 use Rattle.elem_codes.specs.Used.{text_used, scope_used, fixed_value}
 use Rattle.elem_codes.specs.Codes.{code_if, is_nil_refused, has_other_attributes, simple_text_codes, text_codes, stuck_codes, missing_codes, governed_codes, is_mixed, differs, is_unmet, fixed_codes, declaration_codes, type_codes, nil_codes, local_codes}
 use Rattle.elem_codes.specs.Records.{is_invalid, is_full, is_untried, any_invalid, validity_of, attempted_of, record_with, nil_text, decl, constraint, nil, taken, all_codes, element_record}
-use Rattle.elem_assess.specs.Judged.{IsElementJudged}
 use Rattle.elem_assess.specs.Local.{IsLocal, said_on}
 use Rattle.elem_assess.specs.Texts.{is_simple_content, is_read, IsRead, IsReadIf, IsTextOutcome}
 use Rattle.elem_assess.specs.declared.records.Judged.{Judged}

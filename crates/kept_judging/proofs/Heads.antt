@@ -1,12 +1,12 @@
 -- The head of an element by numbers: its scope, and that its names are in the table.
-use Rattle.std.proofs.Common.{◌≡◌, ◌<◌, ℕ, zero, suc, List, [], ◌∷◌, ◌++◌, length, map, All, Bool, true, false, Option, None, Some, refl, sym, ap, ◌∙◌, subst, arith}
+use Rattle.std.proofs.Common.{◌≡◌, ◌<◌, ℕ, zero, suc, List, [], ◌∷◌, ◌++◌, length, map, All, Bool, true, false, Option, None, Some, refl, sym, ap, subst, arith}
 use Rattle.std.specs.Prelude.{reverse}
 use Rattle.std.specs.Option.{option_map}
 use Rattle.std.proofs.lemmas.Bool.{false≢true}
 use Rattle.std.proofs.lemmas.Option.{same_Some, none-some}
 use Rattle.std.proofs.lemmas.List.{reverse-append}
 use Rattle.std.proofs.lemmas.List.Elements.{All-nil, All-cons, All-head, All-tail, All-push, All-map, All-append}
-use Rattle.xs_names.specs.Names.{NameTable, IsSound}
+use Rattle.xs_names.specs.Names.{NameTable}
 use Rattle.xs_names.specs.Scope.{first_scope}
 use Rattle.xs_names.proofs.GrownLaws.{two_spaces}
 use Rattle.tree_rows.specs.Forest.{Document}

@@ -1,5 +1,5 @@
 -- What is kept of an element that is judged, and beside it.
-use Rattle.std.proofs.Common.{◌≡◌, ◌==◌, ℕ, List, Option, Some, refl, sym, ap, ◌∙◌, subst}
+use Rattle.std.proofs.Common.{◌≡◌, ℕ, List, Option, Some, sym, ap, ◌∙◌, subst}
 use Rattle.std.specs.Prelude.{Result, Ok, Err, OnOk}
 use Rattle.xs_codes.specs.declared.fault.Found.{Found}
 use Rattle.assess_records.specs.Numbered.{shape_of}
@@ -13,7 +13,7 @@ use Rattle.compiled_schema.specs.Usable.{set_of}
 use Rattle.compiled_schema.specs.declared.compiled.Compiled.{Compiled}
 use Rattle.tree_assess.specs.Entries.{entry_of}
 use Rattle.tree_assess.specs.declared.entry.ElementEntry.{ElementEntry}
-use Rattle.doc_nodes.specs.Nodes.{Nodes, is_element_at}
+use Rattle.doc_nodes.specs.Nodes.{Nodes}
 use Rattle.doc_documents.specs.Readers.{name_at, own_chars, scope_at}
 use Rattle.doc_heads.specs.Heads.{texts_named}
 use Rattle.kept_records.specs.declared.element.KeptElement.{KeptElement}

@@ -1,4 +1,4 @@
-use Rattle.std.proofs.Common.{◌≡◌, ◌<◌, length, All, sym, ◌∙◌, subst}
+use Rattle.std.proofs.Common.{◌<◌, length, All, sym, ◌∙◌, subst}
 use Rattle.assess_records.specs.declared.shape.NamedText.{NamedText}
 use Rattle.compiled_schema.specs.Usable.{set_of}
 use Rattle.doc_documents.specs.Readers.{scope_at}
