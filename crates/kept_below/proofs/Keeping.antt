@@ -101,8 +101,7 @@ module _ (c : Compiled) (ns : Nodes) (element : Governed) (children : KeptChildr
       record {
         slots = λ m out. other-slots m (λ e. out (subst (IsWithin ns n) (sym e) (self-within ns n))) ∙ wider.slots m out;
         lists = λ h x symbols none is.
-            let here = wider.lists h x symbols none is in
-            (
+            let here = wider.lists h x symbols none is in (
               made.lists h x symbols (here.1 n (self-within ns n)) (subst (λ (v : ListsView). IsListOf v h x symbols) (sym made.anew.rewrites.lists) here.0),
               λ m t e. elim (cases_eq m n) [
                 | inl q ↦ fresh h (sym own-list ∙ ap (list-at new.records.slots) (sym q) ∙ e) (x, symbols, is)

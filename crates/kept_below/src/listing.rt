@@ -40,11 +40,7 @@ pub(crate) struct Listing {
 }
 
 // The child elements of an element, in order, with the numbers of their names.
-fn elements_below(
-    alloc: Global,
-    doc: &DocTree,
-    node: u32,
-) -> Result<Vec<(u32, NameId)>, AllocError>
+fn elements_below(alloc: Global, doc: &DocTree, node: u32) -> Result<Vec<(u32, NameId)>, AllocError>
     ensures { IfOk result (λ found. found.items ≡ map (λ child. (child, name_at doc.now child)) (element_children doc.now node)) }
 {
     let children = doc.children(node)?;

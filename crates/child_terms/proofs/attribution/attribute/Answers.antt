@@ -45,4 +45,4 @@ returns-clause-stuck g c =
     let end : c.loop-place.place ≡ length xs = omega (arith, past, inv.within) in
     c.stuck_by-place.ensures
     ∙ stuck-at-end a xs c.loop-place.stuck (subst (λ k. IsLost a xs k c.loop-place.stuck) end inv.stuck) c.is_word-is_word.result
-      (c.is_word-is_word.ensures xs (subst (λ ys. LeadTo a ys c.loop-place.state) (take_all c.loop-place.place xs past) inv.state))
+    (c.is_word-is_word.ensures xs (subst (λ ys. LeadTo a ys c.loop-place.state) (take_all c.loop-place.place xs past) inv.state))

@@ -46,13 +46,27 @@ settle_all-settle_below-requires g t c κs within =
     let r = c.requires.fit in
     let sound = c.requires.beside.over.1.stands.links in
     let child = get_or cs i zero-child in
-    let here = slice_get-get_or cs i zero-child c.loop-child-test.true in
-    (one-less set ns sound r.0 cs r.2 i child here, (within,
-      (subst (λ (s : Compiled). IsBeside s ns c.loop-child.kept) (sym inv.same) inv.beside,
-      (child-element set ns sound r.0 cs r.2 i child here,
-      (subst (λ (s : Compiled). CanGovern s.parts child.pair) (sym inv.same) (r.2.may i child here),
-      (r.0.node ∷ r.1, subst (λ (s : Compiled). FitBut s ns c.loop-child.kept (r.0.node ∷ r.1)) (sym inv.same) (inv.fit r.0 r.1 r.2 r.4), child-above set ns sound r.0 cs r.2 i child here r.1,
-       all-above set ns sound r.0 cs r.2 i child here r.1 r.5))))))
+    let here = slice_get-get_or cs i zero-child c.loop-child-test.true in (
+      one-less set ns sound r.0 cs r.2 i child here,
+      (
+        within,
+        (
+          subst (λ (s : Compiled). IsBeside s ns c.loop-child.kept) (sym inv.same) inv.beside,
+          (
+            child-element set ns sound r.0 cs r.2 i child here,
+            (
+              subst (λ (s : Compiled). CanGovern s.parts child.pair) (sym inv.same) (r.2.may i child here),
+              (
+                r.0.node ∷ r.1,
+                subst (λ (s : Compiled). FitBut s ns c.loop-child.kept (r.0.node ∷ r.1)) (sym inv.same) (inv.fit r.0 r.1 r.2 r.4),
+                child-above set ns sound r.0 cs r.2 i child here r.1,
+                all-above set ns sound r.0 cs r.2 i child here r.1 r.5,
+              ),
+            ),
+          ),
+        ),
+      ),
+    )
 
 pub settle_all-outcome-outcome-requires : goal.settle_all-outcome-outcome-requires
 settle_all-outcome-outcome-requires g t c = c.in_ok-settle_below.ensures.settled.made
@@ -150,9 +164,12 @@ settle_all-returns-clause-steps g t c = λ siblings governs down are so.
 settled-given : (set : Compiled) (ns : Nodes) (parent : Governed) (governs : ℕ → Governing) (cs : List Governed) (are : AreGoverned set ns parent cs) →
     ((place child : ℕ) → slice_get (element_children ns parent.node) place ≡ Some child → governs child ≡ pair_by set ns parent.pair parent.node place child) →
     (map number cs ≡ element_children ns parent.node) × ((child : Governed) → Has child cs → governs child.node ≡ child.pair)
-settled-given set ns parent governs cs are given = (are.nodes, λ child h.
-    let at = place-has number cs child h in
-    given at.0 child.node (ap (λ xs. slice_get xs at.0) (sym are.nodes) ∙ slice_get-map number cs at.0 ∙ ap (option_map number) at.1) ∙ sym (are.pairs at.0 child at.1))
+settled-given set ns parent governs cs are given = (
+  are.nodes,
+  λ child h.
+      let at = place-has number cs child h in
+      given at.0 child.node (ap (λ xs. slice_get xs at.0) (sym are.nodes) ∙ slice_get-map number cs at.0 ∙ ap (option_map number) at.1) ∙ sym (are.pairs at.0 child at.1),
+)
 
 pub settle_children-settle_all-requires : goal.settle_children-settle_all-requires
 settle_children-settle_all-requires g t c κs within =
@@ -165,10 +182,16 @@ settle_children-settle_all-requires g t c κs within =
     let sound = over.1.stands.links in
     let done = c.in_ok-listing.ensures in
     let cs = c.in_ok-listing.listing.children.items in
-    let are : AreGoverned set ns parent c.as_slice.result.now = subst (AreGoverned set ns parent) (sym c.as_slice.ensures) done.listing.children_are in
-    (all-less set ns sound parent c.as_slice.result.now are (λ i child e. element-depth set.names ns over.0 over.1.stands child.node (child-element set ns sound parent c.as_slice.result.now are i child e)), (within,
-      (more-beside set ns old mid done.rest done.others c.requires.beside,
-      (parent, c.requires.fit.0, are, c.requires.element, more-fit set ns old mid done.rest done.others (parent.node ∷ c.requires.fit.0) c.requires.fit.1, c.requires.fit.2))))
+    let are : AreGoverned set ns parent c.as_slice.result.now = subst (AreGoverned set ns parent) (sym c.as_slice.ensures) done.listing.children_are in (
+      all-less set ns sound parent c.as_slice.result.now are (λ i child e. element-depth set.names ns over.0 over.1.stands child.node (child-element set ns sound parent c.as_slice.result.now are i child e)),
+      (
+        within,
+        (
+          more-beside set ns old mid done.rest done.others c.requires.beside,
+          (parent, c.requires.fit.0, are, c.requires.element, more-fit set ns old mid done.rest done.others (parent.node ∷ c.requires.fit.0) c.requires.fit.1, c.requires.fit.2),
+        ),
+      ),
+    )
 
 pub settle_children-returns-in_err-listing-clause-steps : goal.settle_children-returns-in_err-listing-clause-steps
 settle_children-returns-in_err-listing-clause-steps g t c = λ siblings governs down are given.
@@ -217,10 +240,25 @@ settle_children-returns g t c =
 pub settle_below-settle_again-requires : goal.settle_below-settle_again-requires
 settle_below-settle_again-requires g t c κs within =
     let r = c.requires.fit in
-    let n = c.args.element.now.node in
-    (omega arith, (within, (c.requires.beside, (c.requires.element, (c.requires.governed,
-      (λ made same. (r.1 n made (above-lacks c.args.doc.now n r.0 r.3)).gathered,
-      (r.0, λ m made lacks. r.1 m made lacks.1, r.2, r.3)))))))
+    let n = c.args.element.now.node in (
+      omega arith,
+      (
+        within,
+        (
+          c.requires.beside,
+          (
+            c.requires.element,
+            (
+              c.requires.governed,
+              (
+                λ made same. (r.1 n made (above-lacks c.args.doc.now n r.0 r.3)).gathered,
+                (r.0, λ m made lacks. r.1 m made lacks.1, r.2, r.3),
+              ),
+            ),
+          ),
+        ),
+      ),
+    )
 
 pub settle_below-returns-then-is_governed-clause-settled : goal.settle_below-returns-then-is_governed-clause-settled
 settle_below-returns-then-is_governed-clause-settled g t c =
@@ -252,7 +290,7 @@ settle_again-returns-clause-settled g t c =
     let done = c.in_ok-children.ensures in
     on-one c.keep_anew.result _ _
     (λ made. anew-settled c.args.set.now c.args.doc.now c.args.element.now c.in_ok-children.children c.args.kept.now c.settle_children-children.new.kept c.keep_anew.new.kept done.rest
-      (subst (λ (s : Compiled). IsMadeAnew s c.args.doc.now c.settle_children-children.new.kept c.keep_anew.new.kept c.args.element.now c.in_ok-children.children) done.same made) done.fresh)
+    (subst (λ (s : Compiled). IsMadeAnew s c.args.doc.now c.settle_children-children.new.kept c.keep_anew.new.kept c.args.element.now c.in_ok-children.children) done.same made) done.fresh)
     c.keep_anew.ensures.made
 
 pub settle_again-returns-clause-fit : goal.settle_again-returns-clause-fit
@@ -260,7 +298,7 @@ settle_again-returns-clause-fit g t c =
     let done = c.in_ok-children.ensures in
     on-one c.keep_anew.result _ _
     (λ made. anew-fits c.args.set.now c.args.doc.now c.args.element.now c.in_ok-children.children c.args.kept.now c.settle_children-children.new.kept c.keep_anew.new.kept done.rest
-      (subst (λ (s : Compiled). IsMadeAnew s c.args.doc.now c.settle_children-children.new.kept c.keep_anew.new.kept c.args.element.now c.in_ok-children.children) done.same made) done.beside done.spare done.children done.fit)
+    (subst (λ (s : Compiled). IsMadeAnew s c.args.doc.now c.settle_children-children.new.kept c.keep_anew.new.kept c.args.element.now c.in_ok-children.children) done.same made) done.beside done.spare done.children done.fit)
     c.keep_anew.ensures.made
 
 pub settle_again-returns-clause-beside : goal.settle_again-returns-clause-beside
@@ -269,8 +307,8 @@ settle_again-returns-clause-beside g t c = on-one c.keep_anew.result _ _ (λ w. 
 -- an element that is not of the type counts its own child elements
 other-steps : (set : Compiled) (ns : Nodes) (k : KeptState) (element : Governed) (old new : ℕ) → is_typed (at k.records.slots element.node) element.pair.of ≡ false →
     ((siblings : Forest) (governs : ℕ → Governing) → AreGivenDown set ns governs siblings → element_numbers siblings ≡ element_children ns element.node →
-      ((place child : ℕ) → slice_get (element_children ns element.node) place ≡ Some child → governs child ≡ pair_by set ns element.pair element.node place child) →
-      new ≤ old + 3 * (length (element_numbers siblings) + moved k.records.slots governs siblings)) →
+    ((place child : ℕ) → slice_get (element_children ns element.node) place ≡ Some child → governs child ≡ pair_by set ns element.pair element.node place child) →
+    new ≤ old + 3 * (length (element_numbers siblings) + moved k.records.slots governs siblings)) →
     (siblings : Forest) (governs : ℕ → Governing) → AreGivenDown set ns governs siblings → element_numbers siblings ≡ element.node ∷ [] → governs element.node ≡ element.pair →
     new ≤ old + 3 * moved k.records.slots governs siblings
 other-steps set ns k element old new other steps siblings governs down are so =
@@ -278,7 +316,6 @@ other-steps set ns k element old new other steps siblings governs down are so =
     let more = steps own.below governs own.down own.are (λ place child e. own.given place child e ∙ ap (λ (g : Governing). pair_by set ns g element.node place child) so) in
     let fewer = own.fewer in
     omega (arith, more, fewer)
-
 
 pub settle_again-judge-requires-clause-made : goal.settle_again-judge-requires-clause-made
 settle_again-judge-requires-clause-made g t c = (c.if-is_typed.ensures.0 tt).0
@@ -301,12 +338,12 @@ pub settle_again-returns-in_err-children-clause-steps : goal.settle_again-return
 settle_again-returns-in_err-children-clause-steps g t c =
     other-steps c.args.set.now c.args.doc.now c.args.kept.now c.args.element.now c.args.steps.now c.settle_children-children.new.steps
     (not-typed (at c.args.kept.now.records.slots c.args.element.now.node) c.args.element.now.pair.of
-      (λ k e q. c.if-is_typed.ensures.1 ((k, e), ap (λ o. (unwrap_or o blank).found.governing.of) e ∙ q)))
+    (λ k e q. c.if-is_typed.ensures.1 ((k, e), ap (λ o. (unwrap_or o blank).found.governing.of) e ∙ q)))
     c.in_err-children.ensures.steps
 
 pub settle_again-returns-clause-steps : goal.settle_again-returns-clause-steps
 settle_again-returns-clause-steps g t c =
     other-steps c.args.set.now c.args.doc.now c.args.kept.now c.args.element.now c.args.steps.now c.settle_children-children.new.steps
     (not-typed (at c.args.kept.now.records.slots c.args.element.now.node) c.args.element.now.pair.of
-      (λ k e q. c.if-is_typed.ensures.1 ((k, e), ap (λ o. (unwrap_or o blank).found.governing.of) e ∙ q)))
+    (λ k e q. c.if-is_typed.ensures.1 ((k, e), ap (λ o. (unwrap_or o blank).found.governing.of) e ∙ q)))
     c.in_ok-children.ensures.steps

@@ -11,9 +11,12 @@ use Rattle.kept_below.proofs.below.open_records.Goals as goal
 -- the root is read where it is numbered 1; then what is asked of settle_below holds, since nothing is kept yet
 pub settle_below-requires-clause-fit : goal.settle_below-requires-clause-fit
 settle_below-requires-clause-fit g c =
-    let over = c.requires.beside.over in
-    ([], λ m made lacks. absurd (none-some made.0 (sym (c.requires.none m) ∙ made.1)),
-     λ p up. absurd (none-some p (sym (root-parent c.args.set.now.names c.args.doc.now over.0 over.1.stands) ∙ ap (parent_at c.args.doc.now) (sym c.in_ok-root.ensures.node) ∙ up)), λ m h. absurd h)
+    let over = c.requires.beside.over in (
+      [],
+      λ m made lacks. absurd (none-some made.0 (sym (c.requires.none m) ∙ made.1)),
+      λ p up. absurd (none-some p (sym (root-parent c.args.set.now.names c.args.doc.now over.0 over.1.stands) ∙ ap (parent_at c.args.doc.now) (sym c.in_ok-root.ensures.node) ∙ up)),
+      λ m h. absurd h,
+    )
 
 pub settle_below-requires-clause-element : goal.settle_below-requires-clause-element
 settle_below-requires-clause-element g c =
