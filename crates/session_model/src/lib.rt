@@ -8,7 +8,7 @@ mod report;
 mod session;
 
 pub use count::count_codes;
-pub use find::{find_next, find_records, records_of, root_validity};
+pub use find::{find_next, find_records, root_validity};
 pub use laws::entries_are_named;
 pub use report::write_report;
 pub use session::{Session, SessionError};
