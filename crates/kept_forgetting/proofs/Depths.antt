@@ -1,5 +1,5 @@
 -- The depths of elements.
-use Rattle.std.proofs.Common.{◌≡◌, ◌⊎◌, ℕ, ◌+◌, ◌≤◌, true, None, sym, ap, ◌∙◌, subst, inl, inr, arith, refl}
+use Rattle.std.proofs.Common.{◌≡◌, ℕ, ◌+◌, ◌≤◌, true, None, sym, ap, ◌∙◌, subst, inl, inr, arith, refl}
 use Rattle.std.specs.Option.{option_and_then}
 use Rattle.xs_names.specs.Names.{NameTable}
 use Rattle.tree_rows.specs.Forest.{Forest, none, text, element, Document, deepest_of}

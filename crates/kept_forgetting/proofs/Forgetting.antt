@@ -1,13 +1,13 @@
 -- Nothing is kept any more of an element and of what is below it, element by element.
-use Rattle.std.proofs.Common.{◌≡◌, ◌≢◌, ◌⊎◌, ℕ, zero, suc, ◌+◌, ◌-◌, ◌<◌, ◌≤◌, List, [], ◌∷◌, length, cond, Bool, true, false, Option, None, Some, refl, sym, ap, ◌∙◌, subst, inl, inr, arith}
+use Rattle.std.proofs.Common.{◌≡◌, ◌≢◌, ℕ, zero, suc, ◌+◌, ◌-◌, ◌<◌, ◌≤◌, List, [], ◌∷◌, length, cond, Bool, true, false, Option, None, Some, refl, sym, ap, ◌∙◌, subst, inl, inr, arith}
 use Rattle.std.specs.Prelude.{filter, slice_get, unwrap_or}
 use Rattle.std.specs.Option.{option_and_then}
-use Rattle.std.proofs.lemmas.Bool.{cases_eq, cases_lt, true≢false}
-use Rattle.std.proofs.lemmas.Option.{none-some, same_Some}
+use Rattle.std.proofs.lemmas.Bool.{cases_eq, cases_lt}
+use Rattle.std.proofs.lemmas.Option.{none-some, same_Some, slice_get_within}
 use Rattle.xs_names.specs.Names.{NameTable}
 use Rattle.tree_rows.specs.Forest.{Document}
 use Rattle.compiled_schema.specs.declared.compiled.Compiled.{Compiled}
-use Rattle.model_lists.specs.Lists.{ListsView, IsLive, KeepLists}
+use Rattle.model_lists.specs.Lists.{KeepLists}
 use Rattle.model_lists.specs.declared.handle.ModelList.{ModelList}
 use Rattle.doc_nodes.specs.Nodes.{Nodes, node, IsSound, depth_by, children_by, is_element_at, element_children}
 use Rattle.doc_changes.specs.Held.{parent_at}
@@ -16,7 +16,7 @@ use Rattle.doc_documents.proofs.Reading.{depth_below}
 use Rattle.kept_slots.specs.Slots.{at, Writes}
 use Rattle.kept_records.specs.declared.element.KeptElement.{KeptElement}
 use Rattle.kept_records.specs.Slots.{IsMade, blank, kept_at}
-use Rattle.kept_records.specs.Books.{IsBooked, HaveOwnLists}
+use Rattle.kept_records.specs.Books.{IsBooked}
 use Rattle.kept_records.proofs.Nodes.{by-node, child-parent}
 use Rattle.kept_state.specs.Kept.{CanGovern, IsBeside}
 use Rattle.kept_state.specs.declared.state.KeptState.{KeptState}
@@ -116,6 +116,10 @@ child-element ns n i child e = passing (children_by (node ns n)) i e
         by true is later zero f = ap (is_element_at ns) (sym (same_Some x child f)) ∙ is
         by true is later (suc j) f = later j f
         by false is later i f = later i f
+
+-- one after another, fewer are left
+pub fewer : (xs : List ℕ) (place child : ℕ) → slice_get xs place ≡ Some child → length xs - (place + 1) < length xs - place
+fewer xs place child e = let within = slice_get_within xs place child e in omega (arith, within)
 
 module _ (ns : Nodes) (sound : IsSound ns) (n : ℕ) (element : is_element_at ns n ≡ true) where
   pub child-up : (i child : ℕ) → slice_get (element_children ns n) i ≡ Some child → parent_at ns child ≡ Some n

@@ -1,5 +1,5 @@
 -- What is kept otherwise, in one change after another.
-use Rattle.std.proofs.Common.{◌≡◌, ℕ, Option, Some, refl, sym, ap, ◌∙◌}
+use Rattle.std.proofs.Common.{◌≡◌, ℕ, Option, refl, sym, ap, ◌∙◌}
 use Rattle.std.specs.Prelude.{unwrap_or}
 use Rattle.model_lists.specs.Lists.{KeepLists}
 use Rattle.model_lists.specs.declared.handle.ModelList.{ModelList}

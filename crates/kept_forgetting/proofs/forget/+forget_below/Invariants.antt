@@ -4,7 +4,7 @@ use Rattle.doc_nodes.specs.Nodes.{node, depth_by, element_children}
 use Rattle.kept_state.specs.Kept.{IsBeside}
 use Rattle.kept_forgetting.specs.Below.{IsWithin, KeepsBut}
 use Rattle.kept_forgetting.proofs.Forgetting.{AreGoneUpTo}
-use Rattle.kept_forgetting.proofs.forget.forget_below.Given as goal
+use Rattle.kept_forgetting.proofs.forget.+forget_below.Given as goal
 
 abbrev pub decreases-forget_below : goal.decreases-forget_below
 decreases-forget_below l = 130 - depth_by (node l.doc.now l.node)
