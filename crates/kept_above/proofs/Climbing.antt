@@ -1,5 +1,5 @@
 -- The parent of an element counts it as what it comes to now, level by level.
-use Rattle.std.proofs.Common.{◌≡◌, ◌≢◌, ◌⊎◌, ◌↔◌, ℕ, ◌+◌, ◌<◌, ◌^◌, List, [], ◌∷◌, length, map, true, Option, None, Some, refl, sym, ap, ◌∙◌, subst, inl, inr, arith}
+use Rattle.std.proofs.Common.{◌≡◌, ◌≢◌, ℕ, ◌<◌, ◌^◌, List, [], ◌∷◌, length, map, true, Option, None, Some, refl, sym, ap, ◌∙◌, subst, inl, inr, arith}
 use Rattle.std.specs.Prelude.{slice_get, unwrap_or, remove}
 use Rattle.std.proofs.lemmas.Bool.{cases_eq}
 use Rattle.std.proofs.lemmas.List.{length-map}
@@ -17,14 +17,14 @@ use Rattle.compiled_schema.specs.declared.compiled.Compiled.{Compiled}
 use Rattle.tree_assess.specs.Entries.{entry_of}
 use Rattle.tree_assess.specs.declared.entry.ElementEntry.{ElementEntry}
 use Rattle.model_lists.specs.Lists.{ListsView}
-use Rattle.doc_nodes.specs.Nodes.{Nodes, node, IsSound, Has, Lacks, is_element_at, element_children}
+use Rattle.doc_nodes.specs.Nodes.{Nodes, node, IsSound, is_element_at, element_children}
 use Rattle.doc_changes.specs.Held.{parent_at}
 use Rattle.doc_documents.specs.Readers.{own_chars}
 use Rattle.doc_heads.specs.Heads.{texts_named}
 use Rattle.kept_slots.specs.Slots.{at}
 use Rattle.kept_records.specs.declared.element.KeptElement.{KeptElement}
 use Rattle.kept_records.specs.Slots.{IsKept, IsMade, blank, kept_at, entry_at, pair_at, record_at}
-use Rattle.kept_records.specs.Fit.{models_of, root_codes, head_at, IsListed, IsFit, AboveIn}
+use Rattle.kept_records.specs.Fit.{models_of, root_codes, head_at, IsListed, IsFit}
 use Rattle.kept_records.proofs.Counting.{counts-at}
 use Rattle.kept_records.proofs.Frames.{map-same}
 use Rattle.kept_records.proofs.Nodes.{by-node}

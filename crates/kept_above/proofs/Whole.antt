@@ -1,5 +1,5 @@
 -- Something is kept of all elements, where it is of the root and of the child elements of each element of which it is.
-use Rattle.std.proofs.Common.{◌≡◌, ℕ, List, [], ◌∷◌, true, Some, All, sym, subst}
+use Rattle.std.proofs.Common.{◌≡◌, ℕ, [], true, Some, All, sym, subst}
 use Rattle.std.specs.Prelude.{slice_get}
 use Rattle.std.proofs.lemmas.List.Elements.{All-nil, All-cons}
 use Rattle.assessment.specs.Local.{AreRead, element_numbers}

@@ -14,3 +14,8 @@ returns-then-eq-clause-fit c =
 
 pub up-smaller : goal.up-smaller
 up-smaller c = let deep = depth_below c.args.doc.now c.in-Some.parent c.up.child c.in-Some.ensures.sound (sym c.in-Some.ensures.parent) in omega (arith, deep)
+
+-- or it is the root
+pub returns-clause-fit : goal.returns-clause-fit
+returns-clause-fit c =
+    (subst (λ (set : Compiled). IsClimbing set c.args.doc.now c.up.kept c.up.child c.up.was) c.up.invariant.same c.up.invariant.climbing).root (sym c.in_default.ensures.parent)

@@ -1,4 +1,4 @@
-use Rattle.std.proofs.Common.{◌≡◌, ℕ, refl, sym, subst}
+use Rattle.std.proofs.Common.{refl, sym, subst}
 use Rattle.compiled_schema.specs.Usable.{set_of}
 use Rattle.kept_state.specs.Kept.{outcome_at}
 use Rattle.kept_state.specs.declared.children.KeptChildren.{KeptChildren}
