@@ -55,7 +55,7 @@ module _ (c : Compiled) (ns : Nodes) (old : KeptState) (n : ℕ) (beside : IsBes
   was-element : (m : ℕ) → IsMade old.records.slots m → is_element_at h.old m ≡ true
   was-element = h.right.beside.over.1.only
 
-  own-made : IsMade old.records.slots n
+  pub own-made : IsMade old.records.slots n
   own-made = right-made c h.old old h.right n h.element
 
   own-element : is_element_at ns n ≡ true
@@ -131,6 +131,10 @@ module _ (c : Compiled) (ns : Nodes) (old : KeptState) (n : ℕ) (beside : IsBes
 
   abbrev again : Governed
   again = record { node = n; pair = again_pair (set_of c) (pair_at old.records.slots n) (head_at (set_of c) ns n) }
+
+  -- what is governed again
+  pub same-again : (element : Governed) (was : Governing) → was ≡ pair_at old.records.slots n → element.node ≡ n → element.pair ≡ again_pair (set_of c) was (head_at (set_of c) ns n) → element ≡ again
+  same-again element was pair number is = λ i. record { node = number i; pair = (is ∙ ap (λ (g : Governing). again_pair (set_of c) g (head_at (set_of c) ns n)) pair) i }
 
   root-parent-now : parent_at ns 1 ≡ None
   root-parent-now =

@@ -1,6 +1,6 @@
 -- What fits by nodes fits by others by which the same is read of it.
 use Rattle.std.proofs.Common.{◌≡◌, ◌≢◌, ℕ, List, [], ◌∷◌, map, true, Option, None, Some, refl, sym, ap, ◌∙◌, subst}
-use Rattle.std.specs.Prelude.{slice_get, unwrap_or}
+use Rattle.std.specs.Prelude.{slice_get, unwrap_or, Result, Ok, Err, OnOk}
 use Rattle.xs_components.specs.declared.common.TypeId.{TypeId}
 use Rattle.assess_records.specs.Counts.{counts_of}
 use Rattle.assess_records.specs.Instance.{instance_text}
@@ -90,3 +90,10 @@ right-made c ns k r m is =
 -- the root is governed as before
 pub top-reread : (s : SchemaSet) (old new : Nodes) (k : KeptState) → head_at s new 1 ≡ head_at s old 1 → IsTop s old k.records.slots → IsTop s new k.records.slots
 top-reread s old new k head top = record { made = top.made; pair_is = top.pair_is ∙ ap (root_pair s) (sym head) }
+
+-- ---- what a call ensures
+
+-- what holds of an Ok by three facts of it
+pub all-ok : {T E P Q R S : Type 0} (r : Result T E) → (P → Q → R → S) → OnOk r P → OnOk r Q → OnOk r R → OnOk r S
+all-ok (Ok x) f p q o = f p q o
+all-ok (Err e) f p q o = tt

@@ -5,12 +5,14 @@ use Rattle.assess_records.specs.Numbered.{Head}
 use Rattle.compiled_schema.specs.Usable.{set_of}
 use Rattle.compiled_schema.specs.declared.compiled.Compiled.{Compiled}
 use Rattle.doc_nodes.specs.Nodes.{Nodes, is_element_at, element_children}
+use Rattle.kept_slots.specs.Slots.{Writes}
+use Rattle.kept_records.specs.Books.{KeptView, IsBooked}
 use Rattle.kept_records.specs.declared.element.KeptElement.{KeptElement}
 use Rattle.kept_records.specs.Slots.{IsKept, IsMade, kept_at, pair_at}
 use Rattle.kept_records.specs.Fit.{models_of, head_at, IsFit, IsTop}
 use Rattle.kept_state.specs.Kept.{FitBut, IsBeside, Rewrites, children_of, children_at, outcome_of, outcome_at}
 use Rattle.kept_state.specs.declared.state.KeptState.{KeptState}
-use Rattle.kept_state.proofs.Beside.{kept-there, rewrites-again}
+use Rattle.kept_state.proofs.Beside.{kept-there, rewrites-again, beside-same}
 use Rattle.kept_judging.specs.Judged.{AreChildren, IsJudgedAnew}
 use Rattle.kept_judging.proofs.Anew.{gathered-children, fit-judged, judged-fit, anew-fits, children-stay}
 use Rattle.kept_above.specs.Climbing.{IsClimbing, KeepsRest}
@@ -44,7 +46,15 @@ module _ (c : Compiled) (ns : Nodes) (old : KeptState) (n : ℕ) (beside : IsBes
   pub made-own : IsMade old.records.slots n
   made-own = right-made c h.old old h.right n h.element
 
-  -- its texts are written, and it is judged by them
+  -- its texts are written
+  module _ (k : KeptElement) (is : IsKept old.records.slots n k) (text : List ℕ) (view : KeptView) (written : Writes old.records.slots view.slots n (Some (record k { text = text }))) where
+    pub texts-written : Rewrites old (record old { records = view }) n (Some (record k { text = text }))
+    texts-written = record { slots = written; lists = refl; ids = refl }
+
+    pub texts-beside : IsBooked view → IsBeside c ns (record old { records = view })
+    texts-beside booked = beside-same c ns old (record old { records = view }) n (record k { text = text }) texts-written beside k is refl refl booked
+
+  -- and it is judged by them
   module _ (k : KeptElement) (is : IsKept old.records.slots n k) (text : List ℕ) (mid new : KeptState) (written : Rewrites old mid n (Some (record k { text = text }))) (between : IsBeside c ns mid)
       (anew : IsJudgedAnew c ns mid new n (pair_at mid.records.slots n) (children_at mid.records.slots n)) (after : IsBeside c ns new) where
     abbrev again : KeptElement
