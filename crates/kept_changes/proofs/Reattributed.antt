@@ -1,5 +1,5 @@
 -- An element whose attributes are others is governed again and judged anew, with all below it, and those above it follow.
-use Rattle.std.proofs.Common.{◌≡◌, ◌≢◌, ◌⊎◌, ℕ, zero, suc, ◌<◌, List, [], ◌∷◌, map, true, Option, None, Some, refl, sym, ap, ◌∙◌, subst, inl, inr, arith}
+use Rattle.std.proofs.Common.{◌≡◌, ◌≢◌, ℕ, zero, suc, ◌<◌, List, [], ◌∷◌, map, true, Option, None, Some, refl, sym, ap, ◌∙◌, subst, inl, inr, arith}
 use Rattle.std.specs.Prelude.{slice_get, unwrap_or}
 use Rattle.std.specs.Option.{option_and_then}
 use Rattle.std.proofs.lemmas.Bool.{cases_eq}
@@ -10,14 +10,14 @@ use Rattle.elem_regoverning.proofs.Regoverned.{child-again, root-again}
 use Rattle.compiled_schema.specs.Usable.{set_of}
 use Rattle.compiled_schema.specs.declared.compiled.Compiled.{Compiled}
 use Rattle.model_terms.specs.Terms.{stuck_in, term_in}
-use Rattle.doc_nodes.specs.Nodes.{Nodes, node, IsSound, Has, Lacks, depth_by, is_element_at, element_children}
+use Rattle.doc_nodes.specs.Nodes.{Nodes, node, IsSound, Has, depth_by, is_element_at, element_children}
 use Rattle.doc_nodes.proofs.Among.{lacks-has}
 use Rattle.doc_changes.specs.Held.{parent_at}
 use Rattle.doc_documents.proofs.Reading.{depth_below}
 use Rattle.kept_slots.specs.Slots.{at}
 use Rattle.kept_records.specs.declared.element.KeptElement.{KeptElement}
 use Rattle.kept_records.specs.Slots.{IsMade, blank, kept_at, pair_at, record_at}
-use Rattle.kept_records.specs.Fit.{models_of, head_at, AboveIn, IsListed, IsGathered, IsFit, IsTop}
+use Rattle.kept_records.specs.Fit.{models_of, head_at, AboveIn, IsListed, IsGathered, IsFit}
 use Rattle.kept_records.proofs.Made.{root-parent}
 use Rattle.kept_records.proofs.Nodes.{by-node, child-parent}
 use Rattle.kept_state.specs.Kept.{CanGovern, FitBut, IsBeside, children_of, children_at, outcome_at}
@@ -37,7 +37,7 @@ use Rattle.kept_children.specs.Places.{IsPlaceOf}
 use Rattle.kept_children.specs.declared.place.ChildPlace.{ChildPlace}
 use Rattle.kept_children.proofs.Lists.{one-place}
 use Rattle.kept_children.proofs.Midway.{parent-stays, sibling-stays, attributed-settled, given-settled}
-use Rattle.kept_changes.specs.Own.{Reattributes, IsReattributed}
+use Rattle.kept_changes.specs.Own.{IsReattributed}
 use Rattle.kept_changes.proofs.Reread.{head-same, texts-same, symbols-same, given-same, children-reread, judged-reread, right-made}
 
 -- the parent of an element, if it has one

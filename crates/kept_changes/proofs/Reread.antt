@@ -1,12 +1,11 @@
 -- What fits by nodes fits by others by which the same is read of it.
-use Rattle.std.proofs.Common.{◌≡◌, ◌≢◌, ℕ, List, [], ◌∷◌, map, true, Option, None, Some, refl, sym, ap, ◌∙◌, subst}
+use Rattle.std.proofs.Common.{◌≡◌, ℕ, map, true, Option, Some, sym, ap, ◌∙◌, subst}
 use Rattle.std.specs.Prelude.{slice_get, unwrap_or, Result, Ok, Err, OnOk}
 use Rattle.xs_components.specs.declared.common.TypeId.{TypeId}
 use Rattle.assess_records.specs.Counts.{counts_of}
 use Rattle.assess_records.specs.Instance.{instance_text}
 use Rattle.assess_records.specs.Numbered.{Head, shape_of}
 use Rattle.assess_records.specs.declared.instance_names.InstanceAttribute.TheVariants.{TypeName}
-use Rattle.assess_records.specs.declared.shape.NamedText.{NamedText}
 use Rattle.elem_governing.specs.declared.pairs.Governing.{Governing}
 use Rattle.assessment.specs.Attribution.{SchemaSet}
 use Rattle.assessment.specs.Assessment.{AreJudged}
@@ -15,21 +14,17 @@ use Rattle.compiled_schema.specs.declared.compiled.Compiled.{Compiled}
 use Rattle.model_terms.specs.Symbols.{child_symbols}
 use Rattle.model_terms.specs.Terms.{stuck_in, term_in}
 use Rattle.doc_nodes.specs.Nodes.{Nodes, is_element_at, element_children}
-use Rattle.doc_nodes.specs.declared.content.NameAttribute.{NameAttribute}
 use Rattle.doc_changes.specs.Held.{parent_at, attributes_at}
 use Rattle.doc_documents.specs.Readers.{name_at, own_chars, scope_at}
 use Rattle.doc_heads.specs.Heads.{text_named, texts_named}
-use Rattle.kept_records.specs.Slots.{IsMade, kept_at, entry_at, pair_at, record_at}
-use Rattle.kept_records.specs.Fit.{models_of, root_codes, head_at, IsListed, IsFit, IsTop}
-use Rattle.kept_records.specs.Found.{AreSettled}
+use Rattle.kept_records.specs.Slots.{IsMade, kept_at, entry_at, record_at}
+use Rattle.kept_records.specs.Fit.{models_of, root_codes, head_at, IsListed, IsTop}
 use Rattle.kept_records.proofs.Frames.{map-same}
 use Rattle.kept_records.proofs.Made.{made-elements}
 use Rattle.kept_records.proofs.Nodes.{has-element}
-use Rattle.kept_state.specs.Kept.{IsBeside, children_at}
 use Rattle.kept_state.specs.declared.children.KeptChildren.{KeptChildren}
 use Rattle.kept_state.specs.declared.state.KeptState.{KeptState}
 use Rattle.kept_judging.specs.Judged.{symbols_by, root_pair, given_pair, pair_by, AreChildren, IsJudgedBy}
-use Rattle.kept_judging.proofs.Anew.{gathered-children, fit-judged, judged-fit}
 use Rattle.kept_children.specs.Edited.{IsRightFor}
 
 -- ---- one element

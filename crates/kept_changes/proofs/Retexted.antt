@@ -1,15 +1,13 @@
 -- An element whose texts are others is judged anew, and those above it follow.
-use Rattle.std.proofs.Common.{◌≡◌, ◌≢◌, ℕ, List, [], ◌∷◌, true, Option, None, Some, refl, sym, ap, ◌∙◌, subst}
-use Rattle.std.specs.Prelude.{slice_get}
-use Rattle.assess_records.specs.Numbered.{Head}
+use Rattle.std.proofs.Common.{◌≡◌, ℕ, List, [], ◌∷◌, true, Some, refl, sym, ap, ◌∙◌, subst}
 use Rattle.compiled_schema.specs.Usable.{set_of}
 use Rattle.compiled_schema.specs.declared.compiled.Compiled.{Compiled}
-use Rattle.doc_nodes.specs.Nodes.{Nodes, is_element_at, element_children}
+use Rattle.doc_nodes.specs.Nodes.{Nodes, is_element_at}
 use Rattle.kept_slots.specs.Slots.{Writes}
 use Rattle.kept_records.specs.Books.{KeptView, IsBooked}
 use Rattle.kept_records.specs.declared.element.KeptElement.{KeptElement}
 use Rattle.kept_records.specs.Slots.{IsKept, IsMade, kept_at, pair_at}
-use Rattle.kept_records.specs.Fit.{models_of, head_at, IsFit, IsTop}
+use Rattle.kept_records.specs.Fit.{head_at}
 use Rattle.kept_state.specs.Kept.{FitBut, IsBeside, Rewrites, children_of, children_at, outcome_of, outcome_at}
 use Rattle.kept_state.specs.declared.state.KeptState.{KeptState}
 use Rattle.kept_state.proofs.Beside.{kept-there, rewrites-again, beside-same}
@@ -18,7 +16,7 @@ use Rattle.kept_judging.proofs.Anew.{gathered-children, fit-judged, judged-fit, 
 use Rattle.kept_above.specs.Climbing.{IsClimbing, KeepsRest}
 use Rattle.kept_above.proofs.Climbing.{begun, pair-stays, made-now}
 use Rattle.kept_children.specs.Edited.{IsRightFor}
-use Rattle.kept_changes.specs.Own.{Retexts, IsRetexted}
+use Rattle.kept_changes.specs.Own.{IsRetexted}
 use Rattle.kept_changes.proofs.Reread.{head-same, texts-same, children-reread, judged-reread, right-made, top-reread}
 
 module _ (c : Compiled) (ns : Nodes) (old : KeptState) (n : ℕ) (beside : IsBeside c ns old) (h : IsRetexted c ns old n) where
