@@ -15,7 +15,8 @@ use Rattle.kept_state.specs.declared.element.Governed.{Governed}
 use Rattle.kept_state.specs.declared.state.KeptState.{KeptState}
 use Rattle.kept_judging.specs.Judged.{AreChildren, IsJudgedAnew}
 use Rattle.kept_judging.proofs.Anew.{gathered-children, same-type-children, anew-made, anew-pair, anew-all-fit}
-use Rattle.kept_below.specs.Below.{IsBelow, IsWithin, AreAbove, KeepsBut, IsSettled, IsSpare, IsFresh, IsMadeAnew}
+use Rattle.child_listing.specs.Children.{IsSpare, IsFresh}
+use Rattle.kept_below.specs.Below.{IsBelow, IsWithin, AreAbove, KeepsBut, IsSettled, IsMadeAnew}
 use Rattle.kept_below.proofs.Fits.{made-there, made-pair, made-fit}
 use Rattle.kept_below.proofs.Keeping.{keeps-same, keeps-judged, keeps-anew}
 

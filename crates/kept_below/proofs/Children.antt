@@ -24,14 +24,16 @@ use Rattle.kept_state.specs.declared.children.KeptChildren.{KeptChildren}
 use Rattle.kept_state.specs.declared.element.Governed.{Governed}
 use Rattle.kept_state.specs.declared.state.KeptState.{KeptState}
 use Rattle.kept_judging.specs.Judged.{symbols_by, pair_by, AreChildren}
-use Rattle.kept_below.specs.Below.{IsBelow, IsWithin, AreAbove, IsNoneOf, KeepsBut, IsSettled, IsSpare, AreGoverned, IsListing}
+use Rattle.child_listing.specs.Children.{IsSpare, AreGoverned, IsListing}
+use Rattle.kept_below.specs.Below.{IsBelow, IsWithin, AreAbove, IsNoneOf, KeepsBut, IsSettled}
 use Rattle.kept_below.specs.declared.listing.Listing.{Listing}
 use Rattle.kept_below.proofs.Counts.{counts-last}
-use Rattle.kept_below.proofs.Distinct.{distinct-filter, filtered, has-place, place-has, place-from, front-other, front-more}
+use Rattle.child_listing.proofs.Distinct.{distinct-filter, filtered, has-place, place-has, place-from, front-other, front-more}
 use Rattle.kept_below.proofs.Keeping.{keeps-then, keeps-wider}
 use Rattle.kept_below.specs.Moved.{moved, AreGivenDown}
 use Rattle.kept_below.proofs.Moving.{HasRoom, room-stopped, room-next}
-use Rattle.kept_below.proofs.Walks.{self-within, child-below, siblings-apart, has-get}
+use Rattle.child_listing.proofs.Parents.{has-get}
+use Rattle.kept_below.proofs.Walks.{self-within, child-below, siblings-apart}
 
 abbrev pub number : Governed → ℕ
 number g = g.node

@@ -21,7 +21,8 @@ use Rattle.kept_state.specs.declared.element.Governed.{Governed}
 use Rattle.kept_state.specs.declared.state.KeptState.{KeptState}
 use Rattle.kept_judging.specs.Judged.{AreChildren, IsJudgedAnew}
 use Rattle.kept_judging.proofs.Anew.{anew-made, anew-pair, anew-children, anew-all-fit}
-use Rattle.kept_below.specs.Below.{IsSpare, IsMadeAnew}
+use Rattle.child_listing.specs.Children.{IsSpare}
+use Rattle.kept_below.specs.Below.{IsMadeAnew}
 
 abbrev list-at : KeptSlots → ℕ → Option ModelList
 list-at ks n = (kept_at ks n).list

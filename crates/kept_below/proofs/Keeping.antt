@@ -16,7 +16,8 @@ use Rattle.kept_state.specs.declared.element.Governed.{Governed}
 use Rattle.kept_state.specs.declared.state.KeptState.{KeptState}
 use Rattle.kept_judging.specs.Judged.{IsJudgedAnew}
 use Rattle.kept_judging.proofs.Anew.{anew-children}
-use Rattle.kept_below.specs.Below.{IsBelow, IsWithin, IsNoneOf, KeepsBut, IsSpare, IsFresh, IsMadeAnew}
+use Rattle.child_listing.specs.Children.{IsSpare, IsFresh}
+use Rattle.kept_below.specs.Below.{IsBelow, IsWithin, IsNoneOf, KeepsBut, IsMadeAnew}
 use Rattle.kept_below.proofs.Walks.{self-within, below-within}
 
 abbrev list-at : KeptSlots → ℕ → Option ModelList

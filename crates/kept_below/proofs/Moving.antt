@@ -25,7 +25,8 @@ use Rattle.kept_records.specs.Slots.{KeptSlots}
 use Rattle.kept_judging.specs.Judged.{pair_by}
 use Rattle.kept_below.specs.Below.{IsWithin}
 use Rattle.kept_below.specs.Moved.{is_typed, moved, AreGivenDown}
-use Rattle.kept_below.proofs.Walks.{self-within, below-within, child-below, siblings-apart, parent-of}
+use Rattle.child_listing.proofs.Parents.{parent-of}
+use Rattle.kept_below.proofs.Walks.{self-within, below-within, child-below, siblings-apart}
 
 -- ---- elements of a forest
 

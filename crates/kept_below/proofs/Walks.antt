@@ -1,6 +1,5 @@
 -- Ways upwards, and which nodes are below others.
 use Rattle.std.proofs.Common.{◌≡◌, ◌≢◌, ◌⊎◌, ℕ, zero, suc, ◌+◌, ◌<◌, ◌≤◌, List, [], ◌∷◌, true, Option, None, Some, refl, sym, ap, ◌∙◌, subst, inl, inr, arith}
-use Rattle.std.specs.Prelude.{filter, cond, slice_get}
 use Rattle.std.specs.Option.{option_and_then}
 use Rattle.std.proofs.lemmas.Option.{same_Some, none-some}
 use Rattle.doc_nodes.specs.Nodes.{Node, Nodes, node, IsNode, Has, IsSound, depth_by, is_element_at, element_children}
@@ -64,15 +63,3 @@ module _ (ns : Nodes) where
     -- nor is a node within its child
     pub parent-outside : (n c m : ℕ) → parent_at ns c ≡ Some n → depth m ≤ depth n → IsWithin ns c m → ⊥
     parent-outside n c m up less w = not-below n m less (child-below c n m up w)
-
--- ---- children of one node
-
-pub parent-of : (ns : Nodes) → IsSound ns → (n c : ℕ) (it : Node) → IsNode ns n it → Has c it.children → parent_at ns c ≡ Some n
-parent-of ns sound n c it is has =
-    let child = sound.down n c it is has in
-    ap (option_and_then (λ (x : Node). x.parent)) child.is ∙ child.parent
-
-pub has-get : (xs : List ℕ) (i c : ℕ) → slice_get xs i ≡ Some c → Has c xs
-has-get [] i c e = absurd (none-some c e)
-has-get (x ∷ xs) zero c e = inl (same_Some x c e)
-has-get (x ∷ xs) (suc i) c e = inr (has-get xs i c e)

@@ -16,10 +16,11 @@ ghost use Rattle.kept_records.specs.Fit.{models_of, AboveIn, IsGathered, IsTop};
 ghost use Rattle.kept_state.specs.Kept.{CanGovern, FitBut, IsBeside};
 ghost use Rattle.kept_state.specs.declared.element.Governed.{Governed as GovernedData};
 ghost use Rattle.kept_judging.specs.Judged.{AreChildren, pair_by};
-ghost use Rattle.kept_below.specs.Below.{AreAbove, AreGoverned, IsBelow, IsFresh, IsMadeAnew, IsSettled, IsSpare, KeepsBut};
+ghost use Rattle.child_listing.specs.Children.{AreGoverned, IsFresh, IsSpare};
+ghost use Rattle.kept_below.specs.Below.{AreAbove, IsBelow, IsMadeAnew, IsSettled, KeepsBut};
 ghost use Rattle.kept_below.specs.Moved.{AreGivenDown, moved};
 
-use crate::listing::list_children;
+use child_listing::list_children;
 use assess_records::ChildCounts;
 use compiled_schema::Compiled;
 use doc_tree::DocTree;

@@ -2,6 +2,5 @@
 #![tactic(auto)]
 
 mod below;
-mod listing;
 
 pub use below::{open_records, settle_again, settle_below};

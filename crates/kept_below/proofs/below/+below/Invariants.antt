@@ -6,7 +6,8 @@ use Rattle.doc_nodes.specs.Nodes.{Has, node, depth_by}
 use Rattle.doc_documents.specs.Readers.{element_numbers}
 use Rattle.kept_state.specs.Kept.{FitBut, IsBeside}
 use Rattle.kept_state.specs.declared.element.Governed.{Governed}
-use Rattle.kept_below.specs.Below.{IsBelow, KeepsBut, AreGoverned}
+use Rattle.child_listing.specs.Children.{AreGoverned}
+use Rattle.kept_below.specs.Below.{IsBelow, KeepsBut}
 use Rattle.kept_below.specs.Moved.{moved, AreGivenDown}
 use Rattle.kept_below.proofs.Children.{number, IsSo, record-of, left-of}
 use Rattle.kept_below.proofs.Moving.{HasRoom}

@@ -3,7 +3,7 @@ use Rattle.std.proofs.lemmas.Option.{none-some}
 use Rattle.doc_nodes.specs.Nodes.{is_element_at}
 use Rattle.doc_changes.specs.Held.{parent_at}
 use Rattle.kept_below.proofs.Again.{on-one}
-use Rattle.kept_below.proofs.Depths.{root-parent, root-element}
+use Rattle.child_listing.proofs.Depths.{root-parent, root-element}
 use Rattle.kept_below.proofs.Opening.{governs, root-governs, all-given, opening-counts}
 use Rattle.kept_records.proofs.Nodes.{root-numbers}
 use Rattle.kept_below.proofs.below.open_records.Goals as goal

@@ -17,8 +17,8 @@ use Rattle.doc_changes.specs.Held.{parent_at}
 use Rattle.doc_changes.specs.Stands.{StandFor, StandsFor, firsts}
 use Rattle.doc_documents.proofs.Reading.{depth_below}
 use Rattle.kept_records.proofs.Nodes.{has-element, root-there, there, by-node}
-use Rattle.kept_below.proofs.Distinct.{distinct-filter, filtered}
-use Rattle.kept_below.proofs.Walks.{parent-of}
+use Rattle.child_listing.proofs.Distinct.{distinct-filter, filtered}
+use Rattle.child_listing.proofs.Parents.{parent-of}
 
 -- ---- depths
 
@@ -82,6 +82,7 @@ of-in (x ∷ xs) y (inl e) = inl (sym e)
 of-in (x ∷ xs) y (inr k) = inr (of-in xs y k)
 
 distinct-of : (xs : List ℕ) → Distinct xs → IsDistinct nat_eq xs
+unfolding IsDistinct
 distinct-of [] d = tt
 distinct-of (x ∷ xs) d = distinct_more x xs (λ y k. lacks-has x y xs d.0 (of-in xs y k)) (distinct-of xs d.1)
 

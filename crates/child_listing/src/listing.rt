@@ -14,7 +14,7 @@ ghost use Rattle.kept_records.specs.Fit.{models_of, head_at};
 ghost use Rattle.kept_state.specs.Kept.{CanGovern, IsBeside};
 ghost use Rattle.kept_state.specs.declared.element.Governed.{Governed as GovernedData};
 ghost use Rattle.kept_judging.specs.Judged.{given_pair};
-ghost use Rattle.kept_below.specs.Below.{AreListed, IsListing};
+ghost use Rattle.child_listing.specs.Children.{AreListed, IsListing};
 
 use child_terms::{Attribution, attribute, attribute_none};
 use compiled_schema::Compiled;
@@ -26,14 +26,14 @@ use kept_records::model_of;
 use kept_state::{Governed, KeptState};
 use model_lists::{ModelList, ModelLists};
 use std::alloc::{AllocError, Global};
-use xs_components::TermId;
+use xs_components::{TermId, TypeId};
 use xs_names::{NameId, Names};
 use xsv_steps::{Ledger, Steps};
 
 /// The child elements of an element: their list, where its type has a content model, the place where they get stuck, and what governs
 /// each.
 #[derive(Drop)]
-pub(crate) struct Listing {
+pub struct Listing {
     pub list: Option<ModelList>,
     pub stuck: Option<u32>,
     pub children: Vec<Governed>,
@@ -116,27 +116,45 @@ fn attribute_below<L: Ledger>(
     list_by(kept.alloc, lists, automaton, symbols.as_slice(), steps)
 }
 
+// What governs a child element, by what governs its parent and by its term.
+fn pair_of_child(
+    alloc: Global,
+    doc: &DocTree,
+    set: &Compiled,
+    parent: &Governing,
+    child: (u32, Option<TermId>),
+) -> Result<Governed, AllocError>
+    requires usable { IsUsable set.now }
+    requires stands { (d : Document) × StandsFor set.now.names doc.now d }
+    requires element { is_element_at doc.now child.0 ≡ true }
+    ensures node { IfOk result (λ it. it.node ≡ child.0) }
+    ensures pair { IfOk result (λ it. it.pair ≡ given_pair (set_of set.now) parent.now child.1 (head_at (set_of set.now) doc.now child.0)) }
+    ensures governed { IfOk result (λ it. CanGovern set.now.parts it.pair) }
+{
+    pair_below(alloc, doc, set, *parent, child)
+}
+
 // What governs child elements with these terms, by what governs their parent.
 fn pairs_below(
     alloc: Global,
     doc: &DocTree,
     set: &Compiled,
-    parent: Governing,
+    parent: &Governing,
     children: (&[(u32, NameId)], &[Option<TermId>]),
 ) -> Result<Vec<Governed>, AllocError>
     requires usable { IsUsable set.now }
     requires stands { (d : Document) × StandsFor set.now.names doc.now d }
     requires elements { All (λ e. is_element_at doc.now e.0 ≡ true) children.0.now }
     requires each { length children.1.now ≡ length children.0.now }
-    ensures nodes { IfOk result (λ pairs. map (λ child. child.node) pairs.items ≡ map (λ e. e.0) children.0.now) }
+    ensures nodes { IfOk result (λ pairs. map (λ child. child.node) pairs.items ≡ map (λ e. e.0) children.entry.0.now) }
     ensures pairs { IfOk result (λ pairs. (place : ℕ) (child : GovernedData) → slice_get pairs.items place ≡ Some child →
-        child.pair ≡ given_pair (set_of set.now) parent (slice_index_or children.1.now place None) (head_at (set_of set.now) doc.now child.node)) }
+        child.pair ≡ given_pair (set_of set.now) parent.now (slice_index_or children.entry.1.now place None) (head_at (set_of set.now) doc.now child.node)) }
     ensures governed { IfOk result (λ pairs. (place : ℕ) (child : GovernedData) → slice_get pairs.items place ≡ Some child → CanGovern set.now.parts child.pair) }
 {
     let (elements, terms) = children;
     let mut pairs = Vec::new(alloc);
     for (element, term) in elements.iter().zip(terms) {
-        let child = pair_below(alloc, doc, set, parent, (element.0, *term))?;
+        let child = pair_of_child(alloc, doc, set, parent, (element.0, *term))?;
         pairs.push(child)?;
     }
     Ok(pairs)
@@ -147,7 +165,7 @@ fn pairs_below(
 /// # Errors
 ///
 /// `AllocError` is want of memory.
-pub(crate) fn list_children<L: Ledger>(
+pub fn list_children<L: Ledger>(
     doc: &DocTree,
     set: &Compiled,
     kept: &mut KeptState,
@@ -164,7 +182,7 @@ pub(crate) fn list_children<L: Ledger>(
     let elements = elements_below(kept.alloc, doc, parent.node)?;
     let (list, found) = attribute_below(set, kept, parent.pair.of, elements.as_slice(), steps)?;
     let listed = (elements.as_slice(), found.terms.as_slice());
-    let children = pairs_below(kept.alloc, doc, set, parent.pair, listed)?;
+    let children = pairs_below(kept.alloc, doc, set, &parent.pair, listed)?;
     Ok(Listing {
         list,
         stuck: found.stuck,

@@ -1,9 +1,9 @@
 -- The child elements of an element with their names, and what governs each.
-use Rattle.std.proofs.Common.{◌≡◌, ◌⊎◌, ℕ, zero, suc, ◌+◌, ◌<◌, ◌≤◌, ◌^◌, List, [], ◌∷◌, ◌++◌, map, take, cond, length, append-nil, All, Bool, true, false, Option, None, Some, get_or, refl, sym, ap, ◌∙◌, subst, inl, inr, arith, add-one}
+use Rattle.std.proofs.Common.{◌≡◌, ◌⊎◌, ℕ, zero, suc, ◌+◌, ◌<◌, ◌≤◌, ◌^◌, List, [], ◌∷◌, ◌++◌, map, take, cond, length, min, append-nil, All, Bool, true, false, Option, None, Some, get_or, refl, sym, ap, ◌∙◌, subst, inl, inr, arith, add-one}
 use Rattle.std.specs.Prelude.{filter, slice_get, slice_index_or, unwrap_or}
 use Rattle.std.specs.Option.{option_and_then}
 use Rattle.std.specs.List.{range_with_len}
-use Rattle.std.proofs.lemmas.List.{length-map, take_all, map-append}
+use Rattle.std.proofs.lemmas.List.{length-map, take_all, map-append, map_more, length-append}
 use Rattle.std.proofs.lemmas.List.Elements.{filter_more, All-nil, All-cons}
 use Rattle.std.proofs.lemmas.List.FromFn.{length-range_with_len, get_or-map-range_with_len}
 use Rattle.std.proofs.lemmas.Option.{none-some, same_Some, slice_get_within}
@@ -15,7 +15,7 @@ use Rattle.compiled_schema.specs.Usable.{set_of}
 use Rattle.compiled_schema.specs.declared.compiled.Compiled.{Compiled}
 use Rattle.model_terms.specs.Symbols.{child_symbols}
 use Rattle.model_terms.specs.Terms.{stuck_in, term_in, terms_in}
-use Rattle.model_lists.specs.Lists.{IsListOf, IsLive}
+use Rattle.model_lists.specs.Lists.{ListsView, IsListOf, IsLive}
 use Rattle.model_lists.specs.declared.handle.ModelList.{ModelList}
 use Rattle.child_terms.specs.declared.attribution.Attribution.{Attribution}
 use Rattle.doc_nodes.specs.Nodes.{Node, Nodes, node, Has, IsSound, children_by, is_element, is_element_by, is_element_at, element_children}
@@ -33,11 +33,11 @@ use Rattle.kept_state.specs.declared.element.Governed.{Governed}
 use Rattle.kept_state.specs.declared.state.KeptState.{KeptState}
 use Rattle.kept_judging.specs.Judged.{symbols_by, given_pair, pair_by}
 use Rattle.kept_judging.proofs.Heads.{element-kind}
-use Rattle.kept_below.specs.Below.{IsSpare, IsFresh, AreListed, AreGoverned, IsListing}
-use Rattle.kept_below.specs.declared.listing.Listing.{Listing}
-use Rattle.kept_below.proofs.Depths.{few-children}
-use Rattle.kept_below.proofs.Distinct.{filtered}
-use Rattle.kept_below.proofs.Symbols.{symbol-count}
+use Rattle.child_listing.specs.Children.{IsSpare, IsFresh, AreListed, AreGoverned, IsListing}
+use Rattle.child_listing.specs.declared.listing.Listing.{Listing}
+use Rattle.child_listing.proofs.Depths.{few-children}
+use Rattle.child_listing.proofs.Distinct.{filtered}
+use Rattle.child_listing.proofs.Symbols.{symbol-count}
 
 -- ---- child elements with their names
 
@@ -192,15 +192,65 @@ module _ (c : Compiled) (ns : Nodes) (d : Document) (z : StandsFor c.names ns d)
         fresh = subst (IsFresh old.lists) (sym list_is) listed.fresh;
       }
 
+-- an element whose type has no content model
+pub none-listed : (v : ListsView) (t : NameTable) (model : Option ContentAutomaton) (elements : List (ℕ × ℕ)) (found : Attribution) → model ≡ None →
+    ((symbols : List ℕ) → found.stuck ≡ stuck_in None symbols) → ((symbols : List ℕ) → length symbols ≡ length elements → found.terms.items ≡ terms_in None symbols) →
+    AreListed v v model (child_symbols t model (map (λ (e : ℕ × ℕ). e.1) elements)) None found
+none-listed v t model elements found none stuck terms =
+    let names = map (λ (e : ℕ × ℕ). e.1) elements in
+    subst (λ (m : Option ContentAutomaton). AreListed v v m (child_symbols t m names) None found) (sym none) (record {
+      list_is = tt;
+      fresh = λ h e. absurd (none-some h e);
+      stuck_is = stuck (child_symbols t None names);
+      terms_are = terms (child_symbols t None names) (symbol-count t None names ∙ length-map elements (λ (e : ℕ × ℕ). e.1));
+    })
+
 -- ---- what governs them, one after another
 
 -- each has this at its place
 abbrev pub EachHas : (ℕ → Governed → Type 0) → List Governed → Type 0
 EachHas given pairs = (place : ℕ) (child : Governed) → slice_get pairs place ≡ Some child → given place child
 
-pub each-more : (given : ℕ → Governed → Type 0) (pairs : List Governed) (x : Governed) → EachHas given pairs → given (length pairs) x →
+each-more : (given : ℕ → Governed → Type 0) (pairs : List Governed) (x : Governed) → EachHas given pairs → given (length pairs) x →
     (place : ℕ) (child : Governed) → slice_get (pairs ++ x ∷ []) place ≡ Some child → given place child
 each-more given [] x each own zero child e = subst (given zero) (same_Some x child e) own
 each-more given [] x each own (suc place) child e = absurd (none-some child e)
 each-more given (y ∷ ys) x each own zero child e = each zero child e
 each-more given (y ∷ ys) x each own (suc place) child e = each-more (λ p. given (suc p)) ys x (λ p g q. each (suc p) g q) own place child e
+
+module _ (given : ℕ → Governed → Type 0) (elements : List (ℕ × ℕ)) where
+  -- what governs the first so many of them
+  pub record AreUpTo (i : ℕ) (pairs : List Governed) : Type 0 where
+    pub count : length pairs ≡ i
+    pub nodes : map (λ (g : Governed). g.node) pairs ≡ map (λ (e : ℕ × ℕ). e.0) (take i elements)
+    pub each : EachHas given pairs
+
+  pub none-yet : AreUpTo 0 []
+  none-yet = record { count = refl; nodes = refl; each = λ place child e. absurd (none-some child e) }
+
+  pub one-further : (i k : ℕ) (pairs : List Governed) (x : Governed) → AreUpTo i pairs → k ≡ i + 1 → i < length elements → ((d : ℕ × ℕ) → x.node ≡ (get_or elements i d).0) → given i x → AreUpTo k (pairs ++ x ∷ [])
+  one-further i k pairs x before next within node own =
+      subst (λ (m : ℕ). AreUpTo m (pairs ++ x ∷ [])) (sym next) (record {
+        count = length-append pairs (x ∷ []) ∙ ap (λ m. m + 1) before.count;
+        nodes =
+            map-append (λ (g : Governed). g.node) pairs (x ∷ [])
+            ∙ (λ j. before.nodes j ++ node (0, 0) j ∷ [])
+            ∙ sym (map_more (λ (e : ℕ × ℕ). e.0) elements i (0, 0) within);
+        each = each-more given pairs x before.each (subst (λ (m : ℕ). given m x) (sym before.count) own);
+      })
+
+  pub all-nodes : (i : ℕ) (pairs : List Governed) → AreUpTo i pairs → length elements ≤ i → map (λ (g : Governed). g.node) pairs ≡ map (λ (e : ℕ × ℕ). e.0) elements
+  all-nodes i pairs are l = are.nodes ∙ ap (map (λ (e : ℕ × ℕ). e.0)) (take_all i elements l)
+
+-- as many as both
+pub least-of-same : (i a b : ℕ) → i ≡ min a b → b ≡ a → a ≤ i
+least-of-same i a b least same = omega (arith, least, same)
+
+-- a child element that is governed so
+module _ (c : Compiled) (ns : Nodes) (parent : Governing) (terms : List (Option ℕ)) where
+  abbrev pub IsGivenAt : ℕ → Governed → Type 0
+  IsGivenAt place child = (child.pair ≡ given_pair (set_of c) parent (slice_index_or terms place None) (head_at (set_of c) ns child.node)) × CanGovern c.parts child.pair
+
+  pub given-at : (place node : ℕ) (term : Option ℕ) (child : Governed) → child.node ≡ node → term ≡ slice_index_or terms place None → child.pair ≡ given_pair (set_of c) parent term (head_at (set_of c) ns node) →
+      CanGovern c.parts child.pair → IsGivenAt place child
+  given-at place node term child own is pair may = (pair ∙ (λ i. given_pair (set_of c) parent (is i) (head_at (set_of c) ns (sym own i))), may)
