@@ -16,9 +16,11 @@ use Rattle.kept_state.specs.declared.state.KeptState.{KeptState}
 use Rattle.kept_judging.specs.Judged.{AreChildren, IsJudgedAnew}
 use Rattle.kept_judging.proofs.Anew.{gathered-children, same-type-children, anew-made, anew-pair, anew-all-fit}
 use Rattle.child_listing.specs.Children.{IsSpare, IsFresh}
-use Rattle.kept_below.specs.Below.{IsBelow, IsWithin, AreAbove, KeepsBut, IsSettled, IsMadeAnew}
+use Rattle.kept_forgetting.specs.Below.{IsBelow, IsWithin, KeepsBut}
+use Rattle.kept_below.specs.Below.{AreAbove, IsSettled, IsMadeAnew}
 use Rattle.kept_below.proofs.Fits.{made-there, made-pair, made-fit}
-use Rattle.kept_below.proofs.Keeping.{keeps-same, keeps-judged, keeps-anew}
+use Rattle.kept_forgetting.proofs.Keeping.{keeps-same}
+use Rattle.kept_below.proofs.Keeping.{keeps-judged, keeps-anew}
 
 -- what holds of an Ok by two facts of it
 pub on-both : {A E : Type 0} (r : Result A E) (P Q R : Type 0) → (P → Q → R) → OnOk r P → OnOk r Q → OnOk r R

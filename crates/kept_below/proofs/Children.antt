@@ -25,15 +25,16 @@ use Rattle.kept_state.specs.declared.element.Governed.{Governed}
 use Rattle.kept_state.specs.declared.state.KeptState.{KeptState}
 use Rattle.kept_judging.specs.Judged.{symbols_by, pair_by, AreChildren}
 use Rattle.child_listing.specs.Children.{IsSpare, AreGoverned, IsListing}
-use Rattle.kept_below.specs.Below.{IsBelow, IsWithin, AreAbove, IsNoneOf, KeepsBut, IsSettled}
+use Rattle.kept_forgetting.specs.Below.{IsBelow, IsWithin, IsNoneOf, KeepsBut}
+use Rattle.kept_below.specs.Below.{AreAbove, IsSettled}
 use Rattle.kept_below.specs.declared.listing.Listing.{Listing}
 use Rattle.kept_below.proofs.Counts.{counts-last}
 use Rattle.child_listing.proofs.Distinct.{distinct-filter, filtered, has-place, place-has, place-from, front-other, front-more}
-use Rattle.kept_below.proofs.Keeping.{keeps-then, keeps-wider}
+use Rattle.kept_forgetting.proofs.Keeping.{keeps-then, keeps-wider}
 use Rattle.kept_below.specs.Moved.{moved, AreGivenDown}
 use Rattle.kept_below.proofs.Moving.{HasRoom, room-stopped, room-next}
-use Rattle.child_listing.proofs.Parents.{has-get}
-use Rattle.kept_below.proofs.Walks.{self-within, child-below, siblings-apart}
+use Rattle.kept_forgetting.proofs.Walks.{has-get}
+use Rattle.kept_forgetting.proofs.Walks.{self-within, child-below, siblings-apart}
 
 abbrev pub number : Governed → ℕ
 number g = g.node

@@ -1,4 +1,3 @@
-pub mod Walks
 pub mod Keeping
 pub mod Fits
 mod Counts

@@ -23,10 +23,10 @@ use Rattle.kept_slots.specs.Slots.{at}
 use Rattle.kept_records.specs.declared.element.KeptElement.{KeptElement}
 use Rattle.kept_records.specs.Slots.{KeptSlots}
 use Rattle.kept_judging.specs.Judged.{pair_by}
-use Rattle.kept_below.specs.Below.{IsWithin}
+use Rattle.kept_forgetting.specs.Below.{IsWithin}
 use Rattle.kept_below.specs.Moved.{is_typed, moved, AreGivenDown}
-use Rattle.child_listing.proofs.Parents.{parent-of}
-use Rattle.kept_below.proofs.Walks.{self-within, below-within, child-below, siblings-apart}
+use Rattle.kept_forgetting.proofs.Walks.{parent-of}
+use Rattle.kept_forgetting.proofs.Walks.{self-within, below-within, child-below, siblings-apart}
 
 -- ---- elements of a forest
 

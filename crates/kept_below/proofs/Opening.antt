@@ -18,9 +18,9 @@ use Rattle.kept_records.specs.Slots.{KeptSlots}
 use Rattle.kept_records.proofs.Nodes.{there, child-parent}
 use Rattle.kept_judging.specs.Judged.{pair_by}
 use Rattle.kept_below.specs.Moved.{is_typed, moved, AreGivenDown}
-use Rattle.child_listing.proofs.Depths.{root-parent, root-depth}
+use Rattle.kept_forgetting.proofs.Depths.{root-parent, root-depth}
 use Rattle.child_listing.proofs.Distinct.{distinct-filter}
-use Rattle.child_listing.proofs.Parents.{has-get}
+use Rattle.kept_forgetting.proofs.Walks.{has-get}
 
 -- ---- the place of a number
 

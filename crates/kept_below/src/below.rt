@@ -17,7 +17,8 @@ ghost use Rattle.kept_state.specs.Kept.{CanGovern, FitBut, IsBeside};
 ghost use Rattle.kept_state.specs.declared.element.Governed.{Governed as GovernedData};
 ghost use Rattle.kept_judging.specs.Judged.{AreChildren, pair_by};
 ghost use Rattle.child_listing.specs.Children.{AreGoverned, IsFresh, IsSpare};
-ghost use Rattle.kept_below.specs.Below.{AreAbove, IsBelow, IsMadeAnew, IsSettled, KeepsBut};
+ghost use Rattle.kept_forgetting.specs.Below.{IsBelow, KeepsBut};
+ghost use Rattle.kept_below.specs.Below.{AreAbove, IsMadeAnew, IsSettled};
 ghost use Rattle.kept_below.specs.Moved.{AreGivenDown, moved};
 
 use child_listing::list_children;

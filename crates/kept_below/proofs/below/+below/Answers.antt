@@ -19,15 +19,17 @@ use Rattle.kept_state.specs.declared.element.Governed.{Governed}
 use Rattle.kept_state.specs.declared.state.KeptState.{KeptState}
 use Rattle.kept_judging.specs.Judged.{AreChildren, pair_by}
 use Rattle.child_listing.specs.Children.{AreGoverned}
-use Rattle.kept_below.specs.Below.{IsBelow, IsWithin, KeepsBut, IsSettled, IsMadeAnew, AreAbove}
+use Rattle.kept_forgetting.specs.Below.{IsBelow, IsWithin, KeepsBut}
+use Rattle.kept_below.specs.Below.{IsSettled, IsMadeAnew, AreAbove}
 use Rattle.kept_below.specs.Moved.{moved, is_typed, AreGivenDown}
 use Rattle.kept_below.proofs.Again.{on-both, on-one, above-lacks, settled-same, typed-settled, typed-fit, anew-settled, anew-fits}
 use Rattle.kept_below.proofs.Children.{number, IsSo, record-of, left-of, child-up, child-element, child-above, all-above, one-less, all-less, governed-next, counts-next, keeps-next, steps-next, steps-stopped, are-children}
 use Rattle.kept_below.proofs.Counts.{room-for-one}
-use Rattle.child_listing.proofs.Depths.{element-depth}
+use Rattle.kept_forgetting.proofs.Depths.{element-depth}
 use Rattle.child_listing.proofs.Distinct.{has-place, place-has}
 use Rattle.kept_below.proofs.Fits.{more-fit, more-beside}
-use Rattle.kept_below.proofs.Keeping.{keeps-same, keeps-lists, keeps-then, spare-kept}
+use Rattle.kept_forgetting.proofs.Keeping.{keeps-same, keeps-lists, keeps-then}
+use Rattle.kept_below.proofs.Keeping.{spare-kept}
 use Rattle.kept_below.proofs.Moving.{CountsOwn, counts-own, not-typed, room-first, room-ended, HasRoom}
 use Rattle.kept_below.proofs.below.+below.Goals as goal
 

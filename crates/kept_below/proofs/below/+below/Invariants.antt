@@ -7,7 +7,7 @@ use Rattle.doc_documents.specs.Readers.{element_numbers}
 use Rattle.kept_state.specs.Kept.{FitBut, IsBeside}
 use Rattle.kept_state.specs.declared.element.Governed.{Governed}
 use Rattle.child_listing.specs.Children.{AreGoverned}
-use Rattle.kept_below.specs.Below.{IsBelow, KeepsBut}
+use Rattle.kept_forgetting.specs.Below.{IsBelow, KeepsBut}
 use Rattle.kept_below.specs.Moved.{moved, AreGivenDown}
 use Rattle.kept_below.proofs.Children.{number, IsSo, record-of, left-of}
 use Rattle.kept_below.proofs.Moving.{HasRoom}
