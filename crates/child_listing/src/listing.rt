@@ -20,13 +20,13 @@ use child_terms::{Attribution, attribute, attribute_none};
 use compiled_schema::Compiled;
 use content_models::ContentAutomaton;
 use doc_tree::DocTree;
-use elem_governing::Governing;
+use elem_governing::{Governing, Mode};
 use kept_judging::pair_below;
 use kept_records::model_of;
 use kept_state::{Governed, KeptState};
 use model_lists::{ModelList, ModelLists};
 use std::alloc::{AllocError, Global};
-use xs_components::{TermId, TypeId};
+use xs_components::{ElementId, TermId, TypeId};
 use xs_names::{NameId, Names};
 use xsv_steps::{Ledger, Steps};
 
@@ -152,6 +152,10 @@ fn pairs_below(
     ensures governed { IfOk result (λ pairs. (place : ℕ) (child : GovernedData) → slice_get pairs.items place ≡ Some child → CanGovern set.now.parts child.pair) }
 {
     let (elements, terms) = children;
+    // (each type that the parent's pair holds is named here, since the loop keeps the pair)
+    let _declaration: &Option<ElementId> = &parent.declaration;
+    let _of: &Option<TypeId> = &parent.of;
+    let _mode: &Mode = &parent.mode;
     let mut pairs = Vec::new(alloc);
     for (element, term) in elements.iter().zip(terms) {
         let child = pair_of_child(alloc, doc, set, parent, (element.0, *term))?;
