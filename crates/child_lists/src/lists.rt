@@ -18,9 +18,9 @@ ghost use Rattle.kept_records.specs.Slots.{IsMade, pair_at};
 ghost use Rattle.kept_state.specs.Kept.{CanGovern, IsBeside};
 ghost use Rattle.kept_state.specs.declared.children.KeptChildren.{KeptChildren as KeptChildrenData};
 ghost use Rattle.kept_judging.specs.Judged.{pair_by};
-ghost use Rattle.kept_children.specs.Places.{IsPlaceOf};
-ghost use Rattle.kept_children.specs.Family.{AreCounted, AreGivenBut, IsAttributed, IsListedBy, IsMidway, marked_places};
-ghost use Rattle.kept_children.specs.Family as family;
+ghost use Rattle.child_lists.specs.Places.{IsPlaceOf};
+ghost use Rattle.child_lists.specs.Family.{AreCounted, AreGivenBut, IsAttributed, IsListedBy, IsMidway, marked_places};
+ghost use Rattle.child_lists.specs.Family as family;
 
 use crate::place::{ChildPlace, list_of};
 use compiled_schema::Compiled;
@@ -63,7 +63,7 @@ fn listed(
 /// # Errors
 ///
 /// `AllocError` is want of memory.
-pub(crate) fn list_child<L: Ledger>(
+pub fn list_child<L: Ledger>(
     doc: &DocTree,
     set: &Compiled,
     kept: &mut KeptState,
@@ -90,7 +90,7 @@ pub(crate) fn list_child<L: Ledger>(
 
 /// Lists a child element under its name as it is now. It takes at most `16 * (bits(n + 1) + 1)` steps, where the parent has `n` child
 /// elements.
-pub(crate) fn relist_child<L: Ledger>(
+pub fn relist_child<L: Ledger>(
     doc: &DocTree,
     set: &Compiled,
     kept: &mut KeptState,
@@ -114,7 +114,7 @@ pub(crate) fn relist_child<L: Ledger>(
 
 /// Takes a child element out of the list of its parent. It takes at most `16 * (bits(n + 1) + 1)` steps, where the list had `n` child
 /// elements.
-pub(crate) fn unlist_child<L: Ledger>(
+pub fn unlist_child<L: Ledger>(
     set: &Compiled,
     kept: &mut KeptState,
     at: &ChildPlace,
@@ -161,7 +161,7 @@ fn stuck_place<L: Ledger>(
 }
 
 /// Writes where the child elements of an element get stuck. It takes at most `8 * (bits(n + 1) + 1) + 1` steps, where there are `n`.
-pub(crate) fn note_stuck<L: Ledger>(
+pub fn note_stuck<L: Ledger>(
     doc: &DocTree,
     set: &Compiled,
     kept: &mut KeptState,
@@ -212,7 +212,7 @@ fn term_of<L: Ledger>(
 /// # Errors
 ///
 /// `AllocError` is want of memory.
-pub(crate) fn govern_at<L: Ledger>(
+pub fn govern_at<L: Ledger>(
     doc: &DocTree,
     set: &Compiled,
     kept: &KeptState,
