@@ -1,4 +1,4 @@
-pub mod Lists
+pub mod Edits
 pub mod Terms
 pub mod Listed
 pub mod Written

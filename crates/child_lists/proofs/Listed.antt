@@ -22,7 +22,7 @@ use Rattle.kept_state.specs.declared.state.KeptState.{KeptState}
 use Rattle.child_lists.specs.Places.{IsPlaceOf}
 use Rattle.child_lists.specs.Family.{IsListedBy, marked_places, model_of, symbols_of}
 use Rattle.child_lists.specs.declared.place.ChildPlace.{ChildPlace}
-use Rattle.child_lists.proofs.Lists.{get-map, get-within, index-get, insert-removed, set-again, unmarked}
+use Rattle.child_lists.proofs.Edits.{get-map, get-within, index-get, insert-removed, set-again, unmarked}
 use Rattle.child_lists.proofs.Terms.{symbol_by, symbol-at, many-symbols}
 
 -- ---- where there is a list, and where there is none

@@ -28,7 +28,7 @@ use Rattle.kept_below.specs.Below.{IsSettled}
 use Rattle.child_lists.specs.Places.{IsPlaceOf}
 use Rattle.child_lists.specs.Family.{AreCounted, IsAttributed, AreGivenBut, IsMidway}
 use Rattle.child_lists.specs.declared.place.ChildPlace.{ChildPlace}
-use Rattle.child_lists.proofs.Lists.{among-more, among-removed, get-within}
+use Rattle.child_lists.proofs.Edits.{among-more, among-removed, get-within}
 use Rattle.child_lists.proofs.Written.{pair-stays, midway-written, attributed-written, given-written, counts-written}
 use Rattle.kept_children.proofs.Midway.{parent-stays, sibling-stays, attributed-settled, given-settled, midway-settled}
 

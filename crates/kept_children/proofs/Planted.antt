@@ -22,7 +22,7 @@ use Rattle.kept_children.specs.Edited.{IsPlanted}
 use Rattle.child_lists.specs.Family.{AreCounted, IsListedBy, AreGivenBut, IsMidway, marked_places, model_of, symbols_of}
 use Rattle.child_lists.specs.Places.{IsPlaceOf}
 use Rattle.child_lists.specs.declared.place.ChildPlace.{ChildPlace}
-use Rattle.child_lists.proofs.Lists.{inserted-at, among-removed, passes, filter-remove, filter-same, flat-has, flat-remove}
+use Rattle.child_lists.proofs.Edits.{inserted-at, among-removed, passes, filter-remove, filter-same, flat-has, flat-remove}
 use Rattle.kept_forgetting.proofs.Placed.{one-place}
 use Rattle.kept_children.proofs.Still.{IsStill, says-same, still-node, still-held, SeesNodes, ShowsSame, fit-nodes, sees-still, shows-still, head-still, judged-nodes, element-silent}
 use Rattle.child_lists.proofs.Terms.{symbols-remove}

@@ -23,7 +23,7 @@ use Rattle.kept_forgetting.specs.Below.{upwards, IsWithin}
 use Rattle.kept_children.specs.Edited.{IsPruned}
 use Rattle.child_lists.specs.Family.{IsListedBy, AreGivenBut, IsMidway, marked_places, model_of, symbols_of}
 use Rattle.child_lists.specs.declared.place.ChildPlace.{ChildPlace}
-use Rattle.child_lists.proofs.Lists.{passes, filter-remove, filter-same, flat-has, flat-remove, has-filter, get-within, IsAmong, among-more}
+use Rattle.child_lists.proofs.Edits.{passes, filter-remove, filter-same, flat-has, flat-remove, has-filter, get-within, IsAmong, among-more}
 use Rattle.kept_children.proofs.Still.{IsStill, says-same, still-node, still-held, SeesNodes, ShowsSame, fit-nodes, sees-still, shows-still, head-still, judged-nodes, element-silent}
 use Rattle.child_lists.proofs.Terms.{symbols-remove, many-symbols}
 use Rattle.kept_children.proofs.Starting.{all-made, given-moved}

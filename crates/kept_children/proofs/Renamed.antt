@@ -22,7 +22,7 @@ use Rattle.kept_children.specs.Edited.{IsRenamed}
 use Rattle.child_lists.specs.Family.{AreCounted, IsListedBy, AreGivenBut, IsMidway, marked_places, model_of, symbols_of}
 use Rattle.child_lists.specs.Places.{IsPlaceOf}
 use Rattle.child_lists.specs.declared.place.ChildPlace.{ChildPlace}
-use Rattle.child_lists.proofs.Lists.{filter-same, flat-has}
+use Rattle.child_lists.proofs.Edits.{filter-same, flat-has}
 use Rattle.kept_forgetting.proofs.Placed.{one-place}
 use Rattle.kept_children.proofs.Still.{IsStill, still-node, still-held, SeesNodes, ShowsSame, fit-nodes, sees-still, shows-still, head-still, judged-nodes, SaysSame, gathered-nodes}
 use Rattle.child_lists.proofs.Terms.{symbols-set, symbol_by}

@@ -18,7 +18,7 @@ use Rattle.kept_state.specs.declared.state.KeptState.{KeptState}
 use Rattle.kept_judging.specs.Judged.{IsGivenBy}
 use Rattle.kept_children.specs.Edited.{IsRightFor}
 use Rattle.child_lists.specs.Family.{marked_places, model_of, symbols_of}
-use Rattle.child_lists.proofs.Lists.{get-map}
+use Rattle.child_lists.proofs.Edits.{get-map}
 use Rattle.child_lists.proofs.Terms.{terms-same}
 
 -- a number of a node was given out
