@@ -155,9 +155,10 @@ fn stuck_place<L: Ledger>(
     ensures least { steps.old ≤ steps.new }
     ensures steps { steps.new ≤ steps.old + (8 * (bits (length (element_children doc.now parent) + 1) + 1) + 1) }
 {
-    let (list, automaton) = list_of(set, kept, parent)?;
-    kept.lists
-        .stuck(list, automaton, child_elements(doc, parent), steps)
+    match list_of(set, kept, parent) {
+        None => None,
+        Some((list, automaton)) => kept.lists.stuck(list, automaton, child_elements(doc, parent), steps),
+    }
 }
 
 /// Writes where the child elements of an element get stuck. It takes at most `8 * (bits(n + 1) + 1) + 1` steps, where there are `n`.
@@ -201,10 +202,14 @@ fn term_of<L: Ledger>(
     ensures steps { steps.new ≤ steps.old + 8 * (bits (length (element_children doc.now at.now.parent) + 1) + 1) }
     ensures none { Lacks at.now.place (marked_places (family.model_of set.now kept.now at.now.parent) (family.symbols_of set.now doc.now kept.now at.now.parent)) → steps.new ≡ steps.old }
 {
-    let (list, automaton) = list_of(set, kept, at.parent)?;
-    let child = listed(doc, set, automaton, at);
-    let stuck = kept.children(at.parent).stuck;
-    kept.lists.term(list, automaton, child, stuck, steps)
+    match list_of(set, kept, at.parent) {
+        None => None,
+        Some((list, automaton)) => {
+            let child = listed(doc, set, automaton, at);
+            let stuck = kept.children(at.parent).stuck;
+            kept.lists.term(list, automaton, child, stuck, steps)
+        }
+    }
 }
 
 /// A child element with what governs it. Steps are as those of its term.
