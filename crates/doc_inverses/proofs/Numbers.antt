@@ -1,7 +1,7 @@
 -- Attributes that are written by the numbers of their names, and by the names.
 use Rattle.std.proofs.Common.{◌≡◌, ◌⊎◌, ℕ, zero, suc, ◌+◌, ◌<◌, ◌≤◌, List, [], ◌∷◌, length, map, insert, get_or, sym, ap, ◌∙◌, subst, Bool, true, false, ◌==◌, ◌||◌, Option, Some, None, refl, inl, inr, arith, All}
 use Rattle.std.specs.Prelude.{slice_get, if◌then◌else◌}
-use Rattle.std.proofs.lemmas.List.{length-map}
+use Rattle.std.proofs.lemmas.Bool.{or_parts, or_left}
 use Rattle.std.proofs.lemmas.List.Elements.{All-head, All-tail}
 use Rattle.std.proofs.lemmas.Option.{slice_get_within}
 use Rattle.xs_names.specs.Names.{NameTable}
@@ -58,3 +58,23 @@ pub place_within : (name : Expanded) (place : ℕ) (value : Option (List ℕ)) (
 place_within name place None xs bindings can = let l = slice_get_within xs place (record { name = name; value = can.0 }) can.1 in omega (arith, l)
 place_within name place (Some value) xs bindings (inl at) = let l = slice_get_within xs place (record { name = name; value = at.0 }) at.1 in omega (arith, l)
 place_within name place (Some value) xs bindings (inr room) = room.within
+
+-- the attribute that was found
+pub value_is : (name : ℕ) (xs : List NameAttribute) (i : ℕ) (d : NameAttribute) → i < length xs → ((get_or xs i d).name == name) ≡ true
+    → ((k : ℕ) → k < i → ((get_or xs k d).name == name) ≡ false) → (number_value name xs ≡ Some (get_or xs i d).value) × (has_number name xs ≡ true)
+value_is name [] i d l here before = absurd (omega (arith, l))
+value_is name (a ∷ more) zero d l here before = (ap (λ b. if b then Some a.value else number_value name more) here, or_left (a.name == name) (has_number name more) here)
+value_is name (a ∷ more) (suc i) d l here before =
+    let r = value_is name more i d (omega (arith, l)) here (λ k h. before (suc k) (omega (arith, h))) in
+    (ap (λ b. if b then Some a.value else number_value name more) (before 0 (omega arith)) ∙ r.0, ap (λ b. b || has_number name more) (before 0 (omega arith)) ∙ r.1)
+
+pub value_absent : (name : ℕ) (xs : List NameAttribute) → has_number name xs ≡ false → number_value name xs ≡ None
+value_absent name [] h = refl
+value_absent name (a ∷ more) h =
+    let z = or_parts (a.name == name) (has_number name more) h in ap (λ b. if b then Some a.value else number_value name more) z.0 ∙ value_absent name more z.1
+
+pub written_there : (name place : ℕ) (value : List ℕ) (xs : List NameAttribute) → has_number name xs ≡ true → written_number name place (Some value) xs ≡ set_number name value xs
+written_there name place value xs h = ap (λ b. if b then set_number name value xs else insert xs place (record { name = name; value = value })) h
+
+pub written_new : (name place : ℕ) (value : List ℕ) (xs : List NameAttribute) → has_number name xs ≡ false → written_number name place (Some value) xs ≡ insert xs place (record { name = name; value = value })
+written_new name place value xs h = ap (λ b. if b then set_number name value xs else insert xs place (record { name = name; value = value })) h

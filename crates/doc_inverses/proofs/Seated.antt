@@ -1,5 +1,5 @@
 -- Where a node stands, in the document and among the nodes.
-use Rattle.std.proofs.Common.{◌≡◌, ◌≢◌, ◌⊎◌, ℕ, zero, suc, ◌+◌, List, [], ◌∷◌, sym, ap, ◌∙◌, subst, Bool, true, false, ◌==◌, Some, None, refl, inl, inr, arith}
+use Rattle.std.proofs.Common.{◌≡◌, ◌≢◌, ◌⊎◌, ℕ, zero, suc, ◌+◌, ◌≤◌, List, [], ◌∷◌, sym, ap, ◌∙◌, subst, Bool, true, false, ◌==◌, Some, None, refl, inl, inr, arith}
 use Rattle.std.specs.Prelude.{slice_get, if◌then◌else◌}
 use Rattle.std.specs.Option.{option_and_then}
 use Rattle.std.proofs.lemmas.Bool.{eq-eqb, eqb-true, true≢false}
@@ -12,7 +12,7 @@ use Rattle.tree_rows.specs.declared.row.Attribute.{Attribute}
 use Rattle.tree_rows.specs.declared.row.Binding.{Binding}
 use Rattle.tree_edits.specs.Edits.{has, Found, found, is_root}
 use Rattle.tree_edits.proofs.Lying.{Lies, lies}
-use Rattle.doc_nodes.specs.Nodes.{Node, Nodes, node, IsNode, IsChildAt, Has}
+use Rattle.doc_nodes.specs.Nodes.{Node, Nodes, node, IsNode, IsChildAt, Has, depth_by}
 use Rattle.doc_changes.specs.Held.{parent_at}
 use Rattle.doc_changes.specs.Parts.{IsOver}
 use Rattle.doc_changes.specs.Stands.{firsts, StandFor, StandsFor}
@@ -77,6 +77,7 @@ pub record IsAt (t : NameTable) (ns : Nodes) (d : Document) (key : ℕ) : Type 0
   pub rows : (more : List PartRow) → AreRows t 2 more below [] → AreRows t 1 (record { number = key; depth = 1; content = it.content } ∷ more) (node_of key d.forest) []
   pub child : IsChildAt ns (site_of key d.forest).parent (site_of key d.forest).place key
   pub parent : parent_at ns key ≡ Some (site_of key d.forest).parent
+  pub deep : 1 ≤ depth_by (node ns key)
 
 module _ (t : NameTable) (ns : Nodes) (d : Document) (key : ℕ) (z : StandsFor t ns d) (fits : Fits d (take_out key)) where
   child_at : IsChildAt ns (site_of key d.forest).parent (site_of key d.forest).place key
@@ -86,6 +87,12 @@ module _ (t : NameTable) (ns : Nodes) (d : Document) (key : ℕ) (z : StandsFor 
         | inl k ↦ absurd (not_top key k.0 d.forest z.tree.root fits.1 k.3)
         | inr k ↦ k
       ]
+
+  deep : 1 ≤ depth_by (node ns key)
+  deep =
+      let c = child_at in
+      let e = z.links.down (site_of key d.forest).parent key c.0 c.1 (has_got key (site_of key d.forest).place c.0.children c.2) in
+      let a = ap depth_by e.is in let b = e.below in omega (arith, a, b)
 
   parent_is : parent_at ns key ≡ Some (site_of key d.forest).parent
   parent_is =
@@ -111,6 +118,7 @@ module _ (t : NameTable) (ns : Nodes) (d : Document) (key : ℕ) (z : StandsFor 
             (more, ap (λ c. record { number = key; depth = 1; content = c } ∷ more) s.0.content, a);
         child = child_at;
         parent = parent_is;
+        deep = deep;
       }
   node_at (element n name bindings attributes children next) e h s =
       let is : IsNode ns key s.0.it = ap (node ns) (sym h.0) ∙ s.0.is in record {
@@ -123,6 +131,7 @@ module _ (t : NameTable) (ns : Nodes) (d : Document) (key : ℕ) (z : StandsFor 
             more, ap (λ c. record { number = key; depth = 1; content = c } ∷ more) s.0.content, [], a, refl);
         child = child_at;
         parent = parent_is;
+        deep = deep;
       }
 
   pub is_at : IsAt t ns d key

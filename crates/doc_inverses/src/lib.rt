@@ -9,5 +9,5 @@ mod putting;
 mod reading;
 mod texts;
 
-pub use change::{Change, change};
+pub use change::{Change, make_change};
 pub use part::{Part, PartRow};

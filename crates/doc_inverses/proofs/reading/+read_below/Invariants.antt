@@ -7,7 +7,7 @@ use Rattle.doc_inverses.specs.inside.Reading.{ReadSoFar}
 use Rattle.doc_inverses.proofs.reading.+read_below.Given as goal
 
 abbrev pub decreases-read_below : goal.decreases-read_below
-decreases-read_below l = 130 - depth_by (node l.links l.number)
+decreases-read_below l = 130 - depth_by (node l.links.now l.number)
 
 abbrev pub invariant-children : goal.invariant-children
 invariant-children l = (t : NameTable) (below : Forest) → IsOver t l.links l.number below → ReadSoFar t (l.depth + 1) l.initial.rows.items l.rows.items below l.place
