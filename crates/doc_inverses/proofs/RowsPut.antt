@@ -118,6 +118,11 @@ module _ (t : NameTable) (old now : Nodes) (p depth : ℕ) (left : List PartRow)
       planted = planted_append t old now new p so.gone (next).one so.planted (planted_last t now new p place (next).one last put) gone_or_parent;
     }
 
+pub count_one : (f : Forest) → IsOne f → 1 ≤ count f
+count_one none o = absurd o
+count_one (text n chars next) o = omega arith
+count_one (element n name bindings attributes children next) o = omega arith
+
 -- one node, by its row
 pub one_free : (ns : Nodes) (p : ℕ) (f : Forest) → CanPlant ns p f → IsOne f → (k : ℕ) → k ≡ first_number f → (node ns k ≡ None) × (k < length ns)
 one_free ns p none can o k e = absurd o

@@ -1,6 +1,6 @@
 //! Rows put among the children of a node.
 
-ghost use Rattle.std.specs.Prelude.{◌≡◌, ◌≤◌, ℕ, List, length, IfOk, OnOk, OnErr};
+ghost use Rattle.std.specs.Prelude.{◌≡◌, ◌≤◌, ℕ, List, length, drop, IfOk, OnOk, OnErr};
 ghost use Rattle.xs_names.specs.Names.{NameTable};
 ghost use Rattle.tree_rows.specs.Forest.{Forest, count};
 ghost use Rattle.doc_nodes.specs.Nodes.{Node, IsNode};
@@ -24,6 +24,14 @@ fn begins_at(rows: &[PartRow], depth: u32) -> bool
     }
 }
 
+/// The rows behind the first ones.
+fn other_rows(rows: &[PartRow], count: usize) -> &[PartRow]
+    requires { count ≤ length rows.now }
+    ensures { result.now ≡ drop count rows.now }
+{
+    &rows[count..]
+}
+
 /// Puts siblings of this depth, with which the rows begin, behind the children of a node, each with all that is below it, and
 /// answers how many rows that were. Where memory is wanting, the first of them stand there.
 #[cycle(put)]
@@ -44,7 +52,7 @@ fn put_all(
     'left: while begins_at(left, depth) {
         let place = links.child_count(parent);
         let more = put_one(alloc, links, parent, place, left)?;
-        left = &left[more..];
+        left = other_rows(left, more);
         done += more;
     }
     Ok(done)
@@ -76,7 +84,7 @@ pub(crate) fn put_one(
         Content::Element(element) => {
             let element = copy_parts(alloc, element)?;
             links.put(row.number, parent, place, Content::Element(element))?;
-            match put_all(alloc, links, row.number, row.depth + 1, &rows[1..]) {
+            match put_all(alloc, links, row.number, row.depth + 1, other_rows(rows, 1)) {
                 Ok(below) => Ok(below + 1),
                 Err(error) => {
                     prune(links, row.number);

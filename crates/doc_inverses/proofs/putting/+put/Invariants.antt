@@ -6,10 +6,10 @@ use Rattle.doc_inverses.specs.inside.Putting.{Holds, PutSoFar}
 use Rattle.doc_inverses.proofs.putting.+put.Given as goal
 
 abbrev pub decreases-put_all : goal.decreases-put_all
-decreases-put_all l = 2 * length l.rows + 1
+decreases-put_all l = 2 * length l.rows.now + 1
 
 abbrev pub decreases-put_one : goal.decreases-put_one
-decreases-put_one l = 2 * length l.rows
+decreases-put_one l = 2 * length l.rows.now
 
 abbrev pub invariant-put_all-left : goal.invariant-put_all-left
 invariant-put_all-left l =
