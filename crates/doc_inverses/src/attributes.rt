@@ -1,6 +1,6 @@
 //! The attribute of a name, written or taken away.
 
-ghost use Rattle.std.specs.Prelude.{◌≡◌, ◌≤◌, ℕ, length, Some, IfOk, OnOk, OnErr};
+ghost use Rattle.std.specs.Prelude.{◌≡◌, ◌≤◌, ◌==◌, ℕ, length, Some, IfOk, OnOk, OnErr};
 ghost use Rattle.std.specs.List.{position};
 ghost use Rattle.tree_rows.specs.declared.row.NodeKind.TheVariants as kinds;
 ghost use Rattle.doc_nodes.specs.declared.content.Content.TheVariants as contents;
@@ -16,6 +16,15 @@ use std::mem;
 use xs_lists::Listed;
 use xs_names::{NameId, Text};
 
+/// The place of the attribute of this name.
+fn place_of(attributes: &[NameAttribute], name: NameId) -> Option<usize>
+    ensures { result ≡ position (λ a. a.name == name) attributes.now }
+{
+    attributes
+        .iter()
+        .position(|attribute| attribute.name == name)
+}
+
 /// Gives the attribute of this name a value, or takes it out, and answers what its value was; where there is none and it gets one,
 /// it is put at this place. Where memory is wanting, all is as it was.
 fn write(
@@ -28,20 +37,25 @@ fn write(
     ensures ok { OnOk result (attributes.new.items ≡ written_number name place value attributes.old.items) }
     ensures old { IfOk result (λ old. old ≡ number_value name attributes.old.items) }
 {
-    match attributes.iter().position(|attribute| attribute.name == name) {
+    match place_of(attributes.as_slice(), name) {
         Some(at) => match value {
-            Some(value) => Ok(Some(mem::replace(&mut attributes[at].value, value))),
+            Some(value) => {
+                let new = NameAttribute { name, value };
+                let old = mem::replace(&mut attributes[at], new);
+                Ok(Some(old.value))
+            }
             None => {
-                let NameAttribute { value, .. } = attributes.remove(at);
-                Ok(Some(value))
+                let old = attributes.remove(at);
+                Ok(Some(old.value))
             }
         },
-        None => {
-            if let Some(value) = value {
+        None => match value {
+            Some(value) => {
                 attributes.insert(place as usize, NameAttribute { name, value })?;
+                Ok(None)
             }
-            Ok(None)
-        }
+            None => Ok(None),
+        },
     }
 }
 
