@@ -5,3 +5,5 @@ pub mod Seated
 pub mod Grafting
 pub mod Grafts
 pub mod Numbers
+pub mod Writes
+pub mod Meaning

@@ -13,7 +13,7 @@ use Rattle.tree_rows.specs.declared.row.Binding.{Binding}
 use Rattle.tree_edits.specs.Changes.{has_name, set_in}
 use Rattle.doc_nodes.proofs.Among.{map-insert}
 use Rattle.doc_nodes.specs.declared.content.NameAttribute.{NameAttribute}
-use Rattle.doc_changes.specs.Held.{has_number, set_number}
+use Rattle.doc_changes.specs.Held.{has_number, set_number, unset_number}
 use Rattle.doc_changes.specs.Stands.{expanded_of, attribute_of}
 use Rattle.doc_changes.proofs.Attributing.{same_names, set_map, unset_map, set_all, unset_all}
 use Rattle.tree_inverses.specs.Changes.{written, CanWrite, IsAt}
@@ -78,3 +78,8 @@ written_there name place value xs h = ap (λ b. if b then set_number name value 
 
 pub written_new : (name place : ℕ) (value : List ℕ) (xs : List NameAttribute) → has_number name xs ≡ false → written_number name place (Some value) xs ≡ insert xs place (record { name = name; value = value })
 written_new name place value xs h = ap (λ b. if b then set_number name value xs else insert xs place (record { name = name; value = value })) h
+
+pub unset_absent : (name : ℕ) (xs : List NameAttribute) → has_number name xs ≡ false → unset_number name xs ≡ xs
+unset_absent name [] h = refl
+unset_absent name (a ∷ more) h =
+    let z = or_parts (a.name == name) (has_number name more) h in ap (λ b. if b then more else a ∷ unset_number name more) z.0 ∙ ap (λ r. a ∷ r) (unset_absent name more z.1)
