@@ -2,7 +2,7 @@
 
 ghost use Rattle.std.specs.Prelude.{◌≡◌, Some, IfOk};
 ghost use Rattle.tree_rows.specs.declared.row.NodeKind.TheVariants as kinds;
-ghost use Rattle.doc_nodes.specs.Nodes.{Node, IsNode};
+ghost use Rattle.doc_nodes.specs.Nodes.{Node, IsNode, IsSound};
 ghost use Rattle.doc_nodes.specs.declared.content.Content.TheVariants as contents;
 ghost use Rattle.doc_changes.specs.Held.{kind_at};
 
@@ -76,7 +76,8 @@ pub(crate) fn copy_element(
     number: u32,
 ) -> Result<Element, AllocError>
     requires { kind_at links.now number ≡ Some kinds.Element }
-    ensures { IfOk result (λ made. (it : Node) → IsNode links.now number it → it.content ≡ contents.Element made) }
+    ensures same { IfOk result (λ made. (it : Node) → IsNode links.now number it → it.content ≡ contents.Element made) }
+    ensures sound { IsSound links.now }
 {
     match links.content(number) {
         Some(Content::Element(element)) => copy_parts(alloc, element),

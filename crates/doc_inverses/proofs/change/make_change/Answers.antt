@@ -1,0 +1,25 @@
+use Rattle.std.proofs.Common.{◌≡◌, sym, subst}
+use Rattle.std.proofs.lemmas.Result.{on_ok_weaker}
+use Rattle.doc_changes.specs.Stands.{StandsFor}
+use Rattle.tree_inverses.specs.Changes.{changed}
+use Rattle.tree_inverses.specs.Changes as law
+use Rattle.doc_inverses.specs.Changes.{Means, IsMade}
+use Rattle.doc_inverses.specs.declared.change.Change.{Change}
+use Rattle.doc_inverses.proofs.Meaning.{puts_back, takes}
+use Rattle.doc_inverses.proofs.change.make_change.Goals as goal
+
+pub returns-in-PutBack-clause-tree : goal.returns-in-PutBack-clause-tree
+returns-in-PutBack-clause-tree c =
+    on_ok_weaker c.put.result (λ tree t d e z m fits.
+    let p = puts_back t d e c.in-PutBack.parent c.in-PutBack.index c.in-PutBack.part (subst (λ (x : Change). Means t x e) c.in-PutBack.is m) fits in
+    subst (λ (x : law.Change). StandsFor t c.put.new.links (changed d x)) (sym p.is) (tree t d p.f z p.part_is p.can)) c.put.ensures.tree
+
+pub returns-in-Take-clause-tree : goal.returns-in-Take-clause-tree
+returns-in-Take-clause-tree c =
+    on_ok_weaker c.take.result (λ tree t d e z m fits.
+    subst (λ (x : law.Change). StandsFor t c.take.new.links (changed d x)) (sym (takes t e c.in-Take.node (subst (λ (x : Change). Means t x e) c.in-Take.is m))) (tree t d z)) c.take.ensures.tree
+
+pub returns-in-Take-clause-nodes : goal.returns-in-Take-clause-nodes
+returns-in-Take-clause-nodes c =
+    on_ok_weaker c.take.result (λ nodes t d e z m fits.
+    subst (λ (x : Change). IsMade t c.args.links.now c.take.new.links x e) (sym c.in-Take.is) (nodes t)) c.take.ensures.nodes
