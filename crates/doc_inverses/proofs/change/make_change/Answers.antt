@@ -1,18 +1,20 @@
-use Rattle.std.proofs.Common.{◌≡◌, sym, subst}
+use Rattle.std.proofs.Common.{◌≡◌, List, sym, subst}
 use Rattle.std.proofs.lemmas.Result.{on_ok_weaker}
 use Rattle.doc_changes.specs.Stands.{StandsFor}
 use Rattle.tree_inverses.specs.Changes.{changed}
 use Rattle.tree_inverses.specs.Changes as law
 use Rattle.doc_inverses.specs.Changes.{Means, IsMade}
 use Rattle.doc_inverses.specs.declared.change.Change.{Change}
-use Rattle.doc_inverses.proofs.Meaning.{puts_back, takes}
+use Rattle.doc_inverses.proofs.Meaning.{puts_back, takes, names, rewords}
+use Rattle.doc_inverses.specs.Parts.{IsPart}
+use Rattle.doc_inverses.specs.declared.part.PartRow.{PartRow}
 use Rattle.doc_inverses.proofs.change.make_change.Goals as goal
 
 pub returns-in-PutBack-clause-tree : goal.returns-in-PutBack-clause-tree
 returns-in-PutBack-clause-tree c =
     on_ok_weaker c.put.result (λ tree t d e z m fits.
     let p = puts_back t d e c.in-PutBack.parent c.in-PutBack.index c.in-PutBack.part (subst (λ (x : Change). Means t x e) c.in-PutBack.is m) fits in
-    subst (λ (x : law.Change). StandsFor t c.put.new.links (changed d x)) (sym p.is) (tree t d p.f z p.part_is p.can)) c.put.ensures.tree
+    subst (λ (x : law.Change). StandsFor t c.put.new.links (changed d x)) (sym p.is) (tree t d p.f z (subst (λ (rows : List PartRow). IsPart t rows p.f) (sym c.as_slice.ensures) p.part_is) p.can)) c.put.ensures.tree
 
 pub returns-in-Take-clause-tree : goal.returns-in-Take-clause-tree
 returns-in-Take-clause-tree c =
@@ -23,3 +25,13 @@ pub returns-in-Take-clause-nodes : goal.returns-in-Take-clause-nodes
 returns-in-Take-clause-nodes c =
     on_ok_weaker c.take.result (λ nodes t d e z m fits.
     subst (λ (x : Change). IsMade t c.args.links.now c.take.new.links x e) (sym c.in-Take.is) (nodes t)) c.take.ensures.nodes
+
+pub returns-in-Name-clause-tree : goal.returns-in-Name-clause-tree
+returns-in-Name-clause-tree c = λ t d e z m fits.
+    let k = names t e c.in-Name.node c.in-Name.name (subst (λ (x : Change). Means t x e) c.in-Name.is m) in
+    subst (λ (x : law.Change). StandsFor t c.rename_node.new.links (changed d x)) (sym k.1) (c.rename_node.ensures.tree t d z k.0)
+
+pub returns-in_ok-old-in-Chars-clause-tree : goal.returns-in_ok-old-in-Chars-clause-tree
+returns-in_ok-old-in-Chars-clause-tree c = λ t d e z m fits.
+    let k = rewords t e c.in-Chars.node c.in-Chars.text (subst (λ (x : Change). Means t x e) c.in-Chars.is m) in
+    subst (λ (x : law.Change). StandsFor t c.set_text.new.links (changed d x)) (sym k) (c.set_text.ensures.tree t d z)
