@@ -135,9 +135,15 @@ head_by t ns n below over gone (element m name bindings attributes children next
         few = omega (arith, few);
         sound = over.sound;
       };
-      rows = λ depth more a.
-          (s.0.parts, record { known = s.0.known; name_is = s.0.name_is; bindings_are = s.0.bindings_are; attributes_are = s.0.attributes_are },
-          more, ap (λ c. record { number = m; depth = depth; content = c } ∷ more) s.0.content, [], a, refl);
+      rows = λ depth more a. (
+        s.0.parts,
+        record { known = s.0.known; name_is = s.0.name_is; bindings_are = s.0.bindings_are; attributes_are = s.0.attributes_are },
+        more,
+        ap (λ c. record { number = m; depth = depth; content = c } ∷ more) s.0.content,
+        [],
+        a,
+        refl,
+      );
     })
 
 module _ (t : NameTable) (ns : Nodes) (n : ℕ) (below : Forest) (over : IsOver t ns n below) (depth : ℕ) (old now : List PartRow) (place : ℕ) (so : ReadSoFar t depth old now below place) where
@@ -153,12 +159,13 @@ module _ (t : NameTable) (ns : Nodes) (n : ℕ) (below : Forest) (over : IsOver 
   pub room : (child : ℕ) (e : Some child ≡ slice_get (children_by (node ns n)) place) → (over.it.depth ≤ 128) × (place + 1 ≤ 131072)
   room child e =
       let h = head child e in
-      let f : firsts so.next ≡ child ∷ firsts h.rest = ap firsts h.split ∙ firsts_append h.one h.rest ∙ ap (λ l. l ++ firsts h.rest) h.first in
-      (high t ns n below over so.gone so.next so.split child (firsts h.rest) f,
-      (
-        let a = ap count so.split in let b = count-append so.gone so.next in let c = over.few in let k = so.counted in
-        let l = many so.gone in let x = ap count h.split in let y = count-append h.one h.rest in let z = many h.one in let w = ap length h.first in omega (arith, a, b, c, k, l, x, y, z, w)
-      ))
+      let f : firsts so.next ≡ child ∷ firsts h.rest = ap firsts h.split ∙ firsts_append h.one h.rest ∙ ap (λ l. l ++ firsts h.rest) h.first in (
+        high t ns n below over so.gone so.next so.split child (firsts h.rest) f,
+        (
+            let a = ap count so.split in let b = count-append so.gone so.next in let c = over.few in let k = so.counted in
+            let l = many so.gone in let x = ap count h.split in let y = count-append h.one h.rest in let z = many h.one in let w = ap length h.first in omega (arith, a, b, c, k, l, x, y, z, w)
+            ),
+      )
     where
       many : (f : Forest) → length (firsts f) ≤ count f
       many none = omega arith

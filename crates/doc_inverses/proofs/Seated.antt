@@ -126,9 +126,15 @@ module _ (t : NameTable) (ns : Nodes) (d : Document) (key : ℕ) (z : StandsFor 
         is = is;
         below = children;
         over = over_of s.0.it children is s.0.children_are s.1;
-        rows = λ more a. subst (λ f. AreRows t 1 (record { number = key; depth = 1; content = s.0.it.content } ∷ more) f []) (sym (e ∙ (λ i. element (h.0 i) name bindings attributes children (h.1 i))))
-            (s.0.parts, record { known = s.0.known; name_is = s.0.name_is; bindings_are = s.0.bindings_are; attributes_are = s.0.attributes_are },
-            more, ap (λ c. record { number = key; depth = 1; content = c } ∷ more) s.0.content, [], a, refl);
+        rows = λ more a. subst (λ f. AreRows t 1 (record { number = key; depth = 1; content = s.0.it.content } ∷ more) f []) (sym (e ∙ (λ i. element (h.0 i) name bindings attributes children (h.1 i)))) (
+          s.0.parts,
+          record { known = s.0.known; name_is = s.0.name_is; bindings_are = s.0.bindings_are; attributes_are = s.0.attributes_are },
+          more,
+          ap (λ c. record { number = key; depth = 1; content = c } ∷ more) s.0.content,
+          [],
+          a,
+          refl,
+        );
         child = child_at;
         parent = parent_is;
         deep = deep;

@@ -122,7 +122,11 @@ fn put(
 /// # Errors
 ///
 /// `AllocError` is want of memory. All is then as it was.
-pub fn make_change(alloc: Global, links: &mut NodeLinks, change: Change) -> Result<Change, AllocError>
+pub fn make_change(
+    alloc: Global,
+    links: &mut NodeLinks,
+    change: Change,
+) -> Result<Change, AllocError>
     requires can { (t : NameTable) × (d : Document) × (c : law.Change) × StandsFor t links.old d × Means t change c × Fits d c }
     ensures tree { OnOk result ((t : NameTable) (d : Document) (c : law.Change) → StandsFor t links.old d → Means t change c → Fits d c → StandsFor t links.new (changed d c)) }
     ensures inverse { IfOk result (λ back. (t : NameTable) (d : Document) (c : law.Change) → StandsFor t links.old d → Means t change c → Fits d c → Means t back (inverse_of d c)) }

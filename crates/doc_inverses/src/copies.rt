@@ -29,10 +29,7 @@ fn copy_attributes(
 }
 
 /// The same bindings.
-fn copy_bindings(
-    alloc: Global,
-    bindings: &[NameBinding],
-) -> Result<Listed<NameBinding>, AllocError>
+fn copy_bindings(alloc: Global, bindings: &[NameBinding]) -> Result<Listed<NameBinding>, AllocError>
     ensures { IfOk result (λ made. made ≡ bindings.now) }
 {
     let mut made = Listed::new(alloc);

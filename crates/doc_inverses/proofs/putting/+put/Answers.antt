@@ -144,7 +144,7 @@ put_one-overflow_add-result t c =
     let is = c.in-Element.is ∙ ap contents.Element (sym c.in_ok-element-in-Element.ensures) in let i = c.in_ok-put-in-Element.ensures.ok in let sound = c.in_ok-put-in-Element.ensures.sound in
     let o = own q.0 c.args.links.now mid c.args.parent c.args.place q.1 c.args.rows.now q.2 q.3 q.4 c.index-rows-0.result c.index-rows-0.is e is in
     let held = subst (λ (rows : List PartRow). Holds q.0 mid c.index-rows-0.result.number (c.index-rows-0.result.depth + 1) rows o.children q.3) (sym c.other_rows.ensures)
-        (holds_below q.0 c.args.links.now mid c.args.parent c.args.place q.1 c.args.rows.now q.2 q.3 q.4 c.index-rows-0.result c.index-rows-0.is e is i sound (c.index-rows-0.result.depth + 1) refl) in
+    (holds_below q.0 c.args.links.now mid c.args.parent c.args.place q.1 c.args.rows.now q.2 q.3 q.4 c.index-rows-0.result c.index-rows-0.is e is i sound (c.index-rows-0.result.depth + 1) refl) in
     let k = c.in-Ok.ensures.count q.0 o.children q.3 held in let n = ap count o.is in let few = q.4.can.few in omega (arith, k, n, few)
 
 pub put_one-returns-in-Ok-clause-planted : goal.put_one-returns-in-Ok-clause-planted
@@ -153,7 +153,7 @@ put_one-returns-in-Ok-clause-planted t c = λ u depth f left h.
     let is = c.in-Element.is ∙ ap contents.Element (sym c.in_ok-element-in-Element.ensures) in let i = c.in_ok-put-in-Element.ensures.ok in let sound = c.in_ok-put-in-Element.ensures.sound in
     let o = own u c.args.links.now mid c.args.parent c.args.place depth c.args.rows.now f left h c.index-rows-0.result c.index-rows-0.is e is in
     let held = subst (λ (rows : List PartRow). Holds u mid c.index-rows-0.result.number (c.index-rows-0.result.depth + 1) rows o.children left) (sym c.other_rows.ensures)
-        (holds_below u c.args.links.now mid c.args.parent c.args.place depth c.args.rows.now f left h c.index-rows-0.result c.index-rows-0.is e is i sound (c.index-rows-0.result.depth + 1) refl) in
+    (holds_below u c.args.links.now mid c.args.parent c.args.place depth c.args.rows.now f left h c.index-rows-0.result c.index-rows-0.is e is i sound (c.index-rows-0.result.depth + 1) refl) in
     element_put u c.args.links.now mid c.args.parent c.args.place depth c.args.rows.now f left h c.index-rows-0.result c.index-rows-0.is e is i sound c.put_all.new.links (c.in-Ok.ensures.planted u o.children left held)
 
 pub put_one-returns-in-Ok-clause-count : goal.put_one-returns-in-Ok-clause-count
@@ -162,7 +162,7 @@ put_one-returns-in-Ok-clause-count t c = λ u depth f left h.
     let is = c.in-Element.is ∙ ap contents.Element (sym c.in_ok-element-in-Element.ensures) in let i = c.in_ok-put-in-Element.ensures.ok in let sound = c.in_ok-put-in-Element.ensures.sound in
     let o = own u c.args.links.now mid c.args.parent c.args.place depth c.args.rows.now f left h c.index-rows-0.result c.index-rows-0.is e is in
     let held = subst (λ (rows : List PartRow). Holds u mid c.index-rows-0.result.number (c.index-rows-0.result.depth + 1) rows o.children left) (sym c.other_rows.ensures)
-        (holds_below u c.args.links.now mid c.args.parent c.args.place depth c.args.rows.now f left h c.index-rows-0.result c.index-rows-0.is e is i sound (c.index-rows-0.result.depth + 1) refl) in
+    (holds_below u c.args.links.now mid c.args.parent c.args.place depth c.args.rows.now f left h c.index-rows-0.result c.index-rows-0.is e is i sound (c.index-rows-0.result.depth + 1) refl) in
     element_count u c.args.links.now mid c.args.parent c.args.place depth c.args.rows.now f left h c.index-rows-0.result c.index-rows-0.is e is c.in-Ok.below (c.in-Ok.ensures.count u o.children left held)
 
 pub put_one-prune-requires-clause-over : goal.put_one-prune-requires-clause-over
@@ -171,7 +171,7 @@ put_one-prune-requires-clause-over t c =
     let is = c.in-Element.is ∙ ap contents.Element (sym c.in_ok-element-in-Element.ensures) in let i = c.in_ok-put-in-Element.ensures.ok in let sound = c.in_ok-put-in-Element.ensures.sound in
     let o = own q.0 c.args.links.now mid c.args.parent c.args.place q.1 c.args.rows.now q.2 q.3 q.4 c.index-rows-0.result c.index-rows-0.is e is in
     let held = subst (λ (rows : List PartRow). Holds q.0 mid c.index-rows-0.result.number (c.index-rows-0.result.depth + 1) rows o.children q.3) (sym c.other_rows.ensures)
-        (holds_below q.0 c.args.links.now mid c.args.parent c.args.place q.1 c.args.rows.now q.2 q.3 q.4 c.index-rows-0.result c.index-rows-0.is e is i sound (c.index-rows-0.result.depth + 1) refl) in
+    (holds_below q.0 c.args.links.now mid c.args.parent c.args.place q.1 c.args.rows.now q.2 q.3 q.4 c.index-rows-0.result c.index-rows-0.is e is i sound (c.index-rows-0.result.depth + 1) refl) in
     let first = c.in-Err.ensures.first q.0 o.children q.3 held in
     let whole = can_whole q.0 c.args.links.now mid c.args.parent c.args.place q.1 c.args.rows.now q.2 q.3 q.4 c.index-rows-0.result c.index-rows-0.is e is in
     (q.0, first.part, over q.0 c.args.links.now mid c.put_all.new.links c.args.parent c.args.place c.index-rows-0.result.number (contents.Element e) o.name o.bindings o.attributes o.children whole c.requires.within i sound first)
@@ -182,7 +182,7 @@ put_one-prune-requires-clause-parent t c =
     let is = c.in-Element.is ∙ ap contents.Element (sym c.in_ok-element-in-Element.ensures) in let i = c.in_ok-put-in-Element.ensures.ok in let sound = c.in_ok-put-in-Element.ensures.sound in
     let o = own q.0 c.args.links.now mid c.args.parent c.args.place q.1 c.args.rows.now q.2 q.3 q.4 c.index-rows-0.result c.index-rows-0.is e is in
     let held = subst (λ (rows : List PartRow). Holds q.0 mid c.index-rows-0.result.number (c.index-rows-0.result.depth + 1) rows o.children q.3) (sym c.other_rows.ensures)
-        (holds_below q.0 c.args.links.now mid c.args.parent c.args.place q.1 c.args.rows.now q.2 q.3 q.4 c.index-rows-0.result c.index-rows-0.is e is i sound (c.index-rows-0.result.depth + 1) refl) in
+    (holds_below q.0 c.args.links.now mid c.args.parent c.args.place q.1 c.args.rows.now q.2 q.3 q.4 c.index-rows-0.result c.index-rows-0.is e is i sound (c.index-rows-0.result.depth + 1) refl) in
     let first = c.in-Err.ensures.first q.0 o.children q.3 held in
     let whole = can_whole q.0 c.args.links.now mid c.args.parent c.args.place q.1 c.args.rows.now q.2 q.3 q.4 c.index-rows-0.result c.index-rows-0.is e is in
     below_parent q.0 c.args.links.now mid c.put_all.new.links c.args.parent c.args.place c.index-rows-0.result.number (contents.Element e) o.name o.bindings o.attributes o.children whole c.requires.within i sound first
@@ -193,7 +193,7 @@ put_one-returns-in-Err-clause-err t c =
     let is = c.in-Element.is ∙ ap contents.Element (sym c.in_ok-element-in-Element.ensures) in let i = c.in_ok-put-in-Element.ensures.ok in let sound = c.in_ok-put-in-Element.ensures.sound in
     let o = own q.0 c.args.links.now mid c.args.parent c.args.place q.1 c.args.rows.now q.2 q.3 q.4 c.index-rows-0.result c.index-rows-0.is e is in
     let held = subst (λ (rows : List PartRow). Holds q.0 mid c.index-rows-0.result.number (c.index-rows-0.result.depth + 1) rows o.children q.3) (sym c.other_rows.ensures)
-        (holds_below q.0 c.args.links.now mid c.args.parent c.args.place q.1 c.args.rows.now q.2 q.3 q.4 c.index-rows-0.result c.index-rows-0.is e is i sound (c.index-rows-0.result.depth + 1) refl) in
+    (holds_below q.0 c.args.links.now mid c.args.parent c.args.place q.1 c.args.rows.now q.2 q.3 q.4 c.index-rows-0.result c.index-rows-0.is e is i sound (c.index-rows-0.result.depth + 1) refl) in
     let first = c.in-Err.ensures.first q.0 o.children q.3 held in
     let whole = can_whole q.0 c.args.links.now mid c.args.parent c.args.place q.1 c.args.rows.now q.2 q.3 q.4 c.index-rows-0.result c.index-rows-0.is e is in
     pruned q.0 c.args.links.now mid c.put_all.new.links c.args.parent c.args.place c.index-rows-0.result.number (contents.Element e) o.name o.bindings o.attributes o.children whole c.requires.within i sound first
