@@ -1,11 +1,11 @@
 use Rattle.std.proofs.Common.{◌≡◌, List, sym, subst}
 use Rattle.std.proofs.lemmas.Result.{on_ok_weaker}
 use Rattle.doc_changes.specs.Stands.{StandsFor}
-use Rattle.tree_inverses.specs.Changes.{changed}
+use Rattle.tree_inverses.specs.Changes.{changed, Fits}
 use Rattle.tree_inverses.specs.Changes as law
 use Rattle.doc_inverses.specs.Changes.{Means, IsMade}
 use Rattle.doc_inverses.specs.declared.change.Change.{Change}
-use Rattle.doc_inverses.proofs.Meaning.{puts_back, takes, names, rewords}
+use Rattle.doc_inverses.proofs.Meaning.{puts_back, takes, names, writes, rewords, element_kind}
 use Rattle.doc_inverses.specs.Parts.{IsPart}
 use Rattle.doc_inverses.specs.declared.part.PartRow.{PartRow}
 use Rattle.doc_inverses.proofs.change.make_change.Goals as goal
@@ -35,3 +35,13 @@ pub returns-in_ok-old-in-Chars-clause-tree : goal.returns-in_ok-old-in-Chars-cla
 returns-in_ok-old-in-Chars-clause-tree c = λ t d e z m fits.
     let k = rewords t e c.in-Chars.node c.in-Chars.text (subst (λ (x : Change). Means t x e) c.in-Chars.is m) in
     subst (λ (x : law.Change). StandsFor t c.set_text.new.links (changed d x)) (sym k) (c.set_text.ensures.tree t d z)
+
+pub name_of-old-requires : goal.name_of-old-requires
+name_of-old-requires c =
+    let q = c.requires.can in let k = names q.0 q.2 c.in-Name.node c.in-Name.name (subst (λ (x : Change). Means q.0 x q.2) c.in-Name.is q.4) in
+    element_kind q.0 c.args.links.now q.1 c.in-Name.node q.3 (subst (Fits q.1) k.1 q.5).0
+
+pub write_attribute-requires-clause-element : goal.write_attribute-requires-clause-element
+write_attribute-requires-clause-element c =
+    let q = c.requires.can in let k = writes q.0 q.2 c.in-Attr.node c.in-Attr.name c.in-Attr.place c.in-Attr.value (subst (λ (x : Change). Means q.0 x q.2) c.in-Attr.is q.4) in
+    element_kind q.0 c.args.links.now q.1 c.in-Attr.node q.3 (subst (Fits q.1) k.1 q.5).0
