@@ -1,6 +1,6 @@
 //! The positions of an expression.
 
-ghost use Rattle.std.specs.Prelude.{◌≡◌, ℕ, ◌<◌, ◌↔◌, [], length, slice_index, slice_index_or, false, IfOk, IsErr};
+ghost use Rattle.std.specs.Prelude.{◌≡◌, ℕ, ◌<◌, ◌↔◌, [], length, slice_index, slice_index_or, false, IfOk, IsErr, IsTrue};
 ghost use Rattle.xs_positions.specs.Tree.{size};
 ghost use Rattle.xs_positions.specs.Sets.{row};
 ghost use Rattle.xs_positions.specs.Nodes.{tree_at};
@@ -8,11 +8,13 @@ ghost use Rattle.xs_positions.specs.Positions.{ArePositionsOf};
 
 use crate::expr::{Expr, ExprId};
 use crate::measures::measure_nodes;
-use crate::sets::Part;
+use crate::sets::{Part, sorted};
+use crate::shared::{SharedRows, share_rows};
 use crate::symbols::list_symbols;
 use crate::walk::find_sets;
 use std::alloc::{AllocError, Global};
 use std::marker::Model;
+use std::mem;
 
 /// Why an expression's positions are not listed.
 #[derive(Clone, Copy, Debug, PartialEq, Eq)]
@@ -25,7 +27,9 @@ pub enum PositionsError {
 #[derive(Debug, Drop)]
 pub struct Positions {
     symbols: Vec<u32>,
+    /// The sets without the rows of followers.
     sets: Part,
+    follow: SharedRows,
 }
 
 impl Model for Positions {
@@ -52,6 +56,7 @@ impl Positions {
         Ok(Positions {
             symbols: Vec::from_slice(alloc, &self.symbols)?,
             sets: self.sets.try_clone(alloc)?,
+            follow: self.follow.try_clone(alloc)?,
         })
     }
 
@@ -81,7 +86,15 @@ impl Positions {
         requires { p < length self.now.symbols }
         ensures { result.now ≡ row self.now.follow p }
     {
-        &self.sets.follow[p as usize]
+        self.follow.row(p)
+    }
+
+    /// Whether the same positions follow both, as it is known where many positions have the same followers.
+    pub fn follow_alike(&self, p: u32, q: u32) -> bool
+        requires { (p < length self.now.symbols) × (q < length self.now.symbols) }
+        ensures { IsTrue result → row self.now.follow p ≡ row self.now.follow q }
+    {
+        self.follow.is_one(p, q)
     }
 
     /// Whether the empty word is one.
@@ -128,6 +141,12 @@ pub fn find_positions(
         return Ok(Err(PositionsError::TooMany));
     }
     let symbols = list_symbols(alloc, nodes, &measures, root)?;
-    let sets = find_sets(alloc, nodes, &measures, root)?;
-    Ok(Ok(Positions { symbols, sets }))
+    let mut sets = find_sets(alloc, nodes, &measures, root)?;
+    let rows = mem::replace(&mut sets.follow, Vec::new(alloc));
+    let follow = share_rows(alloc, sorted(rows))?;
+    Ok(Ok(Positions {
+        symbols,
+        sets,
+        follow,
+    }))
 }

@@ -13,4 +13,4 @@ returns-in_ok-copies-in-Some c = λ tree are.
     let e : length c.args.parts.items ≡ c.in-Some.field-0 = copies_count c.args.base _ tree c.args.parts.items are.parts ∙ ap (copies c.args.min) c.in-Some.is in
     let j = rw e at joined in
     bounded_sets tree c.args.base c.args.min c.in-Some.field-0 c.args.max c.in_ok-copies-in-Some.copies.whole c.within.result c.in_ok-copies-in-Some.copies.ends
-    c.in-Some.is are.rounds are.word j.sets j.ends j.ends_rise c.within.ensures
+    c.in-Some.is are.rounds are.word j.sets j.ends j.ends_rise c.within.ensures.sets
