@@ -1,7 +1,7 @@
 use Rattle.std.proofs.Common.{◌+◌, ◌∷◌, [], ◌++◌, Bool, true, false, length, refl, ap, ◌∙◌}
 use Rattle.std.proofs.lemmas.List.{length_push, length-replicate}
 use Rattle.std.specs.Prelude.{replicate}
-use Rattle.particle_restrict.proofs.Mapping.{table_first, table_more, table_done}
+use Rattle.particle_restrict.proofs.Mapping.{table_first, table_more, table_done, window_first, window_more}
 use Rattle.particle_restrict.proofs.tables.has_map.Goals as goal
 
 pub loop-behind-init : goal.loop-behind-init
@@ -11,6 +11,8 @@ loop-behind-init g c =
     record {
       count = ap length row ∙ (length_push (replicate c.args.members false) true ∙ ap (λ k. k + 1) (length-replicate c.args.members false));
       values = table_first (g.P.Pairs.restricts c.args.pairs.now) c.args.members c.args.optional.now c.push.new.self.items row;
+      end = omega arith;
+      outside = window_first c.args.members c.push.new.self.items row;
     }
 
 pub loop-behind-preserved : goal.loop-behind-preserved
