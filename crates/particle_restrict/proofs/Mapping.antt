@@ -237,6 +237,28 @@ window_more restricts j low next end after flag old new count lows ends close ou
     there : i + 1 < low ⊎ end ≤ i + 1
     there = elim h [ inl l ↦ inl (elim lows [ inl a ↦ (omega arith) | inr e ↦ absurd (omega arith) ]) | inr g ↦ inr (omega arith) ]
 
+-- one place of the table where there was nothing, nor at the next
+turned_nothing : (restricts : ℕ → ℕ → Type 0) (i j : ℕ) (flag : Bool) (old new : List Bool) → get_or new i false ≡ get_or old i false → get_or old i false ≡ false →
+    get_or old (i + 1) false ≡ false → IsTrue (get_or new i false) ↔ (IsTrue (flag && get_or old i false) ⊎ (IsTrue (get_or old (i + 1) false) × restricts i j))
+turned_nothing restricts i j flag old new same none next = (
+  (λ t. absurd (false≢true (sym (same ∙ none) ∙ t))),
+  (λ t. elim t [ inl p ↦ absurd (false≢true (sym none ∙ (and_parts flag (get_or old i false) p).1)) | inr p ↦ absurd (false≢true (sym next ∙ p.0)) ]),
+)
+
+-- the window is turned, so all of the table is
+pub turned_window : (restricts : ℕ → ℕ → Type 0) (j low end last : ℕ) (flag : Bool) (old new : List Bool) → end ≤ last → IsOutside low end old →
+    ((i : ℕ) → i < low → get_or old (i + 1) false ≡ false) →
+    ((i : ℕ) → low ≤ i → i < last → IsTrue (get_or new i false) ↔ (IsTrue (flag && get_or old i false) ⊎ (IsTrue (get_or old (i + 1) false) × restricts i j))) →
+    ((i : ℕ) → i < low → get_or new i false ≡ get_or old i false) → ((i : ℕ) → last ≤ i → get_or new i false ≡ get_or old i false) →
+    (i : ℕ) → IsTrue (get_or new i false) ↔ (IsTrue (flag && get_or old i false) ⊎ (IsTrue (get_or old (i + 1) false) × restricts i j))
+turned_window restricts j low end last flag old new past outside next done under left i = elim (cases_lt i low) [
+  | inl l ↦ turned_nothing restricts i j flag old new (under i l) (outside i (inl l)) (next i l)
+  | inr g ↦ elim (cases_lt i last) [
+    | inl l ↦ done i g l
+    | inr b ↦ turned_nothing restricts i j flag old new (left i b) (outside i (inr (omega arith))) (outside (i + 1) (inr (omega arith)))
+  ]
+]
+
 at_first : (xs : List Bool) (b : Bool) → 0 < length xs → get_or xs 0 b ≡ get_or xs 0 false
 at_first [] b l = absurd (omega arith)
 at_first (x ∷ xs) b l = refl
