@@ -22,7 +22,7 @@ loop-behind-preserved g c =
     let inv = c.loop-behind.invariant in
     let sub = c.saturating_sub-low.ensures in
     let lows : (c.saturating_sub-low.result + 1 ≤ c.loop-behind.low) ⊎ (c.saturating_sub-low.result ≡ 0) =
-        elim (cases_lt 0 c.loop-behind.low) [ inl l ↦ inl (omega arith) | inr n ↦ inr (omega arith) ] in
+    elim (cases_lt 0 c.loop-behind.low) [ inl l ↦ inl (omega arith) | inr n ↦ inr (omega arith) ] in
     let low_end : c.if-not-optional-j.end ≤ c.loop-behind.end = elim c.if-not-optional-j.branch [ then-not-optional-j w ↦ omega arith | else-not-optional-j w ↦ omega arith ] in
     let close : c.loop-behind.end ≤ c.if-not-optional-j.end + 1 = elim c.if-not-optional-j.branch [ then-not-optional-j w ↦ omega arith | else-not-optional-j w ↦ omega arith ] in
     record {
