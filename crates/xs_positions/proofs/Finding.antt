@@ -1,5 +1,5 @@
 -- From the sets of an expression whose positions begin at 0 to its table.
-use Rattle.std.proofs.Common.{◌≡◌, ◌<◌, ◌^◌, length, sym, ap, ◌∙◌, arith, zero-add}
+use Rattle.std.proofs.Common.{◌≡◌, ℕ, ◌<◌, ◌^◌, List, length, Vec, Global, sym, ap, ◌∙◌, arith, zero-add}
 use Rattle.std.proofs.lemmas.List.{length-map}
 use Rattle.xs_positions.specs.Tree.{Tree, size, symbols}
 use Rattle.xs_positions.specs.PositionWords.{IsWord}
@@ -10,6 +10,7 @@ use Rattle.xs_positions.specs.Measures.{has_empty}
 use Rattle.xs_positions.specs.Positions.{ArePositionsOf}
 use Rattle.xs_positions.specs.Found.{table_of, AreOneEach}
 use Rattle.xs_positions.specs.declared.find.Positions.TheInside.{Inside}
+use Rattle.xs_positions.proofs.Linking.{lists}
 use Rattle.xs_positions.proofs.Walking.{length-symbols}
 use Rattle.xs_positions.proofs.Worded.{empty_is}
 use Rattle.xs_positions.proofs.Exchange.{exchange}
@@ -45,3 +46,19 @@ module _ (tree : Tree) (inside : Inside) (part : Part) (listed : inside.symbols.
     last_rises = rw rest.1 d.last_rises;
     follow_rises = sorted.rises;
   }
+
+-- the rows of a part, brought in order
+pub sorted_is : (part : Part) (old new : List (Vec ℕ Global)) (follow : List (List ℕ)) → old ≡ part.follow.items → AreSorted (lists old) (lists new) → follow ≡ lists new →
+    AreSorted (sets_of part).follow follow
+sorted_is part old new follow e s f = rw f (rw e at s)
+
+pub rows_small : (tree : Tree) (part : Part) (old new : List (Vec ℕ Global)) → Describes (IsWord tree 0) 0 (size tree) (sets_of part) → size tree < 2 ^ 32 → old ≡ part.follow.items →
+    AreSorted (lists old) (lists new) → length new < 2 ^ 32
+rows_small tree part old new d small e s =
+    let a = length-map new (λ (v : Vec ℕ Global). v.items) in
+    let b = length-map old (λ (v : Vec ℕ Global). v.items) in
+    let c = s.count in
+    let f = d.follow_count in
+    let g = length-map part.follow.items (λ (v : Vec ℕ Global). v.items) in
+    let h = ap length e in
+    omega arith

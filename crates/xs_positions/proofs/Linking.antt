@@ -3,7 +3,8 @@ use Rattle.std.proofs.Common.{◌≡◌, ℕ, ◌+◌, ◌-◌, ◌<◌, ◌≤�
 use Rattle.std.proofs.lemmas.Bool.{cases_eq, cases_lt}
 use Rattle.std.proofs.lemmas.List.{length-map, map-set, take_more, length-take, length-drop, take-append-drop, get_or-take, get_or-drop, get_or_default}
 use Rattle.std.proofs.lemmas.List.Elements.{Contains-get_or, Contains-push, Contains-push_cases, Contains-append_left, Contains-append_right}
-use Rattle.xs_positions.specs.Sets.{row, IsLinked, IsWithin, AreLinkedIn, IsAdded, IsSeen}
+use Rattle.xs_positions.specs.Sets.{Sets, row, IsLinked, IsWithin, AreLinkedIn, IsAdded, IsSeen}
+use Rattle.xs_positions.specs.Parts.{span_of, IsLooped}
 use Rattle.xs_positions.specs.declared.sets.Span.{Span}
 use Rattle.xs_positions.specs.declared.sets.Linked.{Linked}
 use Rattle.xs_positions.proofs.Measuring.{get_or-map}
@@ -176,3 +177,24 @@ added_all numbers old new p span made = record {
   kept = λ q h. rw made (Contains-append_left old numbers q h);
   added = λ q h. inl (rw made (Contains-append_right old numbers q h));
 }
+
+-- what comes over and over already
+pub already_looped : (base n : ℕ) (s : Sets) (whole : Span) → n ≡ length s.follow → whole ≡ span_of base n → s.loops ≡ whole ∷ [] →
+    All (λ p. (base ≤ p) × (p < base + n)) s.first → All (λ p. (base ≤ p) × (p < base + n)) s.last → All (AreLinkedIn base s.last s.first s.follow) s.loops →
+    IsLooped base s s
+already_looped base n s whole count is only first last loops = record {
+  first = refl;
+  last = refl;
+  linked = linked_already base s.last s.first s.follow held;
+  useful = refl;
+  loops = only ∙ (ap (λ w. w ∷ []) is ∙ ap (λ k. span_of base k ∷ []) count);
+}
+  where
+    known : AreLinkedIn base s.last s.first s.follow (span_of base n)
+    known = let a : All (AreLinkedIn base s.last s.first s.follow) (span_of base n ∷ []) = (rw (only, is) at loops) in a 0 (span_of base n) (omega arith)
+
+    inside : (xs : List ℕ) (p : ℕ) → All (λ q. (base ≤ q) × (q < base + n)) xs → Contains xs p → IsWithin (span_of base n) p
+    inside xs p all h = let w = all h.0 p h.1 in rw h.2 at w
+
+    held : (p q : ℕ) → Contains s.last p → Contains s.first q → Contains (row s.follow (p - base)) q
+    held p q a b = known p q (inside s.last p last a) (inside s.first q first b) a b

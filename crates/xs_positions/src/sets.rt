@@ -148,16 +148,27 @@ impl Part {
         ensures looped { IfOk result (λ part. IsLooped base (sets_of self) (sets_of part)) }
         ensures nullable { IfOk result (λ part. part.nullable ≡ self.nullable) }
     {
-        let whole = Span {
-            from: base,
-            to: base + self.len() as u32,
-        };
-        if !covers(&self.loops, whole) {
-            link_apart(&mut self.follow, base, &self.last, &self.first, &self.loops)?;
-            self.loops.clear();
-            self.loops.push(whole)?;
-        }
+        self.link_round(base)?;
         Ok(self)
+    }
+
+    fn link_round(&mut self, base: u32) -> Result<(), AllocError>
+        requires first { All (λ p. (base ≤ p) × (p < base + length self.old.follow.items)) self.old.first.items }
+        requires last { All (λ p. (base ≤ p) × (p < base + length self.old.follow.items)) self.old.last.items }
+        requires fits { base + length self.old.follow.items < 2 ^ 32 }
+        requires loops { All (AreLinkedIn base self.old.last.items self.old.first.items (map (λ row. row.items) self.old.follow.items)) self.old.loops.items }
+        ensures looped { OnOk result (IsLooped base (sets_of self.old) (sets_of self.new)) }
+        ensures nullable { OnOk result (self.new.nullable ≡ self.old.nullable) }
+    {
+        let to = base + self.len() as u32;
+        let whole = Span { from: base, to };
+        if covers(&self.loops, whole) {
+            return Ok(());
+        }
+        link_apart(&mut self.follow, base, &self.last, &self.first, &self.loops)?;
+        self.loops.clear();
+        self.loops.push(whole)?;
+        Ok(())
     }
 
     /// How many positions the part has.
@@ -168,7 +179,7 @@ impl Part {
     }
 }
 
-fn clone_rows(alloc: Global, rows: &[Vec<u32>]) -> Result<Vec<Vec<u32>>, AllocError>
+pub(crate) fn clone_rows(alloc: Global, rows: &[Vec<u32>]) -> Result<Vec<Vec<u32>>, AllocError>
     ensures { IfOk result (λ copy. map (λ row. row.items) copy.items ≡ map (λ row. row.items) rows.now) }
 {
     let mut copy = Vec::new(alloc);

@@ -1,8 +1,10 @@
 //! Rows of numbers of which those that are alike stand once.
 
-ghost use Rattle.std.specs.Prelude.{◌≡◌, ◌<◌, ◌-◌, ◌^◌, ◌++◌, ◌∷◌, [], map, length, IfOk, OnOk, IsTrue};
+ghost use Rattle.std.specs.Prelude.{◌≡◌, ◌<◌, ◌^◌, [], map, length, slice_index_or, IfOk, IsTrue};
 ghost use Rattle.xs_positions.specs.Sets.{row};
+ghost use Rattle.xs_positions.specs.Shared.{IsAmong};
 
+use crate::sets::clone_rows;
 use std::alloc::{AllocError, Global};
 use std::marker::Model;
 
@@ -28,28 +30,13 @@ impl Model for SharedRows {
 }
 
 impl SharedRows {
-    /// No row yet.
-    fn new(alloc: Global) -> SharedRows
-        ensures { result ≡ [] }
-    {
-        SharedRows {
-            rows: Vec::new(alloc),
-            numbers: Vec::new(alloc),
-        }
-    }
-
     /// A copy with memory of its own.
     pub(crate) fn try_clone(&self, alloc: Global) -> Result<SharedRows, AllocError>
         ensures { IfOk result (λ rows. rows ≡ self.now) }
     {
-        let mut rows = Vec::new(alloc);
-        for row in &self.rows {
-            rows.push(Vec::from_slice(alloc, row)?)?;
-        }
-        Ok(SharedRows {
-            rows,
-            numbers: Vec::from_slice(alloc, &self.numbers)?,
-        })
+        let rows = clone_rows(alloc, &self.rows)?;
+        let numbers = Vec::from_slice(alloc, &self.numbers)?;
+        Ok(SharedRows { rows, numbers })
     }
 
     /// The row at a place.
@@ -57,7 +44,8 @@ impl SharedRows {
         requires { place < length self.now }
         ensures { result.now ≡ row self.now place }
     {
-        &self.rows[self.numbers[place as usize] as usize]
+        let number = self.numbers[place as usize];
+        &self.rows[number as usize]
     }
 
     /// Whether the rows at these places are one, which alike rows mostly are.
@@ -65,26 +53,9 @@ impl SharedRows {
         requires { (place < length self.now) × (other < length self.now) }
         ensures { IsTrue result → row self.now place ≡ row self.now other }
     {
-        self.numbers[place as usize] == self.numbers[other as usize]
-    }
-
-    /// Puts a row behind the others: the one of that number, where it is the same.
-    fn put(&mut self, number: u32, row: Vec<u32>) -> Result<u32, AllocError>
-        requires { length self.old < 2 ^ 32 - 1 }
-        ensures { OnOk result (self.new ≡ self.old ++ row.items ∷ []) }
-    {
-        let number = match self.rows.get(number as usize) {
-            Some(known) if known.as_slice() == row.as_slice() => number,
-            _ => self.put_new(row)?,
-        };
-        self.numbers.push(number)?;
-        Ok(number)
-    }
-
-    fn put_new(&mut self, row: Vec<u32>) -> Result<u32, AllocError> {
-        let number = self.rows.len() as u32;
-        self.rows.push(row)?;
-        Ok(number)
+        let one = self.numbers[place as usize];
+        let two = self.numbers[other as usize];
+        one == two
     }
 }
 
@@ -93,15 +64,43 @@ pub(crate) fn share_rows(alloc: Global, rows: Vec<Vec<u32>>) -> Result<SharedRow
     requires { length rows.items < 2 ^ 32 }
     ensures { IfOk result (λ shared. shared ≡ map (λ row. row.items) rows.items) }
 {
-    let mut shared = SharedRows::new(alloc);
+    let mut kept = Vec::new(alloc);
+    let mut numbers = Vec::new(alloc);
     let mut latest = vec![in alloc; 0; rows.len() + 1]?;
     for row in rows {
-        let length = row.len();
-        let number = latest.get(length).copied().unwrap_or(0);
-        let number = shared.put(number, row)?;
-        if length < latest.len() {
-            latest[length] = number;
+        let size = row.len();
+        let known = latest.get(size).copied().unwrap_or(0);
+        let number = number_of(&mut kept, known, row)?;
+        numbers.push(number)?;
+        if size < latest.len() {
+            latest[size] = number;
         }
     }
-    Ok(shared)
+    Ok(SharedRows {
+        rows: kept,
+        numbers,
+    })
+}
+
+/// The number of a row among rows: that one, where it is the same, else the number of one more.
+fn number_of(rows: &mut Vec<Vec<u32>>, known: u32, row: Vec<u32>) -> Result<u32, AllocError>
+    requires { length rows.old.items < 2 ^ 32 }
+    ensures { IfOk result (λ number. IsAmong row.items number (map (λ row. row.items) rows.old.items) (map (λ row. row.items) rows.new.items)) }
+{
+    if is_at(rows, known, &row) {
+        return Ok(known);
+    }
+    let number = rows.len() as u32;
+    rows.push(row)?;
+    Ok(number)
+}
+
+/// Whether the row of this number is the same.
+fn is_at(rows: &[Vec<u32>], number: u32, row: &[u32]) -> bool
+    ensures { IsTrue result → (number < length rows.now) × (slice_index_or (map (λ row. row.items) rows.now) number [] ≡ row.now) }
+{
+    match rows.get(number as usize) {
+        Some(known) => known.as_slice() == row,
+        None => false,
+    }
 }

@@ -1,6 +1,6 @@
 //! The positions of a term, and how they take the characters of a text.
 
-ghost use Rattle.std.specs.Prelude.{◌≡◌, ℕ, ◌<◌, ◌≤◌, ◌↔◌, ◌⊎◌, length, replicate, false, All, Contains, IfOk, IfSome, IsErr, IsTrue};
+ghost use Rattle.std.specs.Prelude.{◌≡◌, ℕ, ◌<◌, ◌≤◌, ◌↔◌, ◌⊎◌, length, replicate, false, All, Contains, IfOk, IfSome, IsErr, IsTrue, Some};
 ghost use Rattle.std.specs.Str.{chars};
 ghost use Rattle.xs_positions.specs.Sets.{row};
 ghost use Rattle.xs_positions.specs.Nodes.{tree_at};
@@ -115,12 +115,37 @@ impl Program {
         if !self.takes(p, c) {
             return false;
         }
-        let waits = done.is_some_and(|q| self.positions.follow_alike(q, p));
-        if !waits {
-            next.insert_all(self.positions.follow(p));
-            *done = Some(p);
-        }
+        self.put_followers(p, next, done);
         self.ends[p as usize]
+    }
+
+    /// Those that follow the position wait; where the same ones follow the position that is done, they do already.
+    fn put_followers(&self, p: u32, next: &mut PositionSet, done: &mut Option<u32>)
+        requires program { IsProgram self.now }
+        requires within { p < length self.now.positions.symbols }
+        requires next { length next.old ≡ length self.now.positions.symbols }
+        requires done { IfSome done.old (AreWaiting self.now.positions next.old) }
+        ensures done { IfSome done.new (AreWaiting self.now.positions next.new) }
+        ensures next { (q : ℕ) → Has next.new q ↔ (Has next.old q ⊎ Contains (row self.now.positions.follow p) q) }
+        ensures size { length next.new ≡ length next.old }
+    {
+        if self.waits(*done, p) {
+            return;
+        }
+        next.insert_all(self.positions.follow(p));
+        *done = Some(p);
+    }
+
+    /// Whether the same positions follow the one that is done, as far as that is known.
+    fn waits(&self, done: Option<u32>, p: u32) -> bool
+        requires within { p < length self.now.positions.symbols }
+        requires done { IfSome done (λ q. q < length self.now.positions.symbols) }
+        ensures { IsTrue result → (q : ℕ) × (done ≡ Some q) × (row self.now.positions.follow q ≡ row self.now.positions.follow p) }
+    {
+        match done {
+            Some(q) => self.positions.follow_alike(q, p),
+            None => false,
+        }
     }
 
     /// Whether the class of the position's symbol has the character.
