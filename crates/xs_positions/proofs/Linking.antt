@@ -107,6 +107,7 @@ apart_step base from to loops old now i was new linked known seen so_far more lo
     same =
         let long : length (lists now) ≡ length now = length-map now (λ row. row.items) in
         let c = so_far.count in
+        let b : j < length (lists old) = inside in
         get_or-map (λ (v : Vec ℕ Global). v.items) now j was [] (omega arith) ∙ ap (λ (v : Vec ℕ Global). v.items) (sym is)
 
     there : (q : ℕ) → Contains to q → IsWithin linked.span p × IsWithin linked.span q → Contains was.items q
