@@ -271,7 +271,7 @@ impl Linked {
         requires { IsSeen loops.now numbers.now self.old }
         ensures { IsSeen loops.now numbers.now self.new }
     {
-        'before: while self.span.to <= p && self.place < loops.len() {
+        'seeking: while self.span.to <= p && self.place < loops.len() {
             self.span = loops[self.place];
             self.place += 1;
             self.start = first_from(numbers, self.end, self.span.from);
@@ -284,12 +284,13 @@ impl Linked {
         requires { (loops : List Span) × IsSeen loops numbers.now self.now }
         ensures { OnOk result (IsAdded self.now.span p numbers.now row.old.items row.new.items) }
     {
-        if self.span.has(p) {
-            row.extend_from_slice(&numbers[..self.start])?;
-            row.extend_from_slice(&numbers[self.end..])
-        } else {
-            row.extend_from_slice(numbers)
+        if !self.span.has(p) {
+            row.extend_from_slice(numbers)?;
+            return Ok(());
         }
+        row.extend_from_slice(&numbers[..self.start])?;
+        row.extend_from_slice(&numbers[self.end..])?;
+        Ok(())
     }
 }
 

@@ -1,5 +1,13 @@
+use Rattle.std.proofs.Common.{refl, inl, inr}
 use Rattle.xs_positions.proofs.Linking.{apart_step}
+use Rattle.xs_positions.proofs.Rising.{Contains-none}
 use Rattle.xs_positions.proofs.sets.link_apart.Goals as goal
+
+pub loop-p-init : goal.loop-p-init
+loop-p-init c = record {
+  seen = c.new-linked.ensures c.args.loops.now c.args.to.now;
+  so_far = record { count = refl; members = λ i p l. ((λ h. inl h), elim [ inl h ↦ h | inr h ↦ absurd (Contains-none _ h.0) ]) };
+}
 
 pub add-requires : goal.add-requires
 add-requires c = (c.args.loops.now, c.seek.ensures)
