@@ -1,0 +1,12 @@
+pub mod Rows
+pub mod RowsPut
+pub mod RowsRead
+pub mod Seated
+pub mod Grafting
+pub mod Grafts
+pub mod Numbers
+pub mod Writes
+pub mod Own
+pub mod Meaning
+pub mod Leading
+pub mod Counted
