@@ -1,0 +1,10 @@
+pub mod Changed
+pub mod Reread
+pub mod Retexted
+pub mod Reattributed
+pub mod Came
+pub mod Gone
+pub mod Following
+pub mod RootNamed
+pub mod Grown
+pub mod Under

@@ -1,0 +1,14 @@
+pub mod Still
+pub mod Starting
+pub mod Planted
+pub mod Pruned
+pub mod Renamed
+pub mod Midway
+pub mod Counted
+pub mod Ending
+pub mod Moves
+pub mod Siblings
+pub mod Settling
+pub mod Asking
+pub mod Same
+pub mod Unlisted
