@@ -1,0 +1,7 @@
+mod Results
+mod Following
+mod Standing
+mod Known
+mod Fresh
+mod Making
+mod Applying

@@ -1,0 +1,147 @@
+ghost use Rattle.std.specs.Prelude.{◌≡◌};
+
+use crate::editing::edit_kept;
+use crate::opening::open_document;
+use assess_records::Validity;
+use compiled_schema::Compiled;
+use doc_tree::DocTree;
+use kept_state::KeptState;
+use plain_tree::Tree;
+use report_text::Records;
+use session_model::{Session, SessionError, entries_are_named};
+use std::alloc::{AllocError, Global};
+use std::marker::Model;
+use tree_assess::ElementEntry;
+use tree_edits::{Edit, EditError};
+use tree_rows::NodeKind;
+use xsv_steps::{Ledger, Steps};
+
+/// A session that keeps what it found of each element, and after an edit finds anew what the edit changes.
+#[derive(Drop)]
+pub struct EditSession {
+    set: Box<Compiled>,
+    doc: DocTree,
+    kept: KeptState,
+    revision: u64,
+    closed: bool,
+}
+
+impl Model for EditSession {
+    ghost use Rattle.session_model.specs.State.{State};
+    ghost use Rattle.session_model.specs.StateCode.{state_code};
+
+    ghost Value = { State };
+
+    ghost coded = { state_code };
+
+    ghost use Rattle.edit_session.specs.Held.{state_of, IsHeld};
+
+    ghost view = { state_of };
+
+    ghost invariant = { IsHeld };
+}
+
+impl EditSession {
+    /// Lets go of it.
+    pub fn close(self) {
+        let EditSession { set, doc, kept, .. } = self;
+        drop(set);
+        drop(doc);
+        drop(kept);
+    }
+}
+
+// The records of an element and of its attributes.
+fn records_of(found: &ElementEntry) -> Records<'_>
+    ensures element { result.element.now ≡ found.now.element }
+    ensures attrs { result.attrs.now ≡ found.now.attrs }
+{
+    Records {
+        element: &found.element,
+        attrs: found.attrs.as_slice(),
+    }
+}
+
+impl Session for EditSession {
+    ghost use Rattle.edit_session.specs.Costs.{edit_cost, opening_cost};
+
+    ghost state = { λ s. s };
+
+    ghost budget = { edit_cost };
+
+    ghost opening = { opening_cost };
+
+    fn open<L: Ledger>(
+        alloc: Global,
+        set: Box<Compiled>,
+        tree: Tree,
+        steps: &mut Steps<L>,
+    ) -> Result<Self, AllocError> {
+        let mut set = set;
+        match open_document(alloc, &mut set, &tree, steps) {
+            Ok(opened) => Ok(EditSession {
+                set,
+                doc: opened.doc,
+                kept: opened.kept,
+                revision: 0,
+                closed: false,
+            }),
+            Err(error) => Err(error),
+        }
+    }
+
+    fn apply<L: Ledger>(&mut self, edit: &Edit, steps: &mut Steps<L>) -> Result<(), SessionError> {
+        if self.closed {
+            return Err(SessionError::Closed);
+        }
+        match edit_kept(&mut self.doc, &mut self.set, &mut self.kept, edit, steps) {
+            Ok(()) => {
+                self.revision = self.revision.saturating_add(1);
+                Ok(())
+            }
+            Err(EditError::Memory) => {
+                self.closed = true;
+                Err(SessionError::Memory)
+            }
+            Err(refusal) => Err(SessionError::Refused(refusal)),
+        }
+    }
+
+    fn records(&self, node: u32) -> Option<Records<'_>> {
+        entries_are_named();
+        match self.kept.records.get(node) {
+            None => None,
+            Some(own) => Some(records_of(&own.found)),
+        }
+    }
+
+    fn node_after(&self, node: u32) -> Option<u32> {
+        match self.kept.records.get(node) {
+            None => None,
+            Some(_) => self.doc.next_element(node),
+        }
+    }
+
+    fn compiled(&self) -> &Compiled {
+        &self.set
+    }
+
+    fn code_total(&self) -> u64 {
+        self.kept.records.total()
+    }
+
+    fn root_validity(&self) -> Validity {
+        match self.kept.records.get(1) {
+            None => Validity::NotKnown,
+            Some(root) => root.found.element.validity,
+        }
+    }
+
+    fn live(&self, node: u32) -> Option<NodeKind> {
+        self.doc.live(node)
+    }
+
+    fn revision(&self) -> u64 {
+        self.revision
+    }
+}
