@@ -1,0 +1,7 @@
+//! A session that keeps what it found, and finds anew what an edit changes.
+#![tactic(auto)]
+
+mod opening;
+mod session;
+
+pub use session::EditSession;

@@ -1,0 +1,7 @@
+pub mod Keeping
+pub mod Fits
+mod Counts
+mod Children
+mod Again
+pub mod Moving
+mod Opening

@@ -1,0 +1,6 @@
+pub mod Changed
+pub mod Reread
+pub mod Retexted
+pub mod Reattributed
+pub mod Grown
+pub mod Forgetting

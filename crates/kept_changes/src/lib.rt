@@ -1,0 +1,10 @@
+//! A change of a document, with what is kept of its elements.
+#![tactic(auto)]
+
+mod change;
+mod forget;
+mod laws;
+mod own;
+
+pub use change::keep_change;
+pub use laws::records_stay_right_as_names_are_added;

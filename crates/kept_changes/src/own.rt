@@ -1,0 +1,91 @@
+//! Elements whose own texts, attributes or name are others.
+
+ghost use Rattle.std.specs.Prelude.{◌≡◌, ◌≤◌, ◌+◌, ◌*◌, ℕ, [], ◌∷◌, OnOk};
+ghost use Rattle.tree_rows.specs.Forest.{Forest};
+ghost use Rattle.elem_governing.specs.declared.pairs.Governing.{Governing};
+ghost use Rattle.compiled_schema.specs.Usable.{set_of};
+ghost use Rattle.doc_documents.specs.Readers.{element_numbers};
+ghost use Rattle.kept_records.specs.Fit.{head_at};
+ghost use Rattle.kept_records.specs.Slots.{pair_at};
+ghost use Rattle.kept_state.specs.Kept.{IsBeside};
+ghost use Rattle.kept_judging.specs.Judged.{again_pair};
+ghost use Rattle.kept_below.specs.Moved.{AreGivenDown, moved};
+ghost use Rattle.kept_children.specs.Edited.{IsRightFor};
+ghost use Rattle.kept_changes.specs.Own.{IsRetexted, IsReattributed, IsNamedAnew};
+
+use compiled_schema::Compiled;
+use doc_texts::chars_of;
+use doc_tree::DocTree;
+use kept_above::settle_above;
+use kept_below::settle_again;
+use kept_children::{name_child, place_of};
+use kept_judging::{judge, pair_again, pair_of_root};
+use kept_state::{Governed, KeptState};
+use std::alloc::AllocError;
+use xsv_steps::{Ledger, Steps};
+
+/// Makes all records right, where the texts of an element are others now. It takes no step.
+pub(crate) fn retext(
+    doc: &DocTree,
+    set: &mut Compiled,
+    kept: &mut KeptState,
+    node: u32,
+) -> Result<(), AllocError>
+    requires beside { IsBeside set.old doc.now kept.old }
+    requires retexted { IsRetexted set.old doc.now kept.old node }
+    ensures right { OnOk result (IsRightFor set.old doc.now kept.new) }
+    ensures same { set.new ≡ set.old }
+{
+    let text = chars_of(kept.alloc, doc, node)?;
+    kept.records.set_text(node, text);
+    let was = kept.outcome(node);
+    let pair = kept.pair(node);
+    judge(doc, set, kept, &Governed { node, pair })?;
+    settle_above(doc, set, kept, node, was)
+}
+
+/// Makes all records right, where the attributes of an element are others now. It takes at most three steps for each child element of an
+/// element whose type is another.
+pub(crate) fn reattribute<L: Ledger>(
+    doc: &DocTree,
+    set: &mut Compiled,
+    kept: &mut KeptState,
+    node: u32,
+    steps: &mut Steps<L>,
+) -> Result<(), AllocError>
+    requires beside { IsBeside set.old doc.now kept.old }
+    requires reattributed { IsReattributed set.old doc.now kept.old node }
+    ensures right { OnOk result (IsRightFor set.old doc.now kept.new) }
+    ensures same { set.new ≡ set.old }
+    ensures least { steps.old ≤ steps.new }
+    ensures steps { (siblings : Forest) (governs : ℕ → Governing) → AreGivenDown set.old doc.now governs siblings → element_numbers siblings ≡ node ∷ [] →
+        governs node ≡ again_pair (set_of set.old) (pair_at kept.old.records.slots node) (head_at (set_of set.old) doc.now node) → steps.new ≤ steps.old + 3 * moved kept.old.records.slots governs siblings }
+{
+    let was = kept.outcome(node);
+    let pair = kept.pair(node);
+    let element = pair_again(kept.alloc, doc, set, Governed { node, pair })?;
+    settle_again(doc, set, kept, &element, steps)?;
+    settle_above(doc, set, kept, node, was)
+}
+
+/// Makes all records right, where an element has another name now.
+pub(crate) fn rename<L: Ledger>(
+    doc: &DocTree,
+    set: &mut Compiled,
+    kept: &mut KeptState,
+    node: u32,
+    steps: &mut Steps<L>,
+) -> Result<(), AllocError>
+    requires beside { IsBeside set.old doc.now kept.old }
+    requires renamed { IsNamedAnew set.old doc.now kept.old node }
+    ensures right { OnOk result (IsRightFor set.old doc.now kept.new) }
+    ensures same { set.new ≡ set.old }
+{
+    match place_of(doc, node) {
+        Some(at) => name_child(doc, set, kept, &at, steps),
+        None => {
+            let root = pair_of_root(kept.alloc, doc, set)?;
+            settle_again(doc, set, kept, &root, steps)
+        }
+    }
+}

@@ -1,0 +1,14 @@
+pub mod Lists
+pub mod Still
+pub mod Terms
+pub mod Listed
+pub mod Starting
+pub mod Planted
+pub mod Pruned
+pub mod Renamed
+pub mod Midway
+pub mod Counted
+pub mod Ending
+pub mod Moves
+pub mod Marked
+pub mod Rooms

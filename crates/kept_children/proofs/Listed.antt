@@ -1,0 +1,130 @@
+-- What is read of the list of an element, and how an edit of it makes it that of the child elements as they are now.
+use Rattle.std.proofs.Common.{◌≡◌, ◌⊎◌, ℕ, suc, ◌+◌, ◌*◌, ◌<◌, ◌≤◌, List, [], ◌∷◌, length, map, set, true, false, Option, None, Some, refl, sym, ap, ◌∙◌, subst, inl, inr, arith}
+use Rattle.std.specs.Prelude.{insert, remove, slice_get, slice_index}
+use Rattle.std.specs.Option.{option_and_then}
+use Rattle.std.proofs.lemmas.Bool.{false≢true}
+use Rattle.std.proofs.lemmas.Option.{none-some, same_Some}
+use Rattle.std.proofs.lemmas.List.{length-map}
+use Rattle.std.proofs.lemmas.List.Edits.{length-remove}
+use Rattle.child_trees.specs.Bits.{bits}
+use Rattle.content_models.specs.declared.automaton.ContentAutomaton.{ContentAutomaton}
+use Rattle.compiled_schema.specs.declared.compiled.Compiled.{Compiled}
+use Rattle.model_terms.specs.Terms.{is_ambivalent_symbol, stuck_in, term_in}
+use Rattle.model_lists.specs.Lists.{ListsView, IsListOf, ambivalent_places}
+use Rattle.model_lists.specs.declared.handle.ModelList.{ModelList}
+use Rattle.doc_nodes.specs.Nodes.{Node, Nodes, node, Lacks, is_element, is_element_by, is_element_at, element_children}
+use Rattle.doc_nodes.specs.declared.content.Content.{Content}
+use Rattle.doc_nodes.specs.declared.content.Content.TheVariants as contents
+use Rattle.doc_changes.specs.Held.{name_in}
+use Rattle.doc_documents.specs.Readers.{name_by, name_at}
+use Rattle.kept_records.specs.Fit.{IsListed}
+use Rattle.kept_state.specs.declared.state.KeptState.{KeptState}
+use Rattle.kept_children.specs.Places.{IsPlaceOf}
+use Rattle.kept_children.specs.Family.{IsListedBy, marked_places, model_of, symbols_of}
+use Rattle.kept_children.specs.declared.place.ChildPlace.{ChildPlace}
+use Rattle.kept_children.proofs.Lists.{get-map, get-within, index-get, insert-removed, set-again, unmarked}
+use Rattle.kept_children.proofs.Terms.{symbol_by, symbol-at, many-symbols}
+
+-- ---- where there is a list, and where there is none
+
+pub listed-as : (v : ListsView) (model : Option ContentAutomaton) (list : Option ModelList) (symbols : List ℕ) (h : ModelList) (a : ContentAutomaton) → list ≡ Some h → model ≡ Some a →
+    IsListed v model list symbols → IsListOf v h a symbols
+listed-as v model list symbols h a e f l = subst (λ x. IsListed v x (Some h) symbols) f (subst (λ x. IsListed v model x symbols) e l)
+
+pub listed-back : (v : ListsView) (model : Option ContentAutomaton) (list : Option ModelList) (symbols : List ℕ) (h : ModelList) (a : ContentAutomaton) → list ≡ Some h → model ≡ Some a →
+    IsListOf v h a symbols → IsListed v model list symbols
+listed-back v model list symbols h a e f l = subst (λ x. IsListed v model x symbols) (sym e) (subst (λ x. IsListed v x (Some h) symbols) (sym f) l)
+
+-- without a list there is no content model, nor is there one without the other
+pub unlisted : (v : ListsView) (model : Option ContentAutomaton) (list : Option ModelList) (symbols : List ℕ) → (list ≡ None) ⊎ (model ≡ None) → IsListed v model list symbols → model ≡ None
+unlisted v None list symbols h l = refl
+unlisted v (Some a) None symbols h l = absurd l
+unlisted v (Some a) (Some g) symbols (inl e) l = absurd (none-some g (sym e))
+unlisted v (Some a) (Some g) symbols (inr e) l = absurd (none-some a (sym e))
+
+pub unlisted-any : (v : ListsView) (model : Option ContentAutomaton) (list : Option ModelList) (symbols others : List ℕ) → (list ≡ None) ⊎ (model ≡ None) → IsListed v model list symbols → IsListed v model list others
+unlisted-any v None None symbols others h l = tt
+unlisted-any v None (Some g) symbols others h l = l
+unlisted-any v (Some a) None symbols others h l = l
+unlisted-any v (Some a) (Some g) symbols others (inl e) l = absurd (none-some g (sym e))
+unlisted-any v (Some a) (Some g) symbols others (inr e) l = absurd (none-some a (sym e))
+
+pub unlisted-stuck : (model : Option ContentAutomaton) (symbols : List ℕ) → model ≡ None → None ≡ stuck_in model symbols
+unlisted-stuck model symbols e = ap (λ a. stuck_in a symbols) (sym e)
+
+pub unlisted-term : (model : Option ContentAutomaton) (symbols : List ℕ) (place : ℕ) → model ≡ None → None ≡ term_in model symbols place
+unlisted-term model symbols place e = ap (λ a. term_in a symbols place) (sym e)
+
+pub unlisted-places : (model : Option ContentAutomaton) (symbols : List ℕ) (number : ℕ) → model ≡ None → slice_get (marked_places model symbols) number ≡ None
+unlisted-places model symbols number e = ap (λ a. slice_get (marked_places a symbols) number) e
+
+pub listed-stuck : (model : Option ContentAutomaton) (symbols : List ℕ) (a : ContentAutomaton) (r : Option ℕ) → model ≡ Some a → r ≡ stuck_in (Some a) symbols → r ≡ stuck_in model symbols
+listed-stuck model symbols a r e f = f ∙ ap (λ x. stuck_in x symbols) (sym e)
+
+-- ---- the name of an element
+
+name-in : (content : Content) → is_element content ≡ true → name_in content ≡ Some (name_by (Some (record { parent = None; depth = 0; content = content; children = [] })))
+name-in (contents.Element e) is = refl
+name-in (contents.Chars chars) is = absurd (false≢true is)
+
+name-of : (o : Option Node) → is_element_by o ≡ true → option_and_then (λ (it : Node). name_in it.content) o ≡ Some (name_by o)
+name-of None is = absurd (false≢true is)
+name-of (Some it) is = name-in it.content is
+
+pub name-there : (ns : Nodes) (n : ℕ) → is_element_at ns n ≡ true → option_and_then (λ (it : Node). name_in it.content) (node ns n) ≡ Some (name_at ns n)
+name-there ns n is = name-of (node ns n) is
+
+-- ---- a child element in the list
+
+module _ (c : Compiled) (ns : Nodes) (k : KeptState) (spot : ChildPlace) (place : IsPlaceOf ns spot) where
+  abbrev p : ℕ
+  p = spot.parent
+
+  abbrev symbols : List ℕ
+  symbols = symbols_of c ns k p
+
+  pub symbols-many : length (symbols_of c ns k p) ≡ length (element_children ns p)
+  symbols-many = many-symbols c.names (model_of c k p) (name_at ns) (element_children ns p)
+
+  pub symbol-there : (symbol : ℕ) → symbol ≡ symbol_by c.names (model_of c k p) (name_at ns spot.node) → slice_get (symbols_of c ns k p) spot.place ≡ Some symbol
+  symbol-there symbol e =
+      symbol-at c.names (model_of c k p) (map (name_at ns) (element_children ns p)) spot.place (name_at ns spot.node) (get-map (name_at ns) (element_children ns p) spot.place spot.node place.node_is)
+      ∙ ap Some (sym e)
+
+  pub symbol-by : (a : ContentAutomaton) (symbol : ℕ) → model_of c k p ≡ Some a → symbol ≡ symbol_by c.names (Some a) (name_at ns spot.node) → slice_get (symbols_of c ns k p) spot.place ≡ Some symbol
+  symbol-by a symbol e f = symbol-there symbol (f ∙ ap (λ x. symbol_by c.names x (name_at ns spot.node)) (sym e))
+
+  pub place-within : spot.place < length (symbols_of c ns k p)
+  place-within = let l = get-within (element_children ns p) spot.place spot.node place.node_is in let n = symbols-many in omega (arith, l, n)
+
+  pub place-removed : spot.place ≤ length (remove (symbols_of c ns k p) spot.place)
+  place-removed = let l = place-within in let n = length-remove symbols spot.place l in omega (arith, l, n)
+
+  pub removed-many : length (remove (symbols_of c ns k p) spot.place) + 2 ≡ length (element_children ns p) + 1
+  removed-many = let l = place-within in let n = length-remove symbols spot.place l in let m = symbols-many in omega (arith, n, m)
+
+  module _ (a : ContentAutomaton) (symbol : ℕ) (is : slice_get (symbols_of c ns k p) spot.place ≡ Some symbol) (v : ListsView) (h : ModelList) where
+    pub put-in : IsListOf v h a (insert (remove (symbols_of c ns k p) spot.place) spot.place symbol) → IsListOf v h a (symbols_of c ns k p)
+    put-in l = subst (IsListOf v h a) (insert-removed symbols spot.place symbol is) l
+
+    pub put-again : (was : ℕ) → IsListOf v h a (set (set (symbols_of c ns k p) spot.place was) spot.place symbol) → IsListOf v h a (symbols_of c ns k p)
+    put-again was l = subst (IsListOf v h a) (set-again symbols spot.place symbol was is) l
+
+    pub symbol-index : slice_index (symbols_of c ns k p) spot.place ≡ symbol
+    symbol-index = index-get symbols spot.place symbol is
+
+    pub not-ambivalent : model_of c k p ≡ Some a → Lacks spot.place (marked_places (model_of c k p) (symbols_of c ns k p)) → is_ambivalent_symbol a symbol ≡ false
+    not-ambivalent e lacks =
+        ap (is_ambivalent_symbol a) (sym symbol-index)
+        ∙ unmarked (is_ambivalent_symbol a) symbols spot.place place-within (subst (λ x. Lacks spot.place (marked_places x symbols)) e lacks)
+
+-- ---- steps
+
+pub as-many-steps : (old new n m : ℕ) → n ≡ m → new ≤ old + 16 * (bits n + 1) → new ≤ old + 16 * (bits m + 1)
+as-many-steps old new n m e l = subst (λ x. new ≤ old + 16 * (bits x + 1)) e l
+
+pub as-few-steps : (old new n m : ℕ) → n ≡ m → new ≤ old + 8 * (bits (n + 1) + 1) → new ≤ old + 8 * (bits (m + 1) + 1)
+as-few-steps old new n m e l = subst (λ x. new ≤ old + 8 * (bits (x + 1) + 1)) e l
+
+pub one-more-step : (old new n m : ℕ) → n ≡ m → new ≤ old + (8 * (bits (n + 1) + 1) + 1) → new ≤ old + (8 * (bits (m + 1) + 1) + 1)
+one-more-step old new n m e l = subst (λ x. new ≤ old + (8 * (bits (x + 1) + 1) + 1)) e l

@@ -1,0 +1,63 @@
+-- A child element that came, is gone or has another name, where what is kept is right for the document as it was before.
+use Rattle.std.specs.Prelude.{◌≡◌, ℕ, [], None, length, true}
+use Rattle.tree_rows.specs.Forest.{Forest}
+use Rattle.compiled_schema.specs.Usable.{set_of}
+use Rattle.compiled_schema.specs.declared.compiled.Compiled.{Compiled}
+use Rattle.doc_nodes.specs.Nodes.{Node, Nodes, IsNode, IsChildAt, Holds, is_element_at}
+use Rattle.doc_nodes.specs.declared.content.Content.TheVariants as contents
+use Rattle.doc_nodes.specs.declared.content.Element.{Element}
+use Rattle.doc_changes.specs.Parts.{Prunes}
+use Rattle.doc_planting.specs.Planted.{Plants}
+use Rattle.kept_slots.specs.Slots.{at}
+use Rattle.kept_records.specs.Fit.{IsTop}
+use Rattle.kept_state.specs.Kept.{FitBut, IsBeside, outcome_at}
+use Rattle.kept_state.specs.declared.element.Outcome.{Outcome}
+use Rattle.kept_state.specs.declared.state.KeptState.{KeptState}
+use Rattle.kept_below.specs.Below.{IsWithin, KeepsBut}
+use Rattle.kept_children.specs.Places.{IsPlaceOf}
+use Rattle.kept_children.specs.declared.place.ChildPlace.{ChildPlace}
+
+-- all that is kept is right for the document that these nodes stand for
+pub record IsRightFor (c : Compiled) (ns : Nodes) (k : KeptState) : Type 0 where
+  pub beside : IsBeside c ns k
+  pub top : IsTop (set_of c) ns k.records.slots
+  pub fit : FitBut c ns k []
+
+-- the element came, with all that is below it
+pub record IsPlanted (c : Compiled) (ns : Nodes) (k : KeptState) (at : ChildPlace) : Type 0 where
+  pub old : Nodes
+  pub right : IsRightFor c old k
+  pub parent : is_element_at old at.parent ≡ true
+  pub place : ℕ
+  pub part : Forest
+  pub plants : Plants c.names old ns at.parent place part
+  pub number : at.node ≡ length old
+
+-- nothing is kept any more of an element and of what is below it, and nothing else is kept otherwise
+pub record Forgets (ns : Nodes) (old new : KeptState) (n : ℕ) : Type 0 where
+  pub gone : (m : ℕ) → IsWithin ns n m → at new.records.slots m ≡ None
+  pub rest : KeepsBut (IsWithin ns n) old new
+
+-- the element is gone with all that was below it, and nothing is kept of these; it had come to this
+pub record IsPruned (c : Compiled) (ns : Nodes) (k : KeptState) (at : ChildPlace) (outcome : Outcome) : Type 0 where
+  pub old : Nodes
+  pub before : KeptState
+  pub right : IsRightFor c old before
+  pub placed : IsPlaceOf old at
+  pub outcome_is : outcome ≡ outcome_at before.records.slots at.node
+  pub forgets : Forgets old before k at.node
+  pub place : ℕ
+  pub below : Forest
+  pub child : IsChildAt old at.parent place at.node
+  pub prunes : Prunes old ns at.parent place at.node below
+
+-- the element has another name
+pub record IsRenamed (c : Compiled) (ns : Nodes) (k : KeptState) (at : ChildPlace) : Type 0 where
+  pub old : Nodes
+  pub right : IsRightFor c old k
+  pub node : Node
+  pub is : IsNode old at.node node
+  pub element : Element
+  pub content : node.content ≡ contents.Element element
+  pub name : ℕ
+  pub holds : Holds old ns at.node (contents.Element (record element { name = name }))

@@ -1,0 +1,4 @@
+pub mod Places
+pub mod Family
+pub mod Edited
+pub mod Steps

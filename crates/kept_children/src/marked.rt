@@ -1,0 +1,117 @@
+//! The child elements whose terms go by their place, asked again.
+
+ghost use Rattle.std.specs.Prelude.{◌≡◌, ◌+◌, ◌*◌, ◌≤◌, ℕ, List, [], ◌∷◌, None, Some, length, slice_get, OnOk, MatchOption};
+ghost use Rattle.tree_rows.specs.Forest.{Forest};
+ghost use Rattle.elem_governing.specs.declared.pairs.Governing.{Governing};
+ghost use Rattle.doc_nodes.specs.Nodes.{element_children};
+ghost use Rattle.doc_documents.specs.Readers.{element_numbers};
+ghost use Rattle.kept_records.specs.Slots.{IsMade, pair_at};
+ghost use Rattle.kept_state.specs.declared.children.KeptChildren.{KeptChildren as KeptChildrenData};
+ghost use Rattle.kept_judging.specs.Judged.{pair_by};
+ghost use Rattle.kept_below.specs.Moved.{AreGivenDown, moved};
+ghost use Rattle.kept_children.specs.Places.{IsPlaceOf};
+ghost use Rattle.kept_children.specs.Family.{AreCounted, AreGivenBut, IsAttributed, IsListedBy, IsMidway, marked_places};
+ghost use Rattle.kept_children.specs.Family as family;
+ghost use Rattle.kept_children.specs.Steps.{GovernsBelow, digits, marked_count, width};
+
+use crate::lists::govern_at;
+use crate::place::{ChildPlace, list_of};
+use compiled_schema::Compiled;
+use doc_tree::DocTree;
+use kept_above::recount;
+use kept_below::settle_below;
+use kept_state::KeptState;
+use std::alloc::AllocError;
+use xsv_steps::{Ledger, Steps};
+
+// Governs a child element by its term as it is now, and counts what it comes to in place of what it came to.
+fn settle_marked<L: Ledger>(
+    doc: &DocTree,
+    set: &mut Compiled,
+    kept: &mut KeptState,
+    at: &ChildPlace,
+    steps: &mut Steps<L>,
+) -> Result<(), AllocError>
+    requires place { IsPlaceOf doc.now at.now }
+    requires midway { (was : KeptChildrenData) × IsMidway set.old doc.now kept.old at.now.parent was [] }
+    requires attributed { IsAttributed set.old doc.now kept.old at.now.parent }
+    requires counted { AreCounted kept.old at.now.parent (element_children doc.now at.now.parent) }
+    ensures midway { OnOk result ((was : KeptChildrenData) → IsMidway set.old doc.now kept.old at.now.parent was [] → IsMidway set.old doc.now kept.new at.now.parent was []) }
+    ensures attributed { OnOk result (IsAttributed set.old doc.now kept.new at.now.parent) }
+    ensures counted { OnOk result (AreCounted kept.new at.now.parent (element_children doc.now at.now.parent)) }
+    ensures given { OnOk result ((places : List ℕ) → AreGivenBut set.old doc.now kept.old at.now.parent (at.now.place ∷ places) → AreGivenBut set.old doc.now kept.new at.now.parent places) }
+    ensures pair { OnOk result (pair_at kept.new.records.slots at.now.parent ≡ pair_at kept.old.records.slots at.now.parent) }
+    ensures same { set.new ≡ set.old }
+    ensures least { steps.old ≤ steps.new }
+    ensures steps { (siblings : Forest) (governs : ℕ → Governing) → AreGivenDown set.old doc.now governs siblings → element_numbers siblings ≡ at.now.node ∷ [] →
+        governs at.now.node ≡ pair_by set.old doc.now (pair_at kept.old.records.slots at.now.parent) at.now.parent at.now.place at.now.node →
+        steps.new ≤ steps.old + (8 * digits (width doc.now at.now.parent) + 3 * moved kept.old.records.slots governs siblings) }
+{
+    let was = kept.outcome(at.node);
+    let child = govern_at(doc, set, kept, at, steps)?;
+    settle_below(doc, set, kept, &child, steps)?;
+    let now = kept.outcome(at.node);
+    recount(kept, at.parent, was, now);
+    Ok(())
+}
+
+// The child element whose name is ambivalent of this number among those, from 0; `None` past the last.
+fn marked_at(
+    doc: &DocTree,
+    set: &Compiled,
+    kept: &KeptState,
+    parent: u32,
+    number: u32,
+) -> Option<ChildPlace>
+    requires made { IsMade kept.now.records.slots parent }
+    requires listed { IsListedBy set.now kept.now parent (family.symbols_of set.now doc.now kept.now parent) }
+    ensures { MatchOption result
+        (slice_get (marked_places (family.model_of set.now kept.now parent) (family.symbols_of set.now doc.now kept.now parent)) number ≡ None)
+        (λ at. (at.parent ≡ parent) × IsPlaceOf doc.now at ×
+        (slice_get (marked_places (family.model_of set.now kept.now parent) (family.symbols_of set.now doc.now kept.now parent)) number ≡ Some at.place)) }
+{
+    let (list, _) = list_of(set, kept, parent)?;
+    let place = kept.lists.marked(list, number)?;
+    let node = doc.element_at(parent, place)?;
+    Some(ChildPlace {
+        parent,
+        place,
+        node,
+    })
+}
+
+/// Governs the child elements of an element whose names are ambivalent again. It takes at most `8 * (bits(n + 1) + 1)` steps for each of
+/// them, where there are `n` child elements, beside the steps of what is governed otherwise than before.
+///
+/// # Errors
+///
+/// `AllocError` is want of memory, or there are too many codes.
+pub(crate) fn settle_all_marked<L: Ledger>(
+    doc: &DocTree,
+    set: &mut Compiled,
+    kept: &mut KeptState,
+    parent: u32,
+    steps: &mut Steps<L>,
+) -> Result<(), AllocError>
+    requires midway { (was : KeptChildrenData) × IsMidway set.old doc.now kept.old parent was [] }
+    requires attributed { IsAttributed set.old doc.now kept.old parent }
+    requires counted { AreCounted kept.old parent (element_children doc.now parent) }
+    requires given { AreGivenBut set.old doc.now kept.old parent (marked_places (family.model_of set.old kept.old parent) (family.symbols_of set.old doc.now kept.old parent)) }
+    ensures midway { OnOk result ((was : KeptChildrenData) → IsMidway set.old doc.now kept.old parent was [] → IsMidway set.old doc.now kept.new parent was []) }
+    ensures attributed { OnOk result (IsAttributed set.old doc.now kept.new parent) }
+    ensures counted { OnOk result (AreCounted kept.new parent (element_children doc.now parent)) }
+    ensures given { OnOk result (AreGivenBut set.old doc.now kept.new parent []) }
+    ensures pair { OnOk result (pair_at kept.new.records.slots parent ≡ pair_at kept.old.records.slots parent) }
+    ensures same { set.new ≡ set.old }
+    ensures least { steps.old ≤ steps.new }
+    ensures steps { (siblings : Forest) (governs : ℕ → Governing) → GovernsBelow set.old doc.now (pair_at kept.old.records.slots parent) parent governs siblings →
+        steps.new ≤ steps.old + (8 * digits (width doc.now parent) * marked_count set.old doc.now kept.old parent + 3 * moved kept.old.records.slots governs siblings) }
+{
+    for number in 0..doc.child_count(parent) {
+        let Some(at) = marked_at(doc, set, kept, parent, number) else {
+            return Ok(());
+        };
+        settle_marked(doc, set, kept, &at, steps)?;
+    }
+    Ok(())
+}

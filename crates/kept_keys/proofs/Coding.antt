@@ -1,0 +1,92 @@
+-- Codes by the numbers of elements, of which no two have one.
+use Rattle.std.proofs.Common.{◌≡◌, ℕ, zero, suc, ◌+◌, ◌≤◌, ◌==◌, Bool, true, false, if◌then◌else◌, List, [], ◌∷◌, ◌++◌, length, Option, Some, refl, sym, ap, ◌∙◌, arith, append-nil}
+use Rattle.std.specs.Prelude.{slice_get}
+use Rattle.std.proofs.lemmas.Bool.{eq-eqb}
+use Rattle.std.proofs.lemmas.Option.{same_Some, none-some}
+use Rattle.xs_names.specs.Names.{NameTable}
+use Rattle.xs_codes.specs.declared.fault.Found.{Found}
+use Rattle.xs_components.specs.Tables.{Tables}
+use Rattle.identity_paths.specs.declared.paths.IdentityPaths.{IdentityPaths}
+use Rattle.identity_constraints.specs.Seen.{KeyForest, none, element}
+use Rattle.identity_constraints.specs.Satisfied.{identity_codes, identity_at}
+use Rattle.forest_keys.specs.Codes.{all_codes}
+use Rattle.kept_keys.specs.Seen.{numbers_in}
+
+-- how many elements have the number
+abbrev pub seen_times : ℕ → KeyForest → ℕ
+seen_times n none = 0
+seen_times n (element own below next) = (if own.number == n then 1 else 0) + (seen_times n below + seen_times n next)
+
+abbrev weight : Bool → ℕ
+weight b = if b then 1 else 0
+
+-- codes for numbers, one after another
+abbrev pub AreFor : (ℕ → List Found) → List ℕ → List (List Found) → Type 0
+AreFor h [] [] = Unit {0}
+AreFor h [] (x ∷ xs) = ⊥
+AreFor h (n ∷ ns) [] = ⊥
+AreFor h (n ∷ ns) (x ∷ xs) = (x ≡ h n) × AreFor h ns xs
+
+for-both : (h : ℕ → List Found) (ns ms : List ℕ) (xs ys : List (List Found)) → AreFor h ns xs → AreFor h ms ys → AreFor h (ns ++ ms) (xs ++ ys)
+for-both h [] ms [] ys a b = b
+for-both h [] ms (x ∷ xs) ys a b = absurd a
+for-both h (n ∷ ns) ms [] ys a b = absurd a
+for-both h (n ∷ ns) ms (x ∷ xs) ys a b = (a.0, for-both h ns ms xs ys a.1 b)
+
+pub for-each : (h : ℕ → List Found) (ns : List ℕ) (xs : List (List Found)) → AreFor h ns xs → length xs ≡ length ns
+for-each h [] [] a = refl
+for-each h [] (x ∷ xs) a = absurd a
+for-each h (n ∷ ns) [] a = absurd a
+for-each h (n ∷ ns) (x ∷ xs) a = ap suc (for-each h ns xs a.1)
+
+pub for-at : (h : ℕ → List Found) (ns : List ℕ) (xs : List (List Found)) → AreFor h ns xs → (i n : ℕ) (x : List Found) → slice_get ns i ≡ Some n → slice_get xs i ≡ Some x → x ≡ h n
+for-at h [] xs a i n x e f = absurd (none-some n e)
+for-at h (m ∷ ns) [] a i n x e f = absurd a
+for-at h (m ∷ ns) (y ∷ xs) a zero n x e f = sym (same_Some y x f) ∙ a.0 ∙ ap h (same_Some m n e)
+for-at h (m ∷ ns) (y ∷ xs) a (suc i) n x e f = for-at h ns xs a.1 i n x e f
+
+module _ (names : NameTable) (t : Tables) (identities : List IdentityPaths) where
+  abbrev at : KeyForest → ℕ → List Found
+  at f n = identity_at names t identities n f
+
+  none-of : (m n : ℕ) (x : List Found) → weight (m == n) ≡ 0 → (if m == n then x else []) ≡ []
+  none-of m n x e = other (m == n) e
+    where
+      other : (b : Bool) → weight b ≡ 0 → (if b then x else []) ≡ []
+      other true h = absurd (omega (arith, h))
+      other false h = refl
+
+  none-at : (n : ℕ) (f : KeyForest) → seen_times n f ≡ 0 → at f n ≡ []
+  none-at n none h = refl
+  none-at n (element own below next) h =
+      let first = none-of own.number n (identity_codes names t identities own below) (omega (arith, h)) in
+      let one = none-at n below (omega (arith, h)) in
+      let two = none-at n next (omega (arith, h)) in
+      λ i. first i ++ (one i ++ two i)
+
+  own-first : (n : ℕ) (x : List Found) → (if n == n then x else []) ≡ x
+  own-first n x = ap (λ (b : Bool). if b then x else []) (eq-eqb n n refl)
+
+  -- in a forest of which no two elements have one number
+  pub codes-for : (h : ℕ → List Found) (f : KeyForest) → ((n : ℕ) → seen_times n f ≤ 1) → ((n : ℕ) → 1 ≤ seen_times n f → at f n ≡ h n) → AreFor h (numbers_in f) (all_codes names t identities f)
+  codes-for h none once same = tt
+  codes-for h (element own below next) once same =
+      let codes = identity_codes names t identities own below in
+      let here : weight (own.number == own.number) ≡ 1 = ap weight (eq-eqb own.number own.number refl) in
+      let none-below = none-at own.number below (omega (arith, here, once own.number)) in
+      let none-next = none-at own.number next (omega (arith, here, once own.number)) in
+      let own-is : at (element own below next) own.number ≡ codes =
+      (λ i. own-first own.number codes i ++ (none-below i ++ none-next i)) ∙ append-nil codes in
+      let under : (n : ℕ) → 1 ≤ seen_times n below → at below n ≡ h n = λ n has.
+      let first = none-of own.number n codes (omega (arith, has, once n)) in
+      let behind = none-at n next (omega (arith, has, once n)) in
+      sym ((λ i. first i ++ (at below n ++ behind i)) ∙ append-nil (at below n)) ∙ same n (omega (arith, has)) in
+      let later : (n : ℕ) → 1 ≤ seen_times n next → at next n ≡ h n = λ n has.
+      let first = none-of own.number n codes (omega (arith, has, once n)) in
+      let inner = none-at n below (omega (arith, has, once n)) in
+      sym (λ i. first i ++ (inner i ++ at next n)) ∙ same n (omega (arith, has)) in (
+        sym own-is ∙ same own.number (omega (arith, here)),
+        for-both h (numbers_in below) (numbers_in next) (all_codes names t identities below) (all_codes names t identities next)
+            (codes-for h below (λ n. omega (arith, once n)) under)
+            (codes-for h next (λ n. omega (arith, once n)) later),
+      )

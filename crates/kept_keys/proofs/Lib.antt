@@ -1,0 +1,6 @@
+mod Firsts
+mod Seeing
+mod Coding
+mod Staying
+mod Found
+mod Numbers
