@@ -3,4 +3,3 @@ pub mod Reread
 pub mod Retexted
 pub mod Reattributed
 pub mod Grown
-pub mod Forgetting

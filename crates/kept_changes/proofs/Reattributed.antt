@@ -28,14 +28,14 @@ use Rattle.kept_judging.proofs.Anew.{not-own-parent, gathered-children, fit-judg
 use Rattle.kept_judging.proofs.Reading.{root-can, given-can}
 use Rattle.kept_above.specs.Climbing.{IsNearly, IsClimbing, KeepsRest}
 use Rattle.kept_above.proofs.Climbing.{judged-kept, nearly}
-use Rattle.kept_above.proofs.Placed.{children-differ, child-place, parent-element, root-alone}
+use Rattle.kept_forgetting.proofs.Placed.{children-differ, child-place, parent-element, root-alone}
 use Rattle.kept_above.proofs.Whole.{all-made}
 use Rattle.kept_below.specs.Below.{upwards, IsWithin, AreAbove, IsSettled}
 use Rattle.kept_children.specs.Edited.{IsRightFor}
-use Rattle.kept_children.specs.Family.{AreGivenBut, IsAttributed}
-use Rattle.kept_children.specs.Places.{IsPlaceOf}
-use Rattle.kept_children.specs.declared.place.ChildPlace.{ChildPlace}
-use Rattle.kept_children.proofs.Lists.{one-place}
+use Rattle.child_lists.specs.Family.{AreGivenBut, IsAttributed}
+use Rattle.child_lists.specs.Places.{IsPlaceOf}
+use Rattle.child_lists.specs.declared.place.ChildPlace.{ChildPlace}
+use Rattle.kept_forgetting.proofs.Placed.{one-place}
 use Rattle.kept_children.proofs.Midway.{parent-stays, sibling-stays, attributed-settled, given-settled}
 use Rattle.kept_changes.specs.Own.{IsReattributed}
 use Rattle.kept_changes.proofs.Reread.{head-same, texts-same, symbols-same, given-same, children-reread, judged-reread, right-made}

@@ -7,8 +7,8 @@ use Rattle.doc_edits.specs.declared.change.Change.{Change}
 use Rattle.doc_edits.specs.declared.change.Change.TheVariants as changes
 use Rattle.kept_state.specs.declared.state.KeptState.{KeptState}
 use Rattle.kept_children.specs.Edited.{IsPlanted}
-use Rattle.kept_children.specs.Places.{IsPlaceOf}
-use Rattle.kept_children.specs.declared.place.ChildPlace.{ChildPlace}
+use Rattle.child_lists.specs.Places.{IsPlaceOf}
+use Rattle.child_lists.specs.declared.place.ChildPlace.{ChildPlace}
 use Rattle.kept_changes.specs.declared.change.Spot.{Spot}
 use Rattle.kept_changes.specs.declared.change.Spot.TheVariants.{Planted, Pruned, Retexted, Attributed, Renamed}
 

@@ -13,12 +13,13 @@ ghost use Rattle.kept_state.specs.Kept.{IsBeside};
 ghost use Rattle.kept_children.specs.Edited.{IsRightFor};
 ghost use Rattle.kept_changes.specs.Spots.{CameAt, IsRemoval, IsSpot};
 
-use crate::forget::forget_below;
 use crate::own::{reattribute, rename, retext};
+use child_lists::place_of;
 use compiled_schema::Compiled;
 use doc_edits::{Change, make_change};
 use doc_tree::DocTree;
-use kept_children::{place_of, put_child, take_child};
+use kept_children::{put_child, take_child};
+use kept_forgetting::forget_below;
 use kept_state::KeptState;
 use std::alloc::AllocError;
 use tree_rows::NodeKind;

@@ -2,7 +2,6 @@
 #![tactic(auto)]
 
 mod change;
-mod forget;
 mod laws;
 mod own;
 

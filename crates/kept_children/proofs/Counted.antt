@@ -23,13 +23,14 @@ use Rattle.kept_state.proofs.Beside.{kept-there}
 use Rattle.kept_judging.specs.Judged.{pair_by}
 use Rattle.kept_above.specs.Climbing.{with_outcome}
 use Rattle.kept_above.proofs.Counts.{all-counted, all-tried, child-more, attempt-more}
-use Rattle.kept_above.proofs.Placed.{others-differ, children-differ, few-children}
+use Rattle.kept_forgetting.proofs.Placed.{others-differ, children-differ, few-children}
 use Rattle.kept_below.specs.Below.{IsSettled}
-use Rattle.kept_children.specs.Places.{IsPlaceOf}
-use Rattle.kept_children.specs.Family.{AreCounted, IsAttributed, AreGivenBut, IsMidway}
-use Rattle.kept_children.specs.declared.place.ChildPlace.{ChildPlace}
-use Rattle.kept_children.proofs.Lists.{among-more, among-removed, get-within}
-use Rattle.kept_children.proofs.Midway.{pair-stays, parent-stays, sibling-stays, attributed-settled, given-settled, midway-settled, midway-written, attributed-written, given-written, counts-written}
+use Rattle.child_lists.specs.Places.{IsPlaceOf}
+use Rattle.child_lists.specs.Family.{AreCounted, IsAttributed, AreGivenBut, IsMidway}
+use Rattle.child_lists.specs.declared.place.ChildPlace.{ChildPlace}
+use Rattle.child_lists.proofs.Edits.{among-more, among-removed, get-within}
+use Rattle.child_lists.proofs.Written.{pair-stays, midway-written, attributed-written, given-written, counts-written}
+use Rattle.kept_children.proofs.Midway.{parent-stays, sibling-stays, attributed-settled, given-settled, midway-settled}
 
 module _ (c : Compiled) (ns : Nodes) (old new : KeptState) (spot : ChildPlace) (place : IsPlaceOf ns spot) (element : Governed) (node_is : element.node ≡ spot.node)
     (settled : IsSettled ns old new element) (before : IsBeside c ns old) (after : IsBeside c ns new) (there : IsMade old.records.slots spot.parent) where

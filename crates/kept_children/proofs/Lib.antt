@@ -1,7 +1,4 @@
-pub mod Lists
 pub mod Still
-pub mod Terms
-pub mod Listed
 pub mod Starting
 pub mod Planted
 pub mod Pruned

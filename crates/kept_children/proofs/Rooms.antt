@@ -8,7 +8,7 @@ use Rattle.model_lists.specs.Lists.{places_from}
 use Rattle.doc_nodes.specs.Nodes.{Nodes}
 use Rattle.kept_records.specs.Slots.{KeptSlots}
 use Rattle.kept_below.proofs.Moving.{HasRoom, next-of, given-part}
-use Rattle.kept_children.proofs.Lists.{marked-within}
+use Rattle.child_lists.proofs.Edits.{marked-within}
 
 module _ (c : Compiled) (ns : Nodes) (ks : KeptSlots) (governs : ℕ → Governing) (steps most : ℕ) where
   -- one is passed over

@@ -1,5 +1,5 @@
 -- A child element that came, is gone or has another name, where what is kept is right for the document as it was before.
-use Rattle.std.specs.Prelude.{◌≡◌, ℕ, [], None, length, true}
+use Rattle.std.specs.Prelude.{◌≡◌, ℕ, [], length, true}
 use Rattle.tree_rows.specs.Forest.{Forest}
 use Rattle.compiled_schema.specs.Usable.{set_of}
 use Rattle.compiled_schema.specs.declared.compiled.Compiled.{Compiled}
@@ -8,14 +8,13 @@ use Rattle.doc_nodes.specs.declared.content.Content.TheVariants as contents
 use Rattle.doc_nodes.specs.declared.content.Element.{Element}
 use Rattle.doc_changes.specs.Parts.{Prunes}
 use Rattle.doc_planting.specs.Planted.{Plants}
-use Rattle.kept_slots.specs.Slots.{at}
 use Rattle.kept_records.specs.Fit.{IsTop}
 use Rattle.kept_state.specs.Kept.{FitBut, IsBeside, outcome_at}
 use Rattle.kept_state.specs.declared.element.Outcome.{Outcome}
 use Rattle.kept_state.specs.declared.state.KeptState.{KeptState}
-use Rattle.kept_below.specs.Below.{IsWithin, KeepsBut}
-use Rattle.kept_children.specs.Places.{IsPlaceOf}
-use Rattle.kept_children.specs.declared.place.ChildPlace.{ChildPlace}
+use Rattle.kept_forgetting.specs.Forgotten.{Forgets}
+use Rattle.child_lists.specs.Places.{IsPlaceOf}
+use Rattle.child_lists.specs.declared.place.ChildPlace.{ChildPlace}
 
 -- all that is kept is right for the document that these nodes stand for
 pub record IsRightFor (c : Compiled) (ns : Nodes) (k : KeptState) : Type 0 where
@@ -32,11 +31,6 @@ pub record IsPlanted (c : Compiled) (ns : Nodes) (k : KeptState) (at : ChildPlac
   pub part : Forest
   pub plants : Plants c.names old ns at.parent place part
   pub number : at.node ≡ length old
-
--- nothing is kept any more of an element and of what is below it, and nothing else is kept otherwise
-pub record Forgets (ns : Nodes) (old new : KeptState) (n : ℕ) : Type 0 where
-  pub gone : (m : ℕ) → IsWithin ns n m → at new.records.slots m ≡ None
-  pub rest : KeepsBut (IsWithin ns n) old new
 
 -- the element is gone with all that was below it, and nothing is kept of these; it had come to this
 pub record IsPruned (c : Compiled) (ns : Nodes) (k : KeptState) (at : ChildPlace) (outcome : Outcome) : Type 0 where

@@ -1,4 +1,2 @@
-pub mod Places
-pub mod Family
 pub mod Edited
 pub mod Steps

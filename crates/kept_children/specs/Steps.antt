@@ -9,7 +9,7 @@ use Rattle.doc_documents.specs.Readers.{element_numbers}
 use Rattle.kept_state.specs.declared.state.KeptState.{KeptState}
 use Rattle.kept_judging.specs.Judged.{pair_by}
 use Rattle.kept_below.specs.Moved.{AreGivenDown}
-use Rattle.kept_children.specs.Family.{marked_places, model_of, symbols_of}
+use Rattle.child_lists.specs.Family.{marked_places, model_of, symbols_of}
 
 -- of a list of so many: the binary digits of one more, and one
 abbrev pub digits : ℕ → ℕ

@@ -2,9 +2,6 @@
 #![tactic(auto)]
 
 mod edits;
-mod lists;
 mod marked;
-mod place;
 
 pub use edits::{name_child, put_child, take_child};
-pub use place::{ChildPlace, place_of};

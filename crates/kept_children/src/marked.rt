@@ -9,13 +9,12 @@ ghost use Rattle.kept_records.specs.Slots.{IsMade, pair_at};
 ghost use Rattle.kept_state.specs.declared.children.KeptChildren.{KeptChildren as KeptChildrenData};
 ghost use Rattle.kept_judging.specs.Judged.{pair_by};
 ghost use Rattle.kept_below.specs.Moved.{AreGivenDown, moved};
-ghost use Rattle.kept_children.specs.Places.{IsPlaceOf};
-ghost use Rattle.kept_children.specs.Family.{AreCounted, AreGivenBut, IsAttributed, IsListedBy, IsMidway, marked_places};
-ghost use Rattle.kept_children.specs.Family as family;
+ghost use Rattle.child_lists.specs.Places.{IsPlaceOf};
+ghost use Rattle.child_lists.specs.Family.{AreCounted, AreGivenBut, IsAttributed, IsListedBy, IsMidway, marked_places};
+ghost use Rattle.child_lists.specs.Family as family;
 ghost use Rattle.kept_children.specs.Steps.{GovernsBelow, digits, marked_count, width};
 
-use crate::lists::govern_at;
-use crate::place::{ChildPlace, list_of};
+use child_lists::{ChildPlace, govern_at, list_of};
 use compiled_schema::Compiled;
 use doc_tree::DocTree;
 use kept_above::recount;

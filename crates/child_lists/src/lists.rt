@@ -18,9 +18,9 @@ ghost use Rattle.kept_records.specs.Slots.{IsMade, pair_at};
 ghost use Rattle.kept_state.specs.Kept.{CanGovern, IsBeside};
 ghost use Rattle.kept_state.specs.declared.children.KeptChildren.{KeptChildren as KeptChildrenData};
 ghost use Rattle.kept_judging.specs.Judged.{pair_by};
-ghost use Rattle.kept_children.specs.Places.{IsPlaceOf};
-ghost use Rattle.kept_children.specs.Family.{AreCounted, AreGivenBut, IsAttributed, IsListedBy, IsMidway, marked_places};
-ghost use Rattle.kept_children.specs.Family as family;
+ghost use Rattle.child_lists.specs.Places.{IsPlaceOf};
+ghost use Rattle.child_lists.specs.Family.{AreCounted, AreGivenBut, IsAttributed, IsListedBy, IsMidway, marked_places};
+ghost use Rattle.child_lists.specs.Family as family;
 
 use crate::place::{ChildPlace, list_of};
 use compiled_schema::Compiled;
@@ -63,7 +63,7 @@ fn listed(
 /// # Errors
 ///
 /// `AllocError` is want of memory.
-pub(crate) fn list_child<L: Ledger>(
+pub fn list_child<L: Ledger>(
     doc: &DocTree,
     set: &Compiled,
     kept: &mut KeptState,
@@ -90,7 +90,7 @@ pub(crate) fn list_child<L: Ledger>(
 
 /// Lists a child element under its name as it is now. It takes at most `16 * (bits(n + 1) + 1)` steps, where the parent has `n` child
 /// elements.
-pub(crate) fn relist_child<L: Ledger>(
+pub fn relist_child<L: Ledger>(
     doc: &DocTree,
     set: &Compiled,
     kept: &mut KeptState,
@@ -114,7 +114,7 @@ pub(crate) fn relist_child<L: Ledger>(
 
 /// Takes a child element out of the list of its parent. It takes at most `16 * (bits(n + 1) + 1)` steps, where the list had `n` child
 /// elements.
-pub(crate) fn unlist_child<L: Ledger>(
+pub fn unlist_child<L: Ledger>(
     set: &Compiled,
     kept: &mut KeptState,
     at: &ChildPlace,
@@ -155,13 +155,14 @@ fn stuck_place<L: Ledger>(
     ensures least { steps.old ≤ steps.new }
     ensures steps { steps.new ≤ steps.old + (8 * (bits (length (element_children doc.now parent) + 1) + 1) + 1) }
 {
-    let (list, automaton) = list_of(set, kept, parent)?;
-    kept.lists
-        .stuck(list, automaton, child_elements(doc, parent), steps)
+    match list_of(set, kept, parent) {
+        None => None,
+        Some((list, automaton)) => kept.lists.stuck(list, automaton, child_elements(doc, parent), steps),
+    }
 }
 
 /// Writes where the child elements of an element get stuck. It takes at most `8 * (bits(n + 1) + 1) + 1` steps, where there are `n`.
-pub(crate) fn note_stuck<L: Ledger>(
+pub fn note_stuck<L: Ledger>(
     doc: &DocTree,
     set: &Compiled,
     kept: &mut KeptState,
@@ -201,10 +202,14 @@ fn term_of<L: Ledger>(
     ensures steps { steps.new ≤ steps.old + 8 * (bits (length (element_children doc.now at.now.parent) + 1) + 1) }
     ensures none { Lacks at.now.place (marked_places (family.model_of set.now kept.now at.now.parent) (family.symbols_of set.now doc.now kept.now at.now.parent)) → steps.new ≡ steps.old }
 {
-    let (list, automaton) = list_of(set, kept, at.parent)?;
-    let child = listed(doc, set, automaton, at);
-    let stuck = kept.children(at.parent).stuck;
-    kept.lists.term(list, automaton, child, stuck, steps)
+    match list_of(set, kept, at.parent) {
+        None => None,
+        Some((list, automaton)) => {
+            let child = listed(doc, set, automaton, at);
+            let stuck = kept.children(at.parent).stuck;
+            kept.lists.term(list, automaton, child, stuck, steps)
+        }
+    }
 }
 
 /// A child element with what governs it. Steps are as those of its term.
@@ -212,7 +217,7 @@ fn term_of<L: Ledger>(
 /// # Errors
 ///
 /// `AllocError` is want of memory.
-pub(crate) fn govern_at<L: Ledger>(
+pub fn govern_at<L: Ledger>(
     doc: &DocTree,
     set: &Compiled,
     kept: &KeptState,

@@ -4,8 +4,8 @@ ghost use Rattle.std.specs.Prelude.{◌≡◌, ◌⊎◌, None, Some, true, Matc
 ghost use Rattle.doc_nodes.specs.Nodes.{is_element_at};
 ghost use Rattle.doc_changes.specs.Held.{parent_at};
 ghost use Rattle.kept_records.specs.Slots.{IsMade, kept_at};
-ghost use Rattle.kept_children.specs.Places.{IsPlaceOf};
-ghost use Rattle.kept_children.specs.Family as family;
+ghost use Rattle.child_lists.specs.Places.{IsPlaceOf};
+ghost use Rattle.child_lists.specs.Family as family;
 
 use compiled_schema::Compiled;
 use content_models::ContentAutomaton;
@@ -41,7 +41,7 @@ pub fn place_of(doc: &DocTree, node: u32) -> Option<ChildPlace>
 }
 
 /// The list of an element's child elements and the automaton of its content model, where its type has one.
-pub(crate) fn list_of<'a>(
+pub fn list_of<'a>(
     set: &'a Compiled,
     kept: &KeptState,
     node: u32,

@@ -7,7 +7,7 @@ use Rattle.std.proofs.lemmas.List.{length-map}
 use Rattle.std.proofs.lemmas.List.Edits.{length-insert, length-remove}
 use Rattle.doc_nodes.specs.Nodes.{Has, Lacks, Distinct}
 use Rattle.doc_nodes.proofs.Among.{lacks-has}
-use Rattle.kept_above.proofs.Placed.{has-at}
+use Rattle.kept_forgetting.proofs.Placed.{has-at}
 use Rattle.model_lists.specs.Lists.{places_from}
 
 -- ---- what stands at a place
@@ -82,13 +82,6 @@ index-get (y ∷ ys) zero x e = same_Some y x e
 index-get (y ∷ ys) (suc i) x e = index-get ys i x e
 
 -- ---- places of numbers that come once
-
-pub one-place : (xs : List ℕ) (i j x : ℕ) → Distinct xs → slice_get xs i ≡ Some x → slice_get xs j ≡ Some x → i ≡ j
-one-place [] i j x once e f = absurd (none-some x e)
-one-place (y ∷ ys) zero zero x once e f = refl
-one-place (y ∷ ys) zero (suc j) x once e f = absurd (lacks-has y x ys once.0 (has-at ys j x f) (sym (same_Some y x e)))
-one-place (y ∷ ys) (suc i) zero x once e f = absurd (lacks-has y x ys once.0 (has-at ys i x e) (sym (same_Some y x f)))
-one-place (y ∷ ys) (suc i) (suc j) x once e f = ap suc (one-place ys i j x once.1 e f)
 
 module _ (p : ℕ → Bool) where
   filter-at : (y : ℕ) (ys : List ℕ) (b : Bool) → ((i x : ℕ) → slice_get (filter p ys) i ≡ Some x → Has x ys) →

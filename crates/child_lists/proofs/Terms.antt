@@ -12,9 +12,9 @@ use Rattle.model_terms.specs.Terms.{is_ambivalent_symbol, term_in}
 use Rattle.model_terms.proofs.Runs.{by-symbol}
 use Rattle.doc_nodes.specs.Nodes.{Has, Lacks, Distinct}
 use Rattle.doc_nodes.proofs.Among.{lacks-has, map-remove}
-use Rattle.kept_above.proofs.Placed.{has-at}
-use Rattle.kept_children.specs.Family.{marked_places}
-use Rattle.kept_children.proofs.Lists.{get-within, get-map, index-get, map-has, unmarked}
+use Rattle.kept_forgetting.proofs.Placed.{has-at}
+use Rattle.child_lists.specs.Family.{marked_places}
+use Rattle.child_lists.proofs.Edits.{get-within, get-map, index-get, map-has, unmarked}
 
 -- the symbol of a name; without a content model all have one
 abbrev pub symbol_by : NameTable → Option ContentAutomaton → ℕ → ℕ

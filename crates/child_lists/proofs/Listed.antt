@@ -19,11 +19,11 @@ use Rattle.doc_changes.specs.Held.{name_in}
 use Rattle.doc_documents.specs.Readers.{name_by, name_at}
 use Rattle.kept_records.specs.Fit.{IsListed}
 use Rattle.kept_state.specs.declared.state.KeptState.{KeptState}
-use Rattle.kept_children.specs.Places.{IsPlaceOf}
-use Rattle.kept_children.specs.Family.{IsListedBy, marked_places, model_of, symbols_of}
-use Rattle.kept_children.specs.declared.place.ChildPlace.{ChildPlace}
-use Rattle.kept_children.proofs.Lists.{get-map, get-within, index-get, insert-removed, set-again, unmarked}
-use Rattle.kept_children.proofs.Terms.{symbol_by, symbol-at, many-symbols}
+use Rattle.child_lists.specs.Places.{IsPlaceOf}
+use Rattle.child_lists.specs.Family.{IsListedBy, marked_places, model_of, symbols_of}
+use Rattle.child_lists.specs.declared.place.ChildPlace.{ChildPlace}
+use Rattle.child_lists.proofs.Edits.{get-map, get-within, index-get, insert-removed, set-again, unmarked}
+use Rattle.child_lists.proofs.Terms.{symbol_by, symbol-at, many-symbols}
 
 -- ---- where there is a list, and where there is none
 

@@ -2,7 +2,7 @@
 use Rattle.std.specs.Prelude.{◌≡◌, ℕ, Some, slice_get}
 use Rattle.doc_nodes.specs.Nodes.{Nodes, element_children}
 use Rattle.doc_changes.specs.Held.{parent_at}
-use Rattle.kept_children.specs.declared.place.ChildPlace.{ChildPlace}
+use Rattle.child_lists.specs.declared.place.ChildPlace.{ChildPlace}
 
 -- the element stands at the place among the child elements of its parent
 pub record IsPlaceOf (ns : Nodes) (at : ChildPlace) : Type 0 where

@@ -3,8 +3,8 @@ use Rattle.assess_records.specs.declared.counts.ChildCounts.{ChildCounts}
 use Rattle.kept_records.specs.declared.element.KeptElement.{KeptElement}
 use Rattle.kept_state.specs.declared.children.KeptChildren.{KeptChildren}
 use Rattle.kept_state.proofs.Beside.{kept-there}
-use Rattle.kept_children.proofs.Midway.{midway-written, stuck-written, given-written, counted-written, pair-stays}
-use Rattle.kept_children.proofs.lists.note_stuck.Goals as goal
+use Rattle.child_lists.proofs.Written.{midway-written, stuck-written, given-written, counted-written, pair-stays}
+use Rattle.child_lists.proofs.lists.note_stuck.Goals as goal
 
 pub children-children-requires : goal.children-children-requires
 children-children-requires g c = c.requires.midway.2.made

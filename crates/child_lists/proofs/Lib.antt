@@ -1,0 +1,4 @@
+pub mod Edits
+pub mod Terms
+pub mod Listed
+pub mod Written
