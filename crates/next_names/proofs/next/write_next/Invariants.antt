@@ -1,0 +1,14 @@
+use Rattle.std.proofs.Common.{◌≡◌, ◌+◌, ◌*◌, ◌≤◌}
+use Rattle.std.specs.Io.KnownBytes.{Appends}
+use Rattle.next_names.specs.Next.{lines_below, fits_below}
+use Rattle.next_names.proofs.next.write_next.Given as goal
+
+abbrev pub invariant-loop-symbol : goal.invariant-loop-symbol
+invariant-loop-symbol g l = record {
+  written : Appends (g.W.Sink.taken l.initial.sink) (g.W.Sink.taken l.sink) (lines_below l.names (g.A.Around.name_of l.around) (g.A.Around.fit_of l.around) l.symbol);
+  lines : l.lines ≡ fits_below (g.A.Around.fit_of l.around) l.symbol;
+  later : g.W.Sink.faults l.initial.sink ≤ g.W.Sink.faults l.sink;
+  kept : g.W.Sink.fault_bound l.sink ≡ g.W.Sink.fault_bound l.initial.sink;
+  least : l.initial.steps ≤ l.steps;
+  most : l.steps ≤ l.initial.steps + l.symbol * (g.A.Around.with_most l.around + g.A.Around.after_most l.around);
+}
