@@ -78,6 +78,7 @@ module _ (c : Compiled) (ns : Nodes) (k : KeptState) (w : ListsView) (p : ℕ) (
   beside-edited b = record {
     over = (b.over.0, record { usable = b.over.1.usable; stands = b.over.1.stands; only = b.over.1.only });
     governed = b.governed;
+    plain = b.plain;
     booked = b.booked;
     own = record {
       apart = b.own.apart;
@@ -170,7 +171,7 @@ module _ (c : Compiled) (ns : Nodes) (old new : KeptState) (p : ℕ) (k : KeptEl
   pub midway-written : IsBooked new.records → (was : KeptChildren) (waiting : List ℕ) → IsMidway c ns old p was waiting → IsMidway c ns new p was waiting
   midway-written booked was waiting m = record {
     made = (again, rewrites.slots.here);
-    beside = beside-same c ns old new p again rewrites m.beside k is refl refl booked;
+    beside = beside-same c ns old new p again rewrites m.beside k is refl refl refl booked;
     top = record { made = made-stays 1 m.top.made; pair_is = pair-stays 1 ∙ m.top.pair_is };
     fit = λ n made lacks. let other : n ≢ p = λ e. lacks.0 (sym e) in fit-now n other (m.fit n (was-made n other made) lacks);
     apart = m.apart;

@@ -15,7 +15,7 @@ use Rattle.kept_records.specs.Books.{IsBooked, HaveOwnLists}
 use Rattle.kept_records.specs.Found.{IsOver}
 use Rattle.kept_records.proofs.Frames.{fit-lists}
 use Rattle.kept_records.proofs.Lists.{own-lists-kept}
-use Rattle.kept_state.specs.Kept.{CanGovern, FitBut, IsBeside}
+use Rattle.kept_state.specs.Kept.{CanGovern, FitBut, HasNone, IsBeside}
 use Rattle.kept_state.specs.declared.children.KeptChildren.{KeptChildren}
 use Rattle.kept_state.specs.declared.element.Governed.{Governed}
 use Rattle.kept_state.specs.declared.state.KeptState.{KeptState}
@@ -40,6 +40,7 @@ module _ (c : Compiled) (ns : Nodes) (a b : KeptState) (same : b ≡ record a { 
   relisted-beside w = record {
     over = (w.over.0, subst (λ (k : KeptState). IsOver c ns k.records.slots w.over.0) (sym same) w.over.1);
     governed = subst (λ (k : KeptState). (n : ℕ) → IsMade k.records.slots n → CanGovern c.parts (pair_at k.records.slots n)) (sym same) w.governed;
+    plain = subst (λ (k : KeptState). HasNone c k.records.slots) (sym same) w.plain;
     booked = subst (λ (k : KeptState). IsBooked k.records) (sym same) w.booked;
     own = subst (λ (k : KeptState). HaveOwnLists b.lists k.records.slots) (sym same) (own-lists-kept a.lists b.lists but a.records.slots keeps not_those w.own);
   }

@@ -170,6 +170,7 @@ module _ (c : Compiled) (new : NameTable) (ns : Nodes) (k : KeptState) (g : Grow
     beside = record {
       over = (r.beside.over.0, record { usable = usable-more c new usable g; stands = stands_grown c.names new ns r.beside.over.0 g sound stands; only = r.beside.over.1.only });
       governed = r.beside.governed;
+      plain = r.beside.plain;
       booked = r.beside.booked;
       own = r.beside.own;
     };

@@ -50,7 +50,7 @@ module _ (c : Compiled) (ns : Nodes) (old : KeptState) (n : ℕ) (beside : IsBes
     texts-written = record { slots = written; lists = refl; ids = refl }
 
     pub texts-beside : IsBooked view → IsBeside c ns (record old { records = view })
-    texts-beside booked = beside-same c ns old (record old { records = view }) n (record k { text = text }) texts-written beside k is refl refl booked
+    texts-beside booked = beside-same c ns old (record old { records = view }) n (record k { text = text }) texts-written beside k is refl refl refl booked
 
   -- and it is judged by them
   module _ (k : KeptElement) (is : IsKept old.records.slots n k) (text : List ℕ) (mid new : KeptState) (written : Rewrites old mid n (Some (record k { text = text }))) (between : IsBeside c ns mid)

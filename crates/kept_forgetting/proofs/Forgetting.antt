@@ -69,6 +69,10 @@ module _ (ns : Nodes) (n : ℕ) (old new : KeptState) (writes : Writes old.recor
   one-beside c booked b = record {
     over = (b.over.0, record { usable = b.over.1.usable; stands = b.over.1.stands; only = λ m made. b.over.1.only m (was-made m made) });
     governed = λ m made. subst (λ (k : KeptElement). CanGovern c.parts k.found.governing) (sym (kept-other m (not-here m made))) (b.governed m (was-made m made));
+    plain = λ none m. elim (cases_eq m n) [
+      | inl q ↦ ap (λ x. (kept_at new.records.slots x).identity) q ∙ ap (λ (k : KeptElement). k.identity) kept-here
+      | inr other ↦ ap (λ (k : KeptElement). k.identity) (kept-other m other) ∙ b.plain none m
+    ];
     booked = booked;
     own = record {
       apart = λ m q h e f. b.own.apart m q h (list-was m h e) (list-was q h f);

@@ -94,6 +94,7 @@ module _ (c : Compiled) (ns : Nodes) (old new : KeptState) (n : ℕ) (k : KeptEl
   pub found-beside : (pair : Governing) → found.governing ≡ pair → CanGovern c.parts pair → IsBeside c ns old → IsBooked new.records → IsBeside c ns new
   found-beside pair pair_is can beside booked =
       beside-written c ns old new n (record k { found = found }) rewrites beside (beside.over.1.only n (k, is)) (subst (CanGovern c.parts) (sym pair_is) can)
+      (λ none. ap (λ (x : KeptElement). x.identity) (sym was) ∙ beside.plain none n)
       (subst (λ (x : KeptElement). IsFreeFor old.lists old.records.slots n x.list) was (own-free old.lists old.records.slots beside.own n)) booked
 
 -- ---- an element was judged by others that its record does not tell apart

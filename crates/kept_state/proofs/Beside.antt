@@ -1,5 +1,5 @@
 -- What is kept beside a document, as one element is kept otherwise.
-use Rattle.std.proofs.Common.{◌≡◌, ℕ, true, Option, Some, refl, sym, ap, ◌∙◌, subst, inl, inr}
+use Rattle.std.proofs.Common.{◌≡◌, ℕ, [], true, Option, Some, refl, sym, ap, ◌∙◌, subst, inl, inr}
 use Rattle.std.specs.Prelude.{unwrap_or}
 use Rattle.std.proofs.lemmas.Bool.{cases_eq}
 use Rattle.compiled_schema.specs.declared.compiled.Compiled.{Compiled}
@@ -34,9 +34,9 @@ pub own-free : (v : ListsView) (ks : KeptSlots) → HaveOwnLists v ks → (n : �
 own-free v ks own n h e = (own.live n h e, λ m other f. other (own.apart m n h f e))
 
 module _ (c : Compiled) (ns : Nodes) (old new : KeptState) (n : ℕ) (k : KeptElement) (rewrites : Rewrites old new n (Some k)) (beside : IsBeside c ns old) where
-  -- with a list of its own, governed as it may be, and the sums kept
-  pub beside-written : is_element_at ns n ≡ true → CanGovern c.parts k.found.governing → IsFreeFor old.lists old.records.slots n k.list → IsBooked new.records → IsBeside c ns new
-  beside-written element governed free booked = record {
+  -- with a list of its own, governed as it may be, with no codes without constraints, and the sums kept
+  pub beside-written : is_element_at ns n ≡ true → CanGovern c.parts k.found.governing → (c.identities.items ≡ [] → k.identity ≡ []) → IsFreeFor old.lists old.records.slots n k.list → IsBooked new.records → IsBeside c ns new
+  beside-written element governed plain free booked = record {
     over = (
       beside.over.0,
       record {
@@ -54,15 +54,20 @@ module _ (c : Compiled) (ns : Nodes) (old new : KeptState) (n : ℕ) (k : KeptEl
           subst (CanGovern c.parts) (sym (ap (λ o. (unwrap_or o blank).found.governing) (rewrites.slots.others m other)))
           (beside.governed m (made.0, sym (rewrites.slots.others m other) ∙ made.1))
     ];
+    plain = λ none m. elim (cases_eq m n) [
+      | inl e ↦ ap (λ (q : ℕ). (kept_at new.records.slots q).identity) e ∙ ap (λ (x : KeptElement). x.identity) (kept-there new.records.slots n k rewrites.slots.here) ∙ plain none
+      | inr other ↦ ap (λ o. (unwrap_or o blank).identity) (rewrites.slots.others m other) ∙ beside.plain none m
+    ];
     booked = booked;
     own = subst (λ (v : ListsView). HaveOwnLists v new.records.slots) (sym rewrites.lists) (own-lists-written old.lists old.records.slots new.records.slots n (Some k) rewrites.slots beside.own free);
   }
 
-  -- with the same list, governed as before, and the sums kept
-  pub beside-same : (was : KeptElement) → IsKept old.records.slots n was → k.found.governing ≡ was.found.governing → k.list ≡ was.list → IsBooked new.records → IsBeside c ns new
-  beside-same was is pair list booked =
+  -- with the same list and codes, governed as before, and the sums kept
+  pub beside-same : (was : KeptElement) → IsKept old.records.slots n was → k.found.governing ≡ was.found.governing → k.list ≡ was.list → k.identity ≡ was.identity → IsBooked new.records → IsBeside c ns new
+  beside-same was is pair list codes booked =
       let before = kept-there old.records.slots n was is in
       let same : (kept_at old.records.slots n).list ≡ k.list = ap (λ (x : KeptElement). x.list) before ∙ sym list in
       let governing : pair_at old.records.slots n ≡ k.found.governing = ap (λ (x : KeptElement). x.found.governing) before ∙ sym pair in
       beside-written (beside.over.1.only n (was, is)) (subst (CanGovern c.parts) governing (beside.governed n (was, is)))
+      (λ none. codes ∙ ap (λ (x : KeptElement). x.identity) (sym before) ∙ beside.plain none n)
       (subst (IsFreeFor old.lists old.records.slots n) same (own-free old.lists old.records.slots beside.own n)) booked

@@ -1,5 +1,5 @@
 -- All that is kept beside a document, and when it is right.
-use Rattle.std.specs.Prelude.{◌≡◌, ◌≢◌, ◌==◌, ◌↔◌, ℕ, List, Option, None, Some, IfSome}
+use Rattle.std.specs.Prelude.{◌≡◌, ◌≢◌, ◌==◌, ◌↔◌, ℕ, List, [], Option, None, Some, IfSome}
 use Rattle.xs_components.specs.Tables.{Tables}
 use Rattle.component_references.specs.Heights.{IsType}
 use Rattle.assess_records.specs.declared.counts.ChildCounts.{ChildCounts}
@@ -57,12 +57,17 @@ pub record CanGovern (t : Tables) (g : Governing) : Type 0 where
 abbrev pub FitBut : Compiled → Nodes → KeptState → List ℕ → Type 0
 FitBut c ns k waiting = AllFitBut (set_of c) (models_of c) ns k.records.slots k.lists k.root_ids waiting
 
+-- where the set has no identity constraints, no element has codes of them
+abbrev pub HasNone : Compiled → KeptSlots → Type 0
+HasNone c ks = c.identities.items ≡ [] → (n : ℕ) → (kept_at ks n).identity ≡ []
+
 -- What holds of what is kept beside a document, fit or not: the set is usable, the nodes stand for a document by names of its table,
--- nothing is kept but of its elements, each may be governed as it is, the sums are those of the elements, and each element has a list
--- of its own.
+-- nothing is kept but of its elements, each may be governed as it is, there are no codes without constraints, the sums are those of
+-- the elements, and each element has a list of its own.
 pub record IsBeside (c : Compiled) (ns : Nodes) (k : KeptState) : Type 0 where
   pub over : (d : Document) × IsOver c ns k.records.slots d
   pub governed : (n : ℕ) → IsMade k.records.slots n → CanGovern c.parts (pair_at k.records.slots n)
+  pub plain : HasNone c k.records.slots
   pub booked : IsBooked k.records
   pub own : HaveOwnLists k.lists k.records.slots
 

@@ -37,7 +37,7 @@ judge_if_apart-requires-clause-beside c =
     let again : KeptElement = record own.0 { counts = with_outcome (outcome_at c.args.kept.now.records.slots c.args.family.1) (c.requires.climbing.parent c.args.family.0 c.requires.parent).1.others } in
     beside-same c.args.set.now c.args.doc.now c.args.kept.now c.recount.new.kept c.args.family.0 again
     (recounted-by c.args.set.now c.args.doc.now c.args.kept.now c.recount.new.kept c.args.family.1 c.args.family.0 c.args.was c.outcome-now.result c.requires.parent c.requires.climbing own.0 own.1 c.outcome-now.ensures c.recount.ensures.change)
-    c.requires.beside own.0 own.1 refl refl (c.recount.ensures.booked c.requires.beside.booked)
+    c.requires.beside own.0 own.1 refl refl refl (c.recount.ensures.booked c.requires.beside.booked)
 
 pub judge_if_apart-requires-clause-made : goal.judge_if_apart-requires-clause-made
 judge_if_apart-requires-clause-made c =
@@ -57,7 +57,7 @@ pub returns-clause-climbing : goal.returns-clause-climbing
 returns-clause-climbing c =
     let own = parent-made c.args.set.now c.args.doc.now c.args.kept.now c.args.family.1 c.args.family.0 c.args.was c.requires.beside c.requires.parent c.requires.climbing in
     let rewrites = recounted-by c.args.set.now c.args.doc.now c.args.kept.now c.recount.new.kept c.args.family.1 c.args.family.0 c.args.was c.outcome-now.result c.requires.parent c.requires.climbing own.0 own.1 c.outcome-now.ensures c.recount.ensures.change in
-    let between = beside-same c.args.set.now c.args.doc.now c.args.kept.now c.recount.new.kept c.args.family.0 _ rewrites c.requires.beside own.0 own.1 refl refl (c.recount.ensures.booked c.requires.beside.booked) in
+    let between = beside-same c.args.set.now c.args.doc.now c.args.kept.now c.recount.new.kept c.args.family.0 _ rewrites c.requires.beside own.0 own.1 refl refl refl (c.recount.ensures.booked c.requires.beside.booked) in
     subst (λ (before : Outcome). IsClimbing c.args.set.now c.args.doc.now c.judge_if_apart.new.kept c.args.family.0 before) (sym c.outcome-before.ensures)
     (climbed c.args.set.now c.args.doc.now c.args.kept.now c.recount.new.kept c.requires.beside c.args.family.1 c.args.family.0 c.args.was c.requires.parent c.requires.climbing own.0 own.1 rewrites
     c.judge_if_apart.new.kept between c.in_ok-judge_if_apart.ensures.beside c.in_ok-judge_if_apart.ensures.judged)
@@ -66,6 +66,6 @@ pub returns-clause-rest : goal.returns-clause-rest
 returns-clause-rest c =
     let own = parent-made c.args.set.now c.args.doc.now c.args.kept.now c.args.family.1 c.args.family.0 c.args.was c.requires.beside c.requires.parent c.requires.climbing in
     let rewrites = recounted-by c.args.set.now c.args.doc.now c.args.kept.now c.recount.new.kept c.args.family.1 c.args.family.0 c.args.was c.outcome-now.result c.requires.parent c.requires.climbing own.0 own.1 c.outcome-now.ensures c.recount.ensures.change in
-    let between = beside-same c.args.set.now c.args.doc.now c.args.kept.now c.recount.new.kept c.args.family.0 _ rewrites c.requires.beside own.0 own.1 refl refl (c.recount.ensures.booked c.requires.beside.booked) in
+    let between = beside-same c.args.set.now c.args.doc.now c.args.kept.now c.recount.new.kept c.args.family.0 _ rewrites c.requires.beside own.0 own.1 refl refl refl (c.recount.ensures.booked c.requires.beside.booked) in
     kept-rest c.args.set.now c.args.doc.now c.args.kept.now c.recount.new.kept c.requires.beside c.args.family.1 c.args.family.0 c.args.was c.requires.parent c.requires.climbing own.0 own.1 rewrites
     c.judge_if_apart.new.kept between c.in_ok-judge_if_apart.ensures.beside c.in_ok-judge_if_apart.ensures.judged

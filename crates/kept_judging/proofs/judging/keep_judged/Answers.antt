@@ -1,4 +1,4 @@
-use Rattle.std.proofs.Common.{◌<◌, length, All, refl, sym, subst}
+use Rattle.std.proofs.Common.{◌<◌, length, All, refl, sym, ◌∙◌, subst}
 use Rattle.std.proofs.lemmas.Result.{on_ok_weaker}
 use Rattle.assess_records.specs.declared.shape.ElementShape.{ElementShape}
 use Rattle.assess_records.specs.declared.shape.NamedText.{NamedText}
@@ -34,4 +34,5 @@ pub returns-clause-beside : goal.returns-clause-beside
 returns-clause-beside c =
     let set = c.args.set.now in
     both-ok c.put.result (λ rewrites booked. beside-written set c.args.doc.now c.args.kept.now c.put.new.self c.args.element.now.node _ rewrites c.requires.beside c.requires.element
-    (subst (CanGovern set.parts) (sym c.in_ok-found.ensures.governing) c.requires.governed) c.requires.list booked) c.put.ensures.change c.put.ensures.booked
+    (subst (CanGovern set.parts) (sym c.in_ok-found.ensures.governing) c.requires.governed) (λ none. c.in_ok-identity.ensures ∙ c.requires.beside.plain none c.args.element.now.node)
+    c.requires.list booked) c.put.ensures.change c.put.ensures.booked
