@@ -104,6 +104,7 @@ insert_prepared t u ns d parent place its part p names = record {
   makes = p.makes;
   can = (p.fits, subst (λ x. HasNames x part.forest) (sym names) (names_found t part.forest));
   names = names ∙ ap (document_table t) p.is;
+  is_of = (part, refl);
 }
 
 -- a text
@@ -113,6 +114,7 @@ text_prepared t ns d parent place chars p room = record {
   makes = sym (edit_tested d (edits.AddText parent place chars)) ∙ p.puts (put_within d parent place (text 0 chars none)) ∙ put_room d parent place (text 0 chars none) room;
   can = record { element = p.element; within = p.within; few = room.few; shallow = room.shallow };
   names = refl;
+  is_of = refl;
 }
 
 pub text_misplaced : (d : Document) (parent place : ℕ) (chars : List ℕ) (e : EditError)
@@ -142,6 +144,7 @@ module _ (t : NameTable) (ns : Nodes) (d : Document) (z : StandsFor t ns d) (n :
     makes = rename_is name ∙ ap (by_name (λ y. Ok (renamed n y d))) is ∙ ap (λ y. Ok (renamed n y d)) (sym called);
     can = (k, within);
     names = names ∙ ap (with_expanded t) (sym (element_is (names_scope d n) name x is));
+    is_of = (number, refl);
   }
 
   set_is : (name value : List ℕ) → edited d (edits.SetAttr n name value)
@@ -167,6 +170,7 @@ module _ (t : NameTable) (ns : Nodes) (d : Document) (z : StandsFor t ns d) (n :
         ∙ ap (λ b. if b then Err TooManyAttributes else Ok (attribute_set n x value d)) s.free ∙ ap (λ y. Ok (attribute_set n y value d)) (sym s.called);
     can = (k, s.room, s.within);
     names = s.names ∙ ap (with_expanded t) (sym (attribute_is (names_scope d n) name x is));
+    is_of = (number, refl);
   }
 
   unset_is : (name : List ℕ) → edited d (edits.UnsetAttr n name)
@@ -191,6 +195,7 @@ module _ (t : NameTable) (ns : Nodes) (d : Document) (z : StandsFor t ns d) (n :
         ∙ ap (λ b. if b then Ok (attribute_unset n x d) else Err NoSuchAttribute) h.0 ∙ ap (λ y. Ok (attribute_unset n y d)) (sym h.2);
     can = h.1;
     names = refl;
+    is_of = (number, refl);
   }
 
 -- an element that is missing
@@ -209,6 +214,7 @@ chars_prepared t ns d z n chars new k same = record {
   makes = text_made t ns d z n k chars ∙ ap (λ cs. Ok (made d (edits.SetText n cs))) (sym same);
   can = k;
   names = refl;
+  is_of = ap (changes.SetText n) same;
 }
 
 -- a name that was put into the table

@@ -56,12 +56,23 @@ IsMade t old new (changes.SetAttr key name value) =
 IsMade t old new (changes.UnsetAttr key name) =
     (it : Node) (e : Element) → IsNode old key it → it.content ≡ contents.Element e → Holds old new key (contents.Element (record e { attributes = unset_number name e.attributes }))
 
--- no test of the edit stands, and the change makes of the document what the edit makes of it; the table of before has become one
--- with the names that the edit brings
+-- the change is of the edit's kind, of the same nodes, with its characters
+abbrev pub IsOf : Edit → Change → Type 0
+IsOf (edits.Insert parent index its) change = (part : Document) × (change ≡ changes.Insert parent index part)
+IsOf (edits.AddText parent index chars) change = change ≡ changes.AddText parent index chars
+IsOf (edits.SetText key chars) change = change ≡ changes.SetText key chars
+IsOf (edits.Remove key) change = change ≡ changes.Remove key
+IsOf (edits.Rename key name) change = (number : ℕ) × (change ≡ changes.Rename key number)
+IsOf (edits.SetAttr key name value) change = (number : ℕ) × (change ≡ changes.SetAttr key number value)
+IsOf (edits.UnsetAttr key name) change = (number : ℕ) × (change ≡ changes.UnsetAttr key number)
+
+-- no test of the edit stands, and the change is the edit's: it makes of the document what the edit makes of it; the table of before has
+-- become one with the names that the edit brings
 pub record IsPrepared (t u : NameTable) (ns : Nodes) (d : Document) (edit : Edit) (change : Change) : Type 0 where
   pub makes : edited d edit ≡ Ok (changed u d change)
   pub can : CanMake u ns d change
   pub names : u ≡ table_with t d edit
+  pub is_of : IsOf edit change
 
 -- memory is wanting, or the refusal is that of the first of the edit's tests that stands, and no name was added
 pub record IsRefused (t u : NameTable) (ns : Nodes) (edit : Edit) (error : EditError) : Type 0 where
