@@ -1,17 +1,20 @@
 //! Changes, one by one.
 
-ghost use Rattle.std.specs.Prelude.{◌≡◌, ◌≢◌, None, Some, true, OnOk};
+ghost use Rattle.std.specs.Prelude.{◌≡◌, ◌≢◌, ◌⊎◌, ◌≤◌, ◌+◌, ℕ, None, Some, true, length, OnOk, OnErr};
+ghost use Rattle.xs_names.specs.Names.{NameTable};
 ghost use Rattle.tree_rows.specs.Forest.{Document};
+ghost use Rattle.tree_rows.specs.Whole.{IsTree};
 ghost use Rattle.tree_edits.specs.Tests.{made};
 ghost use Rattle.tree_edits.specs.declared.edit.Edit.TheVariants as edits;
-ghost use Rattle.xs_names.specs.Names.{NameTable};
 ghost use Rattle.doc_nodes.specs.Nodes.{is_element_at};
 ghost use Rattle.doc_changes.specs.Held.{parent_at};
 ghost use Rattle.doc_changes.specs.Stands.{StandsFor};
-ghost use Rattle.doc_edits.specs.Changes.{CanMake, changed};
+ghost use Rattle.doc_edits.specs.Changes.{CanMake, IsMade, changed};
 ghost use Rattle.kept_state.specs.Kept.{IsBeside};
 ghost use Rattle.kept_children.specs.Edited.{IsRightFor};
-ghost use Rattle.kept_changes.specs.Spots.{CameAt, IsRemoval, IsSpot};
+ghost use Rattle.kept_children.specs.Steps.{width};
+ghost use Rattle.kept_changes.specs.Spots.{HasChangedAt, HasCome, IsRemoval, IsSpot, TakesSpot};
+ghost use Rattle.kept_changes.specs.Steps.{Takes, TakesBelow};
 
 use crate::own::{reattribute, rename, retext};
 use child_lists::place_of;
@@ -21,6 +24,7 @@ use doc_tree::DocTree;
 use kept_children::{put_child, take_child};
 use kept_forgetting::forget_below;
 use kept_state::KeptState;
+use plain_tree::Tree;
 use std::alloc::AllocError;
 use tree_rows::NodeKind;
 use xsv_steps::{Ledger, Steps};
@@ -38,6 +42,15 @@ enum Spot {
     Attributed(u32),
     // Its name is.
     Renamed(u32),
+}
+
+// The number that the root of a part gets.
+fn number_of_part(doc: &DocTree, part: &Tree) -> u32
+    ensures number { result ≡ length doc.now }
+    ensures tree { IsTree part.now }
+{
+    prove!(part.next_free() > 1);
+    doc.next_free()
 }
 
 // The parent of a node that has one.
@@ -68,7 +81,7 @@ fn spot_of(doc: &DocTree, change: &Change) -> Spot
     ensures { IsSpot doc.now change.now result }
 {
     match change {
-        Change::Insert { .. } => Spot::Planted(doc.next_free()),
+        Change::Insert { part, .. } => Spot::Planted(number_of_part(doc, part)),
         Change::AddText { parent, .. } => Spot::Retexted(*parent),
         Change::SetText { node, .. } => Spot::Retexted(owner_of(doc, *node)),
         Change::Remove { node } => removal(doc, *node),
@@ -77,7 +90,18 @@ fn spot_of(doc: &DocTree, change: &Change) -> Spot
     }
 }
 
-// Takes an element that is not the root out of what is kept and out of the document.
+// Makes a change of the document alone.
+fn make(doc: &mut DocTree, set: &mut Compiled, change: Change) -> Result<(), AllocError>
+    requires can { (d : Document) × StandsFor set.old.names doc.old d × CanMake set.old.names doc.old d change }
+    ensures made { OnOk result ((d : Document) → StandsFor set.old.names doc.old d → StandsFor set.old.names doc.new (changed set.old.names d change)) }
+    ensures nodes { OnOk result (IsMade set.old.names doc.old doc.new change) }
+    ensures err { OnErr result (doc.new ≡ doc.old) }
+    ensures same { set.new ≡ set.old }
+{
+    make_change(doc, &mut set.names, change)
+}
+
+// Takes an element that is not the root out of what is kept and out of the document. The steps are those of `take_child`.
 fn prune<L: Ledger>(
     doc: &mut DocTree,
     set: &mut Compiled,
@@ -91,6 +115,8 @@ fn prune<L: Ledger>(
     ensures tree { (t : NameTable) (d : Document) → StandsFor t doc.old d → StandsFor t doc.new (made d (edits.Remove node)) }
     ensures right { OnOk result (IsRightFor set.old doc.new kept.new) }
     ensures same { set.new ≡ set.old }
+    ensures least { steps.old ≤ steps.new }
+    ensures steps { (parent : ℕ) → parent_at doc.old node ≡ Some parent → TakesBelow set.old doc.new kept.old parent (width doc.new parent + 1) steps.old steps.new }
 {
     let Some(at) = place_of(doc, node) else {
         unreachable!()
@@ -101,7 +127,7 @@ fn prune<L: Ledger>(
     take_child(doc, set, kept, (&at, outcome), steps)
 }
 
-// Keeps a part that was put into the document.
+// Keeps a part that was put into the document. The steps are those of `put_child`.
 fn plant<L: Ledger>(
     doc: &DocTree,
     set: &mut Compiled,
@@ -110,11 +136,11 @@ fn plant<L: Ledger>(
     steps: &mut Steps<L>,
 ) -> Result<(), AllocError>
     requires beside { IsBeside set.old doc.now kept.old }
-    requires element { is_element_at doc.now node ≡ true }
-    requires below { parent_at doc.now node ≢ None }
-    requires planted { CameAt set.old doc.now kept.old node }
+    requires come { HasCome set.old doc.now kept.old node }
     ensures right { OnOk result (IsRightFor set.old doc.now kept.new) }
     ensures same { set.new ≡ set.old }
+    ensures least { steps.old ≤ steps.new }
+    ensures steps { (parent : ℕ) → parent_at doc.now node ≡ Some parent → TakesBelow set.old doc.now kept.old parent (width doc.now parent) steps.old steps.new }
 {
     match place_of(doc, node) {
         None => unreachable!(),
@@ -122,12 +148,36 @@ fn plant<L: Ledger>(
     }
 }
 
+// Makes all that is kept right, where the document has changed at an element that is there.
+fn follow<L: Ledger>(
+    doc: &DocTree,
+    set: &mut Compiled,
+    kept: &mut KeptState,
+    spot: Spot,
+    steps: &mut Steps<L>,
+) -> Result<(), AllocError>
+    requires beside { IsBeside set.old doc.now kept.old }
+    requires changed { HasChangedAt set.old doc.now kept.old spot }
+    ensures right { OnOk result (IsRightFor set.old doc.now kept.new) }
+    ensures same { set.new ≡ set.old }
+    ensures least { steps.old ≤ steps.new }
+    ensures steps { TakesSpot set.old doc.now kept.old spot steps.old steps.new }
+{
+    match spot {
+        Spot::Planted(node) => plant(doc, set, kept, node, steps),
+        Spot::Retexted(node) => retext(doc, set, kept, node),
+        Spot::Attributed(node) => reattribute(doc, set, kept, node, steps),
+        Spot::Renamed(node) => rename(doc, set, kept, node, steps),
+        Spot::Pruned(_) => unreachable!(),
+    }
+}
+
 /// Makes a change of a document, and all that is kept of its elements right. The set has the names of the change.
 ///
 /// # Errors
 ///
-/// `AllocError` is want of memory, or there are too many codes. The document is as it was, or changed; nothing is stated of what is
-/// kept.
+/// `AllocError` is want of memory, or there are too many codes. The document is as it was, and no step was taken; or the change is
+/// made, and there were no more steps than it may take. Nothing is stated of what is kept.
 pub fn keep_change<L: Ledger>(
     doc: &mut DocTree,
     set: &mut Compiled,
@@ -137,22 +187,21 @@ pub fn keep_change<L: Ledger>(
 ) -> Result<(), AllocError>
     requires right { IsRightFor set.old doc.old kept.old }
     requires can { (d : Document) × StandsFor set.old.names doc.old d × CanMake set.old.names doc.old d change }
-    ensures stands { (d : Document) → StandsFor set.old.names doc.old d → (e : Document) × StandsFor set.old.names doc.new e }
     ensures made { OnOk result ((d : Document) → StandsFor set.old.names doc.old d → StandsFor set.old.names doc.new (changed set.old.names d change)) }
     ensures right { OnOk result (IsRightFor set.old doc.new kept.new) }
     ensures same { set.new ≡ set.old }
+    ensures least { steps.old ≤ steps.new }
+    ensures reach { (d : Document) → StandsFor set.old.names doc.old d → ((doc.new ≡ doc.old) × (steps.new ≡ steps.old)) ⊎
+        (StandsFor set.old.names doc.new (changed set.old.names d change) × Takes set.old doc.old doc.new kept.old change steps.old steps.new) }
 {
-    let spot = spot_of(doc, &change);
-    if let Spot::Pruned(node) = spot {
-        drop(change);
-        return prune(doc, set, kept, node, steps);
-    }
-    make_change(doc, &mut set.names, change)?;
-    match spot {
-        Spot::Planted(node) => plant(doc, set, kept, node, steps),
-        Spot::Retexted(node) => retext(doc, set, kept, node),
-        Spot::Attributed(node) => reattribute(doc, set, kept, node, steps),
-        Spot::Renamed(node) => rename(doc, set, kept, node, steps),
-        Spot::Pruned(_) => unreachable!(),
+    match spot_of(doc, &change) {
+        Spot::Pruned(node) => {
+            drop(change);
+            prune(doc, set, kept, node, steps)
+        }
+        spot => {
+            make(doc, set, change)?;
+            follow(doc, set, kept, spot, steps)
+        }
     }
 }

@@ -1,17 +1,15 @@
 //! Elements whose own texts, attributes or name are others.
 
-ghost use Rattle.std.specs.Prelude.{◌≡◌, ◌≤◌, ◌+◌, ◌*◌, ℕ, [], ◌∷◌, OnOk};
-ghost use Rattle.tree_rows.specs.Forest.{Forest};
-ghost use Rattle.elem_governing.specs.declared.pairs.Governing.{Governing};
+ghost use Rattle.std.specs.Prelude.{◌≡◌, ◌≤◌, OnOk};
 ghost use Rattle.compiled_schema.specs.Usable.{set_of};
-ghost use Rattle.doc_documents.specs.Readers.{element_numbers};
+ghost use Rattle.doc_changes.specs.Held.{parent_at};
 ghost use Rattle.kept_records.specs.Fit.{head_at};
 ghost use Rattle.kept_records.specs.Slots.{pair_at};
 ghost use Rattle.kept_state.specs.Kept.{IsBeside};
-ghost use Rattle.kept_judging.specs.Judged.{again_pair};
-ghost use Rattle.kept_below.specs.Moved.{AreGivenDown, moved};
+ghost use Rattle.kept_judging.specs.Judged.{again_pair, root_pair};
 ghost use Rattle.kept_children.specs.Edited.{IsRightFor};
 ghost use Rattle.kept_changes.specs.Own.{IsRetexted, IsReattributed, IsNamedAnew};
+ghost use Rattle.kept_changes.specs.Steps.{TakesAt, TakesName};
 
 use child_lists::place_of;
 use compiled_schema::Compiled;
@@ -59,8 +57,7 @@ pub(crate) fn reattribute<L: Ledger>(
     ensures right { OnOk result (IsRightFor set.old doc.now kept.new) }
     ensures same { set.new ≡ set.old }
     ensures least { steps.old ≤ steps.new }
-    ensures steps { (siblings : Forest) (governs : ℕ → Governing) → AreGivenDown set.old doc.now governs siblings → element_numbers siblings ≡ node ∷ [] →
-        governs node ≡ again_pair (set_of set.old) (pair_at kept.old.records.slots node) (head_at (set_of set.old) doc.now node) → steps.new ≤ steps.old + 3 * moved kept.old.records.slots governs siblings }
+    ensures steps { TakesAt set.old doc.now kept.old node (again_pair (set_of set.old) (pair_at kept.old.records.slots node) (head_at (set_of set.old) doc.now node)) steps.old steps.new }
 {
     let was = kept.outcome(node);
     let pair = kept.pair(node);
@@ -69,7 +66,8 @@ pub(crate) fn reattribute<L: Ledger>(
     settle_above(doc, set, kept, node, was)
 }
 
-/// Makes all records right, where an element has another name now.
+/// Makes all records right, where an element has another name now. The steps are those of `name_child`; where it is the root, as many as
+/// those of `reattribute`.
 pub(crate) fn rename<L: Ledger>(
     doc: &DocTree,
     set: &mut Compiled,
@@ -81,12 +79,29 @@ pub(crate) fn rename<L: Ledger>(
     requires renamed { IsNamedAnew set.old doc.now kept.old node }
     ensures right { OnOk result (IsRightFor set.old doc.now kept.new) }
     ensures same { set.new ≡ set.old }
+    ensures least { steps.old ≤ steps.new }
+    ensures steps { TakesName set.old doc.now kept.old node (parent_at doc.now node) steps.old steps.new }
 {
     match place_of(doc, node) {
         Some(at) => name_child(doc, set, kept, &at, steps),
-        None => {
-            let root = pair_of_root(kept.alloc, doc, set)?;
-            settle_again(doc, set, kept, &root, steps)
-        }
+        None => rename_root(doc, set, kept, steps),
     }
+}
+
+// Makes all records right, where the root has another name now.
+fn rename_root<L: Ledger>(
+    doc: &DocTree,
+    set: &mut Compiled,
+    kept: &mut KeptState,
+    steps: &mut Steps<L>,
+) -> Result<(), AllocError>
+    requires beside { IsBeside set.old doc.now kept.old }
+    requires renamed { IsNamedAnew set.old doc.now kept.old 1 }
+    ensures right { OnOk result (IsRightFor set.old doc.now kept.new) }
+    ensures same { set.new ≡ set.old }
+    ensures least { steps.old ≤ steps.new }
+    ensures steps { TakesAt set.old doc.now kept.old 1 (root_pair (set_of set.old) (head_at (set_of set.old) doc.now 1)) steps.old steps.new }
+{
+    let root = pair_of_root(kept.alloc, doc, set)?;
+    settle_again(doc, set, kept, &root, steps)
 }
