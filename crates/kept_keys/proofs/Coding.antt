@@ -1,8 +1,7 @@
 -- Codes by the numbers of elements, of which no two have one.
-use Rattle.std.proofs.Common.{◌≡◌, ℕ, zero, suc, ◌+◌, ◌≤◌, ◌==◌, Bool, true, false, if◌then◌else◌, List, [], ◌∷◌, ◌++◌, length, Option, Some, refl, sym, ap, ◌∙◌, arith, append-nil}
-use Rattle.std.specs.Prelude.{slice_get}
+use Rattle.std.proofs.Common.{◌≡◌, ℕ, ◌+◌, ◌≤◌, ◌==◌, Bool, true, false, if◌then◌else◌, List, [], ◌∷◌, ◌++◌, map, refl, sym, ap, ◌∙◌, arith, append-nil}
 use Rattle.std.proofs.lemmas.Bool.{eq-eqb}
-use Rattle.std.proofs.lemmas.Option.{same_Some, none-some}
+use Rattle.std.proofs.lemmas.List.{map-append}
 use Rattle.xs_names.specs.Names.{NameTable}
 use Rattle.xs_codes.specs.declared.fault.Found.{Found}
 use Rattle.xs_components.specs.Tables.{Tables}
@@ -19,31 +18,6 @@ seen_times n (element own below next) = (if own.number == n then 1 else 0) + (se
 
 abbrev weight : Bool → ℕ
 weight b = if b then 1 else 0
-
--- codes for numbers, one after another
-abbrev pub AreFor : (ℕ → List Found) → List ℕ → List (List Found) → Type 0
-AreFor h [] [] = Unit {0}
-AreFor h [] (x ∷ xs) = ⊥
-AreFor h (n ∷ ns) [] = ⊥
-AreFor h (n ∷ ns) (x ∷ xs) = (x ≡ h n) × AreFor h ns xs
-
-for-both : (h : ℕ → List Found) (ns ms : List ℕ) (xs ys : List (List Found)) → AreFor h ns xs → AreFor h ms ys → AreFor h (ns ++ ms) (xs ++ ys)
-for-both h [] ms [] ys a b = b
-for-both h [] ms (x ∷ xs) ys a b = absurd a
-for-both h (n ∷ ns) ms [] ys a b = absurd a
-for-both h (n ∷ ns) ms (x ∷ xs) ys a b = (a.0, for-both h ns ms xs ys a.1 b)
-
-pub for-each : (h : ℕ → List Found) (ns : List ℕ) (xs : List (List Found)) → AreFor h ns xs → length xs ≡ length ns
-for-each h [] [] a = refl
-for-each h [] (x ∷ xs) a = absurd a
-for-each h (n ∷ ns) [] a = absurd a
-for-each h (n ∷ ns) (x ∷ xs) a = ap suc (for-each h ns xs a.1)
-
-pub for-at : (h : ℕ → List Found) (ns : List ℕ) (xs : List (List Found)) → AreFor h ns xs → (i n : ℕ) (x : List Found) → slice_get ns i ≡ Some n → slice_get xs i ≡ Some x → x ≡ h n
-for-at h [] xs a i n x e f = absurd (none-some n e)
-for-at h (m ∷ ns) [] a i n x e f = absurd a
-for-at h (m ∷ ns) (y ∷ xs) a zero n x e f = sym (same_Some y x f) ∙ a.0 ∙ ap h (same_Some m n e)
-for-at h (m ∷ ns) (y ∷ xs) a (suc i) n x e f = for-at h ns xs a.1 i n x e f
 
 module _ (names : NameTable) (t : Tables) (identities : List IdentityPaths) where
   abbrev at : KeyForest → ℕ → List Found
@@ -68,8 +42,8 @@ module _ (names : NameTable) (t : Tables) (identities : List IdentityPaths) wher
   own-first n x = ap (λ (b : Bool). if b then x else []) (eq-eqb n n refl)
 
   -- in a forest of which no two elements have one number
-  pub codes-for : (h : ℕ → List Found) (f : KeyForest) → ((n : ℕ) → seen_times n f ≤ 1) → ((n : ℕ) → 1 ≤ seen_times n f → at f n ≡ h n) → AreFor h (numbers_in f) (all_codes names t identities f)
-  codes-for h none once same = tt
+  pub codes-for : (h : ℕ → List Found) (f : KeyForest) → ((n : ℕ) → seen_times n f ≤ 1) → ((n : ℕ) → 1 ≤ seen_times n f → at f n ≡ h n) → all_codes names t identities f ≡ map h (numbers_in f)
+  codes-for h none once same = refl
   codes-for h (element own below next) once same =
       let codes = identity_codes names t identities own below in
       let here : weight (own.number == own.number) ≡ 1 = ap weight (eq-eqb own.number own.number refl) in
@@ -84,9 +58,12 @@ module _ (names : NameTable) (t : Tables) (identities : List IdentityPaths) wher
       let later : (n : ℕ) → 1 ≤ seen_times n next → at next n ≡ h n = λ n has.
       let first = none-of own.number n codes (omega (arith, has, once n)) in
       let inner = none-at n below (omega (arith, has, once n)) in
-      sym (λ i. first i ++ (inner i ++ at next n)) ∙ same n (omega (arith, has)) in (
-        sym own-is ∙ same own.number (omega (arith, here)),
-        for-both h (numbers_in below) (numbers_in next) (all_codes names t identities below) (all_codes names t identities next)
-            (codes-for h below (λ n. omega (arith, once n)) under)
-            (codes-for h next (λ n. omega (arith, once n)) later),
-      )
+      sym (λ i. first i ++ (inner i ++ at next n)) ∙ same n (omega (arith, has)) in
+      let first = sym own-is ∙ same own.number (omega (arith, here)) in
+      let one = codes-for h below (λ n. omega (arith, once n)) under in
+      let two = codes-for h next (λ n. omega (arith, once n)) later in
+      (λ i. first i ∷ (one i ++ two i)) ∙ ap (λ (l : List (List Found)). h own.number ∷ l) (sym (map-append h (numbers_in below) (numbers_in next)))
+
+  -- so they are those by number
+  pub codes-by-number : (f : KeyForest) → ((n : ℕ) → seen_times n f ≤ 1) → all_codes names t identities f ≡ map (at f) (numbers_in f)
+  codes-by-number f once = codes-for (at f) f once (λ n has. refl)

@@ -1,6 +1,16 @@
+mod Lists
 mod Firsts
 mod Seeing
 mod Coding
 mod Staying
 mod Found
 mod Numbers
+mod Numbered
+mod Whole
+mod Named
+mod Plain
+mod Deciding
+mod Again
+mod Written
+mod Scoped
+mod Idents

@@ -1,11 +1,10 @@
 //! The codes of the identity constraints of all elements, with their numbers.
 
-ghost use Rattle.std.specs.Prelude.{◌≡◌, ◌++◌, IfOk, OnOk};
+ghost use Rattle.std.specs.Prelude.{◌≡◌, ◌++◌, map, IfOk, OnOk};
 ghost use Rattle.tree_rows.specs.Forest.{Document};
-ghost use Rattle.compiled_schema.specs.Usable.{IsUsable};
 ghost use Rattle.identity_assessment.specs.Identity.{seen};
 ghost use Rattle.kept_records.specs.Found.{IsOver, found_in};
-ghost use Rattle.kept_keys.specs.Keys.{AreCodesOf, IsWhole};
+ghost use Rattle.kept_keys.specs.Keys.{IsWhole, codes_at};
 ghost use Rattle.kept_keys.specs.Seen.{numbers_in};
 
 use crate::siblings::KeptSiblings;
@@ -37,7 +36,7 @@ fn add_numbers<T: KeySiblings>(siblings: T, numbers: &mut Vec<u32>) -> Result<()
     Ok(())
 }
 
-/// The codes of the identity constraints of all elements.
+/// The codes of the identity constraints of all elements, in document order.
 ///
 /// # Errors
 ///
@@ -47,10 +46,11 @@ pub(crate) fn codes_of(
     set: &Compiled,
     kept: &KeptState,
 ) -> Result<NumberedCodes, AllocError>
-    requires whole { IsWhole set.now doc.now kept.now }
-    ensures { IfOk result (λ all. (d : Document) → IsOver set.now doc.now kept.now.records.slots d
-        → (all.numbers.items ≡ numbers_in (seen (found_in doc.now kept.now.records.slots d.forest)))
-        × AreCodesOf set.now (seen (found_in doc.now kept.now.records.slots d.forest)) all.numbers.items all.codes.items) }
+    requires { IsWhole set.now doc.now kept.now }
+    ensures numbers { IfOk result (λ all. (d : Document) → IsOver set.now doc.now kept.now.records.slots d
+        → all.numbers.items ≡ numbers_in (seen (found_in doc.now kept.now.records.slots d.forest))) }
+    ensures codes { IfOk result (λ all. (d : Document) → IsOver set.now doc.now kept.now.records.slots d
+        → all.codes.items ≡ map (codes_at set.now (seen (found_in doc.now kept.now.records.slots d.forest))) all.numbers.items) }
 {
     let siblings = KeptSiblings::of(doc, &kept.records);
     let by = KeySet {

@@ -1,16 +1,16 @@
 //! The codes of each element with identity constraints, and those of IDs at the root.
 
-ghost use Rattle.std.specs.Prelude.{◌≡◌, ◌↔◌, ℕ, [], ◌∷◌, IsTrue, OnOk};
+ghost use Rattle.std.specs.Prelude.{◌≡◌, ◌≢◌, ◌↔◌, ℕ, [], ◌∷◌, IsTrue, OnOk};
 ghost use Rattle.tree_rows.specs.Forest.{Document};
 ghost use Rattle.identity_assessment.specs.Identity.{seen};
 ghost use Rattle.identity_tables.specs.Ids.{id_codes};
 ghost use Rattle.assessment.specs.Bearings.{borne_values};
 ghost use Rattle.compiled_schema.specs.Usable.{set_of};
 ghost use Rattle.kept_records.specs.Slots.{IsMade, kept_at};
-ghost use Rattle.kept_records.specs.Fit.{models_of, IsGathered};
+ghost use Rattle.kept_records.specs.Fit.{models_of, IsGathered, IsTop};
 ghost use Rattle.kept_records.specs.Found.{IsOver, SaysFound, found_in};
 ghost use Rattle.kept_state.specs.Kept.{FitBut, IsBeside};
-ghost use Rattle.kept_keys.specs.Keys.{HasNone, IsCoded, IsWhole, KeepsElements, codes_at};
+ghost use Rattle.kept_keys.specs.Keys.{IsCoded, IsWhole, KeepsCodes, KeepsElements, codes_at};
 
 use crate::codes::{NumberedCodes, codes_of};
 use assess_records::Codes;
@@ -29,14 +29,12 @@ fn judge_upwards(
     node: u32,
 ) -> Result<(), AllocError>
     requires beside { IsBeside set.old doc.now kept.old }
+    requires top { IsTop (set_of set.old) doc.now kept.old.records.slots }
     requires made { IsMade kept.old.records.slots node }
     requires fit { FitBut set.old doc.now kept.old (node ∷ []) }
     requires gathered { IsGathered (set_of set.old) (models_of set.old) doc.now kept.old.records.slots kept.old.lists node }
-    ensures fit { OnOk result (FitBut set.old doc.now kept.new []) }
-    ensures beside { OnOk result (IsBeside set.old doc.now kept.new) }
-    ensures elements { OnOk result (KeepsElements kept.old kept.new) }
-    ensures identity { OnOk result ((n : ℕ) → (kept_at kept.new.records.slots n).identity ≡ (kept_at kept.old.records.slots n).identity) }
-    ensures ids { OnOk result (kept.new.root_ids ≡ kept.old.root_ids) }
+    ensures whole { OnOk result (IsWhole set.old doc.now kept.new) }
+    ensures codes { OnOk result (KeepsCodes kept.old kept.new) }
     ensures same { set.new ≡ set.old }
 {
     let was = kept.outcome(node);
@@ -61,6 +59,7 @@ fn settle_scope(
     node: u32,
     codes: Codes,
 ) -> Result<(), AllocError>
+    requires some { set.old.identities.items ≢ [] }
     requires whole { IsWhole set.old doc.now kept.old }
     requires made { IsMade kept.old.records.slots node }
     ensures whole { OnOk result (IsWhole set.old doc.now kept.new) }
@@ -74,15 +73,19 @@ fn settle_scope(
     judge_upwards(doc, set, kept, node)
 }
 
-// Finds the codes of the identity constraints of all elements, and makes the records right, the last in document order first.
+// Finds the codes of the identity constraints of all elements, where the set has any, and makes the records right, the last in document
+// order first.
 fn settle_scopes(doc: &DocTree, set: &mut Compiled, kept: &mut KeptState) -> Result<(), AllocError>
-    requires whole { IsWhole set.old doc.now kept.old }
+    requires { IsWhole set.old doc.now kept.old }
     ensures whole { OnOk result (IsWhole set.old doc.now kept.new) }
     ensures elements { OnOk result (KeepsElements kept.old kept.new) }
     ensures coded { OnOk result ((d : Document) → IsOver set.old doc.now kept.new.records.slots d → (n : ℕ) → IsMade kept.new.records.slots n
         → (kept_at kept.new.records.slots n).identity ≡ codes_at set.old (seen (found_in doc.now kept.new.records.slots d.forest)) n) }
     ensures same { set.new ≡ set.old }
 {
+    if set.identities.is_empty() {
+        return Ok(());
+    }
     let NumberedCodes {
         mut numbers,
         mut codes,
@@ -98,7 +101,7 @@ fn settle_scopes(doc: &DocTree, set: &mut Compiled, kept: &mut KeptState) -> Res
 
 // Finds the codes of IDs at the root, and where they are others judges it again.
 fn settle_ids(doc: &DocTree, set: &mut Compiled, kept: &mut KeptState) -> Result<(), AllocError>
-    requires whole { IsWhole set.old doc.now kept.old }
+    requires { IsWhole set.old doc.now kept.old }
     ensures whole { OnOk result (IsWhole set.old doc.now kept.new) }
     ensures elements { OnOk result (KeepsElements kept.old kept.new) }
     ensures identity { OnOk result ((n : ℕ) → (kept_at kept.new.records.slots n).identity ≡ (kept_at kept.old.records.slots n).identity) }
@@ -126,14 +129,11 @@ pub fn settle_keys(
     set: &mut Compiled,
     kept: &mut KeptState,
 ) -> Result<(), AllocError>
-    requires whole { IsWhole set.old doc.now kept.old }
-    requires none { HasNone set.old kept.old.records.slots }
+    requires { IsWhole set.old doc.now kept.old }
     ensures whole { OnOk result (IsWhole set.old doc.now kept.new) }
     ensures says { OnOk result ((d : Document) → IsOver set.old doc.now kept.new.records.slots d → SaysFound set.old doc.now kept.new.records.slots kept.new.root_ids d) }
     ensures same { set.new ≡ set.old }
 {
-    if !set.identities.is_empty() {
-        settle_scopes(doc, set, kept)?;
-    }
+    settle_scopes(doc, set, kept)?;
     settle_ids(doc, set, kept)
 }

@@ -1,6 +1,6 @@
 //! The elements of a document as identity constraints see them.
 
-ghost use Rattle.std.specs.Prelude.{◌≡◌, ◌+◌, ◌<◌, ◌^◌, [], ◌∷◌, drop, slice_get, Some, IfSome, MatchOption};
+ghost use Rattle.std.specs.Prelude.{◌≡◌, ◌+◌, ◌<◌, ◌^◌, [], ◌∷◌, slice_get, Some, IfSome, MatchOption};
 ghost use Rattle.tree_rows.specs.Forest.{Document, count};
 ghost use Rattle.doc_changes.specs.Stands.{StandsFor};
 ghost use Rattle.identity_constraints.specs.Seen.{none};
