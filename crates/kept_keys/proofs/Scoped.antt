@@ -1,7 +1,7 @@
 -- Each element gets its codes in turn, the last first.
-use Rattle.std.proofs.Common.{◌≡◌, ℕ, List, [], ◌∷◌, ◌++◌, map, sym, ap, ◌∙◌, subst, inl, inr}
+use Rattle.std.proofs.Common.{◌≡◌, ℕ, List, [], ◌∷◌, ◌++◌, length, map, sym, ap, ◌∙◌, subst, inl, inr, arith}
 use Rattle.std.proofs.lemmas.Bool.{cases_eq}
-use Rattle.std.proofs.lemmas.List.{map_push, same_from_push}
+use Rattle.std.proofs.lemmas.List.{length_push, map_push, same_from_push}
 use Rattle.xs_codes.specs.declared.fault.Found.{Found}
 use Rattle.tree_rows.specs.Forest.{Document}
 use Rattle.identity_constraints.specs.Seen.{KeyForest}
@@ -50,6 +50,14 @@ module _ (c : Compiled) (f : KeyForest) (old new : KeptState) (numbers rest : Li
           ∙ before.others m ((coded.elements.made m).1 made) (subst (Lacks m) (sym popped) (lacks-last m rest n lacks (λ e. other (sym e))))
     ];
   }
+
+-- there are as many numbers as codes
+pub coded-short : (c : Compiled) (f : KeyForest) (k : KeptState) (numbers : List ℕ) (codes less : List (List Found)) (own : List Found) → numbers ≡ [] → codes ≡ less ++ own ∷ [] →
+    AreCodedBut c f k numbers codes → ⊥
+coded-short c f k numbers codes less own none taken coded =
+    let many = length_push less own in
+    let all = ap length (sym taken ∙ coded.codes_are ∙ ap (map (codes_at c f)) none) in
+    omega (arith, many, all)
 
 -- none waits
 module _ (c : Compiled) (ns : Nodes) (old new : KeptState) (before : IsWhole c ns old) (after : IsWhole c ns new) (elements : KeepsElements old new) (d : Document) (over : IsOver c ns new.records.slots d) where
