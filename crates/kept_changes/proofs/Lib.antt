@@ -2,4 +2,9 @@ pub mod Changed
 pub mod Reread
 pub mod Retexted
 pub mod Reattributed
+pub mod Came
+pub mod Gone
+pub mod Following
+pub mod RootNamed
 pub mod Grown
+pub mod Under

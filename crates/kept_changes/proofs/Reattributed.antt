@@ -30,7 +30,8 @@ use Rattle.kept_above.specs.Climbing.{IsNearly, IsClimbing, KeepsRest}
 use Rattle.kept_above.proofs.Climbing.{judged-kept, nearly}
 use Rattle.kept_forgetting.proofs.Placed.{children-differ, child-place, parent-element, root-alone}
 use Rattle.kept_above.proofs.Whole.{all-made}
-use Rattle.kept_below.specs.Below.{upwards, IsWithin, AreAbove, IsSettled}
+use Rattle.kept_forgetting.specs.Below.{upwards, IsWithin}
+use Rattle.kept_below.specs.Below.{AreAbove, IsSettled}
 use Rattle.kept_children.specs.Edited.{IsRightFor}
 use Rattle.child_lists.specs.Family.{AreGivenBut, IsAttributed}
 use Rattle.child_lists.specs.Places.{IsPlaceOf}

@@ -1,0 +1,82 @@
+-- A part that was put among the nodes of a document.
+use Rattle.std.proofs.Common.{◌≡◌, ◌≢◌, ◌⊎◌, ℕ, true, Option, Some, refl, sym, ap, ◌∙◌, subst, inl, inr, length}
+use Rattle.std.proofs.lemmas.Bool.{cases_eq}
+use Rattle.std.proofs.lemmas.Option.{same_Some}
+use Rattle.xs_names.specs.Names.{NameTable}
+use Rattle.tree_rows.specs.Forest.{Forest, none, text, element, Document}
+use Rattle.tree_rows.specs.Whole.{HasRoot, IsTree}
+use Rattle.tree_edits.specs.Edits.{renumbered}
+use Rattle.compiled_schema.specs.declared.compiled.Compiled.{Compiled}
+use Rattle.doc_nodes.specs.Nodes.{Node, Nodes, node, IsNode, IsSound, Has, children_by, is_element, is_element_by, is_element_at}
+use Rattle.doc_nodes.proofs.Among.{has-inserted}
+use Rattle.doc_changes.specs.Held.{parent_at}
+use Rattle.doc_changes.specs.Stands.{StandFor, StandsFor}
+use Rattle.doc_planting.specs.Fits.{Fits}
+use Rattle.doc_planting.specs.Planted.{Plants}
+use Rattle.doc_planting.proofs.Placing.{IsParent, parent_of}
+use Rattle.kept_records.proofs.Nodes.{by-node}
+use Rattle.kept_state.specs.declared.state.KeptState.{KeptState}
+use Rattle.kept_forgetting.proofs.Placed.{in-table}
+use Rattle.kept_children.specs.Edited.{IsRightFor, IsPlanted}
+use Rattle.child_lists.specs.Places.{IsPlaceOf}
+use Rattle.child_lists.specs.declared.place.ChildPlace.{ChildPlace}
+use Rattle.kept_changes.specs.Spots.{HasCome}
+use Rattle.kept_changes.proofs.Changed.{child-up}
+
+-- ---- the nodes
+
+module _ (t : NameTable) (old new : Nodes) (p place : ℕ) (f : Forest) (plants : Plants t old new p place f) where
+  -- all that were elements still are
+  pub come-elements : (m : ℕ) → is_element_at old m ≡ true → is_element_at new m ≡ true
+  come-elements m is =
+      let it = by-node old m (node old m) refl is in
+      elim (cases_eq m p) [
+        | inl e ↦
+            let here : IsNode old p it.0 = ap (node old) (sym e) ∙ it.1 in
+            ap (is_element_at new) e ∙ ap is_element_by (plants.parent it.0 here) ∙ sym (ap is_element_by here) ∙ ap (is_element_at old) (sym e) ∙ is
+        | inr other ↦ ap is_element_by (plants.others m (in-table old m it.0 it.1) other) ∙ is
+      ]
+
+  root-by : (g : Forest) → HasRoot g → StandFor t new (renumbered (length old) g) → is_element_at new (length old) ≡ true
+  root-by none root s = absurd root
+  root-by (text number chars next) root s = absurd root
+  root-by (element number name bindings attributes children next) root s = ap is_element_by s.0.is ∙ ap is_element s.0.content
+
+  -- the root of the part is one
+  pub come-root : HasRoot f → is_element_at new (length old) ≡ true
+  come-root root = root-by f root plants.stand
+
+  -- it is a child of the node
+  pub come-below : (it : Node) → IsNode old p it → Has (length old) (children_by (node new p))
+  come-below it is = subst (λ (o : Option Node). Has (length old) (children_by o)) (sym (plants.parent it is)) (has-inserted it.children place (length old))
+
+-- ---- what is kept
+
+pub came : (c : Compiled) (old new : Nodes) (k : KeptState) → IsRightFor c old k → (d : Document) → StandsFor c.names old d → IsSound new → (parent place : ℕ) (part : Document) → IsTree part →
+    Fits d parent place part.forest → Plants c.names old new parent place part.forest → HasCome c new k (length old)
+came c old new k r d z sound parent place part tree fits plants =
+    let own : IsParent c.names old d parent = parent_of c.names old d parent z fits.element in record {
+      old = old;
+      right = r;
+      parent = parent;
+      parent_is = child-up new sound parent (length old) (come-below c.names old new parent place part.forest plants own.shown.it own.shown.is);
+      element = come-root c.names old new parent place part.forest plants tree.root;
+      was_element = ap is_element_by own.shown.is ∙ ap is_element own.shown.content;
+      place = place;
+      part = part.forest;
+      plants = plants;
+      number = refl;
+    }
+
+-- where it stands among the child elements of its parent
+pub come-planted : (c : Compiled) (ns : Nodes) (k : KeptState) (n : ℕ) → HasCome c ns k n → (at : ChildPlace) → at.node ≡ n → IsPlaceOf ns at → IsPlanted c ns k at
+come-planted c ns k n h at same placed =
+    let up : h.parent ≡ at.parent = same_Some h.parent at.parent (sym h.parent_is ∙ subst (λ (m : ℕ). parent_at ns m ≡ Some at.parent) same placed.parent_is) in record {
+      old = h.old;
+      right = h.right;
+      parent = subst (λ (p : ℕ). is_element_at h.old p ≡ true) up h.was_element;
+      place = h.place;
+      part = h.part;
+      plants = subst (λ (p : ℕ). Plants c.names h.old ns p h.place h.part) up h.plants;
+      number = same ∙ h.number;
+    }
