@@ -1,5 +1,5 @@
 -- Lines of symbols, one after another.
-use Rattle.std.proofs.Common.{◌≡◌, ◌≢◌, ◌==◌, ◌+◌, ◌*◌, ◌≤◌, ◌<◌, ◌-◌, ℕ, suc, zero, false, true, List, [], ◌∷◌, ◌++◌, Option, None, Some, slice_get, refl, sym, ap, ◌∙◌, subst, append_assoc, append-nil, arith, inl, inr}
+use Rattle.std.proofs.Common.{◌≡◌, ◌≢◌, ◌==◌, ◌+◌, ◌≤◌, ◌<◌, ◌-◌, ℕ, suc, zero, false, true, List, [], ◌++◌, Option, Some, Result, Ok, Err, OnErr, slice_get, refl, sym, ap, ◌∙◌, subst, append_assoc, append-nil, arith}
 use Rattle.std.specs.Prelude.{codes}
 use Rattle.std.specs.Io.KnownBytes.{Appends}
 use Rattle.std.proofs.KnownBytes.{Appends-trans}
@@ -13,7 +13,7 @@ use Rattle.next_names.specs.declared.symbol.SymbolName.{SymbolName}
 use Rattle.next_names.specs.declared.symbol.SymbolName.TheVariants.{Namespace}
 use Rattle.next_names.specs.declared.symbol.Fit.{Fit}
 use Rattle.next_names.specs.declared.symbol.Fit.TheVariants.{No, Prefix, Word}
-use Rattle.next_names.specs.Next.{space_text, name_text, symbol_text, next_line, lines_below, lines_of, fits_below}
+use Rattle.next_names.specs.Next.{name_text, symbol_text, next_line, lines_below, lines_of, fits_below}
 
 name_parts : (space local end : List ℕ) → space ++ (codes "}" ++ (local ++ end)) ≡ ((space ++ codes "}") ++ local) ++ end
 name_parts space local end = simp append_assoc
@@ -51,11 +51,13 @@ module _ (names : NameTable) (end : List ℕ) where
 
 module _ (names : NameTable) (name_of : ℕ → SymbolName) (fit_of : ℕ → Fit) where
   -- the lines of fewer symbols begin those of more
-  begins : (k n : ℕ) → (rest : List ℕ) × (lines_below names name_of fit_of n ++ rest ≡ lines_below names name_of fit_of (k + n))
-  begins zero n = ([], append-nil (lines_below names name_of fit_of n))
-  begins (suc k) n =
-      let h = begins k n in
-      (h.0 ++ next_line names (name_of (k + n)) (fit_of (k + n)), sym (append_assoc (lines_below names name_of fit_of n) h.0 _) ∙ ap (λ l. l ++ next_line names (name_of (k + n)) (fit_of (k + n))) h.1)
+  begins : (k n m : ℕ) → k + n ≡ m → (rest : List ℕ) × (lines_below names name_of fit_of n ++ rest ≡ lines_below names name_of fit_of m)
+  begins zero n m e = ([], append-nil (lines_below names name_of fit_of n) ∙ ap (lines_below names name_of fit_of) (let same : n ≡ m = omega (arith, e) in same))
+  begins (suc k) n m e =
+      let h = begins k n (k + n) refl in
+      let line : List ℕ = next_line names (name_of (k + n)) (fit_of (k + n)) in
+      let same : suc (k + n) ≡ m = omega (arith, e) in
+      (h.0 ++ line, sym (append_assoc (lines_below names name_of fit_of n) h.0 line) ∙ ap (λ l. l ++ line) h.1 ∙ ap (lines_below names name_of fit_of) same)
 
   -- one line more was written
   pub more : (a b c : Option (List ℕ)) (n m : ℕ) → m ≡ suc n → Appends a b (lines_below names name_of fit_of n) → Appends b c (next_line names (name_of n) (fit_of n)) → Appends a c (lines_below names name_of fit_of m)
@@ -66,8 +68,8 @@ module _ (names : NameTable) (name_of : ℕ → SymbolName) (fit_of : ℕ → Fi
   cut_short a b c n count less before front =
       let k : ℕ = count - suc n in
       let whole : k + suc n ≡ count = omega arith in
-      let h = begins k (suc n) in
-      subst (AppendsFront a c) (h.1 ∙ ap (lines_below names name_of fit_of) whole) (front_before a c _ h.0 (front_behind a b c _ _ before front))
+      let h = begins k (suc n) count whole in
+      subst (AppendsFront a c) h.1 (front_before a c _ h.0 (front_behind a b c _ _ before front))
 
 -- a count is one more at most
 pub one_at_most : (fit : Fit) → lines_of fit ≤ 1
@@ -81,3 +83,8 @@ fits_within fit_of (suc n) = omega (arith, fits_within fit_of n, one_at_most (fi
 
 pub fits_more : (fit_of : ℕ → Fit) (n m lines : ℕ) → m ≡ suc n → lines ≡ fits_below fit_of n → lines + lines_of (fit_of n) ≡ fits_below fit_of m
 fits_more fit_of n m lines e is = ap (λ (k : ℕ). k + lines_of (fit_of n)) is ∙ sym (ap (fits_below fit_of) e)
+
+-- a call that fails answers what is said of its error
+pub on_err : {T E P : Type 0} (r : Result T E) → P → OnErr r P
+on_err (Ok x) p = tt
+on_err (Err e) p = p

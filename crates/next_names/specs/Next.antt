@@ -1,11 +1,19 @@
 -- What may stand at a place among child elements, as lines.
-use Rattle.std.specs.Prelude.{ℕ, ◌+◌, ◌<◌, ◌==◌, List, [], ◌++◌, length, slice_index_or, if◌then◌else◌, codes, zero, suc}
+use Rattle.std.specs.Prelude.{ℕ, ◌+◌, ◌<◌, ◌==◌, List, [], ◌∷◌, ◌++◌, length, slice_index_or, if◌then◌else◌, codes, zero, suc}
 use Rattle.xsv_io.specs.Escaping.{escaped}
 use Rattle.xs_names.specs.Names.{NameTable, absent_space, space_of, local_of}
 use Rattle.next_names.specs.declared.symbol.SymbolName.{SymbolName}
 use Rattle.next_names.specs.declared.symbol.SymbolName.TheVariants.{Name, Namespace, Other}
 use Rattle.next_names.specs.declared.symbol.Fit.{Fit}
 use Rattle.next_names.specs.declared.symbol.Fit.TheVariants.{No, Prefix, Word}
+
+-- How one more child element, with this symbol, fits at a place, by the words of a content model (Structures 3.8.4) and the symbols of
+-- the child elements before the place and from it on: with it they are a word; else they begin one; else they begin none.
+module _ (is_word : List ℕ → Type 0) (before behind : List ℕ) (symbol : ℕ) where
+  abbrev pub FitsAs : Fit → Type 0
+  FitsAs Word = is_word (before ++ symbol ∷ behind)
+  FitsAs Prefix = (is_word (before ++ symbol ∷ behind) → ⊥) × ((more : List ℕ) × is_word (before ++ symbol ∷ (behind ++ more)))
+  FitsAs No = (more : List ℕ) → is_word (before ++ symbol ∷ (behind ++ more)) → ⊥
 
 -- none for a symbol that does not fit
 abbrev pub lines_of : Fit → ℕ

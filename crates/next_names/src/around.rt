@@ -1,4 +1,5 @@
-ghost use Rattle.std.specs.Prelude.{◌≡◌, ℕ, ◌+◌, ◌<◌, ◌≤◌};
+ghost use Rattle.std.specs.Prelude.{◌≡◌, ℕ, ◌+◌, ◌<◌, ◌≤◌, List};
+ghost use Rattle.next_names.specs.Next.{FitsAs};
 ghost use Rattle.next_names.specs.declared.symbol.SymbolName.{SymbolName as SymbolNameData};
 ghost use Rattle.next_names.specs.declared.symbol.Fit.{Fit as FitData};
 
@@ -17,7 +18,16 @@ pub trait Around {
     /// What a symbol stands for.
     ghost name_of: { Self → ℕ → SymbolNameData };
 
-    /// How a name with the symbol fits at the place.
+    /// The words of the content model, by symbols.
+    ghost is_word: { Self → List ℕ → Type 0 };
+
+    /// The symbols of the child elements before the place.
+    ghost elements_before: { Self → List ℕ };
+
+    /// The symbols of the child elements from the place on.
+    ghost elements_behind: { Self → List ℕ };
+
+    /// How an element with the symbol fits at the place.
     ghost fit_of: { Self → ℕ → FitData };
 
     /// The child elements before the place lead to the state.
@@ -36,9 +46,10 @@ pub trait Around {
 
     ghost after_most: { Self → ℕ };
 
-    /// How many symbols there are.
+    /// How many symbols there are. How each fits at the place is by the words of the content model.
     fn symbols(&self) -> u32
-        ensures { result ≡ count self.now };
+        ensures number { result ≡ count self.now }
+        ensures fits { (symbol : ℕ) → symbol < count self.now → FitsAs (is_word self.now) (elements_before self.now) (elements_behind self.now) symbol (fit_of self.now symbol) };
 
     /// What a symbol stands for.
     fn symbol_name(&self, symbol: u32) -> SymbolName

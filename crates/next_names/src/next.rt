@@ -3,7 +3,7 @@ ghost use Rattle.std.specs.Io.KnownBytes.{Appends};
 ghost use Rattle.xsv_io.specs.Causes.{HasCause};
 ghost use Rattle.xsv_io.specs.Writing.{AppendsFront};
 ghost use Rattle.next_names.specs.Next as spec;
-ghost use Rattle.next_names.specs.Next.{IsNamed, lines_below, fits_below};
+ghost use Rattle.next_names.specs.Next.{IsNamed, FitsAs, lines_below, fits_below};
 
 use crate::lines::write_line;
 use crate::{Around, Fit};
@@ -45,6 +45,7 @@ pub fn write_next<W: Sink, A: Around, L: Ledger>(
     ensures ok { OnOk result (Appends (W.taken sink.old) (W.taken sink.new) (lines_below names.now (A.name_of around.now) (A.fit_of around.now) (A.count around.now))) }
     ensures count { IfOk result (λ lines. lines ≡ fits_below (A.fit_of around.now) (A.count around.now)) }
     ensures err { OnErr result (AppendsFront (W.taken sink.old) (W.taken sink.new) (lines_below names.now (A.name_of around.now) (A.fit_of around.now) (A.count around.now))) }
+    ensures fits { (symbol : ℕ) → symbol < A.count around.now → FitsAs (A.is_word around.now) (A.elements_before around.now) (A.elements_behind around.now) symbol (A.fit_of around.now symbol) }
     ensures cause { HasCause (W.faults sink.old) (W.faults sink.new) result }
     ensures kept { W.fault_bound sink.new ≡ W.fault_bound sink.old }
     ensures least { steps.old ≤ steps.new }

@@ -1,10 +1,14 @@
-use Rattle.std.proofs.Common.{true≢false, subst}
+use Rattle.std.proofs.Common.{refl, true≢false, subst}
 use Rattle.xsv_io.specs.Written.{Written}
 use Rattle.next_names.proofs.Symbols.{absent_names, spaced_names}
 use Rattle.next_names.proofs.lines.write_space.Goals as goal
 
 pub returns-in-None : goal.returns-in-None
-returns-in-None g c = ?
+returns-in-None g c = record {
+  written = subst (Written g.W.Sink.taken g.W.Sink.faults g.W.Sink.fault_bound c.args.sink.now c.write_parts.new.sink c.write_parts.result)
+      (absent_names c.args.names.now c.args.end.now c.args.space (c.in-None.ensures.absent.0 refl))
+      c.write_parts.ensures.written;
+}
 
 pub returns-in-Some : goal.returns-in-Some
 returns-in-Some g c = record {
