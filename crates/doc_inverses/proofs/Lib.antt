@@ -6,4 +6,5 @@ pub mod Grafting
 pub mod Grafts
 pub mod Numbers
 pub mod Writes
+pub mod Own
 pub mod Meaning
