@@ -5,6 +5,7 @@ use Rattle.std.specs.Option.{option_or}
 use Rattle.std.proofs.lemmas.Bool.{eqb-true, eq-eqb, ne_eqb, true≢false, false≢true}
 use Rattle.std.proofs.lemmas.Option.{same_Some, none-some}
 use Rattle.xs_names.specs.Names.{NameTable}
+use Rattle.xs_names.specs.Scope.{first_scope}
 use Rattle.tree_rows.specs.Forest.{Forest, none, text, element}
 use Rattle.tree_rows.specs.Whole.{times}
 use Rattle.tree_rows.specs.declared.name.Expanded.{Expanded}
@@ -16,11 +17,11 @@ use Rattle.tree_edits.proofs.Lying.{Lies}
 use Rattle.assess_records.specs.Numbered.{Scope, Head, head_of, heads, scope_in, names_of}
 use Rattle.elem_governing.specs.declared.pairs.Governing.{Governing}
 use Rattle.assessment.specs.Attribution.{SchemaSet, content_particle}
-use Rattle.assessment.specs.Assessment.{first_pair, other_pairs, governed}
+use Rattle.assessment.specs.Assessment.{first_pair, other_pairs, governed, root_pairs}
 use Rattle.assessment.specs.Local.{Readers, AreRead, HasElement, element_numbers}
 use Rattle.assessment.proofs.Alike.{element-counts}
 use Rattle.assessment_laws.proofs.Terms.{terms-are}
-use Rattle.governing_laws.specs.Governed.{AreInner, AreGoverned}
+use Rattle.governing_laws.specs.Governed.{AreInner, AreGoverned, AreGovernings}
 use Rattle.edit_budgets.specs.Lists.{parent_in}
 use Rattle.doc_nodes.specs.Nodes.{Nodes}
 use Rattle.doc_changes.specs.Stands.{StandFor}
@@ -79,6 +80,13 @@ module _ (p : ℕ) (cs ds : Forest) where
       let own = subst (AreRead r) h.2 read in ap r.children (sym h.0) ∙ own.0.children_are
   at-numbers r (element n name bindings attributes children next) g (inr (inl h)) read = let own = subst (AreRead r) h.1 read in at-numbers r children h.0 h.2 own.1
   at-numbers r (element n name bindings attributes children next) g (inr (inr h)) read = let own = subst (AreRead r) h.1 read in at-numbers r next h.0 h.2 own.2
+
+  pub at-read : (r : Readers) (f g : Forest) → IsAt p cs ds f g → AreRead r g → AreRead r ds
+  at-read r none g h read = absurd h
+  at-read r (text n chars next) g h read = let own = subst (AreRead r) h.1 read in at-read r next h.0 h.2 own
+  at-read r (element n name bindings attributes children next) g (inl h) read = let own = subst (AreRead r) h.2 read in own.1
+  at-read r (element n name bindings attributes children next) g (inr (inl h)) read = let own = subst (AreRead r) h.1 read in at-read r children h.0 h.2 own.1
+  at-read r (element n name bindings attributes children next) g (inr (inr h)) read = let own = subst (AreRead r) h.1 read in at-read r next h.0 h.2 own.2
 
   -- the node that is found by the number
   pub record IsFoundWith (depth : ℕ) (g : Forest) : Type 0 where
@@ -180,6 +188,11 @@ module _ (p : ℕ) (cs ds : Forest) where
         let own = subst (AreGoverned s new scope pairs) h.1 b in
         same-at next h.0 scope (other_pairs pairs) h.2 a.4 own.4
 
+    pub same-whole : (f g : Forest) → IsAt p cs ds f g → AreGovernings s old f → AreGovernings s new g → new p ≡ old p
+    same-whole f g h a b =
+        same-at f g first_scope (root_pairs s (heads s.names first_scope f)) h a
+        (subst (λ (hs : List Head). AreGoverned s new first_scope (root_pairs s hs) g) (heads-at f g first_scope h) b)
+
 -- ---- where an edit changes children
 
 abbrev pub below_of : Forest → Forest
@@ -216,7 +229,7 @@ module _ (key : ℕ) (change : Forest → Forest) where
   or-false true b h = absurd (true≢false h)
   or-false false b h = (refl, h)
 
-  no-parent : (f : Forest) (par : Option ℕ) → has key f ≡ false → parent_in key par f ≡ None
+  pub no-parent : (f : Forest) (par : Option ℕ) → has key f ≡ false → parent_in key par f ≡ None
   no-parent none par h = refl
   no-parent (text n chars next) par h =
       let o = or-false (n == key) (has key next) h in
@@ -227,7 +240,7 @@ module _ (key : ℕ) (change : Forest → Forest) where
       ap (λ (b : Bool). if b then par else option_or (parent_in key (Some n) children) (parent_in key par next)) o.0
       ∙ ap (λ (x : Option ℕ). option_or x (parent_in key par next)) (no-parent children (Some n) q.0) ∙ no-parent next par q.1
 
-  abbrev IsThere : Option ℕ → Type 0
+  abbrev pub IsThere : Option ℕ → Type 0
   IsThere o = (q : ℕ) × (o ≡ Some q)
 
   there-text : (m : ℕ) (b rest : Bool) (o : Option ℕ) → (rest ≡ true → IsThere o) → (b || rest) ≡ true → IsThere (if b then Some m else o)
@@ -243,7 +256,7 @@ module _ (key : ℕ) (change : Forest → Forest) where
   there-element m false true y o u below later h = let r = below refl in (r.0, ap (λ (z : Option ℕ). option_or z u) r.1)
   there-element m false false y o u below later h = there-or o u (later h)
 
-  has-parent : (f : Forest) (m : ℕ) → has key f ≡ true → IsThere (parent_in key (Some m) f)
+  pub has-parent : (f : Forest) (m : ℕ) → has key f ≡ true → IsThere (parent_in key (Some m) f)
   has-parent none m h = absurd (false≢true h)
   has-parent (text n chars next) m h = there-text m (n == key) (has key next) (parent_in key (Some m) next) (has-parent next m) h
   has-parent (element n name bindings attributes children next) m h =
