@@ -1,5 +1,5 @@
 -- Rows that are read one after the other.
-use Rattle.std.proofs.Common.{◌≡◌, ◌≢◌, ◌⊎◌, ℕ, zero, suc, ◌+◌, ◌-◌, ◌<◌, ◌≤◌, List, [], ◌∷◌, ◌++◌, length, append_assoc, append-nil, sym, ap, ◌∙◌, subst, true, false, ◌==◌, if◌then◌else◌, Some, None, refl, inl, inr, arith}
+use Rattle.std.proofs.Common.{◌≡◌, ◌⊎◌, ℕ, ◌+◌, ◌≤◌, List, [], ◌∷◌, ◌++◌, length, append_assoc, append-nil, sym, ap, ◌∙◌, subst, ◌==◌, if◌then◌else◌, Some, None, refl, inl, inr, arith}
 use Rattle.std.specs.Prelude.{slice_get}
 use Rattle.std.proofs.lemmas.Bool.{eq-eqb}
 use Rattle.std.proofs.lemmas.List.{length-append}
@@ -9,7 +9,6 @@ use Rattle.tree_rows.specs.Forest.{Forest, none, text, element, count, deepest_o
 use Rattle.tree_rows.specs.Whole.{times}
 use Rattle.tree_edits.specs.Edits.{append}
 use Rattle.tree_edits.proofs.Lying.{count-append, deepest_append}
-use Rattle.doc_nodes.specs.declared.content.Content.TheVariants as contents
 use Rattle.doc_nodes.specs.Nodes.{Node, Nodes, node, IsNode, Has, children_by, depth_by}
 use Rattle.doc_nodes.proofs.Among.{has-middle}
 use Rattle.doc_changes.specs.Parts.{IsOver}

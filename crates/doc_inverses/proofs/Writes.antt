@@ -1,5 +1,5 @@
 -- An element has an attribute written.
-use Rattle.std.proofs.Common.{◌≡◌, ℕ, ◌<◌, ◌≤◌, List, ◌∷◌, ◌++◌, length, map, take, drop, sym, ap, ◌∙◌, subst, Bool, true, false, Option, Some, None, refl, arith, All}
+use Rattle.std.proofs.Common.{◌≡◌, ℕ, ◌<◌, ◌≤◌, List, ◌∷◌, length, map, take, drop, sym, ap, ◌∙◌, subst, Bool, true, false, Option, Some, None, refl, arith, All}
 use Rattle.std.proofs.lemmas.List.{length-map}
 use Rattle.std.proofs.lemmas.List.Elements.{All-append, All-take, All-drop, All-cons}
 use Rattle.xs_names.specs.Names.{NameTable}
@@ -7,7 +7,7 @@ use Rattle.tree_rows.specs.Forest.{Document}
 use Rattle.tree_rows.specs.declared.row.Attribute.{Attribute}
 use Rattle.tree_rows.specs.declared.row.Binding.{Binding}
 use Rattle.tree_edits.specs.Changes.{with_attributes}
-use Rattle.tree_edits.specs.Edits.{found, Found}
+use Rattle.tree_edits.specs.Edits.{found}
 use Rattle.tree_edits.specs.Tests.{attributes_of, bindings_of}
 use Rattle.doc_nodes.specs.Nodes.{Nodes, IsSound, Holds}
 use Rattle.doc_nodes.specs.declared.content.Content.TheVariants as contents
