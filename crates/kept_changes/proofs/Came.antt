@@ -1,10 +1,10 @@
 -- A part that was put among the nodes of a document.
-use Rattle.std.proofs.Common.{◌≡◌, ◌≢◌, ◌⊎◌, ℕ, true, Option, Some, refl, sym, ap, ◌∙◌, subst, inl, inr, length}
+use Rattle.std.proofs.Common.{◌≡◌, ◌≢◌, ◌⊎◌, ℕ, ◌<◌, true, Option, Some, refl, sym, ap, ◌∙◌, subst, inl, inr, arith, length}
 use Rattle.std.proofs.lemmas.Bool.{cases_eq}
 use Rattle.std.proofs.lemmas.Option.{same_Some}
 use Rattle.xs_names.specs.Names.{NameTable}
 use Rattle.tree_rows.specs.Forest.{Forest, none, text, element, Document}
-use Rattle.tree_rows.specs.Whole.{HasRoot, IsTree}
+use Rattle.tree_rows.specs.Whole.{HasRoot, AreNodes, IsTree}
 use Rattle.tree_edits.specs.Edits.{renumbered}
 use Rattle.compiled_schema.specs.declared.compiled.Compiled.{Compiled}
 use Rattle.doc_nodes.specs.Nodes.{Node, Nodes, node, IsNode, IsSound, Has, children_by, is_element, is_element_by, is_element_at}
@@ -22,6 +22,15 @@ use Rattle.child_lists.specs.Places.{IsPlaceOf}
 use Rattle.child_lists.specs.declared.place.ChildPlace.{ChildPlace}
 use Rattle.kept_changes.specs.Spots.{HasCome}
 use Rattle.kept_changes.proofs.Changed.{child-up}
+
+-- a tree has a root, whose number was given out
+pub free-above : (d : Document) → IsTree d → 1 < d.next_free
+free-above d tree = by d.forest tree.root tree.nodes
+  where
+    by : (f : Forest) → HasRoot f → AreNodes d.next_free f → 1 < d.next_free
+    by none root nodes = absurd root
+    by (text number chars next) root nodes = absurd root
+    by (element number name bindings attributes children next) root nodes = let one = root.0 in let within = nodes.0.1 in omega (arith, one, within)
 
 -- ---- the nodes
 
