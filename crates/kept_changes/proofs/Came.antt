@@ -61,6 +61,13 @@ module _ (t : NameTable) (old new : Nodes) (p place : ℕ) (f : Forest) (plants 
 
 -- ---- what is kept
 
+-- the part is below the node
+pub come-up : (t : NameTable) (old new : Nodes) (d : Document) → StandsFor t old d → IsSound new → (parent place : ℕ) (f : Forest) → Fits d parent place f → Plants t old new parent place f →
+    parent_at new (length old) ≡ Some parent
+come-up t old new d z sound parent place f fits plants =
+    let own : IsParent t old d parent = parent_of t old d parent z fits.element in
+    child-up new sound parent (length old) (come-below t old new parent place f plants own.shown.it own.shown.is)
+
 pub came : (c : Compiled) (old new : Nodes) (k : KeptState) → IsRightFor c old k → (d : Document) → StandsFor c.names old d → IsSound new → (parent place : ℕ) (part : Document) → IsTree part →
     Fits d parent place part.forest → Plants c.names old new parent place part.forest → HasCome c new k (length old)
 came c old new k r d z sound parent place part tree fits plants =
@@ -68,7 +75,7 @@ came c old new k r d z sound parent place part tree fits plants =
       old = old;
       right = r;
       parent = parent;
-      parent_is = child-up new sound parent (length old) (come-below c.names old new parent place part.forest plants own.shown.it own.shown.is);
+      parent_is = come-up c.names old new d z sound parent place part.forest fits plants;
       element = come-root c.names old new parent place part.forest plants tree.root;
       was_element = ap is_element_by own.shown.is ∙ ap is_element own.shown.content;
       place = place;

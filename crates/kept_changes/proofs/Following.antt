@@ -34,7 +34,7 @@ use Rattle.kept_changes.specs.Steps.{Takes, TakesAway, TakesBelow}
 use Rattle.kept_changes.specs.declared.change.Spot.{Spot}
 use Rattle.kept_changes.specs.declared.change.Spot.TheVariants.{Planted, Pruned, Retexted, Attributed, Renamed}
 use Rattle.kept_changes.proofs.Changed.{text-held, element-reattributed, element-renamed, text-planted, text-pruned}
-use Rattle.kept_changes.proofs.Came.{come-elements, came}
+use Rattle.kept_changes.proofs.Came.{come-elements, come-up, came}
 
 -- ---- nodes
 
@@ -183,7 +183,7 @@ module _ (c : Compiled) (old new : Nodes) (k : KeptState) (r : IsRightFor c old 
     pub takes-change : (change : Change) (spot : Spot) → IsSpot old change spot → ((n : ℕ) → spot ≡ Pruned n → ⊥) → CanMake c.names old d change → IsMade c.names old new change →
         TakesSpot c new k spot first last → Takes c old new k change first last
     takes-change (changes.Insert parent index part) spot is here can made takes =
-        subst (λ (x : Spot). TakesSpot c new k x first last) is.0 takes parent (came c old new k r d z sound parent index part is.1 can.0 made).parent_is
+        subst (λ (x : Spot). TakesSpot c new k x first last) is.0 takes parent (come-up c.names old new d z sound parent index part.forest can.0 made)
     takes-change (changes.AddText parent index chars) spot is here can made takes = subst (λ (x : Spot). TakesSpot c new k x first last) is takes
     takes-change (changes.SetText key chars) spot is here can made takes = subst (λ (x : Spot). TakesSpot c new k x first last) is.2 takes
     takes-change (changes.Remove key) spot is here can made takes = removed-takes key spot is here takes
