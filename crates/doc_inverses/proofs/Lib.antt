@@ -8,3 +8,4 @@ pub mod Numbers
 pub mod Writes
 pub mod Own
 pub mod Meaning
+pub mod Leading
