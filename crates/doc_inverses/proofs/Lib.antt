@@ -9,3 +9,4 @@ pub mod Writes
 pub mod Own
 pub mod Meaning
 pub mod Leading
+pub mod Counted

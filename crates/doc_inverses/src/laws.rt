@@ -1,8 +1,8 @@
-//! Where changes lead while a document is edited.
+//! Where changes lead while a document is edited, and how many nodes it has then.
 
-ghost use Rattle.std.specs.Prelude.{◌≡◌, ◌≤◌, ℕ, Ok, true};
+ghost use Rattle.std.specs.Prelude.{◌≡◌, ◌≤◌, ◌+◌, ℕ, Ok, true};
 ghost use Rattle.xs_names.specs.Names.{NameTable, IsSound, Grown};
-ghost use Rattle.tree_rows.specs.Forest.{Forest, Document};
+ghost use Rattle.tree_rows.specs.Forest.{Forest, Document, count};
 ghost use Rattle.tree_rows.specs.Whole.{IsTree};
 ghost use Rattle.tree_edits.specs.Edits.{can_be_made};
 ghost use Rattle.tree_edits.specs.Tests.{edited};
@@ -10,7 +10,7 @@ ghost use Rattle.tree_edits.specs.declared.edit.Edit.{Edit};
 ghost use Rattle.tree_inverses.specs.Changes.{changed, inverse_of, Fits};
 ghost use Rattle.tree_inverses.specs.Changes as law;
 ghost use Rattle.tree_inverses.specs.Edits.{change_of};
-ghost use Rattle.doc_inverses.specs.Changes.{Means};
+ghost use Rattle.doc_inverses.specs.Changes.{Means, put_count};
 ghost use Rattle.doc_inverses.specs.Leads.{Leads};
 ghost use Rattle.doc_inverses.specs.declared.change.Change.{Change};
 
@@ -26,4 +26,10 @@ pub fn inverses_lead_back()
         → Leads t d.next_free back (changed d c).forest d.forest }
     ensures edited { (t : NameTable) (d e : Document) (edit : Edit) (back : Change) → can_be_made edit ≡ true → IsTree d → edited d edit ≡ Ok e
         → Means t back (inverse_of d (change_of d edit)) → Leads t e.next_free back e.forest d.forest }
+{}
+
+/// A changed document has the nodes that the change puts back more, and those that its inverse puts back fewer.
+pub fn changes_count_nodes()
+    ensures { (t : NameTable) (d : Document) (c : law.Change) (change back : Change) → Fits d c → Means t change c → Means t back (inverse_of d c)
+        → count (changed d c).forest + put_count back ≡ count d.forest + put_count change }
 {}

@@ -11,5 +11,5 @@ mod reading;
 mod texts;
 
 pub use change::{Change, make_change};
-pub use laws::{changes_lead_on, inverses_lead_back};
+pub use laws::{changes_count_nodes, changes_lead_on, inverses_lead_back};
 pub use part::{Part, PartRow};
