@@ -1,27 +1,25 @@
 -- What a change of one node leaves of what is read of elements.
-use Rattle.std.proofs.Common.{◌≡◌, ◌≢◌, ◌⊎◌, ℕ, zero, suc, ◌+◌, ◌<◌, ◌≤◌, List, [], ◌∷◌, ◌++◌, length, map, cond, Bool, true, false, Option, None, Some, refl, sym, ap, ◌∙◌, subst, inl, inr, arith}
+use Rattle.std.proofs.Common.{◌≡◌, ◌≢◌, ℕ, zero, suc, ◌<◌, ◌≤◌, List, [], ◌∷◌, ◌++◌, length, map, cond, Bool, true, false, Option, None, Some, refl, sym, ap, ◌∙◌, subst, inl, inr, arith}
 use Rattle.std.specs.Prelude.{filter, slice_get, insert, remove, reverse, flat_map, unwrap_or}
-use Rattle.std.specs.Option.{option_and_then, option_map}
+use Rattle.std.specs.Option.{option_and_then}
 use Rattle.std.proofs.lemmas.Bool.{cases_eq, cases_lt, true≢false, false≢true}
 use Rattle.std.proofs.lemmas.Option.{none-some, same_Some}
 use Rattle.std.proofs.Math.ListN.{get_or-eq_default}
 use Rattle.xs_names.specs.Names.{NameTable}
 use Rattle.xs_names.specs.Scope.{first_scope}
-use Rattle.tree_rows.specs.Forest.{Forest, none, text, element, Document}
-use Rattle.tree_edits.specs.Edits.{has}
-use Rattle.doc_nodes.specs.Nodes.{Node, Nodes, node, IsNode, IsSound, IsChildAt, Has, Holds, depth_by, children_by, is_element, is_element_by, is_element_at, element_children}
+use Rattle.tree_rows.specs.Forest.{none, text, Document}
+use Rattle.doc_nodes.specs.Nodes.{Node, Nodes, node, IsNode, IsSound, Has, Holds, depth_by, children_by, is_element, is_element_by, is_element_at, element_children}
 use Rattle.doc_nodes.specs.declared.content.Content.{Content}
 use Rattle.doc_nodes.specs.declared.content.Content.TheVariants as contents
 use Rattle.doc_nodes.specs.declared.content.Element.{Element}
-use Rattle.doc_nodes.specs.declared.content.NameAttribute.{NameAttribute}
 use Rattle.doc_nodes.specs.declared.content.NameBinding.{NameBinding}
-use Rattle.doc_changes.specs.Held.{chars_in, name_in, attributes_in, bindings_in, kind_in, kind_at, parent_at, attributes_by, attributes_at, bindings_by, bindings_at}
-use Rattle.doc_changes.specs.Parts.{IsOver, Prunes}
+use Rattle.doc_changes.specs.Held.{chars_in, name_in, attributes_in, bindings_in, parent_at, attributes_by, bindings_by, bindings_at}
+use Rattle.doc_changes.specs.Parts.{Prunes}
 use Rattle.doc_changes.specs.Stands.{StandsFor}
-use Rattle.doc_documents.specs.Readers.{name_by, name_at, chars_by, chars_at, own_chars, own_scope, outer_scope, scope_upto, scope_at}
+use Rattle.doc_documents.specs.Readers.{name_by, chars_by, chars_at, own_chars, own_scope, outer_scope, scope_upto, scope_at}
 use Rattle.doc_planting.specs.Planted.{Plants}
 use Rattle.kept_forgetting.proofs.Placed.{has-at, in-table, parent-element}
-use Rattle.kept_changes.specs.Own.{Stays, StaysBut, HaveSameElements, Retexts, Reattributes, Renames}
+use Rattle.kept_changes.specs.Own.{Stays, HaveSameElements, Retexts, Reattributes, Renames}
 
 -- ---- lists
 

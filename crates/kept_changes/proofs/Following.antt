@@ -1,15 +1,15 @@
 -- What is another at the element that a change begins at, once the change is made.
-use Rattle.std.proofs.Common.{◌≡◌, ◌≢◌, ◌⊎◌, ℕ, ◌+◌, ◌≤◌, List, [], Bool, true, false, Option, None, Some, refl, sym, ap, ◌∙◌, subst, inl, inr, arith, length}
-use Rattle.std.specs.Prelude.{slice_get, Result, Ok, Err, OnOk}
+use Rattle.std.proofs.Common.{◌≡◌, ◌≢◌, ℕ, ◌+◌, List, Bool, true, false, Option, None, Some, refl, sym, ap, ◌∙◌, subst, inl, arith, length}
+use Rattle.std.specs.Prelude.{Result, Ok, Err, OnOk}
 use Rattle.std.specs.Option.{option_and_then}
 use Rattle.std.proofs.lemmas.Bool.{false≢true}
 use Rattle.std.proofs.lemmas.Option.{none-some}
 use Rattle.xs_names.specs.Names.{NameTable}
-use Rattle.tree_rows.specs.Forest.{Forest, none, text, Document}
+use Rattle.tree_rows.specs.Forest.{none, Document}
 use Rattle.tree_edits.specs.Tests as tests
 use Rattle.tree_edits.specs.declared.edit.Edit.TheVariants as edits
 use Rattle.compiled_schema.specs.declared.compiled.Compiled.{Compiled}
-use Rattle.doc_nodes.specs.Nodes.{Node, Nodes, node, IsNode, IsSound, IsChildAt, Holds, is_element, is_element_by, is_element_at}
+use Rattle.doc_nodes.specs.Nodes.{Node, Nodes, node, IsNode, IsSound, Holds, is_element, is_element_by, is_element_at}
 use Rattle.doc_nodes.specs.declared.content.Content.{Content}
 use Rattle.doc_nodes.specs.declared.content.Content.TheVariants as contents
 use Rattle.doc_changes.specs.Held.{parent_at, set_number, unset_number}
@@ -28,7 +28,7 @@ use Rattle.kept_forgetting.proofs.Placed.{parent-has, parent-element, root-alone
 use Rattle.child_lists.specs.declared.place.ChildPlace.{ChildPlace}
 use Rattle.kept_children.specs.Edited.{IsRightFor, IsRenamed}
 use Rattle.kept_changes.specs.Own.{Retexts, Reattributes, Renames, IsRetexted, IsReattributed, IsNamedAnew}
-use Rattle.kept_changes.specs.Spots.{IsRemoval, IsSpot, HasCome, HasChangedAt, TakesSpot}
+use Rattle.kept_changes.specs.Spots.{IsRemoval, IsSpot, HasChangedAt, TakesSpot}
 use Rattle.kept_children.specs.Steps.{width}
 use Rattle.kept_changes.specs.Steps.{Takes, TakesName, TakesAway, TakesBelow}
 use Rattle.kept_changes.specs.declared.change.Spot.{Spot}

@@ -1,5 +1,5 @@
 -- An element that was taken out of the document, with all that was below it, and out of what is kept.
-use Rattle.std.proofs.Common.{◌≡◌, ◌≢◌, ◌⊎◌, ℕ, zero, suc, ◌+◌, ◌*◌, ◌<◌, ◌≤◌, List, [], ◌∷◌, length, remove, Bool, true, false, Option, None, Some, refl, sym, ap, ◌∙◌, subst, inl, inr, arith}
+use Rattle.std.proofs.Common.{◌≡◌, ◌≢◌, ℕ, zero, suc, ◌+◌, ◌*◌, length, remove, Bool, true, false, Option, None, Some, refl, sym, ap, ◌∙◌, subst, inl, inr, arith}
 use Rattle.std.specs.Prelude.{◌==◌, ◌||◌, slice_get, unwrap_or}
 use Rattle.std.specs.Option.{option_and_then}
 use Rattle.std.proofs.lemmas.Bool.{cases_eq, eqb-true, or_cases, false≢true}
@@ -8,14 +8,12 @@ use Rattle.xs_names.specs.Names.{NameTable}
 use Rattle.tree_rows.specs.Forest.{Forest, none, text, element, Document}
 use Rattle.tree_edits.specs.Edits.{has}
 use Rattle.elem_governing.specs.declared.pairs.Governing.{Governing}
-use Rattle.assessment.specs.Local.{HasElement}
 use Rattle.compiled_schema.specs.declared.compiled.Compiled.{Compiled}
-use Rattle.doc_nodes.specs.Nodes.{Node, Nodes, node, IsNode, IsSound, IsChildAt, Has, depth_by, is_element_by, is_element_at}
+use Rattle.doc_nodes.specs.Nodes.{Node, Nodes, node, IsNode, IsSound, IsChildAt, Has, is_element_by, is_element_at}
 use Rattle.doc_changes.specs.Held.{parent_at}
 use Rattle.doc_changes.specs.Parts.{IsOver, Prunes}
 use Rattle.doc_changes.specs.Stands.{StandFor, StandsFor, firsts}
 use Rattle.doc_changes.proofs.Changing.{own_below, is_over, some_place}
-use Rattle.doc_documents.proofs.Reading.{depth_below}
 use Rattle.kept_slots.specs.Slots.{at}
 use Rattle.kept_records.specs.Slots.{IsMade, blank, pair_at}
 use Rattle.kept_records.specs.Fit.{models_of}
@@ -27,7 +25,7 @@ use Rattle.kept_judging.specs.Judged.{symbols_by, pair_by}
 use Rattle.kept_forgetting.specs.Below.{upwards, IsBelow, IsWithin}
 use Rattle.kept_forgetting.specs.Forgotten.{Forgets}
 use Rattle.kept_forgetting.proofs.Placed.{parent-has}
-use Rattle.kept_forgetting.proofs.Walks.{self-within, below-within, child-below, parent-outside, parent-of}
+use Rattle.kept_forgetting.proofs.Walks.{self-within, below-within, child-below, parent-of}
 use Rattle.kept_below.specs.Moved.{moved}
 use Rattle.kept_below.proofs.Moving.{moved-alike}
 use Rattle.kept_children.specs.Edited.{IsRightFor, IsPruned}

@@ -1,16 +1,13 @@
 -- What is kept stays right as names are added to the table of the set.
-use Rattle.std.proofs.Common.{◌≡◌, ℕ, suc, ◌<◌, List, [], ◌∷◌, length, map, All, true, Option, None, Some, refl, sym, ap, ◌∙◌, subst}
+use Rattle.std.proofs.Common.{◌≡◌, ℕ, suc, ◌<◌, List, [], ◌∷◌, length, map, true, Option, None, Some, refl, sym, ap, ◌∙◌, subst}
 use Rattle.std.specs.Prelude.{slice_get}
 use Rattle.std.proofs.lemmas.Bool.{false≢true}
 use Rattle.std.proofs.lemmas.Option.{none-some, same_Some}
 use Rattle.xs_names.specs.Names.{NameTable, Grown, IsSound}
-use Rattle.xs_components.specs.declared.common.TypeId.{TypeId}
 use Rattle.assess_records.specs.Instance.{instance_text}
 use Rattle.assess_records.specs.declared.instance_names.InstanceAttribute.TheVariants.{TypeName}
-use Rattle.assess_records.specs.declared.shape.ElementShape.{ElementShape}
 use Rattle.elem_governing.specs.Governing.{govern_root, govern_child}
 use Rattle.elem_governing.specs.View.{AreKnown}
-use Rattle.elem_governing.specs.declared.pairs.Governing.{Governing}
 use Rattle.content_automaton.specs.Terms.{name_at as expanded_at}
 use Rattle.content_automaton.specs.Symbols.{symbol_of, AreNamesOf}
 use Rattle.content_automaton.proofs.Symboling.{name_grown, symbol_grown}
@@ -33,7 +30,6 @@ use Rattle.tree_rows.specs.Forest.{Document}
 use Rattle.doc_nodes.specs.Nodes.{Node, Nodes, node, IsNode, is_element, is_element_by, is_element_at, element_children}
 use Rattle.doc_nodes.specs.declared.content.Content.{Content}
 use Rattle.doc_nodes.specs.declared.content.Content.TheVariants as contents
-use Rattle.doc_changes.specs.Held.{name_in}
 use Rattle.doc_changes.specs.Stands.{StandsFor, HasNames}
 use Rattle.doc_changes.proofs.Holding.{element_of}
 use Rattle.doc_documents.specs.Readers.{name_by, name_at, scope_at}
@@ -43,7 +39,6 @@ use Rattle.kept_records.specs.Slots.{IsMade, kept_at, entry_at, pair_at}
 use Rattle.kept_records.specs.Fit.{models_of, head_at, shape_at, symbols_at, IsListed, IsGathered, IsFit, IsTop}
 use Rattle.kept_records.proofs.Modelled.{type-fits}
 use Rattle.kept_records.proofs.Nodes.{by-node}
-use Rattle.kept_state.specs.Kept.{IsBeside}
 use Rattle.kept_state.specs.declared.state.KeptState.{KeptState}
 use Rattle.kept_judging.proofs.Heads.{scope-known, texts-named}
 use Rattle.kept_children.specs.Edited.{IsRightFor}

@@ -1,5 +1,5 @@
 -- A root that has another name is governed again and judged anew, with all below it.
-use Rattle.std.proofs.Common.{◌≡◌, ◌≢◌, ℕ, [], ◌∷◌, true, None, Some, refl, sym, ap, ◌∙◌, subst}
+use Rattle.std.proofs.Common.{◌≡◌, ◌≢◌, ℕ, [], ◌∷◌, true, Some, refl, sym, ap, ◌∙◌, subst}
 use Rattle.std.specs.Prelude.{slice_get, unwrap_or}
 use Rattle.std.proofs.lemmas.Option.{none-some}
 use Rattle.compiled_schema.specs.Usable.{set_of}
@@ -19,7 +19,7 @@ use Rattle.kept_below.specs.Below.{IsSettled}
 use Rattle.kept_children.specs.Edited.{IsRightFor}
 use Rattle.kept_changes.specs.Own.{Renames, IsNamedAnew}
 use Rattle.kept_changes.proofs.Following.{renames-of}
-use Rattle.kept_changes.proofs.Reread.{head-same, texts-same, children-reread, judged-reread, right-made}
+use Rattle.kept_changes.proofs.Reread.{head-same, texts-same, children-reread, judged-reread}
 
 module _ (c : Compiled) (ns : Nodes) (old : KeptState) (beside : IsBeside c ns old) (h : IsNamedAnew c ns old 1) where
   renames : Renames h.old ns 1

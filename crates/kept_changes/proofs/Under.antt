@@ -1,7 +1,6 @@
 -- A text has a parent.
-use Rattle.std.proofs.Common.{◌≡◌, ◌≢◌, ◌⊎◌, ℕ, true, false, None, Some, sym, ap, ◌∙◌, subst, inl, inr}
+use Rattle.std.proofs.Common.{◌≡◌, ◌≢◌, ◌⊎◌, ℕ, true, None, Some, sym, ap, ◌∙◌, subst, inl, inr}
 use Rattle.std.specs.Prelude.{◌==◌, ◌||◌}
-use Rattle.std.specs.Option.{option_map}
 use Rattle.std.proofs.lemmas.Bool.{eqb-true, or_cases, false≢true}
 use Rattle.std.proofs.lemmas.Option.{none-some}
 use Rattle.xs_names.specs.Names.{NameTable}
@@ -9,7 +8,7 @@ use Rattle.tree_rows.specs.Forest.{Forest, none, text, element, Document}
 use Rattle.tree_rows.specs.Whole.{HasRoot}
 use Rattle.tree_rows.specs.declared.row.NodeKind.TheVariants as kinds
 use Rattle.tree_edits.specs.Edits.{has}
-use Rattle.doc_nodes.specs.Nodes.{Nodes, node, IsSound, Has}
+use Rattle.doc_nodes.specs.Nodes.{Nodes, IsSound, Has}
 use Rattle.doc_changes.specs.Held.{kind_at, parent_at}
 use Rattle.doc_changes.specs.Stands.{firsts, StandFor, StandsFor}
 use Rattle.doc_changes.proofs.Holding.{HoldsChars, holds_chars}

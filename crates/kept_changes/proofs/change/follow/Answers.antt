@@ -1,7 +1,6 @@
-use Rattle.std.proofs.Common.{◌≡◌, refl, sym, subst}
+use Rattle.std.proofs.Common.{refl, sym, subst}
 use Rattle.kept_changes.specs.Spots.{HasChangedAt, TakesSpot}
 use Rattle.kept_changes.specs.declared.change.Spot.{Spot}
-use Rattle.kept_changes.specs.declared.change.Spot.TheVariants.{Planted, Pruned, Retexted, Attributed, Renamed}
 use Rattle.kept_changes.proofs.change.follow.Goals as goal
 
 pub plant-requires-clause-come : goal.plant-requires-clause-come

@@ -1,8 +1,6 @@
-use Rattle.std.proofs.Common.{◌≡◌, ◌⊎◌, ℕ, inl, inr, refl, sym, subst}
+use Rattle.std.proofs.Common.{inl, inr, refl, sym, subst}
 use Rattle.std.specs.Prelude.{OnOk}
-use Rattle.tree_rows.specs.Forest.{Document}
 use Rattle.compiled_schema.specs.declared.compiled.Compiled.{Compiled}
-use Rattle.doc_changes.specs.Stands.{StandsFor}
 use Rattle.doc_edits.specs.Changes.{CanMake, changed}
 use Rattle.doc_edits.specs.declared.change.Change.{Change}
 use Rattle.kept_state.specs.Kept.{IsBeside}
@@ -68,7 +66,7 @@ returns-in_ok-make-in_default-clause-reach g c = λ d z.
     inr (
       c.in_ok-make-in_default.ensures.made d z,
       takes-change c.args.set.now c.args.doc.now c.make.new.doc c.args.kept.now c.requires.right q.0 q.1 stands.links c.args.steps.now c.follow.new.steps c.args.change c.spot_of.result c.spot_of.ensures c.in_default.not-Pruned
-      q.2 c.in_ok-make-in_default.ensures.nodes takes,
+          q.2 c.in_ok-make-in_default.ensures.nodes takes,
     )
 
 pub returns-in_err-make-in_default-clause-reach : goal.returns-in_err-make-in_default-clause-reach

@@ -1,5 +1,5 @@
-use Rattle.std.proofs.Common.{◌≡◌, ◌+◌, ℕ, true, None, Some, sym, ap, ◌∙◌, subst}
-use Rattle.std.proofs.lemmas.Option.{none-some, same_Some}
+use Rattle.std.proofs.Common.{◌≡◌, ◌+◌, ℕ, true, Some, sym, ap, ◌∙◌, subst}
+use Rattle.std.proofs.lemmas.Option.{same_Some}
 use Rattle.tree_rows.specs.Forest.{Forest}
 use Rattle.tree_edits.specs.Tests.{made}
 use Rattle.tree_edits.specs.declared.edit.Edit.TheVariants as edits

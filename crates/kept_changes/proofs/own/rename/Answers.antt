@@ -1,6 +1,5 @@
-use Rattle.std.proofs.Common.{◌≡◌, ℕ, true, Option, None, Some, sym, ap, ◌∙◌, subst}
+use Rattle.std.proofs.Common.{◌≡◌, ℕ, Option, Some, sym, subst}
 use Rattle.compiled_schema.specs.Usable.{set_of}
-use Rattle.doc_nodes.specs.Nodes.{is_element_at}
 use Rattle.doc_changes.specs.Held.{parent_at}
 use Rattle.kept_records.specs.Fit.{head_at}
 use Rattle.kept_judging.specs.Judged.{root_pair}
