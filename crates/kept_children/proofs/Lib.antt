@@ -9,6 +9,6 @@ pub mod Ending
 pub mod Moves
 pub mod Siblings
 pub mod Settling
-pub mod Marked
+pub mod Asking
 pub mod Same
 pub mod Unlisted

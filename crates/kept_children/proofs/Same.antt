@@ -14,7 +14,7 @@ use Rattle.kept_judging.specs.Judged.{pair_by}
 use Rattle.kept_below.specs.Moved.{moved}
 use Rattle.child_lists.specs.Family.{AreCounted, AreGivenBut}
 use Rattle.kept_children.specs.Steps.{GovernsBelow, marked_count, places_of}
-use Rattle.kept_children.proofs.Marked.{places-stay}
+use Rattle.kept_children.proofs.Asking.{places-stay}
 
 module _ (old new : KeptState) (same : new.records ≡ old.records) (n : ℕ) where
   pub same-pair : pair_at new.records.slots n ≡ pair_at old.records.slots n

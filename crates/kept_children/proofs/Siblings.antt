@@ -115,7 +115,7 @@ module _ (c : Compiled) (ns : Nodes) (sound : IsSound ns) (p : ℕ) (element-is 
   moved-but-parent ks new same = moved-alike ks new governs siblings (λ m h. same m (not-parent m h))
 
   module _ (place x : ℕ) (e : slice_get (element_children ns p) place ≡ Some x) where
-    one : HasOne below.down.names ns place x siblings
+    pub one : HasOne below.down.names ns place x siblings
     one = one-of below.down.names ns siblings place x below.down.stand (ap (λ xs. slice_get xs place) below.are ∙ e)
 
     abbrev pub alone : Forest

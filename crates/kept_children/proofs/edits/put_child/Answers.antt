@@ -11,7 +11,7 @@ use Rattle.kept_below.specs.Moved.{moved}
 use Rattle.child_lists.specs.Family.{AreCounted, AreGivenBut, IsAttributed, IsListedBy, IsMidway, symbols_of}
 use Rattle.kept_children.specs.Edited.{IsRightFor}
 use Rattle.kept_children.specs.Steps.{GovernsBelow, digits, marked_count, places_of, width}
-use Rattle.kept_children.proofs.Marked.{places-stay}
+use Rattle.kept_children.proofs.Asking.{places-stay}
 use Rattle.kept_children.proofs.Planted.{planted-midway, planted-listed, planted-counted, planted-given}
 use Rattle.kept_children.proofs.Same.{same-pair, same-counted, same-given, same-moved, governs-still, count-stays, whole-steps, steps-so-far}
 use Rattle.kept_children.proofs.Settling.{all-suffice}
@@ -19,7 +19,7 @@ use Rattle.kept_children.proofs.Siblings.{moved-but-parent}
 use Rattle.kept_children.proofs.edits.put_child.Goals as goal
 
 pub children-was-requires : goal.children-was-requires
-children-was-requires g c = planted-midway c.args.set.now c.args.doc.now c.args.kept.now c.args.at.now c.requires.place c.requires.beside c.requires.planted.made
+children-was-requires g c = (planted-midway c.args.set.now c.args.doc.now c.args.kept.now c.args.at.now c.requires.place c.requires.beside c.requires.planted).made
 
 pub list_child-requires-clause-midway : goal.list_child-requires-clause-midway
 list_child-requires-clause-midway g c =

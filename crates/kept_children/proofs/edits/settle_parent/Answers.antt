@@ -40,7 +40,7 @@ returns-clause-right c =
     let judged = c.in_ok-judge_if_apart.ensures in
     let new = c.judge_if_apart.new.kept in
     let last = c.settle_above.new.kept in
-    both-ok c.settle_above.result (λ fit more. more fit) c.settle_above.ensures.fit
+    both-ok {Q = FitBut c.judge_if_apart.new.set ns last [] → IsRightFor set ns last} c.settle_above.result (λ fit more. more fit) c.settle_above.ensures.fit
     (both-ok c.settle_above.result (λ beside rest fit. record {
       beside = subst (λ (s : Compiled). IsBeside s ns last) judged.same beside;
       top = top-kept set ns c.args.kept.now c.args.parent c.args.was.now c.requires.midway c.requires.children new judged.beside judged.judged last rest;

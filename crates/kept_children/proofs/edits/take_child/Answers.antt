@@ -8,7 +8,7 @@ use Rattle.kept_state.specs.declared.children.KeptChildren.{KeptChildren}
 use Rattle.kept_below.specs.Moved.{moved}
 use Rattle.child_lists.specs.Family.{AreGivenBut, IsMidway, symbols_of}
 use Rattle.kept_children.specs.Steps.{digits, marked_count, places_of, width}
-use Rattle.kept_children.proofs.Marked.{places-stay}
+use Rattle.kept_children.proofs.Asking.{places-stay}
 use Rattle.kept_children.proofs.Pruned.{pruned-made, pruned-midway, pruned-listed, pruned-within}
 use Rattle.kept_children.proofs.Same.{governs-still, count-stays, fewer-steps}
 use Rattle.kept_children.proofs.Siblings.{moved-but-parent}

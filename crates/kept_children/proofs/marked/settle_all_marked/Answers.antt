@@ -7,7 +7,7 @@ use Rattle.kept_records.specs.Slots.{pair_at}
 use Rattle.kept_below.specs.Moved.{moved}
 use Rattle.child_lists.specs.Family.{AreGivenBut, IsAttributed, IsListedBy, IsMidway, symbols_of}
 use Rattle.kept_children.specs.Steps.{GovernsBelow, digits, marked_count, places_of, width}
-use Rattle.kept_children.proofs.Marked.{places-stay, places-next, places-ended, places-past, few-marked-children, asked-next, asked-all, asked-stopped}
+use Rattle.kept_children.proofs.Asking.{places-stay, places-next, places-ended, places-past, few-marked-children, asked-next, asked-all, asked-stopped}
 use Rattle.kept_children.proofs.marked.settle_all_marked.Goals as goal
 
 pub loop-number-init : goal.loop-number-init
@@ -137,7 +137,7 @@ returns-clause-given g c =
     let old = c.args.kept.now in
     let p = c.args.parent in
     let few = few-marked-children set ns old p in
-    let many = c.child_count.ensures.count in
+    let many = c.child_count-number-end.ensures.count in
     let past = c.loop-number-test.false in
     places-past set ns c.loop-number.kept p (places_of set ns old p) c.loop-number.number (omega (arith, few, many, past)) c.loop-number.invariant.given
 
