@@ -1,13 +1,11 @@
 -- One element, settled again.
-use Rattle.std.proofs.Common.{◌≡◌, ◌≢◌, ◌⊎◌, ◌<◌, ℕ, List, [], ◌∷◌, Option, None, Some, refl, sym, ap, ◌∙◌, subst, inl, inr, arith}
-use Rattle.std.specs.Prelude.{Result, Ok, Err, OnOk, IfOk}
-use Rattle.elem_governing.specs.declared.pairs.Governing.{Governing}
+use Rattle.std.proofs.Common.{◌≡◌, ℕ, List, ◌∷◌, refl, sym, ap, arith}
+use Rattle.std.specs.Prelude.{Result, Ok, Err, OnOk}
 use Rattle.compiled_schema.specs.Usable.{set_of}
 use Rattle.compiled_schema.specs.declared.compiled.Compiled.{Compiled}
-use Rattle.doc_nodes.specs.Nodes.{Nodes, Has, Lacks, node, depth_by}
+use Rattle.doc_nodes.specs.Nodes.{Nodes, Lacks, node, depth_by}
 use Rattle.doc_nodes.proofs.Among.{lacks-all}
-use Rattle.kept_slots.specs.Slots.{at}
-use Rattle.kept_records.specs.Slots.{IsMade, kept_at, pair_at}
+use Rattle.kept_records.specs.Slots.{IsMade, pair_at}
 use Rattle.kept_records.specs.Fit.{models_of, AboveIn, IsGathered}
 use Rattle.kept_state.specs.Kept.{CanGovern, FitBut, IsBeside, children_at}
 use Rattle.kept_state.specs.declared.children.KeptChildren.{KeptChildren}

@@ -1,5 +1,5 @@
 -- The child elements of an element, settled one after another.
-use Rattle.std.proofs.Common.{◌≡◌, ◌≢◌, ◌⊎◌, ℕ, zero, suc, ◌+◌, ◌*◌, ◌-◌, ◌<◌, ◌≤◌, List, [], ◌∷◌, ◌++◌, map, take, drop, length, true, Option, None, Some, refl, sym, ap, ◌∙◌, subst, inl, inr, arith}
+use Rattle.std.proofs.Common.{◌≡◌, ℕ, zero, suc, ◌+◌, ◌*◌, ◌-◌, ◌<◌, ◌≤◌, List, [], ◌∷◌, ◌++◌, map, take, drop, true, Option, None, Some, refl, sym, ap, ◌∙◌, subst, inl, inr, arith}
 use Rattle.std.specs.Prelude.{filter, slice_get, unwrap_or}
 use Rattle.std.specs.Option.{option_map}
 use Rattle.std.proofs.lemmas.Option.{slice_get-map, same_Some, none-some}
@@ -12,20 +12,19 @@ use Rattle.model_lists.specs.declared.handle.ModelList.{ModelList}
 use Rattle.elem_governing.specs.declared.pairs.Governing.{Governing}
 use Rattle.tree_rows.specs.Forest.{Forest}
 use Rattle.doc_nodes.proofs.Among.{from-map}
-use Rattle.doc_nodes.specs.Nodes.{Node, Nodes, node, IsNode, Has, Distinct, IsSound, depth_by, children_by, is_element_at, element_children}
+use Rattle.doc_nodes.specs.Nodes.{Node, Nodes, node, Has, Distinct, IsSound, depth_by, children_by, is_element_at, element_children}
 use Rattle.doc_changes.specs.Held.{parent_at}
 use Rattle.doc_documents.specs.Readers.{element_numbers}
 use Rattle.doc_documents.proofs.Reading.{depth_below}
 use Rattle.kept_slots.specs.Slots.{at}
-use Rattle.kept_records.specs.Slots.{KeptSlots, IsMade, blank, kept_at, pair_at, record_at}
+use Rattle.kept_records.specs.Slots.{KeptSlots, IsMade, blank, pair_at, record_at}
 use Rattle.kept_records.specs.Fit.{models_of, IsListed, AboveIn}
 use Rattle.kept_records.proofs.Nodes.{child-parent}
-use Rattle.kept_state.specs.declared.children.KeptChildren.{KeptChildren}
 use Rattle.kept_state.specs.declared.element.Governed.{Governed}
 use Rattle.kept_state.specs.declared.state.KeptState.{KeptState}
 use Rattle.kept_judging.specs.Judged.{symbols_by, pair_by, AreChildren}
 use Rattle.child_listing.specs.Children.{IsSpare, AreGoverned, IsListing}
-use Rattle.kept_forgetting.specs.Below.{IsBelow, IsWithin, IsNoneOf, KeepsBut}
+use Rattle.kept_forgetting.specs.Below.{IsBelow, IsWithin, KeepsBut}
 use Rattle.kept_below.specs.Below.{AreAbove, IsSettled}
 use Rattle.child_listing.specs.declared.listing.Listing.{Listing}
 use Rattle.kept_below.proofs.Counts.{counts-last}

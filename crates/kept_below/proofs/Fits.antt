@@ -1,5 +1,5 @@
 -- All fit as before, as lists come and go and as an element is kept anew.
-use Rattle.std.proofs.Common.{◌≡◌, ◌≢◌, ◌⊎◌, ℕ, List, [], ◌∷◌, true, Option, None, Some, refl, sym, ap, ◌∙◌, subst, inl, inr}
+use Rattle.std.proofs.Common.{◌≡◌, ℕ, List, ◌∷◌, Option, Some, sym, ap, ◌∙◌, subst, inl, inr}
 use Rattle.std.specs.Prelude.{unwrap_or}
 use Rattle.std.proofs.lemmas.Bool.{cases_eq}
 use Rattle.compiled_schema.specs.Usable.{set_of}
@@ -8,7 +8,6 @@ use Rattle.elem_governing.specs.declared.pairs.Governing.{Governing}
 use Rattle.model_lists.specs.Lists.{ListsView, IsLive, KeepLists}
 use Rattle.model_lists.specs.declared.handle.ModelList.{ModelList}
 use Rattle.doc_nodes.specs.Nodes.{Nodes}
-use Rattle.kept_slots.specs.Slots.{at}
 use Rattle.kept_records.specs.Slots.{KeptSlots, IsMade, blank, kept_at, pair_at}
 use Rattle.kept_records.specs.Fit.{models_of, AllFitBut, AboveIn}
 use Rattle.kept_records.specs.Books.{IsBooked, HaveOwnLists}

@@ -1,15 +1,13 @@
 -- What is kept otherwise, in one change after another.
-use Rattle.std.proofs.Common.{◌≡◌, ◌≢◌, ◌⊎◌, ℕ, Option, None, Some, refl, sym, ap, ◌∙◌, subst, inl, inr}
+use Rattle.std.proofs.Common.{◌≡◌, ◌≢◌, ℕ, Option, sym, ap, ◌∙◌, subst, inl, inr}
 use Rattle.std.specs.Prelude.{unwrap_or}
 use Rattle.std.proofs.lemmas.Bool.{cases_eq}
-use Rattle.content_models.specs.declared.automaton.ContentAutomaton.{ContentAutomaton}
 use Rattle.compiled_schema.specs.declared.compiled.Compiled.{Compiled}
 use Rattle.elem_governing.specs.declared.pairs.Governing.{Governing}
-use Rattle.model_lists.specs.Lists.{ListsView, IsListOf, IsLive, KeepLists}
+use Rattle.model_lists.specs.Lists.{ListsView, IsListOf}
 use Rattle.model_lists.specs.declared.handle.ModelList.{ModelList}
 use Rattle.doc_nodes.specs.Nodes.{Nodes}
 use Rattle.kept_slots.specs.Slots.{at}
-use Rattle.kept_records.specs.declared.element.KeptElement.{KeptElement}
 use Rattle.kept_records.specs.Slots.{KeptSlots, blank, kept_at}
 use Rattle.kept_state.specs.declared.children.KeptChildren.{KeptChildren}
 use Rattle.kept_state.specs.declared.element.Governed.{Governed}
@@ -17,7 +15,7 @@ use Rattle.kept_state.specs.declared.state.KeptState.{KeptState}
 use Rattle.kept_judging.specs.Judged.{IsJudgedAnew}
 use Rattle.kept_judging.proofs.Anew.{anew-children}
 use Rattle.child_listing.specs.Children.{IsSpare, IsFresh}
-use Rattle.kept_forgetting.specs.Below.{IsBelow, IsWithin, IsNoneOf, KeepsBut}
+use Rattle.kept_forgetting.specs.Below.{IsBelow, IsWithin, KeepsBut}
 use Rattle.kept_below.specs.Below.{IsMadeAnew}
 use Rattle.kept_forgetting.proofs.Walks.{self-within, below-within}
 use Rattle.kept_forgetting.proofs.Keeping.{keeps-wider}

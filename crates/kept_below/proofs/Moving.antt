@@ -1,5 +1,5 @@
 -- Steps against the siblings that are left.
-use Rattle.std.proofs.Common.{◌≡◌, ◌≢◌, ◌⊎◌, ℕ, ◌+◌, ◌*◌, ◌≤◌, List, [], ◌∷◌, length, Bool, true, false, Option, None, Some, refl, sym, ap, ◌∙◌, subst, inl, inr, arith}
+use Rattle.std.proofs.Common.{◌≡◌, ℕ, ◌+◌, ◌*◌, ◌≤◌, List, [], ◌∷◌, length, Bool, true, false, Option, None, Some, refl, sym, ap, ◌∙◌, subst, inl, inr, arith}
 use Rattle.std.specs.Prelude.{slice_get, if◌then◌else◌}
 use Rattle.std.proofs.lemmas.Bool.{false≢true}
 use Rattle.xs_names.specs.Names.{NameTable}
@@ -13,7 +13,7 @@ use Rattle.elem_governing.proofs.SameLaws.{same-is}
 use Rattle.edit_budgets.specs.Budget.{same_governing}
 use Rattle.assessment.specs.Local.{HasElement}
 use Rattle.compiled_schema.specs.declared.compiled.Compiled.{Compiled}
-use Rattle.doc_nodes.specs.Nodes.{Nodes, Has, Lacks, Distinct, IsSound, element_children}
+use Rattle.doc_nodes.specs.Nodes.{Nodes, Has, Distinct, IsSound, element_children}
 use Rattle.doc_nodes.proofs.Among.{lacks-has}
 use Rattle.doc_changes.specs.Held.{parent_at}
 use Rattle.doc_changes.specs.Stands.{StandFor, firsts}

@@ -2,7 +2,6 @@
 use Rattle.std.specs.Prelude.{◌≡◌, ◌<◌, ℕ, List, Some}
 use Rattle.compiled_schema.specs.declared.compiled.Compiled.{Compiled}
 use Rattle.model_lists.specs.Lists.{KeepLists}
-use Rattle.model_lists.specs.declared.handle.ModelList.{ModelList}
 use Rattle.doc_nodes.specs.Nodes.{Nodes, node, depth_by, Has}
 use Rattle.kept_records.specs.Slots.{IsMade, kept_at, pair_at}
 use Rattle.kept_state.specs.Kept.{IsBeside}

@@ -21,8 +21,8 @@ ghost use Rattle.kept_forgetting.specs.Below.{IsBelow, KeepsBut};
 ghost use Rattle.kept_below.specs.Below.{AreAbove, IsMadeAnew, IsSettled};
 ghost use Rattle.kept_below.specs.Moved.{AreGivenDown, moved};
 
-use child_listing::list_children;
 use assess_records::ChildCounts;
+use child_listing::list_children;
 use compiled_schema::Compiled;
 use doc_tree::DocTree;
 use kept_judging::{judge, keep_judged, pair_of_root};

@@ -1,36 +1,34 @@
-use Rattle.std.proofs.Common.{◌≡◌, ◌≢◌, ◌+◌, ◌*◌, ◌<◌, ◌≤◌, ℕ, suc, List, [], ◌∷◌, map, take, drop, length, get_or, Option, Some, None, true, false, refl, sym, ap, subst, ◌∙◌, add-one, arith}
+use Rattle.std.proofs.Common.{◌≡◌, ◌+◌, ◌*◌, ◌≤◌, ℕ, List, [], ◌∷◌, map, take, drop, length, Some, false, refl, sym, ap, subst, ◌∙◌, add-one, arith}
 use Rattle.std.specs.Prelude.{slice_get, unwrap_or}
 use Rattle.std.specs.Option.{option_map}
 use Rattle.std.proofs.lemmas.Bool.{false≢true}
-use Rattle.std.proofs.lemmas.List.{take_all, length-map}
+use Rattle.std.proofs.lemmas.List.{take_all}
 use Rattle.std.proofs.lemmas.Option.{slice_get-get_or, slice_get-map}
 use Rattle.tree_rows.specs.Forest.{Forest}
-use Rattle.assess_records.specs.Counts.{with_child, counts_of, child_count, attempt_count}
-use Rattle.assess_records.specs.declared.counts.ChildCounts.{ChildCounts}
+use Rattle.assess_records.specs.Counts.{with_child, counts_of}
 use Rattle.elem_governing.specs.declared.pairs.Governing.{Governing}
 use Rattle.compiled_schema.specs.declared.compiled.Compiled.{Compiled}
-use Rattle.doc_nodes.specs.Nodes.{Nodes, Has, Lacks, IsSound, node, depth_by, element_children}
+use Rattle.doc_nodes.specs.Nodes.{Nodes, Has, element_children}
 use Rattle.doc_documents.specs.Readers.{element_numbers}
 use Rattle.kept_slots.specs.Slots.{at}
-use Rattle.kept_records.specs.Slots.{IsMade, blank, kept_at, pair_at, record_at}
-use Rattle.kept_records.specs.Fit.{AboveIn, IsGathered}
-use Rattle.kept_state.specs.Kept.{CanGovern, FitBut, IsBeside, children_at}
+use Rattle.kept_records.specs.Slots.{blank}
+use Rattle.kept_state.specs.Kept.{CanGovern, FitBut, IsBeside}
 use Rattle.kept_state.specs.declared.element.Governed.{Governed}
 use Rattle.kept_state.specs.declared.state.KeptState.{KeptState}
-use Rattle.kept_judging.specs.Judged.{AreChildren, pair_by}
+use Rattle.kept_judging.specs.Judged.{pair_by}
 use Rattle.child_listing.specs.Children.{AreGoverned}
-use Rattle.kept_forgetting.specs.Below.{IsBelow, IsWithin, KeepsBut}
-use Rattle.kept_below.specs.Below.{IsSettled, IsMadeAnew, AreAbove}
+use Rattle.kept_forgetting.specs.Below.{IsBelow}
+use Rattle.kept_below.specs.Below.{IsMadeAnew}
 use Rattle.kept_below.specs.Moved.{moved, is_typed, AreGivenDown}
 use Rattle.kept_below.proofs.Again.{on-both, on-one, above-lacks, settled-same, typed-settled, typed-fit, anew-settled, anew-fits}
-use Rattle.kept_below.proofs.Children.{number, IsSo, record-of, left-of, child-up, child-element, child-above, all-above, one-less, all-less, governed-next, counts-next, keeps-next, steps-next, steps-stopped, are-children}
+use Rattle.kept_below.proofs.Children.{number, record-of, child-element, child-above, all-above, one-less, all-less, governed-next, counts-next, keeps-next, steps-next, steps-stopped, are-children}
 use Rattle.kept_below.proofs.Counts.{room-for-one}
 use Rattle.kept_forgetting.proofs.Depths.{element-depth}
 use Rattle.child_listing.proofs.Distinct.{has-place, place-has}
 use Rattle.kept_below.proofs.Fits.{more-fit, more-beside}
 use Rattle.kept_forgetting.proofs.Keeping.{keeps-same, keeps-lists, keeps-then}
 use Rattle.kept_below.proofs.Keeping.{spare-kept}
-use Rattle.kept_below.proofs.Moving.{CountsOwn, counts-own, not-typed, room-first, room-ended, HasRoom}
+use Rattle.kept_below.proofs.Moving.{counts-own, not-typed, room-first, room-ended, HasRoom}
 use Rattle.kept_below.proofs.below.+below.Goals as goal
 
 -- ---- all child elements
@@ -186,9 +184,9 @@ settle_children-settle_all-requires g t c κs within =
     let cs = c.in_ok-listing.listing.children.items in
     let are : AreGoverned set ns parent c.as_slice.result.now = subst (AreGoverned set ns parent) (sym c.as_slice.ensures.value) done.listing.children_are in (
       (
-        let less = all-less set ns sound parent c.as_slice.result.now are (λ i child e. element-depth set.names ns over.0 over.1.stands child.node (child-element set ns sound parent c.as_slice.result.now are i child e)) in
-        omega (arith, c.decreases, less)
-      ),
+          let less = all-less set ns sound parent c.as_slice.result.now are (λ i child e. element-depth set.names ns over.0 over.1.stands child.node (child-element set ns sound parent c.as_slice.result.now are i child e)) in
+          omega (arith, c.decreases, less)
+          ),
       (
         within,
         (

@@ -1,4 +1,4 @@
-use Rattle.std.proofs.Common.{◌≡◌, ℕ, ◌+◌, ◌*◌, ◌-◌, ◌≤◌, List, [], ◌∷◌, map, take, drop}
+use Rattle.std.proofs.Common.{◌≡◌, ℕ, ◌+◌, ◌*◌, ◌-◌, ◌≤◌, List, ◌∷◌, map, take, drop}
 use Rattle.tree_rows.specs.Forest.{Forest}
 use Rattle.assess_records.specs.Counts.{counts_of}
 use Rattle.elem_governing.specs.declared.pairs.Governing.{Governing}

@@ -1,4 +1,4 @@
-use Rattle.std.proofs.Common.{◌≡◌, ◌+◌, ◌*◌, ◌≤◌, ℕ, List, [], ◌∷◌, None, Some, refl, sym, ap, subst, ◌∙◌, arith}
+use Rattle.std.proofs.Common.{[], ◌∷◌, sym, ap, subst, ◌∙◌, arith}
 use Rattle.std.proofs.lemmas.Option.{none-some}
 use Rattle.doc_nodes.specs.Nodes.{is_element_at}
 use Rattle.doc_changes.specs.Held.{parent_at}
@@ -48,7 +48,7 @@ returns-clause-steps g c = λ d z.
     let root = c.in_ok-root.root in
     let node = c.in_ok-root.ensures.node in
     let steps =
-        c.settle_below.ensures.steps d.forest (governs set ns root.pair) (all-given set ns root.pair set.names d z) (root-numbers d.forest z.tree.root ∙ ap (λ m. m ∷ []) (sym node))
-        (ap (governs set ns root.pair) node ∙ root-governs set ns root.pair set.names d z) in
+    c.settle_below.ensures.steps d.forest (governs set ns root.pair) (all-given set ns root.pair set.names d z) (root-numbers d.forest z.tree.root ∙ ap (λ m. m ∷ []) (sym node))
+    (ap (governs set ns root.pair) node ∙ root-governs set ns root.pair set.names d z) in
     let counts = opening-counts c.args.kept.now.records.slots (governs set ns root.pair) c.requires.none d.forest in
     omega (arith, steps, counts)
