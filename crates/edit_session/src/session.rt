@@ -1,3 +1,5 @@
+ghost use Rattle.std.specs.Prelude.{◌≡◌};
+
 use crate::editing::edit_kept;
 use crate::opening::{Opened, open_document};
 use assess_records::Validity;
