@@ -1,10 +1,10 @@
 -- What is read of the list of an element, and how an edit of it makes it that of the child elements as they are now.
-use Rattle.std.proofs.Common.{◌≡◌, ◌⊎◌, ℕ, suc, ◌+◌, ◌*◌, ◌<◌, ◌≤◌, List, [], ◌∷◌, length, map, set, true, false, Option, None, Some, refl, sym, ap, ◌∙◌, subst, inl, inr, arith}
+use Rattle.std.proofs.Common.{◌≡◌, ◌⊎◌, ℕ, ◌+◌, ◌*◌, ◌<◌, ◌≤◌, List, [], ◌∷◌, length, map, set, true, false, Option, None, Some, refl, sym, ap, ◌∙◌, subst, inl, inr, arith}
 use Rattle.std.specs.Prelude.{insert, remove, slice_get, slice_index}
 use Rattle.std.specs.Option.{option_and_then}
 use Rattle.std.proofs.lemmas.Bool.{false≢true}
 use Rattle.std.proofs.lemmas.Option.{none-some, same_Some}
-use Rattle.std.proofs.lemmas.List.{length-map, length-set}
+use Rattle.std.proofs.lemmas.List.{length-set}
 use Rattle.std.proofs.lemmas.List.Edits.{length-remove}
 use Rattle.child_trees.specs.Bits.{bits}
 use Rattle.xs_names.specs.Names.{NameTable}
@@ -15,7 +15,7 @@ use Rattle.compiled_schema.specs.Usable.{IsUsable}
 use Rattle.compiled_schema.specs.declared.compiled.Compiled.{Compiled}
 use Rattle.model_terms.specs.Symbols.{AreSymbolsBy, child_symbols}
 use Rattle.model_terms.specs.Terms.{is_ambivalent_symbol, stuck_in, term_in}
-use Rattle.model_lists.specs.Lists.{ListsView, IsListOf, ambivalent_places}
+use Rattle.model_lists.specs.Lists.{ListsView, IsListOf}
 use Rattle.model_lists.specs.declared.handle.ModelList.{ModelList}
 use Rattle.model_lists.specs.declared.handle.ListedChild.{ListedChild}
 use Rattle.doc_nodes.specs.Nodes.{Node, Nodes, node, Lacks, is_element, is_element_by, is_element_at, children_by, element_children}

@@ -1,6 +1,6 @@
 -- The symbols and the terms of child elements, as one of them comes, goes or has another name.
-use Rattle.std.proofs.Common.{◌≡◌, ◌≢◌, ℕ, zero, suc, ◌<◌, List, [], ◌∷◌, length, map, set, false, Option, None, Some, refl, sym, ap, ◌∙◌, subst, inl, inr}
-use Rattle.std.specs.Prelude.{remove, slice_get, slice_index}
+use Rattle.std.proofs.Common.{◌≡◌, ◌≢◌, ℕ, zero, suc, List, [], ◌∷◌, length, map, set, Option, None, Some, refl, sym, ap, ◌∙◌}
+use Rattle.std.specs.Prelude.{remove, slice_get}
 use Rattle.std.proofs.lemmas.Option.{same_Some, none-some}
 use Rattle.xs_names.specs.Names.{NameTable}
 use Rattle.content_automaton.specs.Symbols.{symbol_of}
@@ -10,7 +10,7 @@ use Rattle.content_models.specs.declared.automaton.ContentAutomaton.{ContentAuto
 use Rattle.model_terms.specs.Symbols.{child_symbols}
 use Rattle.model_terms.specs.Terms.{is_ambivalent_symbol, term_in}
 use Rattle.model_terms.proofs.Runs.{by-symbol}
-use Rattle.doc_nodes.specs.Nodes.{Has, Lacks, Distinct}
+use Rattle.doc_nodes.specs.Nodes.{Lacks, Distinct}
 use Rattle.doc_nodes.proofs.Among.{lacks-has, map-remove}
 use Rattle.kept_forgetting.proofs.Placed.{has-at}
 use Rattle.child_lists.specs.Family.{marked_places}

@@ -1,5 +1,5 @@
 -- A child element among those of its parent.
-use Rattle.std.specs.Prelude.{◌≡◌, ℕ, Some, slice_get}
+use Rattle.std.specs.Prelude.{◌≡◌, Some, slice_get}
 use Rattle.doc_nodes.specs.Nodes.{Nodes, element_children}
 use Rattle.doc_changes.specs.Held.{parent_at}
 use Rattle.child_lists.specs.declared.place.ChildPlace.{ChildPlace}

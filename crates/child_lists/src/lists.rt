@@ -157,7 +157,9 @@ fn stuck_place<L: Ledger>(
 {
     match list_of(set, kept, parent) {
         None => None,
-        Some((list, automaton)) => kept.lists.stuck(list, automaton, child_elements(doc, parent), steps),
+        Some((list, automaton)) => kept
+            .lists
+            .stuck(list, automaton, child_elements(doc, parent), steps),
     }
 }
 

@@ -1,4 +1,4 @@
-use Rattle.std.proofs.Common.{length, take, sym, ap, ◌∙◌, arith}
+use Rattle.std.proofs.Common.{length, ap, ◌∙◌, arith}
 use Rattle.std.specs.Prelude.{filter}
 use Rattle.std.proofs.lemmas.List.{take_all}
 use Rattle.doc_nodes.specs.Nodes.{node, children_by, is_element_at}

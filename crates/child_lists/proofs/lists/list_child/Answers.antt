@@ -63,9 +63,11 @@ returns-in-Some-clause-midway g c =
     let child = c.listed-child in
     let others = remove (symbols_of set ns k spot.parent) spot.place in
     on_ok_weaker c.insert.result (λ f was waiting m.
-    midway-edited set ns k c.insert.new.self spot.parent h found.0 c.insert.ensures.others
-    (a, insert others child.result.place child.result.symbol,
-        f others (in-list set ns k spot c.requires.place a h found.0 found.1 child.result child.ensures.place child.ensures.symbol others c.requires.listed))
+    midway-edited set ns k c.insert.new.self spot.parent h found.0 c.insert.ensures.others (
+      a,
+      insert others child.result.place child.result.symbol,
+      f others (in-list set ns k spot c.requires.place a h found.0 found.1 child.result child.ensures.place child.ensures.symbol others c.requires.listed),
+    )
     was waiting m) c.insert.ensures.list
 
 pub returns-in-Some-clause-listed : goal.returns-in-Some-clause-listed

@@ -1,5 +1,4 @@
-use Rattle.std.proofs.Common.{◌≡◌, ◌≤◌, ap, ◌∙◌}
-use Rattle.assess_records.specs.declared.counts.ChildCounts.{ChildCounts}
+use Rattle.std.proofs.Common.{ap, ◌∙◌}
 use Rattle.kept_records.specs.declared.element.KeptElement.{KeptElement}
 use Rattle.kept_state.specs.declared.children.KeptChildren.{KeptChildren}
 use Rattle.kept_state.proofs.Beside.{kept-there}

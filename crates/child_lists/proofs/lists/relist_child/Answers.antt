@@ -62,9 +62,11 @@ returns-in-Some-clause-midway g c = λ was waiting m.
     let found = c.in-Some.ensures in
     let child = c.listed-child in
     let others = slice_set (symbols_of set ns k spot.parent) spot.place c.requires.listed.0 in
-    midway-edited set ns k c.set.new.self spot.parent h found.0 c.set.ensures.others
-    (a, slice_set others child.result.place child.result.symbol,
-        c.set.ensures.list others (in-list set ns k spot c.requires.place a h found.0 found.1 child.result child.ensures.place child.ensures.symbol others c.requires.listed.1))
+    midway-edited set ns k c.set.new.self spot.parent h found.0 c.set.ensures.others (
+      a,
+      slice_set others child.result.place child.result.symbol,
+      c.set.ensures.list others (in-list set ns k spot c.requires.place a h found.0 found.1 child.result child.ensures.place child.ensures.symbol others c.requires.listed.1),
+    )
     was waiting m
 
 pub returns-in-Some-clause-listed : goal.returns-in-Some-clause-listed

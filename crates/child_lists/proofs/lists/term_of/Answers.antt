@@ -1,13 +1,10 @@
-use Rattle.std.proofs.Common.{◌≡◌, ℕ, Option, Some, map, length, refl, sym, ap, ◌∙◌, subst}
+use Rattle.std.proofs.Common.{Option, Some, length, sym, ap, ◌∙◌}
 use Rattle.content_models.specs.declared.automaton.ContentAutomaton.{ContentAutomaton}
-use Rattle.doc_documents.specs.Readers.{name_at}
 use Rattle.doc_nodes.specs.Nodes.{element_children}
 use Rattle.kept_records.specs.Slots.{kept_at, pair_at}
 use Rattle.kept_state.specs.declared.children.KeptChildren.{KeptChildren}
 use Rattle.model_terms.specs.Terms.{stuck_in, term_in}
-use Rattle.model_terms.specs.Symbols.{AreSymbolsBy}
 use Rattle.child_lists.specs.Family.{model_of, symbols_of}
-use Rattle.child_listing.proofs.Symbols.{model-of, are-symbols}
 use Rattle.child_lists.proofs.Listed.{unlisted, unlisted-term, child-element, in-list, place-there, symbol-here, symbols-many, unmarked-here, as-few-steps, symbols-all}
 use Rattle.child_lists.proofs.lists.term_of.Goals as goal
 
@@ -61,8 +58,8 @@ returns-in-Some-clause-term g c =
     let child = c.listed-child in
     let symbols = symbols_of set ns k spot.parent in
     let stuck =
-        ap (λ (x : KeptChildren). x.stuck) c.children-stuck.ensures ∙ c.requires.attributed.stuck_is
-        ∙ ap (λ (m : Option ContentAutomaton). stuck_in m symbols) found.1 in
+    ap (λ (x : KeptChildren). x.stuck) c.children-stuck.ensures ∙ c.requires.attributed.stuck_is
+    ∙ ap (λ (m : Option ContentAutomaton). stuck_in m symbols) found.1 in
     c.term.ensures.term symbols (in-list set ns k spot c.requires.place a h found.0 found.1 child.result child.ensures.place child.ensures.symbol symbols c.requires.attributed.listed)
     (symbol-here set ns k spot c.requires.place a h found.0 found.1 child.result child.ensures.place child.ensures.symbol)
     (symbols-all set c.requires.beside.over.1.usable ns k spot.parent a found.1) stuck

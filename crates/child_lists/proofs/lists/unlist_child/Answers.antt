@@ -28,9 +28,11 @@ returns-in-Some-clause-midway g c = λ ns was waiting m.
     let h = c.in-Some.list in
     let found = c.in-Some.ensures in
     let symbols = c.requires.listed.0 in
-    midway-edited set ns k c.remove.new.self p h found.0 c.remove.ensures.others
-    (a, remove symbols c.args.at.now.place,
-        c.remove.ensures.list a symbols (listed-as k.lists (model_of set k p) (kept_at k.records.slots p).list symbols h a found.0 found.1 c.requires.listed.1))
+    midway-edited set ns k c.remove.new.self p h found.0 c.remove.ensures.others (
+      a,
+      remove symbols c.args.at.now.place,
+      c.remove.ensures.list a symbols (listed-as k.lists (model_of set k p) (kept_at k.records.slots p).list symbols h a found.0 found.1 c.requires.listed.1),
+    )
     was waiting m
 
 pub returns-in-Some-clause-listed : goal.returns-in-Some-clause-listed
