@@ -4,15 +4,19 @@ use Rattle.std.specs.Prelude.{All, false, IfSome, if◌then◌else◌, ◌==◌,
 use Rattle.std.specs.Option.{option_map}
 use Rattle.std.proofs.lemmas.List.Elements.{All-head, All-tail}
 use Rattle.std.proofs.lemmas.Option.{none-some, same_Some}
+use Rattle.xs_names.specs.Names.{NameTable}
 use Rattle.tree_rows.specs.Forest.{Forest, none, text, element, Document}
 use Rattle.tree_rows.specs.Kinds.{kind_of}
 use Rattle.tree_rows.specs.Whole.{HasRoot}
 use Rattle.tree_rows.specs.declared.row.NodeKind.{NodeKind}
 use Rattle.assess_records.specs.declared.outcome.Validity.{Validity}
-use Rattle.assessment.specs.Assessment.{Entry, entries}
+use Rattle.assessment.specs.Assessment.{Entry, Assessed, Beside, entries, IsAssessment}
 use Rattle.assessment.specs.Local.{HasElement}
 use Rattle.assessment.specs.Attribution.{SchemaSet}
-use Rattle.compiled_schema.specs.Usable.{set_of}
+use Rattle.compiled_schema.specs.Usable.{IsUsable, set_of}
+use Rattle.tree_names.specs.Found.{HasNames}
+use Rattle.identity_assessment.specs.Identity.{beside_of}
+use Rattle.doc_documents.proofs.Named.{has_names}
 use Rattle.compiled_schema.specs.declared.compiled.Compiled.{Compiled}
 use Rattle.tree_assess.specs.Entries.{entry_of}
 use Rattle.what_is_found.specs.IsFound.{IsFound}
@@ -34,7 +38,7 @@ use Rattle.kept_records.proofs.Sums.{kept-is}
 use Rattle.edit_session.specs.Held.{document_in, found_by, IsPresent, state_of, IsHeld}
 use Rattle.edit_session.specs.declared.session.EditSession.TheInside.{Inside}
 use Rattle.edit_session.proofs.Following.{numbers-elements, none-after, after-element}
-use Rattle.edit_session.proofs.Standing.{stands-now, settled, found-now}
+use Rattle.edit_session.proofs.Standing.{stands-now, over-now, settled, found-now}
 
 -- the first entry is the root's
 root-first : (ns : Nodes) (ks : KeptSlots) (f : Forest) → HasRoot f → (k : KeptElement) → at ks 1 ≡ Some k → k.found.element.validity ≡ asking.root_validity (entries (found_in ns ks f))
@@ -92,6 +96,10 @@ module _ (s : Inside) (v : State) (is : state_of s ≡ v) (held : IsHeld s) wher
   pub live-now : (node : ℕ) (kind : Option NodeKind) → ((d : Document) → StandsFor s.set.value.names s.doc d → kind ≡ kind_of node d.forest) → kind ≡ kind_of node v.document.forest
   live-now node kind tree = tree (document_in s.set.value s.doc) (stands-now s.set.value s.doc held.stands) ∙ ap (λ (x : State). kind_of node x.document.forest) is
 
+  pub live-next : (node : ℕ) (next : Option ℕ) → ((t : NameTable) (d : Document) → StandsFor t s.doc d → next ≡ next_of node d.forest) → next ≡ next_of node v.document.forest
+  live-next node next tree =
+      tree s.set.value.names (document_in s.set.value s.doc) (stands-now s.set.value s.doc held.stands) ∙ ap (λ (x : State). next_of node x.document.forest) is
+
   pub set-now : (set : Compiled) → set ≡ s.set.value → set_of set ≡ v.set
   set-now set same = ap set_of same ∙ ap (λ (x : State). x.set) is
 
@@ -120,3 +128,25 @@ module _ (s : Inside) (v : State) (is : state_of s ≡ v) (held : IsHeld s) wher
 
     pub none-held : (n : ℕ) → at s.kept.records.slots n ≡ None → None ≡ number_after n v.found
     none-held n gone = after-none s.set.value s.doc s.kept present-now n gone ∙ ap (λ (x : State). number_after n x.found) is
+
+    -- what is read of the entry of a number
+    module _ (n : ℕ) where
+      pub read-none : {X : Type 0} (read : Entry → X) → None ≡ at s.kept.records.slots n → None ≡ option_map read (asking.entry_at n v.found)
+      read-none read gone = ap (λ (o : Option KeptElement). option_map read (option_map (λ (x : KeptElement). entry_of x.found) o)) gone ∙ ap (option_map read) (entry-at n)
+
+      pub read-some : {X : Type 0} (read : Entry → X) (x : KeptElement) → Some x ≡ at s.kept.records.slots n → Some (read (entry_of x.found)) ≡ option_map read (asking.entry_at n v.found)
+      read-some read x there = ap (λ (o : Option KeptElement). option_map read (option_map (λ (y : KeptElement). entry_of y.found) o)) there ∙ ap (option_map read) (entry-at n)
+
+      -- its names and types are those of the set
+      pub named-held : ((c : Compiled) (b : Beside) (f : Forest) (found : Assessed) → IsUsable c → HasNames c.names f → IsAssessment (set_of c) b f found → All (IsEntryNamed (set_of c)) (entries found)) →
+          (x : KeptElement) → Some x ≡ at s.kept.records.slots n → IsEntryNamed v.set (entry_of x.found)
+      named-held law x there =
+          let c = s.set.value in
+          let over = over-now c s.doc s.kept present-now.whole in
+          let is_found = found-now c s.doc s.kept present-now in
+          let all = law c (beside_of (set_of c) is_found.identities (document_in c s.doc).forest is_found.found) (document_in c s.doc).forest is_found.found over.usable
+          (has_names c.names over.stands.table s.doc (document_in c s.doc).forest over.stands.nodes) is_found.assessed in
+          let mine = subst (All (IsEntryNamed (set_of c))) (sym is_found.entries_are) all in
+          let own = ap (option_map (λ (y : KeptElement). entry_of y.found)) there ∙ entry-now c s.doc s.kept present-now n in
+          subst (λ (set : SchemaSet). IsEntryNamed set (entry_of x.found)) (ap (λ (y : State). y.set) is)
+          (holds-at (IsEntryNamed (set_of c)) n (entry_of x.found) (found_by c s.doc s.kept) mine (sym own))

@@ -7,7 +7,7 @@ use Rattle.what_is_found.specs.IsFound.{IsFound}
 use Rattle.doc_nodes.specs.Nodes.{Nodes}
 use Rattle.doc_changes.specs.Stands.{StandsFor}
 use Rattle.doc_documents.proofs.Levels.{document_is}
-use Rattle.kept_records.specs.Found.{IsOver, AreSettled}
+use Rattle.kept_records.specs.Found.{IsOver, AreSettled, SaysFound}
 use Rattle.kept_records.proofs.Said.{is-found}
 use Rattle.kept_state.specs.declared.state.KeptState.{KeptState}
 use Rattle.kept_keys.specs.Keys.{IsWhole}
@@ -33,3 +33,6 @@ module _ (c : Compiled) (ns : Nodes) where
     -- what is kept is what is found of the document
     pub found-now : IsPresent c ns k → IsFound (set_of c) (document_in c ns) (found_by c ns k)
     found-now present = is-found c ns k.records.slots k.lists k.root_ids (document_in c ns) (settled present.whole) present.says
+
+    pub present-by : IsWhole c ns k → ((d : Document) → IsOver c ns k.records.slots d → SaysFound c ns k.records.slots k.root_ids d) → IsPresent c ns k
+    present-by whole says = record { whole = whole; says = says (document_in c ns) (over-now whole) }
