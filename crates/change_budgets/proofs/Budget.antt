@@ -93,7 +93,7 @@ governing-of [] n = refl
 governing-of (e ∷ more) n = by (e.number == n) (governing-of more n)
   where
     by : (b : Bool) → governing_at more n ≡ pair-of (asking.entry_at n more) → (if b then e.governing else governing_at more n) ≡ pair-of (if b then Some e else asking.entry_at n more)
-        by true r = refl
+    by true r = refl
     by false r = r
 
 kind-by : (o : Option Node) → option_map (λ (it : Node). kind_in it.content) o ≡ Some kinds.Element → is_element_by o ≡ true
@@ -151,7 +151,7 @@ module _ (c : Compiled) (old : Nodes) (k : KeptState) (d : Document) (right : Is
   old-governed = assessed-governed s said d (found_in old ks d.forest) z.tree (assessed c old ks k.lists k.root_ids d settled said (record { identity = λ n made. refl; ids = λ n made. refl }))
 
   before-is : (n : ℕ) (x : KeptElement) → at ks n ≡ Some x → before n ≡ x.found.governing
-    before-is n x there =
+  before-is n x there =
       governing-of was n
       ∙ ap pair-of (entry-is c old ks k.lists k.root_ids d settled n ∙ ap (option_map (λ (y : KeptElement). entry_of y.found)) there)
 
