@@ -297,7 +297,7 @@ module _ (c : Compiled) (old : Nodes) (k : KeptState) (d : Document) (right : Is
   -- the elements of an edited document that come of an element's children were there
   module _ (new : Nodes) (e : Document) (w : StandsFor c.names new e) (found_es : List Entry) (is : IsFound s e found_es) (key p : ℕ) (change : Forest → Forest)
       (few : (node : Forest) (m : ℕ) → HasElement m (change node) → HasElement m node) (same_forest : e.forest ≡ replaced key change d.forest) (up : parent_in key None d.forest ≡ Some p) where
-    below_key : ChangesBelow key change p d.forest
+    abbrev below_key : ChangesBelow key change p d.forest
     below_key = changed-at key change d.forest p up
 
     abbrev cs_of : Forest
@@ -314,13 +314,13 @@ module _ (c : Compiled) (old : Nodes) (k : KeptState) (d : Document) (right : Is
         old-moved ks d.forest before (governing_at found_es) ds_of (λ m h. old-at new e w found_es is m
         (at-below p ds_of cs_of e.forest d.forest (at-sym p cs_of ds_of d.forest e.forest path_of) m (replaced-elements key change few cs_of m h)))
 
-    pub changed-budgeted : (most first last : ℕ) → (most ≤ width cs_of) ⊎ (most ≤ width ds_of) → TakesBelow c new k p most first last →
+    changed-budgeted : (most first last : ℕ) → (most ≤ width cs_of) ⊎ (most ≤ width ds_of) → TakesBelow c new k p most first last →
         last ≤ first + (changed_list s d was e found_es (parent_in key None d.forest) + 8 * budget.moved d.forest before (governing_at found_es) e.forest)
     changed-budgeted most first last wide takes =
         subst (λ (list : Option ℕ). last ≤ first + (changed_list s d was e found_es list + 8 * budget.moved d.forest before (governing_at found_es) e.forest)) (sym up)
         (list-budgeted new e w found_es is p cs_of ds_of path_of most first last wide kept-moved takes)
 
-    pub changed-elements : steps.width new p ≤ width ds_of
+    changed-elements : steps.width new p ≤ width ds_of
     changed-elements = elements new e w found_es is p cs_of ds_of path_of
 
   -- a removal
