@@ -1,7 +1,6 @@
 -- An element whose child elements are kept as they should be is judged anew, and those above it wait for what it comes to.
-use Rattle.std.proofs.Common.{◌≡◌, ◌≢◌, ◌⊎◌, ℕ, List, [], ◌∷◌, map, true, All, Option, None, Some, refl, sym, ap, ◌∙◌, subst, inl, inr}
+use Rattle.std.proofs.Common.{◌≡◌, ◌≢◌, ℕ, List, [], ◌∷◌, map, true, All, Some, refl, sym, ap, ◌∙◌, subst, inl, inr}
 use Rattle.std.specs.Prelude.{remove, slice_get, unwrap_or}
-use Rattle.std.specs.Option.{option_and_then}
 use Rattle.std.proofs.lemmas.Bool.{cases_eq}
 use Rattle.std.proofs.lemmas.List.Elements.{All-nil, All-cons}
 use Rattle.std.proofs.lemmas.Option.{none-some, same_Some}
@@ -12,7 +11,7 @@ use Rattle.compiled_schema.specs.declared.compiled.Compiled.{Compiled}
 use Rattle.model_lists.specs.Lists.{ListsView}
 use Rattle.doc_documents.proofs.Reading.{are_read}
 use Rattle.doc_heads.proofs.Reading.{readers_are}
-use Rattle.doc_nodes.specs.Nodes.{Node, Nodes, node, IsNode, Has, IsSound, is_element_at, element_children}
+use Rattle.doc_nodes.specs.Nodes.{Nodes, node, Has, IsSound, is_element_at, element_children}
 use Rattle.doc_changes.specs.Held.{parent_at}
 use Rattle.kept_slots.specs.Slots.{at}
 use Rattle.kept_records.specs.declared.element.KeptElement.{KeptElement}
@@ -22,11 +21,11 @@ use Rattle.kept_records.proofs.Counting.{counts-at}
 use Rattle.kept_records.proofs.Frames.{map-same}
 use Rattle.kept_records.proofs.Made.{made-in}
 use Rattle.kept_records.proofs.Nodes.{by-node, has-element, root-numbers}
-use Rattle.kept_state.specs.Kept.{FitBut, IsBeside, Rewrites, children_of, children_at, outcome_at}
+use Rattle.kept_state.specs.Kept.{FitBut, IsBeside, children_of, children_at, outcome_at}
 use Rattle.kept_state.specs.declared.children.KeptChildren.{KeptChildren}
 use Rattle.kept_state.specs.declared.state.KeptState.{KeptState}
 use Rattle.kept_judging.specs.Judged.{symbols_by, AreChildren, IsJudgedBy, IsJudgedAnew}
-use Rattle.kept_judging.proofs.Anew.{not-own-parent, fit-judged, anew-made, anew-pair, anew-all-fit}
+use Rattle.kept_judging.proofs.Anew.{not-own-parent, fit-judged, anew-pair, anew-all-fit}
 use Rattle.kept_above.specs.Climbing.{with_outcome, IsNearly, IsClimbing, KeepsRest}
 use Rattle.kept_above.proofs.Climbing.{judged-kept}
 use Rattle.kept_forgetting.proofs.Placed.{others-differ, children-differ, child-place, parent-element}

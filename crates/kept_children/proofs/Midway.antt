@@ -1,47 +1,34 @@
 -- The facts in the middle of a change of child elements stay, where a child element is governed anew.
-use Rattle.std.proofs.Common.{◌≡◌, ◌≢◌, ◌⊎◌, ℕ, zero, suc, ◌+◌, ◌<◌, ◌≤◌, ◌^◌, List, [], ◌∷◌, length, map, true, Option, None, Some, refl, sym, ap, ◌∙◌, subst, inl, inr, arith}
-use Rattle.std.specs.Prelude.{remove, slice_get, unwrap_or}
+use Rattle.std.proofs.Common.{◌≡◌, ◌≢◌, ℕ, zero, suc, List, [], ◌∷◌, Option, None, Some, refl, sym, ap, ◌∙◌, subst, inl, inr, arith}
+use Rattle.std.specs.Prelude.{slice_get, unwrap_or}
 use Rattle.std.specs.Option.{option_and_then}
 use Rattle.std.proofs.lemmas.Bool.{cases_eq}
-use Rattle.std.proofs.lemmas.List.{length-map}
 use Rattle.std.proofs.lemmas.Option.{none-some, same_Some}
-use Rattle.xs_codes.specs.declared.fault.Found.{Found}
-use Rattle.assess_records.specs.Counts.{counts_of, child_count, attempt_count}
-use Rattle.assess_records.specs.declared.counts.ChildCounts.{ChildCounts}
-use Rattle.assess_records.specs.declared.record.ElementRecord.{ElementRecord}
-use Rattle.elem_governing.specs.declared.pairs.Governing.{Governing}
 use Rattle.content_models.specs.declared.automaton.ContentAutomaton.{ContentAutomaton}
 use Rattle.compiled_schema.specs.Usable.{set_of}
 use Rattle.compiled_schema.specs.declared.compiled.Compiled.{Compiled}
 use Rattle.model_terms.specs.Terms.{stuck_in}
-use Rattle.model_lists.specs.Lists.{ListsView, IsListOf, IsLive, KeepLists}
 use Rattle.model_lists.specs.declared.handle.ModelList.{ModelList}
-use Rattle.doc_nodes.specs.Nodes.{Node, Nodes, node, IsNode, Has, Lacks, IsSound, is_element_at, element_children, depth_by}
-use Rattle.doc_nodes.proofs.Among.{lacks-has}
+use Rattle.doc_nodes.specs.Nodes.{Node, Nodes, node, IsSound, element_children}
 use Rattle.doc_changes.specs.Held.{parent_at}
 use Rattle.kept_slots.specs.Slots.{at}
 use Rattle.kept_records.specs.declared.element.KeptElement.{KeptElement}
-use Rattle.kept_records.specs.Slots.{KeptSlots, IsKept, IsMade, blank, kept_at, pair_at, record_at}
-use Rattle.kept_records.specs.Fit.{models_of, model_at, symbols_at, IsListed, IsTop, IsGathered, IsFit, AllFitBut, AboveIn}
-use Rattle.kept_records.specs.Books.{IsBooked, HaveOwnLists}
-use Rattle.kept_records.proofs.Counting.{counted-with, counts-at}
-use Rattle.kept_records.proofs.Frames.{map-same, SeesChild, sees-same, fit-same, gathered-same, fit-lists}
-use Rattle.kept_records.proofs.Lists.{listed-kept}
+use Rattle.kept_records.specs.Slots.{IsMade, blank, kept_at, pair_at}
+use Rattle.kept_records.specs.Fit.{models_of, IsListed}
 use Rattle.kept_records.proofs.Nodes.{by-node, child-parent, root-there}
 use Rattle.kept_records.proofs.Nodes.{there as there-node}
-use Rattle.kept_state.specs.Kept.{FitBut, IsBeside, Rewrites, children_at, outcome_at}
+use Rattle.kept_state.specs.Kept.{FitBut, IsBeside}
 use Rattle.kept_state.specs.declared.children.KeptChildren.{KeptChildren}
 use Rattle.kept_state.specs.declared.element.Governed.{Governed}
 use Rattle.kept_state.specs.declared.state.KeptState.{KeptState}
-use Rattle.kept_state.proofs.Beside.{kept-there, beside-same}
-use Rattle.kept_judging.specs.Judged.{symbols_by, pair_by, IsGivenBy, IsJudgedBy}
+use Rattle.kept_judging.specs.Judged.{symbols_by, pair_by}
 use Rattle.kept_above.proofs.Climbing.{judged-kept}
-use Rattle.kept_forgetting.proofs.Placed.{others-differ, children-differ, few-children}
-use Rattle.kept_forgetting.specs.Below.{upwards, IsWithin, IsNoneOf, KeepsBut}
+use Rattle.kept_forgetting.proofs.Placed.{children-differ}
+use Rattle.kept_forgetting.specs.Below.{upwards, IsWithin}
 use Rattle.kept_forgetting.proofs.Walks.{self-within, parent-outside, siblings-apart}
 use Rattle.kept_below.specs.Below.{IsSettled}
 use Rattle.child_lists.specs.Places.{IsPlaceOf}
-use Rattle.child_lists.specs.Family.{AreCounted, IsListedBy, IsAttributed, AreGivenBut, IsMidway, model_of, symbols_of}
+use Rattle.child_lists.specs.Family.{IsAttributed, AreGivenBut, IsMidway, model_of, symbols_of}
 use Rattle.child_lists.specs.declared.place.ChildPlace.{ChildPlace}
 use Rattle.kept_forgetting.proofs.Placed.{one-place}
 

@@ -1,27 +1,23 @@
 -- Where all is governed as it should be, nothing is governed anew.
-use Rattle.std.proofs.Common.{◌≡◌, ◌≢◌, ◌⊎◌, ℕ, zero, suc, ◌+◌, ◌*◌, ◌≤◌, List, [], ◌∷◌, length, Bool, true, false, Option, None, Some, refl, sym, ap, ◌∙◌, subst, inl, inr, arith}
+use Rattle.std.proofs.Common.{◌≡◌, ◌≢◌, ℕ, suc, ◌+◌, List, [], ◌∷◌, length, Bool, true, Option, Some, refl, sym, ap, ◌∙◌, inl, inr}
 use Rattle.std.specs.Prelude.{slice_get, if◌then◌else◌}
-use Rattle.std.proofs.lemmas.Option.{none-some}
 use Rattle.xs_names.specs.Names.{NameTable}
 use Rattle.tree_rows.specs.Forest.{Forest, none, text, element}
 use Rattle.xs_components.specs.declared.common.TypeId.{TypeId}
 use Rattle.elem_governing.specs.declared.pairs.Governing.{Governing}
 use Rattle.assessment.specs.Local.{HasElement}
-use Rattle.compiled_schema.specs.Usable.{set_of}
 use Rattle.compiled_schema.specs.declared.compiled.Compiled.{Compiled}
 use Rattle.edit_budgets.specs.Budget.{same_governing}
 use Rattle.doc_nodes.specs.Nodes.{Nodes, Has, element_children}
 use Rattle.doc_changes.specs.Stands.{StandFor}
 use Rattle.doc_documents.specs.Readers.{element_numbers, AreRead}
-use Rattle.doc_documents.proofs.Reading.{are_read}
 use Rattle.kept_slots.specs.Slots.{at}
 use Rattle.kept_records.specs.declared.element.KeptElement.{KeptElement}
-use Rattle.kept_records.specs.Slots.{KeptSlots, IsMade, kept_at, pair_at}
+use Rattle.kept_records.specs.Slots.{KeptSlots, IsMade, pair_at}
 use Rattle.kept_state.specs.Kept.{FitBut}
 use Rattle.kept_state.specs.declared.state.KeptState.{KeptState}
 use Rattle.kept_state.proofs.Beside.{kept-there}
 use Rattle.kept_judging.specs.Judged.{pair_by}
-use Rattle.kept_forgetting.proofs.Placed.{has-at}
 use Rattle.kept_below.specs.Moved.{is_typed, moved}
 
 pub has-place : (xs : List ℕ) (x : ℕ) → Has x xs → (i : ℕ) × (slice_get xs i ≡ Some x)

@@ -1,6 +1,5 @@
 -- Where records stay as they are, and where those of one element alone do not: what is read of them, and the steps that are left.
-use Rattle.std.proofs.Common.{◌≡◌, ℕ, ◌+◌, ◌*◌, ◌≤◌, List, ◌∷◌, length, map, true, Some, sym, ap, ◌∙◌, subst, arith}
-use Rattle.std.specs.Prelude.{slice_get}
+use Rattle.std.proofs.Common.{◌≡◌, ℕ, ◌+◌, ◌*◌, ◌≤◌, List, length, map, sym, ap, subst, arith}
 use Rattle.std.proofs.Math.Nat.{mul-le-mul_right}
 use Rattle.assess_records.specs.Counts.{counts_of}
 use Rattle.tree_rows.specs.Forest.{Forest}
@@ -13,7 +12,7 @@ use Rattle.kept_state.specs.declared.state.KeptState.{KeptState}
 use Rattle.kept_judging.specs.Judged.{pair_by}
 use Rattle.kept_below.specs.Moved.{moved}
 use Rattle.child_lists.specs.Family.{AreCounted, AreGivenBut}
-use Rattle.kept_children.specs.Steps.{GovernsBelow, marked_count, places_of}
+use Rattle.kept_children.specs.Steps.{GovernsBelow, marked_count}
 use Rattle.kept_children.proofs.Asking.{places-stay}
 
 module _ (old new : KeptState) (same : new.records ≡ old.records) (n : ℕ) where

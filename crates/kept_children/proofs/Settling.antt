@@ -1,11 +1,10 @@
 -- A child element is governed by its term: what that asks for, and the steps that it takes.
-use Rattle.std.proofs.Common.{◌≡◌, ◌⊎◌, ℕ, suc, ◌+◌, ◌*◌, ◌<◌, ◌≤◌, List, [], ◌∷◌, length, true, Option, Some, refl, sym, ap, ◌∙◌, subst, inl, inr, arith}
-use Rattle.std.specs.Prelude.{slice_get}
+use Rattle.std.proofs.Common.{◌≡◌, ◌⊎◌, ℕ, ◌+◌, ◌*◌, ◌≤◌, List, [], ◌∷◌, length, true, Some, sym, ap, ◌∙◌, subst, inl, inr, arith}
 use Rattle.std.proofs.lemmas.Option.{same_Some}
 use Rattle.tree_rows.specs.Forest.{Forest}
 use Rattle.elem_governing.specs.declared.pairs.Governing.{Governing}
 use Rattle.compiled_schema.specs.declared.compiled.Compiled.{Compiled}
-use Rattle.doc_nodes.specs.Nodes.{Nodes, node, Has, Lacks, IsSound, depth_by, is_element_at, element_children}
+use Rattle.doc_nodes.specs.Nodes.{Nodes, node, Lacks, IsSound, depth_by, is_element_at}
 use Rattle.doc_changes.specs.Held.{parent_at}
 use Rattle.doc_documents.specs.Readers.{element_numbers}
 use Rattle.doc_documents.proofs.Reading.{depth_below}
@@ -80,7 +79,7 @@ module _ (c : Compiled) (ns : Nodes) (old : KeptState) (spot : ChildPlace) (plac
   module _ (steps mid now : ℕ) (asked : mid ≤ steps + 8 * digits (width ns spot.parent))
       (none : Lacks spot.place (places_of c ns old spot.parent) → mid ≡ steps)
       (took : (siblings : Forest) (governs : ℕ → Governing) → AreGivenDown c ns governs siblings → element_numbers siblings ≡ element.node ∷ [] → governs element.node ≡ element.pair →
-          now ≤ mid + 3 * moved old.records.slots governs siblings) where
+      now ≤ mid + 3 * moved old.records.slots governs siblings) where
     module _ (governs : ℕ → Governing) (siblings : Forest) (below : GovernsBelow c ns (pair_at old.records.slots spot.parent) spot.parent governs siblings) where
       abbrev one : Forest
       one = alone c ns sound p (beside.over.1.only p there) (pair_at old.records.slots p) governs siblings below spot.place spot.node place.node_is
@@ -106,6 +105,6 @@ module _ (c : Compiled) (ns : Nodes) (old : KeptState) (spot : ChildPlace) (plac
         let a = alone-took governs siblings below in
         let at-spot = governed-at new settled in
         let left =
-            moved-settled c ns sound p (beside.over.1.only p there) (pair_at old.records.slots p) governs siblings below spot.place spot.node place.node_is new fit at-spot.made
-            (at-spot.pair_is ∙ sym (below.given spot.place spot.node place.node_is)) old.records.slots at-spot.rest.slots in
+        moved-settled c ns sound p (beside.over.1.only p there) (pair_at old.records.slots p) governs siblings below spot.place spot.node place.node_is new fit at-spot.made
+        (at-spot.pair_is ∙ sym (below.given spot.place spot.node place.node_is)) old.records.slots at-spot.rest.slots in
         omega (arith, t, a, left)

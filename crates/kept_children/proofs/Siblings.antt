@@ -1,5 +1,5 @@
 -- The element at a place among siblings, and the others: how many child elements move where it alone is governed otherwise.
-use Rattle.std.proofs.Common.{◌≡◌, ◌≢◌, ◌⊎◌, ℕ, zero, suc, ◌+◌, ◌*◌, ◌≤◌, List, [], ◌∷◌, length, true, Option, None, Some, refl, sym, ap, ◌∙◌, subst, inl, inr, arith}
+use Rattle.std.proofs.Common.{◌≡◌, ◌≢◌, ℕ, zero, suc, ◌+◌, ◌≤◌, List, [], ◌∷◌, length, true, Option, None, Some, refl, sym, ap, ◌∙◌, subst, inl, inr, arith}
 use Rattle.std.specs.Prelude.{remove, slice_get, if◌then◌else◌}
 use Rattle.std.proofs.lemmas.Option.{none-some, same_Some}
 use Rattle.xs_names.specs.Names.{NameTable}
@@ -13,7 +13,7 @@ use Rattle.elem_governing.proofs.SameLaws.{same-self}
 use Rattle.assessment.specs.Local.{HasElement}
 use Rattle.compiled_schema.specs.declared.compiled.Compiled.{Compiled}
 use Rattle.edit_budgets.specs.Budget.{same_governing}
-use Rattle.doc_nodes.specs.Nodes.{Nodes, node, Has, IsSound, depth_by, is_element_at, element_children}
+use Rattle.doc_nodes.specs.Nodes.{Nodes, node, IsSound, depth_by, is_element_at, element_children}
 use Rattle.doc_changes.specs.Held.{parent_at}
 use Rattle.doc_changes.specs.Stands.{StandFor}
 use Rattle.doc_documents.specs.Readers.{element_numbers}
@@ -23,7 +23,6 @@ use Rattle.kept_records.specs.Slots.{KeptSlots, IsMade, pair_at}
 use Rattle.kept_records.proofs.Nodes.{by-node, child-parent}
 use Rattle.kept_state.specs.Kept.{FitBut}
 use Rattle.kept_state.specs.declared.state.KeptState.{KeptState}
-use Rattle.kept_judging.specs.Judged.{pair_by}
 use Rattle.kept_forgetting.specs.Below.{IsWithin}
 use Rattle.kept_forgetting.proofs.Placed.{others-differ, children-differ}
 use Rattle.kept_forgetting.proofs.Walks.{parent-outside, siblings-apart}

@@ -1,5 +1,5 @@
 -- What holds of child elements before and after a change of the document, whatever it is.
-use Rattle.std.proofs.Common.{◌≡◌, ◌≢◌, ◌⊎◌, ℕ, ◌+◌, ◌<◌, ◌≤◌, ◌∷◌, length, map, true, None, Some, sym, ap, ◌∙◌, inl, inr}
+use Rattle.std.proofs.Common.{◌≡◌, ℕ, ◌<◌, length, map, true, None, Some, sym, ap, ◌∙◌, inl, inr}
 use Rattle.std.specs.Prelude.{slice_get}
 use Rattle.std.proofs.lemmas.Bool.{cases_lt}
 use Rattle.std.proofs.lemmas.Option.{none-some}
@@ -8,7 +8,7 @@ use Rattle.assess_records.specs.Numbered.{Head}
 use Rattle.elem_governing.specs.Governing.{govern_child}
 use Rattle.compiled_schema.specs.Usable.{set_of}
 use Rattle.compiled_schema.specs.declared.compiled.Compiled.{Compiled}
-use Rattle.doc_nodes.specs.Nodes.{Node, Nodes, node, IsNode, Lacks, is_element_at, element_children}
+use Rattle.doc_nodes.specs.Nodes.{Node, Nodes, IsNode, Lacks, is_element_at, element_children}
 use Rattle.doc_documents.specs.Readers.{name_at}
 use Rattle.kept_records.specs.Slots.{IsMade, pair_at}
 use Rattle.kept_records.specs.Fit.{models_of, head_at, IsGiven}

@@ -1,16 +1,14 @@
 -- Nodes that stay as they are, and what elements see of them.
-use Rattle.std.proofs.Common.{◌≡◌, ◌≢◌, ◌⊎◌, ℕ, zero, suc, ◌+◌, ◌<◌, ◌≤◌, List, [], ◌∷◌, ◌++◌, length, map, Bool, true, false, Option, None, Some, refl, sym, ap, ◌∙◌, subst, inl, inr, arith}
+use Rattle.std.proofs.Common.{◌≡◌, ℕ, zero, suc, ◌+◌, ◌≤◌, List, [], ◌++◌, map, true, Option, None, Some, refl, sym, ap, ◌∙◌, subst, arith}
 use Rattle.std.specs.Prelude.{filter, flat_map, reverse, slice_get, unwrap_or}
-use Rattle.std.specs.Option.{option_map, option_and_then}
+use Rattle.std.specs.Option.{option_and_then}
 use Rattle.std.proofs.lemmas.Bool.{false≢true}
 use Rattle.xs_codes.specs.declared.fault.Found.{Found}
 use Rattle.xs_names.specs.Scope.{first_scope}
 use Rattle.assess_records.specs.Counts.{counts_of}
 use Rattle.assess_records.specs.Instance.{instance_text}
 use Rattle.assess_records.specs.Numbered.{Head, shape_of}
-use Rattle.assess_records.specs.declared.counts.ChildCounts.{ChildCounts}
 use Rattle.assess_records.specs.declared.instance_names.InstanceAttribute.TheVariants.{TypeName}
-use Rattle.assess_records.specs.declared.shape.NamedText.{NamedText}
 use Rattle.elem_governing.specs.Governing.{govern_child}
 use Rattle.assessment.specs.Attribution.{SchemaSet}
 use Rattle.assessment.specs.Assessment.{AreJudged}
@@ -20,14 +18,13 @@ use Rattle.model_lists.specs.Lists.{ListsView}
 use Rattle.doc_nodes.specs.Nodes.{Node, Nodes, node, IsNode, Has, IsSound, is_element, is_element_by, is_element_at, children_by, element_children, depth_by}
 use Rattle.doc_nodes.specs.declared.content.Content.{Content}
 use Rattle.doc_nodes.specs.declared.content.Content.TheVariants as contents
-use Rattle.doc_nodes.specs.declared.content.NameAttribute.{NameAttribute}
 use Rattle.doc_nodes.specs.declared.content.NameBinding.{NameBinding}
 use Rattle.doc_changes.specs.Held.{chars_in, attributes_in, attributes_by, attributes_at, bindings_in, bindings_by, bindings_at, parent_at}
 use Rattle.doc_documents.specs.Readers.{name_at, chars_by, chars_at, own_chars, own_scope, scope_at}
 use Rattle.doc_documents.proofs.Reading.{scope_below, scope_root, depth_below}
 use Rattle.doc_heads.specs.Heads.{text_named, texts_named}
 use Rattle.kept_records.specs.Slots.{KeptSlots, kept_at, entry_at, pair_at, record_at}
-use Rattle.kept_records.specs.Fit.{Models, bearer_at, head_at, root_codes, model_at, symbols_at, IsListed, IsGiven, IsGathered, IsFit}
+use Rattle.kept_records.specs.Fit.{Models, bearer_at, head_at, root_codes, symbols_at, IsListed, IsGiven, IsGathered, IsFit}
 use Rattle.kept_records.proofs.Frames.{map-same}
 use Rattle.kept_state.specs.declared.children.KeptChildren.{KeptChildren}
 use Rattle.kept_state.specs.declared.state.KeptState.{KeptState}

@@ -1,6 +1,6 @@
 -- A child element is gone: its parent's list has lost it, and it is counted no more.
-use Rattle.std.proofs.Common.{◌≡◌, ◌≢◌, ℕ, ◌+◌, ◌*◌, ◌<◌, ◌≤◌, List, [], length, map, Some, refl, sym, ap, ◌∙◌, subst, arith}
-use Rattle.std.specs.Prelude.{remove, slice_get}
+use Rattle.std.proofs.Common.{◌≡◌, ◌≢◌, ℕ, ◌+◌, ◌*◌, ◌≤◌, List, [], length, map, Some, refl, sym, ap, ◌∙◌, subst, arith}
+use Rattle.std.specs.Prelude.{remove}
 use Rattle.std.proofs.lemmas.List.Edits.{length-remove}
 use Rattle.child_trees.specs.Bits.{bits}
 use Rattle.assess_records.specs.Counts.{counts_of, with_child}
@@ -72,7 +72,7 @@ module _ (c : Compiled) (ns : Nodes) (first : KeptState) (spot : ChildPlace) (ou
 
     module _ (third : KeptState)
         (change : (k : KeptElement) (rest : ChildCounts) → IsKept second.records.slots p k → k.counts ≡ with_child outcome.validity outcome.attempted rest →
-            Rewrites second third p (Some (record k { counts = rest }))) where
+        Rewrites second third p (Some (record k { counts = rest }))) where
       abbrev k : KeptElement
       k = made.0
 

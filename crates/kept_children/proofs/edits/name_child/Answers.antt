@@ -1,14 +1,12 @@
-use Rattle.std.proofs.Common.{◌≡◌, ◌+◌, ◌*◌, ◌≤◌, List, [], ◌∷◌, sym, ap, subst, ◌∙◌}
-use Rattle.std.specs.Prelude.{remove}
+use Rattle.std.proofs.Common.{◌+◌, ◌*◌, ◌≤◌, [], ◌∷◌, sym, ap, subst, ◌∙◌}
 use Rattle.std.proofs.lemmas.Result.{on_ok_weaker}
-use Rattle.elem_governing.specs.declared.pairs.Governing.{Governing}
 use Rattle.compiled_schema.specs.declared.compiled.Compiled.{Compiled}
 use Rattle.doc_nodes.specs.Nodes.{element_children}
 use Rattle.kept_records.specs.Slots.{pair_at}
 use Rattle.kept_state.specs.Kept.{children_at}
 use Rattle.kept_state.specs.declared.children.KeptChildren.{KeptChildren}
 use Rattle.kept_below.specs.Moved.{moved}
-use Rattle.child_lists.specs.Family.{AreCounted, AreGivenBut, IsAttributed, IsListedBy, IsMidway, symbols_of}
+use Rattle.child_lists.specs.Family.{AreGivenBut, IsAttributed, IsMidway}
 use Rattle.kept_children.specs.Edited.{IsRightFor}
 use Rattle.kept_children.specs.Steps.{GovernsBelow, digits, marked_count, places_of, width}
 use Rattle.kept_children.proofs.Asking.{places-stay}

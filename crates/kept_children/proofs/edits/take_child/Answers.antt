@@ -1,6 +1,4 @@
-use Rattle.std.proofs.Common.{◌≡◌, ◌+◌, ◌*◌, ◌≤◌, [], sym, ap, subst, ◌∙◌}
-use Rattle.std.proofs.lemmas.Result.{on_ok_weaker}
-use Rattle.compiled_schema.specs.declared.compiled.Compiled.{Compiled}
+use Rattle.std.proofs.Common.{◌+◌, ◌*◌, ◌≤◌, [], sym, subst, ◌∙◌}
 use Rattle.doc_nodes.specs.Nodes.{element_children}
 use Rattle.kept_records.specs.Slots.{pair_at}
 use Rattle.kept_state.specs.Kept.{children_at}
@@ -9,7 +7,7 @@ use Rattle.kept_below.specs.Moved.{moved}
 use Rattle.child_lists.specs.Family.{AreGivenBut, IsMidway, symbols_of}
 use Rattle.kept_children.specs.Steps.{digits, marked_count, places_of, width}
 use Rattle.kept_children.proofs.Asking.{places-stay}
-use Rattle.kept_children.proofs.Pruned.{pruned-made, pruned-midway, pruned-listed, pruned-within}
+use Rattle.kept_children.proofs.Pruned.{pruned-made, pruned-listed, pruned-within}
 use Rattle.kept_children.proofs.Same.{governs-still, count-stays, fewer-steps}
 use Rattle.kept_children.proofs.Siblings.{moved-but-parent}
 use Rattle.kept_children.proofs.Unlisted.{taken-made, taken-counted, taken-pair, taken-rest, taken-all, taken-given, taken-listed, taken-midway, taken-steps, fewer-digits}
@@ -89,8 +87,8 @@ returns-clause-steps g c = λ siblings governs below.
     let here = governs-still set ns old noted p pair governs siblings below in
     let few = count-stays set ns old noted p pair in
     let was =
-        moved-but-parent set ns sound p element (pair_at old.records.slots p) governs siblings below old.records.slots noted.records.slots
-        (λ m other. c.note_stuck.ensures.rest m other ∙ taken-rest c.args.set.now c.args.doc.now c.args.kept.now c.args.taken.0.now c.args.taken.1 c.requires.beside c.requires.pruned c.unlist_child.new.kept c.unlist_child.ensures.records c.count_out.new.kept c.count_out.ensures.change m other) in
+    moved-but-parent set ns sound p element (pair_at old.records.slots p) governs siblings below old.records.slots noted.records.slots
+    (λ m other. c.note_stuck.ensures.rest m other ∙ taken-rest c.args.set.now c.args.doc.now c.args.kept.now c.args.taken.0.now c.args.taken.1 c.requires.beside c.requires.pruned c.unlist_child.new.kept c.unlist_child.ensures.records c.count_out.new.kept c.count_out.ensures.change m other) in
     fewer-steps (digits (width ns p + 1)) d (marked_count set ns old p) c.args.steps.now c.unlist_child.new.steps c.note_stuck.new.steps c.settle_rest.new.steps (moved old.records.slots governs siblings)
     (fewer-digits c.args.set.now c.args.doc.now c.args.kept.now c.args.taken.0.now c.args.taken.1 c.requires.beside c.requires.pruned)
     (taken-steps c.args.set.now c.args.doc.now c.args.kept.now c.args.taken.0.now c.args.taken.1 c.requires.beside c.requires.pruned c.args.steps.now c.unlist_child.new.steps

@@ -1,4 +1,4 @@
-use Rattle.std.proofs.Common.{◌≡◌, Option, None, sym, ap, ◌∙◌}
+use Rattle.std.proofs.Common.{Option, sym, ap, ◌∙◌}
 use Rattle.std.specs.Prelude.{slice_get}
 use Rattle.std.proofs.lemmas.Option.{none-some}
 use Rattle.content_models.specs.declared.automaton.ContentAutomaton.{ContentAutomaton}
@@ -42,8 +42,8 @@ returns-in-None-element_at c =
     let found = c.in-Some.ensures in
     let a = c.in-Some.field-0-1.now in
     let place =
-        ap (λ (m : Option ContentAutomaton). slice_get (marked_places m symbols) c.args.number) found.1
-        ∙ sym (c.in-Some-marked.ensures a symbols (listed-as k.lists (model_of c.args.set.now k p) (kept_at k.records.slots p).list symbols c.in-Some.list a found.0 found.1 c.requires.listed)) in
+    ap (λ (m : Option ContentAutomaton). slice_get (marked_places m symbols) c.args.number) found.1
+    ∙ sym (c.in-Some-marked.ensures a symbols (listed-as k.lists (model_of c.args.set.now k p) (kept_at k.records.slots p).list symbols c.in-Some.list a found.0 found.1 c.requires.listed)) in
     let there = child-there c.args.set.now c.args.doc.now k p c.args.number c.in-Some-marked.place place in
     absurd (none-some there.0 (c.in-None-element_at.ensures.element ∙ there.1))
 
@@ -55,7 +55,7 @@ returns-in-Some-element_at c =
     let found = c.in-Some.ensures in
     let a = c.in-Some.field-0-1.now in
     let place =
-        ap (λ (m : Option ContentAutomaton). slice_get (marked_places m symbols) c.args.number) found.1
-        ∙ sym (c.in-Some-marked.ensures a symbols (listed-as k.lists (model_of c.args.set.now k p) (kept_at k.records.slots p).list symbols c.in-Some.list a found.0 found.1 c.requires.listed)) in
+    ap (λ (m : Option ContentAutomaton). slice_get (marked_places m symbols) c.args.number) found.1
+    ∙ sym (c.in-Some-marked.ensures a symbols (listed-as k.lists (model_of c.args.set.now k p) (kept_at k.records.slots p).list symbols c.in-Some.list a found.0 found.1 c.requires.listed)) in
     let there = sym c.in-Some-element_at.ensures.element in
     (record { parent_is = child-up c.args.doc.now c.in-Some-element_at.ensures.sound p c.in-Some-marked.place c.in-Some-element_at.node there; node_is = there }, place)

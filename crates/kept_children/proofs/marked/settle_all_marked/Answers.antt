@@ -1,4 +1,4 @@
-use Rattle.std.proofs.Common.{◌≡◌, ◌+◌, ◌*◌, ◌≤◌, ℕ, List, [], ◌∷◌, length, drop, None, Some, refl, sym, ap, ◌∙◌, subst, inl, arith}
+use Rattle.std.proofs.Common.{◌≡◌, ◌+◌, ◌*◌, [], ◌∷◌, drop, None, Some, refl, sym, ap, ◌∙◌, subst, inl, arith}
 use Rattle.std.specs.Prelude.{slice_get}
 use Rattle.std.proofs.lemmas.Option.{slice_get_within}
 use Rattle.elem_governing.specs.declared.pairs.Governing.{Governing}
@@ -81,8 +81,8 @@ loop-number-preserved g c =
       least = omega (arith, inv.least, done.least);
       steps = λ siblings governs below.
           let so =
-              subst (λ (s : Compiled). GovernsBelow s ns (pair_at k.records.slots p) p governs siblings) (sym inv.same)
-              (subst (λ (pair : Governing). GovernsBelow set ns pair p governs siblings) (sym inv.pair) below) in
+          subst (λ (s : Compiled). GovernsBelow s ns (pair_at k.records.slots p) p governs siblings) (sym inv.same)
+          (subst (λ (pair : Governing). GovernsBelow set ns pair p governs siblings) (sym inv.pair) below) in
           asked-next d number c.args.steps.now c.loop-number.steps c.settle_marked.new.steps (moved old.records.slots governs siblings) (moved k.records.slots governs siblings) (moved new.records.slots governs siblings)
           (inv.steps siblings governs below) (done.left (8 * d) siblings governs (inl (omega arith)) so);
     }
@@ -125,8 +125,8 @@ returns-in_err-settle_marked-clause-steps g c = λ siblings governs below.
     let here : slice_get (places_of set ns old p) number ≡ Some c.in-Some.place =
     ap (λ xs. slice_get xs number) (sym (places-stay set ns old k p inv.pair)) ∙ subst (λ (s : Compiled). slice_get (places_of s ns k p) number ≡ Some c.in-Some.place) inv.same c.in-Some.ensures.1 in
     let so =
-        subst (λ (s : Compiled). GovernsBelow s ns (pair_at k.records.slots p) p governs siblings) (sym inv.same)
-        (subst (λ (pair : Governing). GovernsBelow set ns pair p governs siblings) (sym inv.pair) below) in
+    subst (λ (s : Compiled). GovernsBelow s ns (pair_at k.records.slots p) p governs siblings) (sym inv.same)
+    (subst (λ (pair : Governing). GovernsBelow set ns pair p governs siblings) (sym inv.pair) below) in
     asked-stopped d number (marked_count set ns old p) c.args.steps.now c.loop-number.steps c.settle_marked.new.steps (moved old.records.slots governs siblings) (moved k.records.slots governs siblings)
     (slice_get_within (places_of set ns old p) number c.in-Some.place here) (inv.steps siblings governs below) (c.in_err-settle_marked.ensures.steps (8 * d) siblings governs (inl (omega arith)) so)
 
