@@ -36,13 +36,14 @@ first-of : (xs ys : List Entry) → first_number (xs ++ ys) ≡ option_or (first
 first-of [] ys = refl
 first-of (x ∷ xs) ys = refl
 
+after-by : (key : ℕ) (more : List Entry) (b : Bool) → number_after key more ≡ after-in key None more →
+    (if b then first_number more else number_after key more) ≡ (if b then option_or (first_number more) None else after-in key None more)
+after-by key more true on = sym (or-none (first_number more))
+after-by key more false on = on
+
 after-none : (key : ℕ) (es : List Entry) → number_after key es ≡ after-in key None es
 after-none key [] = refl
-after-none key (e ∷ more) = by (e.number == key)
-  where
-    by : (b : Bool) → (if b then first_number more else number_after key more) ≡ (if b then option_or (first_number more) None else after-in key None more)
-    by true = sym (or-none (first_number more))
-    by false = after-none key more
+after-none key (e ∷ more) = after-by key more (e.number == key) (after-none key more)
 
 pub none-after : (key : ℕ) (es : List Entry) → (Numbers key es → ⊥) → number_after key es ≡ None
 none-after key [] no = refl
