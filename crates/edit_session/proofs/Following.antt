@@ -46,15 +46,15 @@ after-none key [] = refl
 after-none key (e ∷ more) = after-by key more (e.number == key) (after-none key more)
 
 pub none-after : (key : ℕ) (es : List Entry) → (Numbers key es → ⊥) → number_after key es ≡ None
-none-after key [] no = refl
-none-after key (e ∷ more) no =
-    ap (λ (b : Bool). if b then first_number more else number_after key more) (ne_eqb e.number key (λ q. no (inl q))) ∙ none-after key more (λ h. no (inr h))
+none-after key [] lacks = refl
+none-after key (e ∷ more) lacks =
+    ap (λ (b : Bool). if b then first_number more else number_after key more) (ne_eqb e.number key (λ q. lacks (inl q))) ∙ none-after key more (λ h. lacks (inr h))
 
 past : (key : ℕ) (later : Option ℕ) (xs ys : List Entry) → (Numbers key xs → ⊥) → after-in key later (xs ++ ys) ≡ after-in key later ys
-past key later [] ys no = refl
-past key later (x ∷ xs) ys no =
-    ap (λ (b : Bool). if b then option_or (first_number (xs ++ ys)) later else after-in key later (xs ++ ys)) (ne_eqb x.number key (λ q. no (inl q)))
-    ∙ past key later xs ys (λ h. no (inr h))
+past key later [] ys lacks = refl
+past key later (x ∷ xs) ys lacks =
+    ap (λ (b : Bool). if b then option_or (first_number (xs ++ ys)) later else after-in key later (xs ++ ys)) (ne_eqb x.number key (λ q. lacks (inl q)))
+    ∙ past key later xs ys (λ h. lacks (inr h))
 
 within-by : (key : ℕ) (later : Option ℕ) (xs ys : List Entry) (b : Bool) → (b ≡ false → after-in key later (xs ++ ys) ≡ after-in key (option_or (first_number ys) later) xs) →
     (if b then option_or (first_number (xs ++ ys)) later else after-in key later (xs ++ ys)) ≡
@@ -63,12 +63,12 @@ within-by key later xs ys true on = ap (λ (o : Option ℕ). option_or o later) 
 within-by key later xs ys false on = on refl
 
 not-first : (key : ℕ) (x : Entry) (xs : List Entry) → Numbers key (x ∷ xs) → (x.number == key) ≡ false → Numbers key xs
-not-first key x xs (inl e) no = absurd (false≢true (sym no ∙ eq-eqb x.number key e))
-not-first key x xs (inr h) no = h
+not-first key x xs (inl e) lacks = absurd (false≢true (sym lacks ∙ eq-eqb x.number key e))
+not-first key x xs (inr h) lacks = h
 
 within : (key : ℕ) (later : Option ℕ) (xs ys : List Entry) → Numbers key xs → after-in key later (xs ++ ys) ≡ after-in key (option_or (first_number ys) later) xs
 within key later [] ys h = absurd h
-within key later (x ∷ xs) ys h = within-by key later xs ys (x.number == key) (λ no. within key later xs ys (not-first key x xs h no))
+within key later (x ∷ xs) ys h = within-by key later xs ys (x.number == key) (λ lacks. within key later xs ys (not-first key x xs h lacks))
 
 -- ---- the entries that are kept of a tree's elements
 

@@ -1,7 +1,7 @@
 ghost use Rattle.std.specs.Prelude.{◌≡◌};
 
 use crate::editing::edit_kept;
-use crate::opening::{Opened, open_document};
+use crate::opening::open_document;
 use assess_records::Validity;
 use compiled_schema::Compiled;
 use doc_tree::DocTree;
@@ -79,10 +79,10 @@ impl Session for EditSession {
     ) -> Result<Self, AllocError> {
         let mut set = set;
         match open_document(alloc, &mut set, &tree, steps) {
-            Ok(Opened { doc, kept }) => Ok(EditSession {
+            Ok(opened) => Ok(EditSession {
                 set,
-                doc,
-                kept,
+                doc: opened.doc,
+                kept: opened.kept,
                 revision: 0,
                 closed: false,
             }),
