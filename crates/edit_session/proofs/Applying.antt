@@ -1,17 +1,19 @@
 -- A session that was opened, and one that has made an edit.
-use Rattle.std.proofs.Common.{◌≡◌, ℕ, List, Bool, Result, Ok, Err, refl, sym, ap, ◌∙◌, subst}
+use Rattle.std.proofs.Common.{◌≡◌, ◌≢◌, ℕ, List, Bool, Result, Ok, Err, refl, sym, ap, ◌∙◌, subst}
 use Rattle.std.specs.Prelude.{false}
 use Rattle.tree_rows.specs.Forest.{Document}
 use Rattle.tree_edits.specs.Tests.{edited}
 use Rattle.tree_edits.specs.declared.edit.Edit.{Edit}
 use Rattle.tree_edits.specs.declared.edit.EditError.{EditError}
+use Rattle.tree_edits.specs.declared.edit.EditError.TheVariants.{Memory}
 use Rattle.assessment.specs.Assessment.{Entry, entries}
 use Rattle.assessment.specs.Attribution.{SchemaSet}
 use Rattle.compiled_schema.specs.Usable.{set_of}
 use Rattle.compiled_schema.specs.declared.compiled.Compiled.{Compiled}
 use Rattle.what_is_found.specs.IsFound.{IsFound}
-use Rattle.session_model.specs.Applying.{IsEdited}
+use Rattle.session_model.specs.Applying.{Applies, IsEdited}
 use Rattle.session_model.specs.Spending.{Counts, BreaksWithin}
+use Rattle.session_model.specs.declared.session.SessionError.TheVariants.{Refused}
 use Rattle.session_model.specs.State.{State, IsOpened, with_names, next_revision, opened, after_edit}
 use Rattle.doc_nodes.specs.Nodes.{Nodes}
 use Rattle.doc_changes.specs.Stands.{StandsFor}
@@ -19,7 +21,7 @@ use Rattle.doc_documents.proofs.Levels.{document_is}
 use Rattle.kept_records.specs.Found.{found_in}
 use Rattle.kept_state.specs.declared.state.KeptState.{KeptState}
 use Rattle.edit_session.specs.Costs.{edit_cost}
-use Rattle.edit_session.specs.Edited.{IsDone}
+use Rattle.edit_session.specs.Edited.{IsDone, IsLeft}
 use Rattle.edit_session.specs.Held.{document_in, found_by, IsPresent, state_by}
 use Rattle.edit_session.proofs.Standing.{found-now}
 
@@ -50,3 +52,20 @@ module _ (old new : Compiled) (ns ms : Nodes) (k l : KeptState) (edit : Edit) (d
   spent-so next shut first last is open_now within =
       let made = subst (λ (r : Result Document EditError). BreaksWithin edit_cost before edit r first last) done.document_is within in
       subst (λ (x : State). Counts first last (edit_cost before edit x)) (sym (after-is next shut is open_now)) (made (found_by new ms l) found-so)
+
+-- ---- one that has refused an edit
+
+module _ (old new : Compiled) (ns ms : Nodes) (k l : KeptState) (edit : Edit) (error : EditError) (left : IsLeft old new ns ms k l edit error) (refuses : error ≢ Memory) (revision : ℕ) (closed : Bool) where
+  abbrev unedited : State
+  unedited = state_by old ns k revision closed
+
+  pub refused-so : closed ≡ false → Applies unedited edit (Err (Refused error)) (state_by new ms l revision closed)
+  refused-so open_now = (
+    open_now,
+    left.refused.why refuses,
+    refuses,
+    λ i. state_by (left.refused.same refuses i) (left.nodes refuses i) (left.kept refuses i) revision closed,
+  )
+
+  pub unspent-so : (first last : ℕ) → BreaksWithin edit_cost unedited edit (edited (document_in old ns) edit) first last → last ≡ first
+  unspent-so first last within = subst (λ (r : Result Document EditError). BreaksWithin edit_cost unedited edit r first last) (left.refused.why refuses) within

@@ -1,13 +1,15 @@
-use Rattle.std.proofs.Common.{subst}
+use Rattle.std.proofs.Common.{◌≢◌, Err, rules, subst}
+use Rattle.tree_edits.specs.declared.edit.EditError.TheVariants.{Memory}
+use Rattle.session_model.specs.declared.session.SessionError.TheVariants.{Refused}
 use Rattle.tree_edits.specs.Tests.{edited}
 use Rattle.compiled_schema.specs.declared.compiled.Compiled.{Compiled}
-use Rattle.session_model.specs.Applying.{IsEdited}
+use Rattle.session_model.specs.Applying.{Applies, IsEdited}
 use Rattle.session_model.specs.Spending.{Counts, BreaksWithin}
 use Rattle.session_model.specs.State.{State}
 use Rattle.edit_session.specs.Costs.{edit_cost}
-use Rattle.edit_session.specs.Edited.{IsDone}
+use Rattle.edit_session.specs.Edited.{IsDone, IsLeft}
 use Rattle.edit_session.specs.Held.{document_in, state_by}
-use Rattle.edit_session.proofs.Applying.{edited-so, spent-so}
+use Rattle.edit_session.proofs.Applying.{edited-so, spent-so, refused-so, unspent-so}
 use Rattle.edit_session.proofs.session.EditSessionSession.apply.Goals as goal
 
 pub returns-in-Ok-clause-applies : goal.returns-in-Ok-clause-applies
@@ -26,3 +28,20 @@ returns-in-Ok-clause-spends g c =
     (edit_cost x c.args.edit.now (state_by c.edit_kept.new.set c.edit_kept.new.doc c.edit_kept.new.kept c.saturating_add-self-inside.result c.self.inside.closed))) c.self.view_is
     (spent-so c.self.inside.set.value c.edit_kept.new.set c.self.inside.doc c.edit_kept.new.doc c.self.inside.kept c.edit_kept.new.kept c.args.edit.now done c.self.inside.revision c.self.inside.closed
     c.saturating_add-self-inside.result c.self.inside.closed c.args.steps.now c.edit_kept.new.steps c.saturating_add-self-inside.ensures c.if-self.false within)
+
+pub returns-in-Err : goal.returns-in-Err
+returns-in-Err g c =
+    let refuses : c.in-Err.refusal ≢ Memory = search rules in
+    let left = subst (λ (x : Compiled). IsLeft x c.edit_kept.new.set c.self.inside.doc c.edit_kept.new.doc c.self.inside.kept c.edit_kept.new.kept c.args.edit.now c.in-Err.refusal) c.deref_mut.ensures.value
+    c.in-Err.ensures.refused in
+    let within = subst (λ (x : Compiled). BreaksWithin edit_cost (state_by x c.self.inside.doc c.self.inside.kept c.self.inside.revision c.self.inside.closed) c.args.edit.now
+    (edited (document_in x c.self.inside.doc) c.args.edit.now) c.args.steps.now c.edit_kept.new.steps) c.deref_mut.ensures.value (c.edit_kept.ensures.few c.self.inside.revision c.self.inside.closed) in
+    record {
+      applies =
+          subst (λ (x : State). Applies x c.args.edit.now (Err (Refused c.in-Err.refusal)) (state_by c.edit_kept.new.set c.edit_kept.new.doc c.edit_kept.new.kept c.self.inside.revision c.self.inside.closed)) c.self.view_is
+          (refused-so c.self.inside.set.value c.edit_kept.new.set c.self.inside.doc c.edit_kept.new.doc c.self.inside.kept c.edit_kept.new.kept c.args.edit.now c.in-Err.refusal left refuses
+          c.self.inside.revision c.self.inside.closed c.if-self.false);
+      spends =
+          unspent-so c.self.inside.set.value c.edit_kept.new.set c.self.inside.doc c.edit_kept.new.doc c.self.inside.kept c.edit_kept.new.kept c.args.edit.now c.in-Err.refusal left refuses
+          c.self.inside.revision c.self.inside.closed c.args.steps.now c.edit_kept.new.steps within;
+    }
