@@ -4,25 +4,36 @@ use Rattle.std.specs.Prelude.{insert, remove, slice_get, slice_index}
 use Rattle.std.specs.Option.{option_and_then}
 use Rattle.std.proofs.lemmas.Bool.{false≢true}
 use Rattle.std.proofs.lemmas.Option.{none-some, same_Some}
-use Rattle.std.proofs.lemmas.List.{length-map}
+use Rattle.std.proofs.lemmas.List.{length-map, length-set}
 use Rattle.std.proofs.lemmas.List.Edits.{length-remove}
 use Rattle.child_trees.specs.Bits.{bits}
+use Rattle.xs_names.specs.Names.{NameTable}
+use Rattle.tree_rows.specs.Forest.{Document}
+use Rattle.xs_components.specs.declared.common.TypeId.{TypeId}
 use Rattle.content_models.specs.declared.automaton.ContentAutomaton.{ContentAutomaton}
+use Rattle.compiled_schema.specs.Usable.{IsUsable}
 use Rattle.compiled_schema.specs.declared.compiled.Compiled.{Compiled}
+use Rattle.model_terms.specs.Symbols.{AreSymbolsBy, child_symbols}
 use Rattle.model_terms.specs.Terms.{is_ambivalent_symbol, stuck_in, term_in}
 use Rattle.model_lists.specs.Lists.{ListsView, IsListOf, ambivalent_places}
 use Rattle.model_lists.specs.declared.handle.ModelList.{ModelList}
-use Rattle.doc_nodes.specs.Nodes.{Node, Nodes, node, Lacks, is_element, is_element_by, is_element_at, element_children}
+use Rattle.model_lists.specs.declared.handle.ListedChild.{ListedChild}
+use Rattle.doc_nodes.specs.Nodes.{Node, Nodes, node, Lacks, is_element, is_element_by, is_element_at, children_by, element_children}
 use Rattle.doc_nodes.specs.declared.content.Content.{Content}
 use Rattle.doc_nodes.specs.declared.content.Content.TheVariants as contents
 use Rattle.doc_changes.specs.Held.{name_in}
+use Rattle.doc_changes.specs.Stands.{StandsFor}
 use Rattle.doc_documents.specs.Readers.{name_by, name_at}
-use Rattle.kept_records.specs.Fit.{IsListed}
+use Rattle.doc_heads.proofs.Showing.{name_number}
+use Rattle.kept_records.specs.Slots.{kept_at, pair_at}
+use Rattle.kept_records.specs.Fit.{models_of, IsListed}
 use Rattle.kept_state.specs.declared.state.KeptState.{KeptState}
+use Rattle.kept_judging.proofs.Heads.{element-kind}
+use Rattle.child_listing.proofs.Symbols.{model-of, are-symbols}
 use Rattle.child_lists.specs.Places.{IsPlaceOf}
 use Rattle.child_lists.specs.Family.{IsListedBy, marked_places, model_of, symbols_of}
 use Rattle.child_lists.specs.declared.place.ChildPlace.{ChildPlace}
-use Rattle.child_lists.proofs.Edits.{get-map, get-within, index-get, insert-removed, set-again, unmarked}
+use Rattle.child_lists.proofs.Edits.{get-map, get-within, index-get, insert-removed, passes, set-again, unmarked}
 use Rattle.child_lists.proofs.Terms.{symbol_by, symbol-at, many-symbols}
 
 -- ---- where there is a list, and where there is none
@@ -74,6 +85,31 @@ name-of (Some it) is = name-in it.content is
 pub name-there : (ns : Nodes) (n : ℕ) → is_element_at ns n ≡ true → option_and_then (λ (it : Node). name_in it.content) (node ns n) ≡ Some (name_at ns n)
 name-there ns n is = name-of (node ns n) is
 
+pub name-is : (ns : Nodes) (n name : ℕ) → is_element_at ns n ≡ true → Some name ≡ option_and_then (λ (it : Node). name_in it.content) (node ns n) → name ≡ name_at ns n
+name-is ns n name is e = same_Some name (name_at ns n) (e ∙ name-there ns n is)
+
+-- it is in the table
+pub name-within : (t : NameTable) (ns : Nodes) (d : Document) → StandsFor t ns d → (n name : ℕ) → is_element_at ns n ≡ true →
+    Some name ≡ option_and_then (λ (it : Node). name_in it.content) (node ns n) → name < length t.names
+name-within t ns d z n name is e = subst (λ x. x < length t.names) (sym (name-is ns n name is e)) (name_number t ns d z n (element-kind ns n is))
+
+-- ---- a child element
+
+pub child-element : (ns : Nodes) (spot : ChildPlace) → IsPlaceOf ns spot → is_element_at ns spot.node ≡ true
+child-element ns spot place = passes (is_element_at ns) (children_by (node ns spot.parent)) spot.place spot.node place.node_is
+
+-- its symbol is one of the automaton
+pub symbol-alone : (c : Compiled) → IsUsable c → (of : Option TypeId) (a : ContentAutomaton) → models_of c of ≡ Some a → (symbol name : ℕ) → symbol ≡ symbol_by c.names (Some a) name →
+    AreSymbolsBy a (symbol ∷ [])
+symbol-alone c usable of a e symbol name f = subst (λ n. AreSymbolsBy a (n ∷ [])) (sym f) (are-symbols c a (model-of c usable of a e) (name ∷ []))
+
+-- and so are those of all child elements
+pub symbols-all : (c : Compiled) → IsUsable c → (ns : Nodes) (k : KeptState) (n : ℕ) (a : ContentAutomaton) → model_of c k n ≡ Some a → AreSymbolsBy a (symbols_of c ns k n)
+symbols-all c usable ns k n a e =
+    let names = map (name_at ns) (element_children ns n) in
+    subst (λ (m : Option ContentAutomaton). AreSymbolsBy a (child_symbols c.names m names)) (sym e)
+    (are-symbols c a (model-of c usable (pair_at k.records.slots n).of a e) names)
+
 -- ---- a child element in the list
 
 module _ (c : Compiled) (ns : Nodes) (k : KeptState) (spot : ChildPlace) (place : IsPlaceOf ns spot) where
@@ -117,6 +153,45 @@ module _ (c : Compiled) (ns : Nodes) (k : KeptState) (spot : ChildPlace) (place 
     not-ambivalent e lacks =
         ap (is_ambivalent_symbol a) (sym symbol-index)
         ∙ unmarked (is_ambivalent_symbol a) symbols spot.place place-within (subst (λ x. Lacks spot.place (marked_places x symbols)) e lacks)
+
+  -- as it is listed, by the automaton of the content model
+  module _ (a : ContentAutomaton) (h : ModelList) (e : (kept_at k.records.slots spot.parent).list ≡ Some h) (f : model_of c k spot.parent ≡ Some a) (child : ListedChild)
+      (own : child.place ≡ spot.place) (symbol : child.symbol ≡ symbol_by c.names (Some a) (name_at ns spot.node)) where
+    is : slice_get (symbols_of c ns k p) spot.place ≡ Some child.symbol
+    is = symbol-by a child.symbol f symbol
+
+    pub in-list : (others : List ℕ) → IsListedBy c k p others → IsListOf k.lists h a others
+    in-list others l = listed-as k.lists (model_of c k p) (kept_at k.records.slots p).list others h a e f l
+
+    by-list : (w : ListsView) (others : List ℕ) → IsListOf w h a others → IsListed w (model_of c k p) (kept_at k.records.slots p).list others
+    by-list w others l = listed-back w (model_of c k p) (kept_at k.records.slots p).list others h a e f l
+
+    pub place-free : child.place ≤ length (remove (symbols_of c ns k p) spot.place)
+    place-free = let l = place-removed in omega (arith, l, own)
+
+    pub place-taken : (was : ℕ) → child.place < length (set (symbols_of c ns k p) spot.place was)
+    place-taken was = let l = place-within in let n = length-set symbols spot.place was in omega (arith, l, n, own)
+
+    pub place-there : child.place < length (symbols_of c ns k p)
+    place-there = let l = place-within in omega (arith, l, own)
+
+    pub symbol-here : slice_index (symbols_of c ns k p) child.place ≡ child.symbol
+    symbol-here = ap (slice_index symbols) own ∙ symbol-index a child.symbol is k.lists h
+
+    pub listed-in : (w : ListsView) → IsListOf w h a (insert (remove (symbols_of c ns k p) spot.place) child.place child.symbol) → IsListed w (model_of c k p) (kept_at k.records.slots p).list (symbols_of c ns k p)
+    listed-in w l =
+        by-list w symbols (put-in a child.symbol is w h (subst (λ i. IsListOf w h a (insert (remove symbols spot.place) i child.symbol)) own l))
+
+    pub listed-again : (w : ListsView) (was : ℕ) → IsListOf w h a (set (set (symbols_of c ns k p) spot.place was) child.place child.symbol) →
+        IsListed w (model_of c k p) (kept_at k.records.slots p).list (symbols_of c ns k p)
+    listed-again w was l =
+        by-list w symbols (put-again a child.symbol is w h was (subst (λ i. IsListOf w h a (set (set symbols spot.place was) i child.symbol)) own l))
+
+    pub set-many : (was : ℕ) → length (set (symbols_of c ns k p) spot.place was) + 1 ≡ length (element_children ns p) + 1
+    set-many was = let n = length-set symbols spot.place was in let m = symbols-many in omega (arith, n, m)
+
+    pub unmarked-here : Lacks spot.place (marked_places (model_of c k p) (symbols_of c ns k p)) → is_ambivalent_symbol a child.symbol ≡ false
+    unmarked-here lacks = not-ambivalent a child.symbol is k.lists h f lacks
 
 -- ---- steps
 

@@ -1,6 +1,6 @@
 //! Edits of a list, and what is read of it.
 
-ghost use Rattle.std.specs.Prelude.{◌≡◌, ◌+◌, ◌*◌, ◌<◌, ◌≤◌, ℕ, List, Option, true, Some, length, remove, slice_set, IfOk, OnOk};
+ghost use Rattle.std.specs.Prelude.{◌≡◌, ◌≢◌, ◌+◌, ◌*◌, ◌<◌, ◌≤◌, ℕ, List, Option, true, Some, length, remove, slice_set, IfOk, OnOk};
 ghost use Rattle.child_trees.specs.Bits.{bits};
 ghost use Rattle.tree_rows.specs.Forest.{Document};
 ghost use Rattle.xs_components.specs.declared.common.TypeId.{TypeId as TypeIdData};
@@ -12,6 +12,7 @@ ghost use Rattle.model_terms.specs.Terms.{stuck_in, term_in};
 ghost use Rattle.doc_nodes.specs.Nodes.{Lacks, Nodes, element_children, is_element_at};
 ghost use Rattle.doc_changes.specs.Stands.{StandsFor};
 ghost use Rattle.doc_documents.specs.Readers.{name_at};
+ghost use Rattle.kept_slots.specs.Slots.{at as slot_at};
 ghost use Rattle.kept_records.specs.Books.{HaveOwnLists};
 ghost use Rattle.kept_records.specs.Fit.{models_of};
 ghost use Rattle.kept_records.specs.Slots.{IsMade, pair_at};
@@ -47,13 +48,12 @@ fn listed(
     ensures place { result.place ≡ at.now.place }
     ensures symbol { result.symbol ≡ symbol_of set.now.names (symbols_of automaton.now) (expanded_at set.now.names (name_at doc.now at.now.node)) }
 {
-    let symbol = match doc.name(at.node) {
-        Some(name) => automaton.symbol(&set.names, name),
-        None => unreachable!(),
+    let Some(name) = doc.name(at.node) else {
+        unreachable!()
     };
     ListedChild {
         place: at.place,
-        symbol,
+        symbol: automaton.symbol(&set.names, name),
     }
 }
 
@@ -176,6 +176,7 @@ pub fn note_stuck<L: Ledger>(
     ensures given { (places : List ℕ) → AreGivenBut set.now doc.now kept.old parent places → AreGivenBut set.now doc.now kept.new parent places }
     ensures pair { pair_at kept.new.records.slots parent ≡ pair_at kept.old.records.slots parent }
     ensures counted { (children : List ℕ) → AreCounted kept.old parent children → AreCounted kept.new parent children }
+    ensures rest { (n : ℕ) → n ≢ parent → slot_at kept.new.records.slots n ≡ slot_at kept.old.records.slots n }
     ensures least { steps.old ≤ steps.new }
     ensures steps { steps.new ≤ steps.old + (8 * (bits (length (element_children doc.now parent) + 1) + 1) + 1) }
 {

@@ -1,9 +1,9 @@
 -- The nodes stand for the document with a part put back.
-use Rattle.std.proofs.Common.{◌≡◌, ◌≢◌, ◌⊎◌, ℕ, ◌+◌, ◌<◌, ◌≤◌, List, [], ◌∷◌, length, insert, sym, ap, ◌∙◌, subst, Bool, true, false, ◌==◌, if◌then◌else◌, Some, None, refl, inl, inr, arith}
+use Rattle.std.proofs.Common.{◌≡◌, ◌≢◌, ◌⊎◌, ℕ, ◌+◌, ◌≤◌, [], ◌∷◌, length, insert, sym, ap, ◌∙◌, Bool, true, false, ◌==◌, if◌then◌else◌, refl, inl, inr, arith}
 use Rattle.std.proofs.lemmas.Bool.{eq-eqb}
-use Rattle.std.proofs.lemmas.Option.{same_Some, none-some}
+use Rattle.std.proofs.lemmas.Option.{same_Some}
 use Rattle.xs_names.specs.Names.{NameTable}
-use Rattle.tree_rows.specs.Forest.{Forest, none, text, element, Document, count, deepest_of}
+use Rattle.tree_rows.specs.Forest.{Forest, none, text, element, Document, deepest_of}
 use Rattle.tree_rows.specs.Whole.{times}
 use Rattle.tree_edits.specs.Edits.{has, Found, with_children, replaced}
 use Rattle.tree_edits.specs.Tests.{width_of, depth_of}

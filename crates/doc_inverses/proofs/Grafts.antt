@@ -1,20 +1,18 @@
 -- A part that fits a document is put among its nodes.
-use Rattle.std.proofs.Common.{◌≡◌, ◌≢◌, ℕ, ◌+◌, ◌<◌, ◌≤◌, List, [], ◌∷◌, length, get_or, sym, ap, ◌∙◌, subst, Bool, true, false, Option, Some, None, refl, arith}
+use Rattle.std.proofs.Common.{◌≡◌, ℕ, ◌≤◌, List, [], length, sym, ap, ◌∙◌, subst, Option, Some, None, refl, arith}
 use Rattle.std.specs.List.{insert_slice}
-use Rattle.std.proofs.lemmas.Bool.{true≢false}
 use Rattle.std.proofs.lemmas.Option.{same_Some}
 use Rattle.xs_names.specs.Names.{NameTable}
 use Rattle.tree_rows.specs.Forest.{Forest, none, text, element, Document}
 use Rattle.tree_rows.specs.Whole.{AreNodes}
-use Rattle.tree_edits.specs.Edits.{has}
 use Rattle.tree_edits.proofs.BlockNaming.{HaveNames}
 use Rattle.doc_nodes.specs.Nodes.{Node, Nodes, node, IsNode}
 use Rattle.doc_changes.specs.Stands.{StandsFor}
-use Rattle.doc_changes.proofs.Standing.{has_times, absent_times}
-use Rattle.doc_planting.specs.inside.Growing.{before, AreFree, CanPlant, Planted}
+use Rattle.doc_changes.proofs.Standing.{has_times}
+use Rattle.doc_planting.specs.inside.Growing.{before, AreFree, Planted}
 use Rattle.doc_planting.proofs.Growth.{slice_of_one}
 use Rattle.doc_planting.proofs.Rooting.{number_in}
-use Rattle.tree_inverses.specs.Changes.{CanPutBack, IsOne}
+use Rattle.tree_inverses.specs.Changes.{CanPutBack}
 use Rattle.tree_inverses.specs.Sites.{first_number}
 use Rattle.doc_inverses.specs.Parts.{IsPart, Grafts}
 use Rattle.doc_inverses.specs.inside.Putting.{HoldsOne}

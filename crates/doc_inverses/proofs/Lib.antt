@@ -6,4 +6,7 @@ pub mod Grafting
 pub mod Grafts
 pub mod Numbers
 pub mod Writes
+pub mod Own
 pub mod Meaning
+pub mod Leading
+pub mod Counted

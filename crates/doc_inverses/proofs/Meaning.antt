@@ -1,17 +1,9 @@
 -- What a change by numbers means of a document.
-use Rattle.std.proofs.Common.{◌≡◌, ℕ, ◌<◌, List, length, true, sym, ap, ◌∙◌, subst, Option, Some, refl}
-use Rattle.std.specs.Option.{option_map}
+use Rattle.std.proofs.Common.{◌≡◌, ℕ, ◌<◌, List, length, sym, subst, Option, Result, Ok, Err, OnOk, OnErr}
 use Rattle.xs_names.specs.Names.{NameTable}
 use Rattle.tree_rows.specs.Forest.{Forest, Document}
-use Rattle.tree_rows.specs.declared.name.Expanded.{Expanded}
-use Rattle.tree_rows.specs.declared.row.NodeKind.TheVariants as kinds
-use Rattle.tree_edits.specs.Edits.{found}
-use Rattle.tree_edits.specs.Tests.{is_element}
-use Rattle.doc_nodes.specs.Nodes.{Node, Nodes}
-use Rattle.doc_nodes.specs.declared.content.Content.{Content}
-use Rattle.doc_changes.specs.Held.{kind_at, kind_in}
-use Rattle.doc_changes.specs.Stands.{expanded_of, StandsFor}
-use Rattle.doc_planting.proofs.Placing.{parent_of}
+use Rattle.doc_nodes.specs.Nodes.{Nodes, IsSound}
+use Rattle.doc_changes.specs.Stands.{expanded_of}
 use Rattle.tree_inverses.specs.Changes.{Fits, CanPutBack, put_back, take_out, rename, write, reword}
 use Rattle.tree_inverses.specs.Changes as law
 use Rattle.doc_inverses.specs.Changes.{Means}
@@ -65,6 +57,7 @@ rewords t (rename key name) node chars m = absurd m
 rewords t (write key name place value) node chars m = absurd m
 rewords t (reword key text) node chars m = λ i. reword (sym m.0 i) (sym m.1 i)
 
-pub element_kind : (t : NameTable) (ns : Nodes) (d : Document) (key : ℕ) → StandsFor t ns d → is_element (found key 1 d.forest) ≡ true → kind_at ns key ≡ Some kinds.Element
-element_kind t ns d key z e =
-    let o = parent_of t ns d key z e in ap (option_map (λ (x : Node). kind_in x.content)) o.shown.is ∙ ap (λ (x : Content). Some (kind_in x)) o.shown.content
+-- where a change was made the nodes are sound, and where memory is wanting they are as they were
+pub sound_either : {T E : Type 0} (r : Result T E) (old new : Nodes) → IsSound old → OnOk r (IsSound new) → OnErr r (new ≡ old) → IsSound new
+sound_either (Ok x) old new was sound same = sound
+sound_either (Err x) old new was sound same = subst IsSound (sym same) was

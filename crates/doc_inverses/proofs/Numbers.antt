@@ -1,12 +1,11 @@
 -- Attributes that are written by the numbers of their names, and by the names.
-use Rattle.std.proofs.Common.{◌≡◌, ◌⊎◌, ℕ, zero, suc, ◌+◌, ◌<◌, ◌≤◌, List, [], ◌∷◌, length, map, insert, get_or, sym, ap, ◌∙◌, subst, Bool, true, false, ◌==◌, ◌||◌, Option, Some, None, refl, inl, inr, arith, All}
-use Rattle.std.specs.Prelude.{slice_get, if◌then◌else◌}
+use Rattle.std.proofs.Common.{◌≡◌, ℕ, zero, suc, ◌<◌, ◌≤◌, List, [], ◌∷◌, length, map, insert, get_or, sym, ap, ◌∙◌, Bool, true, false, ◌==◌, ◌||◌, Option, Some, None, refl, inl, inr, arith, All}
+use Rattle.std.specs.Prelude.{if◌then◌else◌}
 use Rattle.std.proofs.lemmas.Bool.{or_parts, or_left}
 use Rattle.std.proofs.lemmas.List.Elements.{All-head, All-tail}
 use Rattle.std.proofs.lemmas.Option.{slice_get_within}
 use Rattle.xs_names.specs.Names.{NameTable}
 use Rattle.xs_names.specs.Names.{IsSound as AreNames}
-use Rattle.tree_rows.specs.Naming.{same_name}
 use Rattle.tree_rows.specs.declared.name.Expanded.{Expanded}
 use Rattle.tree_rows.specs.declared.row.Attribute.{Attribute}
 use Rattle.tree_rows.specs.declared.row.Binding.{Binding}
@@ -15,8 +14,8 @@ use Rattle.doc_nodes.proofs.Among.{map-insert}
 use Rattle.doc_nodes.specs.declared.content.NameAttribute.{NameAttribute}
 use Rattle.doc_changes.specs.Held.{has_number, set_number, unset_number}
 use Rattle.doc_changes.specs.Stands.{expanded_of, attribute_of}
-use Rattle.doc_changes.proofs.Attributing.{same_names, set_map, unset_map, set_all, unset_all}
-use Rattle.tree_inverses.specs.Changes.{written, CanWrite, IsAt}
+use Rattle.doc_changes.proofs.Attributing.{same_names, set_map, unset_map}
+use Rattle.tree_inverses.specs.Changes.{written, CanWrite}
 use Rattle.tree_inverses.specs.Sites.{value_of}
 use Rattle.doc_inverses.specs.Changes.{number_value, written_number}
 

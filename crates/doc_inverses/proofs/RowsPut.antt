@@ -1,23 +1,20 @@
 -- Rows that are put one after the other.
-use Rattle.std.proofs.Common.{◌≡◌, ◌≢◌, ℕ, ◌+◌, ◌<◌, ◌≤◌, ◌^◌, List, [], ◌∷◌, ◌++◌, length, drop, get_or, sym, ap, ◌∙◌, subst, Bool, true, false, ◌==◌, ◌||◌, if◌then◌else◌, Some, None, refl, arith}
+use Rattle.std.proofs.Common.{◌≡◌, ◌≢◌, ℕ, ◌+◌, ◌<◌, ◌≤◌, List, [], ◌++◌, length, drop, get_or, sym, ap, ◌∙◌, subst, true, false, ◌==◌, ◌||◌, Some, None, refl, arith}
 use Rattle.std.proofs.lemmas.Bool.{or_parts, or_left, eq-eqb, true≢false, false≢true, false_from_ne_true}
 use Rattle.std.proofs.lemmas.Option.{same_Some}
 use Rattle.xs_names.specs.Names.{NameTable}
 use Rattle.tree_rows.specs.Forest.{Forest, none, text, element, count, deepest_of}
 use Rattle.tree_rows.specs.Whole.{times}
-use Rattle.tree_rows.specs.declared.name.Expanded.{Expanded}
-use Rattle.tree_rows.specs.declared.row.Attribute.{Attribute}
-use Rattle.tree_rows.specs.declared.row.Binding.{Binding}
 use Rattle.tree_edits.specs.Edits.{has, append}
 use Rattle.tree_edits.proofs.BlockNaming.{HaveNames}
 use Rattle.tree_edits.proofs.Lying.{count-append, deepest_append}
 use Rattle.doc_nodes.specs.declared.content.Content.TheVariants as contents
 use Rattle.doc_nodes.specs.declared.content.Element.{Element}
-use Rattle.doc_nodes.specs.Nodes.{Node, Nodes, node, IsNode, Inserts, children_by}
+use Rattle.doc_nodes.specs.Nodes.{Node, Nodes, node, IsNode, Inserts}
 use Rattle.doc_nodes.specs.Nodes.{IsSound as AreSound}
 use Rattle.doc_changes.specs.Stands.{firsts}
-use Rattle.doc_changes.proofs.Standing.{append_assoc_forest, append_none, has_append, has_left, has_right, times_append, has_times}
-use Rattle.doc_planting.specs.inside.Growing.{at_end, before, AreFree, CanPlant, Planted, PlantedFirst}
+use Rattle.doc_changes.proofs.Standing.{append_assoc_forest, append_none, has_left, has_right, times_append, has_times}
+use Rattle.doc_planting.specs.inside.Growing.{at_end, before, CanPlant, Planted, PlantedFirst}
 use Rattle.doc_planting.proofs.Growth.{planted_none, planted_append, planted_last, planted_text, planted_element, names_left, names_right, not_parent, parent_outside, can_children}
 use Rattle.tree_inverses.specs.Changes.{IsOne}
 use Rattle.tree_inverses.specs.Sites.{first_number}

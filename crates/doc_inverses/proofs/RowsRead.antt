@@ -1,5 +1,5 @@
 -- Rows that are read one after the other.
-use Rattle.std.proofs.Common.{◌≡◌, ◌≢◌, ◌⊎◌, ℕ, zero, suc, ◌+◌, ◌-◌, ◌<◌, ◌≤◌, List, [], ◌∷◌, ◌++◌, length, append_assoc, append-nil, sym, ap, ◌∙◌, subst, true, false, ◌==◌, if◌then◌else◌, Some, None, refl, inl, inr, arith}
+use Rattle.std.proofs.Common.{◌≡◌, ◌⊎◌, ℕ, ◌+◌, ◌≤◌, List, [], ◌∷◌, ◌++◌, length, append_assoc, append-nil, sym, ap, ◌∙◌, subst, ◌==◌, if◌then◌else◌, Some, None, refl, inl, inr, arith}
 use Rattle.std.specs.Prelude.{slice_get}
 use Rattle.std.proofs.lemmas.Bool.{eq-eqb}
 use Rattle.std.proofs.lemmas.List.{length-append}
@@ -9,7 +9,6 @@ use Rattle.tree_rows.specs.Forest.{Forest, none, text, element, count, deepest_o
 use Rattle.tree_rows.specs.Whole.{times}
 use Rattle.tree_edits.specs.Edits.{append}
 use Rattle.tree_edits.proofs.Lying.{count-append, deepest_append}
-use Rattle.doc_nodes.specs.declared.content.Content.TheVariants as contents
 use Rattle.doc_nodes.specs.Nodes.{Node, Nodes, node, IsNode, Has, children_by, depth_by}
 use Rattle.doc_nodes.proofs.Among.{has-middle}
 use Rattle.doc_changes.specs.Parts.{IsOver}
@@ -85,8 +84,8 @@ module _ (t : NameTable) (ns : Nodes) (n : ℕ) (below : Forest) (over : IsOver 
 head_by : (t : NameTable) (ns : Nodes) (n : ℕ) (below : Forest) (over : IsOver t ns n below) (gone next : Forest) (split : below ≡ append gone next) (child : ℕ) → slice_get (firsts next) 0 ≡ Some child
     → StandFor t ns next → ((m : ℕ) (more : List ℕ) → firsts next ≡ m ∷ more → (it : Node) → IsNode ns m it → it.depth ≡ over.it.depth + 1) → deepest_of (over.it.depth + 1) next ≤ 128
     → ((m : ℕ) → times m next ≤ 1) → count next ≤ 131072 → Head t ns over.it.depth next child
-head_by t ns n below over gone none split child e s deep shallow differ few = absurd (none-some child e)
-head_by t ns n below over gone (text m chars next) split child e s deep shallow differ few =
+head_by t ns n below over front none split child e s deep shallow differ few = absurd (none-some child e)
+head_by t ns n below over front (text m chars next) split child e s deep shallow differ few =
     subst (Head t ns over.it.depth (text m chars next)) (same_Some m child e) (record {
       one = text m chars none;
       rest = next;
@@ -110,7 +109,7 @@ head_by t ns n below over gone (text m chars next) split child e s deep shallow 
       };
       rows = λ depth more a. (more, ap (λ c. record { number = m; depth = depth; content = c } ∷ more) s.0.content, a);
     })
-head_by t ns n below over gone (element m name bindings attributes children next) split child e s deep shallow differ few =
+head_by t ns n below over front (element m name bindings attributes children next) split child e s deep shallow differ few =
     let d = deep m (firsts next) refl s.0.it s.0.is in
     subst (Head t ns over.it.depth (element m name bindings attributes children next)) (same_Some m child e) (record {
       one = element m name bindings attributes children none;

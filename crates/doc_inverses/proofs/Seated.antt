@@ -1,16 +1,13 @@
 -- Where a node stands, in the document and among the nodes.
-use Rattle.std.proofs.Common.{◌≡◌, ◌≢◌, ◌⊎◌, ℕ, zero, suc, ◌+◌, ◌≤◌, List, [], ◌∷◌, sym, ap, ◌∙◌, subst, Bool, true, false, ◌==◌, Some, None, refl, inl, inr, arith}
-use Rattle.std.specs.Prelude.{slice_get, if◌then◌else◌}
+use Rattle.std.proofs.Common.{◌≡◌, ◌⊎◌, ℕ, zero, suc, ◌+◌, ◌≤◌, List, [], ◌∷◌, sym, ap, ◌∙◌, subst, false, Some, refl, inl, inr, arith}
+use Rattle.std.specs.Prelude.{slice_get}
 use Rattle.std.specs.Option.{option_and_then}
 use Rattle.std.proofs.lemmas.Bool.{eq-eqb, eqb-true, true≢false}
 use Rattle.std.proofs.lemmas.Option.{same_Some, none-some}
 use Rattle.xs_names.specs.Names.{NameTable}
 use Rattle.tree_rows.specs.Forest.{Forest, none, text, element, Document}
 use Rattle.tree_rows.specs.Whole.{HasRoot}
-use Rattle.tree_rows.specs.declared.name.Expanded.{Expanded}
-use Rattle.tree_rows.specs.declared.row.Attribute.{Attribute}
-use Rattle.tree_rows.specs.declared.row.Binding.{Binding}
-use Rattle.tree_edits.specs.Edits.{has, Found, found, is_root}
+use Rattle.tree_edits.specs.Edits.{Found, is_root}
 use Rattle.tree_edits.proofs.Lying.{Lies, lies}
 use Rattle.doc_nodes.specs.Nodes.{Node, Nodes, node, IsNode, IsChildAt, Has, depth_by}
 use Rattle.doc_changes.specs.Held.{parent_at}

@@ -24,6 +24,14 @@ Means t (changes.Attr node n k v) (write key name place value) = (node ≡ key) 
 Means t (changes.Chars node text) (reword key chars) = (node ≡ key) × (text ≡ chars)
 Means t change other = ⊥
 
+-- how many nodes a change puts back
+abbrev pub put_count : Change → ℕ
+put_count (changes.PutBack p k part) = length part
+put_count (changes.Take node) = 0
+put_count (changes.Name node name) = 0
+put_count (changes.Attr node name place value) = 0
+put_count (changes.Chars node text) = 0
+
 -- the value of the attribute of this name
 abbrev pub number_value : ℕ → List NameAttribute → Option (List ℕ)
 number_value name [] = None

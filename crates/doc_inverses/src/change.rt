@@ -1,19 +1,18 @@
 //! Changes, each answering the change that undoes it.
 
-ghost use Rattle.std.specs.Prelude.{◌≡◌, ◌≢◌, ℕ, Some, None, IfOk, OnOk, OnErr};
+ghost use Rattle.std.specs.Prelude.{◌≡◌, ◌<◌, ℕ, length, IfOk, OnOk, OnErr};
 ghost use Rattle.xs_names.specs.Names.{NameTable};
 ghost use Rattle.tree_rows.specs.Forest.{Forest, Document};
-ghost use Rattle.tree_edits.specs.Tests.{made};
-ghost use Rattle.tree_edits.specs.declared.edit.Edit.TheVariants as edits;
-ghost use Rattle.doc_nodes.specs.Nodes.{IsSound, IsChildAt};
-ghost use Rattle.doc_changes.specs.Held.{parent_at};
+ghost use Rattle.doc_nodes.specs.Nodes.{Node, IsNode, IsSound, IsChildAt, Holds};
+ghost use Rattle.doc_nodes.specs.declared.content.Content.TheVariants as contents;
+ghost use Rattle.doc_nodes.specs.declared.content.Element.{Element};
 ghost use Rattle.doc_changes.specs.Parts.{IsOver, Prunes};
-ghost use Rattle.doc_changes.specs.Stands.{StandsFor};
-ghost use Rattle.tree_inverses.specs.Sites.{site_of, node_of, first_number};
+ghost use Rattle.doc_changes.specs.Stands.{StandsFor, expanded_of};
+ghost use Rattle.tree_inverses.specs.Sites.{node_of, first_number};
 ghost use Rattle.tree_inverses.specs.Changes.{changed, inverse_of, Fits, CanPutBack, put_back, take_out};
 ghost use Rattle.tree_inverses.specs.Changes as law;
 ghost use Rattle.doc_inverses.specs.Parts.{IsPart, Grafts};
-ghost use Rattle.doc_inverses.specs.Changes.{Means, IsMade};
+ghost use Rattle.doc_inverses.specs.Changes.{Means, IsMade, written_number};
 
 use crate::attributes::write_attribute;
 use crate::part::{Part, PartRow};
@@ -117,6 +116,58 @@ fn put(
     })
 }
 
+/// Gives an element another name, and answers the change that gives it its name again.
+fn rename(alloc: Global, links: &mut NodeLinks, node: u32, name: NameId) -> Change
+    requires { (t : NameTable) × (d : Document) × StandsFor t links.old d × (name < length t.names) × Fits d (law.rename node (expanded_of t name)) }
+    ensures tree { (t : NameTable) (d : Document) → StandsFor t links.old d → name < length t.names → StandsFor t links.new (changed d (law.rename node (expanded_of t name))) }
+    ensures inverse { (t : NameTable) (d : Document) → StandsFor t links.old d → Fits d (law.rename node (expanded_of t name)) → Means t result (inverse_of d (law.rename node (expanded_of t name))) }
+    ensures nodes { (it : Node) (e : Element) → IsNode links.old node it → it.content ≡ contents.Element e → Holds links.old links.new node (contents.Element (record e { name = name })) }
+    ensures sound { IsSound links.new }
+{
+    let old = name_of(links, node);
+    rename_node(alloc, links, node, name);
+    Change::Name { node, name: old }
+}
+
+/// Gives the attribute of a name a value, or takes it away, and answers the change that gives it its value again, or takes it away.
+fn write(
+    alloc: Global,
+    links: &mut NodeLinks,
+    node: u32,
+    name: NameId,
+    place: u32,
+    value: Option<Text>,
+) -> Result<Change, AllocError>
+    requires { (t : NameTable) × (d : Document) × StandsFor t links.old d × (name < length t.names) × Fits d (law.write node (expanded_of t name) place value) }
+    ensures tree { OnOk result ((t : NameTable) (d : Document) → StandsFor t links.old d → name < length t.names → Fits d (law.write node (expanded_of t name) place value) → StandsFor t links.new (changed d (law.write node (expanded_of t name) place value))) }
+    ensures inverse { IfOk result (λ back. (t : NameTable) (d : Document) → StandsFor t links.old d → name < length t.names → Fits d (law.write node (expanded_of t name) place value) → Means t back (inverse_of d (law.write node (expanded_of t name) place value))) }
+    ensures nodes { OnOk result ((it : Node) (e : Element) → IsNode links.old node it → it.content ≡ contents.Element e → Holds links.old links.new node (contents.Element (record e { attributes = written_number name place value e.attributes }))) }
+    ensures err { OnErr result (links.new ≡ links.old) }
+    ensures sound { IsSound links.new }
+{
+    let old = write_attribute(alloc, links, node, name, place, value)?;
+    Ok(Change::Attr {
+        node,
+        name,
+        place,
+        value: old,
+    })
+}
+
+/// Gives a text other characters, and answers the change that gives it its characters again.
+fn reword(links: &mut NodeLinks, node: u32, text: Text) -> Result<Change, AllocError>
+    requires { (t : NameTable) × (d : Document) × StandsFor t links.old d × Fits d (law.reword node text) }
+    ensures tree { OnOk result ((t : NameTable) (d : Document) → StandsFor t links.old d → StandsFor t links.new (changed d (law.reword node text))) }
+    ensures inverse { IfOk result (λ back. (t : NameTable) (d : Document) → StandsFor t links.old d → Fits d (law.reword node text) → Means t back (inverse_of d (law.reword node text))) }
+    ensures nodes { OnOk result (Holds links.old links.new node (contents.Chars text)) }
+    ensures err { OnErr result (links.new ≡ links.old) }
+    ensures sound { IsSound links.new }
+{
+    let old = chars_of(links, node)?;
+    set_text(links, node, text);
+    Ok(Change::Chars { node, text: old })
+}
+
 /// Makes a change of a document, and answers the change that undoes it.
 ///
 /// # Errors
@@ -141,29 +192,13 @@ pub fn make_change(
             part,
         } => put(alloc, links, parent, index, part.as_slice()),
         Change::Take { node } => take(alloc, links, node),
-        Change::Name { node, name } => {
-            let old = name_of(links, node);
-            rename_node(alloc, links, node, name);
-            Ok(Change::Name { node, name: old })
-        }
+        Change::Name { node, name } => Ok(rename(alloc, links, node, name)),
         Change::Attr {
             node,
             name,
             place,
             value,
-        } => {
-            let value = write_attribute(alloc, links, node, name, place, value)?;
-            Ok(Change::Attr {
-                node,
-                name,
-                place,
-                value,
-            })
-        }
-        Change::Chars { node, text } => {
-            let old = chars_of(links, node)?;
-            set_text(links, node, text);
-            Ok(Change::Chars { node, text: old })
-        }
+        } => write(alloc, links, node, name, place, value),
+        Change::Chars { node, text } => reword(links, node, text),
     }
 }

@@ -4,10 +4,12 @@
 mod attributes;
 mod change;
 mod copies;
+mod laws;
 mod part;
 mod putting;
 mod reading;
 mod texts;
 
 pub use change::{Change, make_change};
+pub use laws::{changes_count_nodes, changes_lead_on, inverses_lead_back};
 pub use part::{Part, PartRow};

@@ -1,6 +1,7 @@
 //! A session that keeps what it found, and finds anew what an edit changes.
 #![tactic(auto)]
 
+mod editing;
 mod opening;
 mod session;
 

@@ -1,48 +1,103 @@
 //! A document that is opened.
 
-use compiled_schema::Compiled;
+ghost use Rattle.std.specs.Prelude.{◌≡◌, ◌≤◌, ◌+◌, ◌*◌, ℕ, None, IfOk, OnOk};
+ghost use Rattle.tree_rows.specs.Forest.{Document, count};
+ghost use Rattle.compiled_schema.specs.Usable.{IsUsable, set_of};
+ghost use Rattle.session_model.specs.State.{with_names};
+ghost use Rattle.doc_changes.specs.Stands.{StandsFor};
+ghost use Rattle.kept_slots.specs.Slots.{at};
+ghost use Rattle.kept_state.specs.Kept.{IsBeside};
+ghost use Rattle.edit_session.specs.Held.{Stands, IsPresent};
+
+use compiled_schema::{Compiled, usable_with_more_names};
 use doc_tree::DocTree;
 use kept_below::open_records;
 use kept_keys::settle_keys;
 use kept_state::KeptState;
 use plain_tree::Tree;
 use std::alloc::{AllocError, Global};
-use tree_names::add_names;
-use xs_names::Names;
+use tree_names::{add_names, document_names_are_found};
+use xs_names::NsId;
 use xsv_steps::{Ledger, Steps};
 
-/// The nodes of a tree that is opened. The table gets its names.
-///
-/// # Errors
-///
-/// `AllocError` is want of memory.
-pub(crate) fn document_of(
-    alloc: Global,
-    names: &mut Names,
-    tree: &Tree,
-) -> Result<DocTree, AllocError>
-// ensures { IfOk result (λ doc. StandsFor names.new doc tree.now) × names.new ≡ document_table names.old tree.now.forest }
-{
-    add_names(names, tree)?;
-    DocTree::from_plain(alloc, names, tree)
+/// A document, with all that is kept of its elements.
+#[derive(Drop)]
+pub(crate) struct Opened {
+    pub doc: DocTree,
+    pub kept: KeptState,
 }
 
-/// Keeps all elements of a document of which nothing is kept yet.
-///
-/// # Errors
-///
-/// `AllocError` is want of memory, or there are too many codes.
-pub(crate) fn keep_all<L: Ledger>(
+// The nodes of a tree, whose names are put into the table of the set.
+fn nodes_of(alloc: Global, set: &mut Compiled, tree: &Tree) -> Result<DocTree, AllocError>
+    requires usable { IsUsable set.old }
+    ensures stands { IfOk result (λ doc. StandsFor set.new.names doc tree.now) }
+    ensures usable { OnOk result (IsUsable set.new) }
+    ensures named { OnOk result (set_of set.new ≡ with_names (set_of set.old) tree.now.forest) }
+{
+    // Who reads a table of names is told that it is sound.
+    let _sound = set.names.lookup(NsId::ABSENT, "");
+    document_names_are_found();
+    usable_with_more_names();
+    add_names(&mut set.names, tree)?;
+    DocTree::from_plain(alloc, &mut set.names, tree)
+}
+
+// Keeps all elements of a document of which nothing is kept yet, with their codes.
+fn fill<L: Ledger>(
+    doc: &DocTree,
+    set: &mut Compiled,
+    kept: &mut KeptState,
+    steps: &mut Steps<L>,
+) -> Result<(), AllocError>
+    requires beside { IsBeside set.old doc.now kept.old }
+    requires none { (n : ℕ) → at kept.old.records.slots n ≡ None }
+    ensures present { OnOk result (IsPresent set.old doc.now kept.new) }
+    ensures same { set.new ≡ set.old }
+    ensures least { steps.old ≤ steps.new }
+    ensures few { (d : Document) → StandsFor set.old.names doc.now d → steps.new ≤ steps.old + 3 * count d.forest }
+{
+    open_records(doc, set, kept, steps)?;
+    settle_keys(doc, set, kept)
+}
+
+// Keeps all elements of a document.
+fn keep_all<L: Ledger>(
     alloc: Global,
     doc: &DocTree,
     set: &mut Compiled,
     steps: &mut Steps<L>,
-) -> Result<Box<KeptState>, AllocError> {
-    let mut kept = match Box::new(alloc, KeptState::new(alloc)?) {
-        Ok(kept) => kept,
-        Err(_) => return Err(AllocError),
-    };
-    open_records(doc, set, &mut kept, steps)?;
-    settle_keys(doc, set, &mut kept)?;
+) -> Result<KeptState, AllocError>
+    requires usable { IsUsable set.old }
+    requires stands { Stands set.old doc.now }
+    ensures present { IfOk result (λ kept. IsPresent set.old doc.now kept) }
+    ensures same { set.new ≡ set.old }
+    ensures least { steps.old ≤ steps.new }
+    ensures few { (d : Document) → StandsFor set.old.names doc.now d → steps.new ≤ steps.old + 3 * count d.forest }
+{
+    let mut kept = KeptState::new(alloc)?;
+    fill(doc, set, &mut kept, steps)?;
     Ok(kept)
+}
+
+/// A document of the nodes of a tree, with all that is kept of its elements. The table of the set gets the names of the tree.
+///
+/// # Errors
+///
+/// `AllocError` is want of memory, or there are too many codes.
+pub(crate) fn open_document<L: Ledger>(
+    alloc: Global,
+    set: &mut Compiled,
+    tree: &Tree,
+    steps: &mut Steps<L>,
+) -> Result<Opened, AllocError>
+    requires usable { IsUsable set.old }
+    ensures stands { IfOk result (λ opened. StandsFor set.new.names opened.doc tree.now) }
+    ensures present { IfOk result (λ opened. IsPresent set.new opened.doc opened.kept) }
+    ensures named { OnOk result (set_of set.new ≡ with_names (set_of set.old) tree.now.forest) }
+    ensures least { steps.old ≤ steps.new }
+    ensures few { steps.new ≤ steps.old + 8 * count tree.now.forest }
+{
+    let doc = nodes_of(alloc, set, tree)?;
+    let kept = keep_all(alloc, &doc, set, steps)?;
+    Ok(Opened { doc, kept })
 }

@@ -1,28 +1,42 @@
-use crate::opening::{document_of, keep_all};
+use crate::editing::edit_kept;
+use crate::opening::{Opened, open_document};
 use assess_records::Validity;
 use compiled_schema::Compiled;
-use doc_edits::{Change, prepare};
 use doc_tree::DocTree;
-use kept_changes::keep_change;
-use kept_keys::settle_keys;
 use kept_state::KeptState;
 use plain_tree::Tree;
 use report_text::Records;
-use session_model::{Session, SessionError, records_of};
+use session_model::{Session, SessionError, entries_are_named};
 use std::alloc::{AllocError, Global};
+use std::marker::Model;
+use tree_assess::ElementEntry;
 use tree_edits::{Edit, EditError};
 use tree_rows::NodeKind;
 use xsv_steps::{Ledger, Steps};
 
-/// A session that keeps what it found, and finds anew what an edit changes.
+/// A session that keeps what it found of each element, and after an edit finds anew what the edit changes.
 #[derive(Drop)]
 pub struct EditSession {
-    alloc: Global,
     set: Box<Compiled>,
     doc: DocTree,
-    kept: Box<KeptState>,
+    kept: KeptState,
     revision: u64,
     closed: bool,
+}
+
+impl Model for EditSession {
+    ghost use Rattle.session_model.specs.State.{State};
+    ghost use Rattle.session_model.specs.StateCode.{state_code};
+
+    ghost Value = { State };
+
+    ghost coded = { state_code };
+
+    ghost use Rattle.edit_session.specs.Held.{state_of, IsHeld};
+
+    ghost view = { state_of };
+
+    ghost invariant = { IsHeld };
 }
 
 impl EditSession {
@@ -33,24 +47,23 @@ impl EditSession {
         drop(doc);
         drop(kept);
     }
+}
 
-    // Makes a change that nothing refuses.
-    fn make<L: Ledger>(&mut self, change: Change, steps: &mut Steps<L>) -> Result<(), AllocError> {
-        keep_change(&mut self.doc, &mut self.set, &mut self.kept, change, steps)?;
-        settle_keys(&self.doc, &mut self.set, &mut self.kept)
-    }
-
-    // Closes it for want of memory.
-    fn close_for_memory(&mut self) -> Result<(), SessionError> {
-        self.closed = true;
-        Err(SessionError::Memory)
+// The records of an element and of its attributes.
+fn records_of(found: &ElementEntry) -> Records<'_>
+    ensures element { result.element.now ≡ found.now.element }
+    ensures attrs { result.attrs.now ≡ found.now.attrs }
+{
+    Records {
+        element: &found.element,
+        attrs: found.attrs.as_slice(),
     }
 }
 
 impl Session for EditSession {
-    ghost use Rattle.edit_session.specs.Held.{state_of, edit_cost, opening_cost};
+    ghost use Rattle.edit_session.specs.Costs.{edit_cost, opening_cost};
 
-    ghost state = { state_of };
+    ghost state = { λ s. s };
 
     ghost budget = { edit_cost };
 
@@ -63,38 +76,37 @@ impl Session for EditSession {
         steps: &mut Steps<L>,
     ) -> Result<Self, AllocError> {
         let mut set = set;
-        let doc = document_of(alloc, &mut set.names, &tree)?;
-        drop(tree);
-        let kept = keep_all(alloc, &doc, &mut set, steps)?;
-        Ok(EditSession {
-            alloc,
-            set,
-            doc,
-            kept,
-            revision: 0,
-            closed: false,
-        })
+        match open_document(alloc, &mut set, &tree, steps) {
+            Ok(Opened { doc, kept }) => Ok(EditSession {
+                set,
+                doc,
+                kept,
+                revision: 0,
+                closed: false,
+            }),
+            Err(error) => Err(error),
+        }
     }
 
     fn apply<L: Ledger>(&mut self, edit: &Edit, steps: &mut Steps<L>) -> Result<(), SessionError> {
         if self.closed {
             return Err(SessionError::Closed);
         }
-        let change = match prepare(self.alloc, &self.doc, &mut self.set.names, edit) {
-            Ok(change) => change,
-            Err(EditError::Memory) => return self.close_for_memory(),
-            Err(refusal) => return Err(SessionError::Refused(refusal)),
-        };
-        match self.make(change, steps) {
+        match edit_kept(&mut self.doc, &mut self.set, &mut self.kept, edit, steps) {
             Ok(()) => {
                 self.revision = self.revision.saturating_add(1);
                 Ok(())
             }
-            Err(_) => self.close_for_memory(),
+            Err(EditError::Memory) => {
+                self.closed = true;
+                Err(SessionError::Memory)
+            }
+            Err(refusal) => Err(SessionError::Refused(refusal)),
         }
     }
 
     fn records(&self, node: u32) -> Option<Records<'_>> {
+        entries_are_named();
         match self.kept.records.get(node) {
             None => None,
             Some(own) => Some(records_of(&own.found)),

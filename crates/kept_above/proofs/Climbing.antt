@@ -37,7 +37,7 @@ use Rattle.kept_judging.specs.Judged.{symbols_by, shape_with, AreChildren, IsJud
 use Rattle.kept_judging.proofs.Anew.{not-own-parent, fit-judged, judged-fit, anew-fits, children-stay, rewritten-fit}
 use Rattle.kept_above.specs.Climbing.{with_outcome, IsNearly, IsClimbing, KeepsRest}
 use Rattle.kept_above.proofs.Counts.{child-more, attempt-more, all-counted, all-tried}
-use Rattle.kept_above.proofs.Placed.{others-differ, place-among, children-differ, few-children, child-place, parent-element}
+use Rattle.kept_forgetting.proofs.Placed.{others-differ, place-among, children-differ, few-children, child-place, parent-element}
 
 -- ---- how many are counted
 

@@ -1,4 +1,3 @@
 pub mod Counts
-pub mod Placed
 pub mod Climbing
 pub mod Whole

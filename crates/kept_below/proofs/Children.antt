@@ -27,7 +27,7 @@ use Rattle.kept_judging.specs.Judged.{symbols_by, pair_by, AreChildren}
 use Rattle.child_listing.specs.Children.{IsSpare, AreGoverned, IsListing}
 use Rattle.kept_forgetting.specs.Below.{IsBelow, IsWithin, IsNoneOf, KeepsBut}
 use Rattle.kept_below.specs.Below.{AreAbove, IsSettled}
-use Rattle.kept_below.specs.declared.listing.Listing.{Listing}
+use Rattle.child_listing.specs.declared.listing.Listing.{Listing}
 use Rattle.kept_below.proofs.Counts.{counts-last}
 use Rattle.child_listing.proofs.Distinct.{distinct-filter, filtered, has-place, place-has, place-from, front-other, front-more}
 use Rattle.kept_forgetting.proofs.Keeping.{keeps-then, keeps-wider}

@@ -20,6 +20,7 @@ use Rattle.child_listing.specs.Children.{IsSpare, IsFresh}
 use Rattle.kept_forgetting.specs.Below.{IsBelow, IsWithin, IsNoneOf, KeepsBut}
 use Rattle.kept_below.specs.Below.{IsMadeAnew}
 use Rattle.kept_forgetting.proofs.Walks.{self-within, below-within}
+use Rattle.kept_forgetting.proofs.Keeping.{keeps-wider}
 
 abbrev list-at : KeptSlots → ℕ → Option ModelList
 list-at ks n = (kept_at ks n).list

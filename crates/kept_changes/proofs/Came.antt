@@ -1,10 +1,10 @@
 -- A part that was put among the nodes of a document.
-use Rattle.std.proofs.Common.{◌≡◌, ◌≢◌, ◌⊎◌, ℕ, true, Option, Some, refl, sym, ap, ◌∙◌, subst, inl, inr, length}
+use Rattle.std.proofs.Common.{◌≡◌, ◌≢◌, ◌⊎◌, ℕ, ◌<◌, true, Option, Some, refl, sym, ap, ◌∙◌, subst, inl, inr, arith, length}
 use Rattle.std.proofs.lemmas.Bool.{cases_eq}
 use Rattle.std.proofs.lemmas.Option.{same_Some}
 use Rattle.xs_names.specs.Names.{NameTable}
 use Rattle.tree_rows.specs.Forest.{Forest, none, text, element, Document}
-use Rattle.tree_rows.specs.Whole.{HasRoot, IsTree}
+use Rattle.tree_rows.specs.Whole.{HasRoot, AreNodes, IsTree}
 use Rattle.tree_edits.specs.Edits.{renumbered}
 use Rattle.compiled_schema.specs.declared.compiled.Compiled.{Compiled}
 use Rattle.doc_nodes.specs.Nodes.{Node, Nodes, node, IsNode, IsSound, Has, children_by, is_element, is_element_by, is_element_at}
@@ -22,6 +22,15 @@ use Rattle.child_lists.specs.Places.{IsPlaceOf}
 use Rattle.child_lists.specs.declared.place.ChildPlace.{ChildPlace}
 use Rattle.kept_changes.specs.Spots.{HasCome}
 use Rattle.kept_changes.proofs.Changed.{child-up}
+
+-- a tree has a root, whose number was given out
+pub free-above : (d : Document) → IsTree d → 1 < d.next_free
+free-above d tree = by d.forest tree.root tree.nodes
+  where
+    by : (f : Forest) → HasRoot f → AreNodes d.next_free f → 1 < d.next_free
+    by none root nodes = absurd root
+    by (text number chars next) root nodes = absurd root
+    by (element number name bindings attributes children next) root nodes = let one = root.0 in let within = nodes.0.1 in omega (arith, one, within)
 
 -- ---- the nodes
 
@@ -52,6 +61,13 @@ module _ (t : NameTable) (old new : Nodes) (p place : ℕ) (f : Forest) (plants 
 
 -- ---- what is kept
 
+-- the part is below the node
+pub come-up : (t : NameTable) (old new : Nodes) (d : Document) → StandsFor t old d → IsSound new → (parent place : ℕ) (f : Forest) → Fits d parent place f → Plants t old new parent place f →
+    parent_at new (length old) ≡ Some parent
+come-up t old new d z sound parent place f fits plants =
+    let own : IsParent t old d parent = parent_of t old d parent z fits.element in
+    child-up new sound parent (length old) (come-below t old new parent place f plants own.shown.it own.shown.is)
+
 pub came : (c : Compiled) (old new : Nodes) (k : KeptState) → IsRightFor c old k → (d : Document) → StandsFor c.names old d → IsSound new → (parent place : ℕ) (part : Document) → IsTree part →
     Fits d parent place part.forest → Plants c.names old new parent place part.forest → HasCome c new k (length old)
 came c old new k r d z sound parent place part tree fits plants =
@@ -59,7 +75,7 @@ came c old new k r d z sound parent place part tree fits plants =
       old = old;
       right = r;
       parent = parent;
-      parent_is = child-up new sound parent (length old) (come-below c.names old new parent place part.forest plants own.shown.it own.shown.is);
+      parent_is = come-up c.names old new d z sound parent place part.forest fits plants;
       element = come-root c.names old new parent place part.forest plants tree.root;
       was_element = ap is_element_by own.shown.is ∙ ap is_element own.shown.content;
       place = place;

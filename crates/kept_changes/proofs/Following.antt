@@ -1,11 +1,13 @@
 -- What is another at the element that a change begins at, once the change is made.
-use Rattle.std.proofs.Common.{◌≡◌, ◌≢◌, ◌⊎◌, ℕ, ◌≤◌, List, [], Bool, true, false, Option, None, Some, refl, sym, ap, ◌∙◌, subst, inl, inr, arith, length}
-use Rattle.std.specs.Prelude.{slice_get}
+use Rattle.std.proofs.Common.{◌≡◌, ◌≢◌, ◌⊎◌, ℕ, ◌+◌, ◌≤◌, List, [], Bool, true, false, Option, None, Some, refl, sym, ap, ◌∙◌, subst, inl, inr, arith, length}
+use Rattle.std.specs.Prelude.{slice_get, Result, Ok, Err, OnOk}
 use Rattle.std.specs.Option.{option_and_then}
 use Rattle.std.proofs.lemmas.Bool.{false≢true}
 use Rattle.std.proofs.lemmas.Option.{none-some}
 use Rattle.xs_names.specs.Names.{NameTable}
 use Rattle.tree_rows.specs.Forest.{Forest, none, text, Document}
+use Rattle.tree_edits.specs.Tests as tests
+use Rattle.tree_edits.specs.declared.edit.Edit.TheVariants as edits
 use Rattle.compiled_schema.specs.declared.compiled.Compiled.{Compiled}
 use Rattle.doc_nodes.specs.Nodes.{Node, Nodes, node, IsNode, IsSound, IsChildAt, Holds, is_element, is_element_by, is_element_at}
 use Rattle.doc_nodes.specs.declared.content.Content.{Content}
@@ -22,15 +24,17 @@ use Rattle.doc_edits.specs.declared.change.Change.{Change}
 use Rattle.doc_edits.specs.declared.change.Change.TheVariants as changes
 use Rattle.kept_state.specs.Kept.{IsBeside}
 use Rattle.kept_state.specs.declared.state.KeptState.{KeptState}
-use Rattle.kept_forgetting.proofs.Placed.{parent-has, parent-element}
-use Rattle.kept_children.specs.Edited.{IsRightFor}
+use Rattle.kept_forgetting.proofs.Placed.{parent-has, parent-element, root-alone}
+use Rattle.child_lists.specs.declared.place.ChildPlace.{ChildPlace}
+use Rattle.kept_children.specs.Edited.{IsRightFor, IsRenamed}
 use Rattle.kept_changes.specs.Own.{Retexts, Reattributes, Renames, IsRetexted, IsReattributed, IsNamedAnew}
 use Rattle.kept_changes.specs.Spots.{IsRemoval, IsSpot, HasCome, HasChangedAt, TakesSpot}
-use Rattle.kept_changes.specs.Steps.{Takes, TakesAway}
+use Rattle.kept_children.specs.Steps.{width}
+use Rattle.kept_changes.specs.Steps.{Takes, TakesAway, TakesBelow}
 use Rattle.kept_changes.specs.declared.change.Spot.{Spot}
 use Rattle.kept_changes.specs.declared.change.Spot.TheVariants.{Planted, Pruned, Retexted, Attributed, Renamed}
 use Rattle.kept_changes.proofs.Changed.{text-held, element-reattributed, element-renamed, text-planted, text-pruned}
-use Rattle.kept_changes.proofs.Came.{come-elements, came}
+use Rattle.kept_changes.proofs.Came.{come-elements, come-up, came}
 
 -- ---- nodes
 
@@ -79,6 +83,27 @@ pub renames-of : (c : Compiled) (ns : Nodes) (k : KeptState) (n : ℕ) (h : IsNa
 renames-of c ns k n h =
     element-renamed c.names h.old ns h.right.beside.over.0 h.right.beside.over.1.stands n h.node h.is (contents.Element (record h.element { name = h.name })) h.holds h.element
     (record h.element { name = h.name }) refl h.content refl refl
+
+-- it is an element as before
+pub named-element : (c : Compiled) (ns : Nodes) (k : KeptState) (n : ℕ) → IsNamedAnew c ns k n → is_element_at ns n ≡ true
+named-element c ns k n h = (renames-of c ns k n h).elements.elements n ∙ ap is_element_by h.is ∙ ap is_element h.content
+
+-- where it stands among the child elements of its parent
+pub named-child : (c : Compiled) (ns : Nodes) (k : KeptState) (n : ℕ) → IsNamedAnew c ns k n → (at : ChildPlace) → at.node ≡ n → IsRenamed c ns k at
+named-child c ns k n h at same = record {
+  old = h.old;
+  right = h.right;
+  node = h.node;
+  is = subst (λ (m : ℕ). IsNode h.old m h.node) (sym same) h.is;
+  element = h.element;
+  content = h.content;
+  name = h.name;
+  holds = subst (λ (m : ℕ). Holds h.old ns m (contents.Element (record h.element { name = h.name }))) (sym same) h.holds;
+}
+
+-- where it has no parent, it is the root
+pub named-root : (c : Compiled) (ns : Nodes) (k : KeptState) (n : ℕ) → IsBeside c ns k → IsNamedAnew c ns k n → parent_at ns n ≡ None → n ≡ 1
+named-root c ns k n beside h bare = root-alone c.names ns beside.over.0 beside.over.1.stands n (named-element c ns k n h) bare
 
 pub changed-beside : (c : Compiled) (ns : Nodes) (k : KeptState) (d : Document) (spot : Spot) → StandsFor c.names ns d → HasChangedAt c ns k spot → IsBeside c ns k
 changed-beside c ns k d (Planted n) z h = beside-more c h.old ns k d h.right.beside z (come-elements c.names h.old ns h.parent h.place h.part h.plants)
@@ -158,7 +183,7 @@ module _ (c : Compiled) (old new : Nodes) (k : KeptState) (r : IsRightFor c old 
     pub takes-change : (change : Change) (spot : Spot) → IsSpot old change spot → ((n : ℕ) → spot ≡ Pruned n → ⊥) → CanMake c.names old d change → IsMade c.names old new change →
         TakesSpot c new k spot first last → Takes c old new k change first last
     takes-change (changes.Insert parent index part) spot is here can made takes =
-        subst (λ (x : Spot). TakesSpot c new k x first last) is.0 takes parent (came c old new k r d z sound parent index part is.1 can.0 made).parent_is
+        subst (λ (x : Spot). TakesSpot c new k x first last) is.0 takes parent (come-up c.names old new d z sound parent index part.forest can.0 made)
     takes-change (changes.AddText parent index chars) spot is here can made takes = subst (λ (x : Spot). TakesSpot c new k x first last) is takes
     takes-change (changes.SetText key chars) spot is here can made takes = subst (λ (x : Spot). TakesSpot c new k x first last) is.2 takes
     takes-change (changes.Remove key) spot is here can made takes = removed-takes key spot is here takes
@@ -175,3 +200,23 @@ pruned-change ns (changes.Remove key) n is = (ap changes.Remove (sym is.0), subs
 pruned-change ns (changes.Rename key name) n is = let bad : Pruned n ≡ Renamed key = is in absurd (cc)
 pruned-change ns (changes.SetAttr key name value) n is = let bad : Pruned n ≡ Attributed key = is in absurd (cc)
 pruned-change ns (changes.UnsetAttr key name) n is = let bad : Pruned n ≡ Attributed key = is in absurd (cc)
+
+-- the steps of its removal
+pub takes-removal : (c : Compiled) (old new : Nodes) (k : KeptState) (change : Change) (n : ℕ) → IsSpot old change (Pruned n) → parent_at old n ≢ None → (first last : ℕ) →
+    ((parent : ℕ) → parent_at old n ≡ Some parent → TakesBelow c new k parent (width new parent + 1) first last) → Takes c old new k change first last
+takes-removal c old new k change n is below first last takes =
+    let e = pruned-change old change n is in
+    subst (λ (x : Change). Takes c old new k x first last) (sym e.0) (subst (λ (b : Bool). TakesAway c new k b (parent_at old n) first last) (sym e.1) (by (parent_at old n) refl))
+  where
+    by : (o : Option ℕ) → parent_at old n ≡ o → TakesAway c new k true o first last
+    by None q = absurd (below q)
+    by (Some p) q = takes p q
+
+pub removal-stands : (t : NameTable) (old new : Nodes) (change : Change) (n : ℕ) → IsSpot old change (Pruned n) → ((d : Document) → StandsFor t old d → StandsFor t new (tests.made d (edits.Remove n))) →
+    (d : Document) → StandsFor t old d → StandsFor t new (changed t d change)
+removal-stands t old new change n is stands d z = subst (λ (x : Change). StandsFor t new (changed t d x)) (sym (pruned-change old change n is).0) (stands d z)
+
+-- what holds in any case holds of an Ok
+pub ok-of : {T E P : Type 0} (r : Result T E) → P → OnOk r P
+ok-of (Ok x) p = p
+ok-of (Err e) p = tt

@@ -55,31 +55,25 @@ has-below t ns sound n (element number name bindings attributes children next) s
 ]
 
 module _ (c : Compiled) (old : Nodes) (before : KeptState) (right : IsRightFor c old before) (spot : ChildPlace) (placed : IsPlaceOf old spot) (element : is_element_at old spot.node ≡ true) where
-  d : Document
-  d = right.beside.over.0
-
-  stands : StandsFor c.names old d
-  stands = right.beside.over.1.stands
-
   sound : IsSound old
-  sound = stands.links
+  sound = right.beside.over.1.stands.links
 
-  own : (it : Node) × IsNode old spot.node it
+  abbrev own : (it : Node) × IsNode old spot.node it
   own = by-node old spot.node (node old spot.node) refl element
 
-  abbrev pub below : Forest
-  below = own_below c.names old old d stands spot.node own.0 own.1
+  abbrev below : Forest
+  below = own_below c.names old old right.beside.over.0 right.beside.over.1.stands spot.node own.0 own.1
 
-  pub over : IsOver c.names old spot.node below
-  over = is_over c.names old old d stands spot.node own.0 own.1
+  over : IsOver c.names old spot.node below
+  over = is_over c.names old old right.beside.over.0 right.beside.over.1.stands spot.node own.0 own.1
 
-  above : (it : Node) × IsNode old spot.parent it × Has spot.node it.children
+  abbrev above : (it : Node) × IsNode old spot.parent it × Has spot.node it.children
   above = parent-has old sound spot.node spot.parent placed.parent_is
 
-  place : (i : ℕ) × (slice_get above.0.children i ≡ Some spot.node)
+  abbrev place : (i : ℕ) × (slice_get above.0.children i ≡ Some spot.node)
   place = some_place spot.node above.0.children above.2
 
-  pub child : IsChildAt old spot.parent place.0 spot.node
+  child : IsChildAt old spot.parent place.0 spot.node
   child = (above.0, above.1, place.1)
 
   -- what hung below it was below it
@@ -154,11 +148,12 @@ module _ (c : Compiled) (old : Nodes) (before : KeptState) (right : IsRightFor c
 
     still-out : (levels m : ℕ) (it : Node) → IsNode new m it → upwards old levels m ≡ Some spot.node → ⊥
     still-out zero m it is w = none-some it (sym prunes.here ∙ ap (node new) (sym (same_Some m spot.node w)) ∙ is)
-    still-out (suc levels) m it is w = by (parent_at old m) refl w
+    still-out (suc levels) m it is w = by (still-out levels) (parent_at old m) refl w
       where
-        by : (o : Option ℕ) → parent_at old m ≡ o → option_and_then (upwards old levels) o ≡ Some spot.node → ⊥
-        by None q f = none-some spot.node f
-        by (Some p) q f = let up = parent-has new z.links m p (sym (was-parent m it is) ∙ q) in still-out levels p up.0 up.1 f
+        by : ((p : ℕ) (above : Node) → IsNode new p above → upwards old levels p ≡ Some spot.node → ⊥) → (o : Option ℕ) → parent_at old m ≡ o →
+            option_and_then (upwards old levels) o ≡ Some spot.node → ⊥
+        by out None q f = none-some spot.node f
+        by out (Some p) q f = let up = parent-has new z.links m p (sym (was-parent m it is) ∙ q) in out p up.0 up.1 f
 
     slot-left : (m : ℕ) (it : Node) → IsNode new m it → at k.records.slots m ≡ at before.records.slots m
     slot-left m it is = forgets.rest.slots m (λ w. still-out w.0 m it is w.1)

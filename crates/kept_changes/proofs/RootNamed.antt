@@ -82,6 +82,10 @@ module _ (c : Compiled) (ns : Nodes) (old : KeptState) (beside : IsBeside c ns o
         counts_are = below.counts_are;
       }
 
+  -- nothing is above it
+  pub root-alone : (p : ℕ) → parent_at ns 1 ≢ Some p
+  root-alone p up = none-some p (sym (root-parent c.names ns beside.over.0 beside.over.1.stands) ∙ up)
+
   -- once it is settled, all is right
   pub root-right : (new : KeptState) (root : Governed) → root.node ≡ 1 → root.pair ≡ root_pair (set_of c) (head_at (set_of c) ns 1) → IsSettled ns old new root → FitBut c ns new [] → IsBeside c ns new → IsRightFor c ns new
   root-right new root number pair settled fit after = record {

@@ -44,6 +44,6 @@ Takes c old new k (changes.Insert parent index part) first last = TakesBelow c n
 Takes c old new k (changes.AddText parent index chars) first last = last ≡ first
 Takes c old new k (changes.SetText key chars) first last = last ≡ first
 Takes c old new k (changes.Remove key) first last = TakesAway c new k (is_element_at old key) (parent_at old key) first last
-Takes c old new k (changes.Rename key name) first last = TakesName c new k key (parent_at new key) first last
+Takes c old new k (changes.Rename key name) first last = TakesName c new k key (parent_at old key) first last
 Takes c old new k (changes.SetAttr key name value) first last = TakesAt c new k key (again_pair (set_of c) (pair_at k.records.slots key) (head_at (set_of c) new key)) first last
 Takes c old new k (changes.UnsetAttr key name) first last = TakesAt c new k key (again_pair (set_of c) (pair_at k.records.slots key) (head_at (set_of c) new key)) first last

@@ -24,18 +24,26 @@ use Rattle.kept_judging.specs.Judged.{pair_by}
 use Rattle.kept_above.specs.Climbing.{with_outcome}
 use Rattle.kept_above.proofs.Counts.{all-counted, all-tried, child-more, attempt-more}
 use Rattle.kept_forgetting.proofs.Placed.{others-differ, children-differ, few-children}
-use Rattle.kept_below.specs.Below.{IsSettled}
 use Rattle.child_lists.specs.Places.{IsPlaceOf}
 use Rattle.child_lists.specs.Family.{AreCounted, IsAttributed, AreGivenBut, IsMidway}
 use Rattle.child_lists.specs.declared.place.ChildPlace.{ChildPlace}
 use Rattle.child_lists.proofs.Edits.{among-more, among-removed, get-within}
 use Rattle.child_lists.proofs.Written.{pair-stays, midway-written, attributed-written, given-written, counts-written}
+use Rattle.kept_children.specs.Edited.{IsSettledAt}
+use Rattle.kept_children.specs.Steps.{LeaveRoom}
+use Rattle.kept_children.proofs.Siblings.{moved-but-parent}
 use Rattle.kept_children.proofs.Midway.{parent-stays, sibling-stays, attributed-settled, given-settled, midway-settled}
 
-module _ (c : Compiled) (ns : Nodes) (old new : KeptState) (spot : ChildPlace) (place : IsPlaceOf ns spot) (element : Governed) (node_is : element.node ≡ spot.node)
-    (settled : IsSettled ns old new element) (before : IsBeside c ns old) (after : IsBeside c ns new) (there : IsMade old.records.slots spot.parent) where
+module _ (c : Compiled) (ns : Nodes) (old new : KeptState) (spot : ChildPlace) (place : IsPlaceOf ns spot) (settled : IsSettledAt c ns old new spot) (before : IsBeside c ns old) (after : IsBeside c ns new)
+    (there : IsMade old.records.slots spot.parent) where
   abbrev p : ℕ
   p = spot.parent
+
+  abbrev element : Governed
+  element = record { node = spot.node; pair = pair_by c ns (pair_at old.records.slots spot.parent) spot.parent spot.place spot.node }
+
+  node_is : element.node ≡ spot.node
+  node_is = refl
 
   abbrev inner : List ℕ
   inner = element_children ns p
@@ -67,12 +75,18 @@ module _ (c : Compiled) (ns : Nodes) (old new : KeptState) (spot : ChildPlace) (
       ap (λ (k : KeptElement). k.counts) parent-kept ∙ counted.counts_are ∙ counts-at (record_at old.records.slots) inner spot.place spot.node place.node_is
       ∙ ap (with_outcome (outcome_at old.records.slots spot.node)) others-are
 
+  pub counted-as : (was : Outcome) → was ≡ outcome_at old.records.slots spot.node → AreCounted old p (element_children ns p) → (rest : ChildCounts) × ((kept_at new.records.slots p).counts ≡ with_outcome was rest)
+  counted-as was e counted = (others, counted-before counted ∙ ap (λ (o : Outcome). with_outcome o others) (sym e))
+
   -- or not at all
   pub counted-less : AreCounted old p (remove (element_children ns p) spot.place) → (kept_at new.records.slots p).counts ≡ others
   counted-less counted = ap (λ (k : KeptElement). k.counts) parent-kept ∙ counted.counts_are ∙ others-are
 
   pub counted-now : with_outcome (outcome_at new.records.slots spot.node) others ≡ counts_of (map (record_at new.records.slots) (element_children ns p))
   counted-now = sym (counts-at (record_at new.records.slots) inner spot.place spot.node place.node_is)
+
+  pub made-parent : IsMade new.records.slots p
+  made-parent = (there.0, parent-stays c ns old new spot place element node_is settled before after there ∙ there.1)
 
   pub made-node : IsMade new.records.slots spot.node
   made-node = subst (IsMade new.records.slots) node_is settled.made
@@ -116,8 +130,14 @@ module _ (c : Compiled) (ns : Nodes) (old new : KeptState) (spot : ChildPlace) (
 
   -- ---- once it is counted as what it comes to now
 
-  module _ (last : KeptState) (k : KeptElement) (is : IsKept new.records.slots p k) (counts : ChildCounts) (rewrites : Rewrites new last p (Some (record k { counts = counts })))
+  module _ (last : KeptState) (counts : ChildCounts) (rewrites : Rewrites new last p (Some (record made-parent.0 { counts = counts })))
       (counts_are : counts ≡ with_outcome (outcome_at new.records.slots spot.node) others) where
+    abbrev k : KeptElement
+    k = made-parent.0
+
+    abbrev is : IsKept new.records.slots p k
+    is = made-parent.1
+
     pub settled-midway : IsBooked last.records → FitBut c ns new (p ∷ []) → (was : KeptChildren) (waiting : List ℕ) → IsMidway c ns old p was waiting → IsMidway c ns last p was []
     settled-midway booked fit was waiting m =
         midway-written c ns new last p k is k.stuck counts rewrites booked was [] (midway-settled c ns old new spot place element node_is settled before after there was waiting m fit)
@@ -126,9 +146,9 @@ module _ (c : Compiled) (ns : Nodes) (old new : KeptState) (spot : ChildPlace) (
     settled-attributed a =
         attributed-written c ns new last p k is k.stuck counts rewrites refl (attributed-settled c ns old new spot place element node_is settled before after there a)
 
-    pub settled-given : element.pair ≡ pair_by c ns (pair_at old.records.slots p) p spot.place spot.node → (places : List ℕ) → AreGivenBut c ns old p (spot.place ∷ places) → AreGivenBut c ns last p places
-    settled-given pair places given =
-        given-written c ns new last p k is k.stuck counts rewrites places (given-settled c ns old new spot place element node_is settled before after there pair places given)
+    pub settled-given : (places : List ℕ) → AreGivenBut c ns old p (spot.place ∷ places) → AreGivenBut c ns last p places
+    settled-given places given =
+        given-written c ns new last p k is k.stuck counts rewrites places (given-settled c ns old new spot place element node_is settled before after there refl places given)
 
     settled-counted : ((i m : ℕ) → slice_get inner i ≡ Some m → IsMade new.records.slots m) → AreCounted last p inner
     settled-counted made = counts-written c ns new last p k is k.stuck counts rewrites inner made (counts_are ∙ counted-now)
@@ -141,3 +161,34 @@ module _ (c : Compiled) (ns : Nodes) (old new : KeptState) (spot : ChildPlace) (
 
     pub settled-pair : pair_at last.records.slots p ≡ pair_at old.records.slots p
     settled-pair = pair-stays c ns new last p k is k.stuck counts rewrites p ∙ ap (λ (x : KeptElement). x.found.governing) parent-kept
+
+    pub settled-left : (steps now : ℕ) → LeaveRoom c ns old spot new steps now → LeaveRoom c ns old spot last steps now
+    settled-left steps now left most siblings governs enough below =
+        let m = left most siblings governs enough below in
+        let same = moved-but-parent c ns sound p (before.over.1.only p there) (pair_at old.records.slots p) governs siblings below new.records.slots last.records.slots rewrites.slots.others in
+        omega (arith, m, same)
+
+  -- in place of what it came to before
+
+  module _ (last : KeptState) (was now : Outcome) (was_is : was ≡ outcome_at old.records.slots spot.node) (now_is : now ≡ outcome_at new.records.slots spot.node)
+      (counted : AreCounted old p (element_children ns p))
+      (change : (k : KeptElement) (rest : ChildCounts) → IsKept new.records.slots p k → k.counts ≡ with_outcome was rest → Rewrites new last p (Some (record k { counts = with_outcome now rest }))) where
+    pub recount-written : Rewrites new last p (Some (record made-parent.0 { counts = with_outcome now others }))
+    recount-written =
+        change made-parent.0 others made-parent.1
+        (ap (λ (k : KeptElement). k.counts) (sym (kept-there new.records.slots p made-parent.0 made-parent.1)) ∙ counted-before counted ∙ ap (λ (o : Outcome). with_outcome o others) (sym was_is))
+
+    pub recount-is : with_outcome now others ≡ with_outcome (outcome_at new.records.slots spot.node) others
+    recount-is = ap (λ (o : Outcome). with_outcome o others) now_is
+
+  -- or where it was not counted
+
+  module _ (last : KeptState) (now : Outcome) (now_is : now ≡ outcome_at new.records.slots spot.node) (counted : AreCounted old p (remove (element_children ns p) spot.place))
+      (change : (k : KeptElement) → IsKept new.records.slots p k → Rewrites new last p (Some (record k { counts = with_outcome now k.counts }))) where
+    pub count-written : Rewrites new last p (Some (record made-parent.0 { counts = with_outcome now made-parent.0.counts }))
+    count-written = change made-parent.0 made-parent.1
+
+    pub count-is : with_outcome now made-parent.0.counts ≡ with_outcome (outcome_at new.records.slots spot.node) others
+    count-is =
+        let own : made-parent.0.counts ≡ others = ap (λ (k : KeptElement). k.counts) (sym (kept-there new.records.slots p made-parent.0 made-parent.1)) ∙ counted-less counted in
+        λ i. with_outcome (now_is i) (own i)

@@ -7,5 +7,8 @@ pub mod Midway
 pub mod Counted
 pub mod Ending
 pub mod Moves
+pub mod Siblings
+pub mod Settling
 pub mod Marked
-pub mod Rooms
+pub mod Same
+pub mod Unlisted

@@ -37,8 +37,9 @@ use Rattle.kept_state.proofs.Beside.{kept-there, beside-same}
 use Rattle.kept_judging.specs.Judged.{symbols_by, pair_by, IsGivenBy, IsJudgedBy}
 use Rattle.kept_above.proofs.Climbing.{judged-kept}
 use Rattle.kept_forgetting.proofs.Placed.{others-differ, children-differ, few-children}
-use Rattle.kept_below.specs.Below.{upwards, IsWithin, IsNoneOf, KeepsBut, IsSettled}
-use Rattle.kept_below.proofs.Walks.{self-within, parent-outside, siblings-apart}
+use Rattle.kept_forgetting.specs.Below.{upwards, IsWithin, IsNoneOf, KeepsBut}
+use Rattle.kept_forgetting.proofs.Walks.{self-within, parent-outside, siblings-apart}
+use Rattle.kept_below.specs.Below.{IsSettled}
 use Rattle.child_lists.specs.Places.{IsPlaceOf}
 use Rattle.child_lists.specs.Family.{AreCounted, IsListedBy, IsAttributed, AreGivenBut, IsMidway, model_of, symbols_of}
 use Rattle.child_lists.specs.declared.place.ChildPlace.{ChildPlace}

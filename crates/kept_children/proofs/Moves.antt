@@ -24,7 +24,7 @@ use Rattle.kept_judging.specs.Judged.{pair_by}
 use Rattle.kept_forgetting.proofs.Placed.{has-at}
 use Rattle.kept_below.specs.Moved.{is_typed, moved}
 
-has-place : (xs : List ℕ) (x : ℕ) → Has x xs → (i : ℕ) × (slice_get xs i ≡ Some x)
+pub has-place : (xs : List ℕ) (x : ℕ) → Has x xs → (i : ℕ) × (slice_get xs i ≡ Some x)
 has-place [] x h = absurd h
 has-place (y ∷ ys) x (inl e) = (0, ap Some e)
 has-place (y ∷ ys) x (inr h) = let r = has-place ys x h in (suc r.0, r.1)

@@ -9,10 +9,13 @@ use Rattle.doc_nodes.specs.declared.content.Element.{Element}
 use Rattle.doc_changes.specs.Parts.{Prunes}
 use Rattle.doc_planting.specs.Planted.{Plants}
 use Rattle.kept_records.specs.Fit.{IsTop}
+use Rattle.kept_records.specs.Slots.{pair_at}
 use Rattle.kept_state.specs.Kept.{FitBut, IsBeside, outcome_at}
 use Rattle.kept_state.specs.declared.element.Outcome.{Outcome}
 use Rattle.kept_state.specs.declared.state.KeptState.{KeptState}
+use Rattle.kept_judging.specs.Judged.{pair_by}
 use Rattle.kept_forgetting.specs.Forgotten.{Forgets}
+use Rattle.kept_below.specs.Below.{IsSettled}
 use Rattle.child_lists.specs.Places.{IsPlaceOf}
 use Rattle.child_lists.specs.declared.place.ChildPlace.{ChildPlace}
 
@@ -44,6 +47,10 @@ pub record IsPruned (c : Compiled) (ns : Nodes) (k : KeptState) (at : ChildPlace
   pub below : Forest
   pub child : IsChildAt old at.parent place at.node
   pub prunes : Prunes old ns at.parent place at.node below
+
+-- the child element is governed as its parent gives it, and nothing is kept otherwise but of it and of what is below it
+abbrev pub IsSettledAt : Compiled → Nodes → KeptState → KeptState → ChildPlace → Type 0
+IsSettledAt c ns old new at = IsSettled ns old new (record { node = at.node; pair = pair_by c ns (pair_at old.records.slots at.parent) at.parent at.place at.node })
 
 -- the element has another name
 pub record IsRenamed (c : Compiled) (ns : Nodes) (k : KeptState) (at : ChildPlace) : Type 0 where

@@ -5,27 +5,25 @@ ghost use Rattle.assess_records.specs.Counts.{attempt_count, child_count, with_c
 ghost use Rattle.assess_records.specs.declared.counts.ChildCounts.{ChildCounts};
 ghost use Rattle.tree_rows.specs.Forest.{Forest};
 ghost use Rattle.elem_governing.specs.declared.pairs.Governing.{Governing};
-ghost use Rattle.doc_nodes.specs.Nodes.{Lacks, element_children};
-ghost use Rattle.doc_documents.specs.Readers.{element_numbers};
+ghost use Rattle.doc_nodes.specs.Nodes.{element_children};
 ghost use Rattle.kept_records.specs.Books.{IsBooked};
 ghost use Rattle.kept_records.specs.declared.element.KeptElement.{KeptElement as KeptData};
 ghost use Rattle.kept_records.specs.Slots.{IsKept, IsMade, kept_at, pair_at};
-ghost use Rattle.kept_state.specs.Kept.{IsBeside, Rewrites, children_at};
+ghost use Rattle.kept_state.specs.Kept.{FitBut, IsBeside, Rewrites, children_at};
 ghost use Rattle.kept_state.specs.declared.children.KeptChildren.{KeptChildren as KeptChildrenData};
-ghost use Rattle.kept_judging.specs.Judged.{AreChildren, pair_by};
-ghost use Rattle.kept_below.specs.Moved.{AreGivenDown, moved};
+ghost use Rattle.kept_judging.specs.Judged.{AreChildren};
+ghost use Rattle.kept_below.specs.Moved.{moved};
 ghost use Rattle.child_lists.specs.Places.{IsPlaceOf};
-ghost use Rattle.kept_children.specs.Edited.{IsPlanted, IsPruned, IsRenamed, IsRightFor};
-ghost use Rattle.child_lists.specs.Family.{AreCounted, AreGivenBut, IsAttributed, IsMidway, marked_places};
-ghost use Rattle.child_lists.specs.Family as family;
-ghost use Rattle.kept_children.specs.Steps.{GovernsBelow, digits, marked_count, width};
+ghost use Rattle.kept_children.specs.Edited.{IsPlanted, IsPruned, IsRenamed, IsRightFor, IsSettledAt};
+ghost use Rattle.child_lists.specs.Family.{AreCounted, AreGivenBut, IsAttributed, IsMidway};
+ghost use Rattle.kept_children.specs.Steps.{GovernsBelow, LeaveRoom, TakeAtMost, digits, marked_count, places_of, width};
 
-use crate::marked::settle_all_marked;
+use crate::marked::{settle_all_marked, settle_at};
 use child_lists::{ChildPlace, govern_at, list_child, note_stuck, relist_child, unlist_child};
 use compiled_schema::Compiled;
 use doc_tree::DocTree;
 use kept_above::{recount, settle_above};
-use kept_below::{settle_again, settle_below};
+use kept_below::settle_again;
 use kept_judging::judge_if_apart;
 use kept_state::{KeptChildren, KeptState, Outcome};
 use std::alloc::AllocError;
@@ -76,6 +74,29 @@ fn count_out(kept: &mut KeptState, parent: u32, outcome: Outcome)
     kept.set_children(parent, children);
 }
 
+// Governs the child elements whose names are ambivalent again, and makes their parent right, and those above it.
+fn settle_rest<L: Ledger>(
+    doc: &DocTree,
+    set: &mut Compiled,
+    kept: &mut KeptState,
+    own: (u32, &KeptChildren),
+    steps: &mut Steps<L>,
+) -> Result<(), AllocError>
+    requires midway { IsMidway set.old doc.now kept.old own.0 own.1.now [] }
+    requires attributed { IsAttributed set.old doc.now kept.old own.0 }
+    requires counted { AreCounted kept.old own.0 (element_children doc.now own.0) }
+    requires given { AreGivenBut set.old doc.now kept.old own.0 (places_of set.old doc.now kept.old own.0) }
+    ensures right { OnOk result (IsRightFor set.old doc.now kept.new) }
+    ensures same { set.new ≡ set.old }
+    ensures least { steps.old ≤ steps.new }
+    ensures steps { (siblings : Forest) (governs : ℕ → Governing) → GovernsBelow set.old doc.now (pair_at kept.old.records.slots own.entry.0) own.entry.0 governs siblings →
+        steps.new ≤ steps.old + (8 * digits (width doc.now own.entry.0) * marked_count set.old doc.now kept.old own.entry.0 + 3 * moved kept.old.records.slots governs siblings) }
+{
+    let (parent, was) = own;
+    settle_all_marked(doc, set, kept, parent, steps)?;
+    settle_parent(doc, set, kept, parent, was)
+}
+
 // Governs a child element that came, and counts it.
 fn settle_new<L: Ledger>(
     doc: &DocTree,
@@ -95,19 +116,36 @@ fn settle_new<L: Ledger>(
     ensures pair { OnOk result (pair_at kept.new.records.slots at.now.parent ≡ pair_at kept.old.records.slots at.now.parent) }
     ensures same { set.new ≡ set.old }
     ensures least { steps.old ≤ steps.new }
-    ensures steps { (siblings : Forest) (governs : ℕ → Governing) → AreGivenDown set.old doc.now governs siblings → element_numbers siblings ≡ at.now.node ∷ [] →
-        governs at.now.node ≡ pair_by set.old doc.now (pair_at kept.old.records.slots at.now.parent) at.now.parent at.now.place at.now.node →
-        steps.new ≤ steps.old + (8 * digits (width doc.now at.now.parent) + 3 * moved kept.old.records.slots governs siblings) }
-    ensures unmarked { (siblings : Forest) (governs : ℕ → Governing) → AreGivenDown set.old doc.now governs siblings → element_numbers siblings ≡ at.now.node ∷ [] →
-        governs at.now.node ≡ pair_by set.old doc.now (pair_at kept.old.records.slots at.now.parent) at.now.parent at.now.place at.now.node →
-        Lacks at.now.place (marked_places (family.model_of set.old kept.old at.now.parent) (family.symbols_of set.old doc.now kept.old at.now.parent)) →
-        steps.new ≤ steps.old + 3 * moved kept.old.records.slots governs siblings }
+    ensures steps { TakeAtMost set.old doc.now kept.old at.now steps.old steps.new }
+    ensures left { OnOk result (LeaveRoom set.old doc.now kept.old at.now kept.new steps.old steps.new) }
 {
-    let child = govern_at(doc, set, kept, at, steps)?;
-    settle_below(doc, set, kept, &child, steps)?;
+    settle_at(doc, set, kept, at, steps)?;
     let outcome = kept.outcome(at.node);
     count_in(kept, at.parent, outcome);
     Ok(())
+}
+
+// Governs a child element that has another name by its term, with all below it.
+fn settle_again_at<L: Ledger>(
+    doc: &DocTree,
+    set: &mut Compiled,
+    kept: &mut KeptState,
+    at: &ChildPlace,
+    steps: &mut Steps<L>,
+) -> Result<(), AllocError>
+    requires place { IsPlaceOf doc.now at.now }
+    requires midway { (was : KeptChildrenData) × IsMidway set.old doc.now kept.old at.now.parent was (at.now.node ∷ []) }
+    requires attributed { IsAttributed set.old doc.now kept.old at.now.parent }
+    ensures settled { OnOk result (IsSettledAt set.old doc.now kept.old kept.new at.now) }
+    ensures fit { OnOk result (FitBut set.old doc.now kept.new (at.now.parent ∷ [])) }
+    ensures beside { OnOk result (IsBeside set.old doc.now kept.new) }
+    ensures same { set.new ≡ set.old }
+    ensures least { steps.old ≤ steps.new }
+    ensures steps { TakeAtMost set.old doc.now kept.old at.now steps.old steps.new }
+    ensures left { OnOk result (LeaveRoom set.old doc.now kept.old at.now kept.new steps.old steps.new) }
+{
+    let child = govern_at(doc, set, kept, at, steps)?;
+    settle_again(doc, set, kept, &child, steps)
 }
 
 // Governs a child element that has another name, and counts what it comes to in place of what it came to.
@@ -129,17 +167,11 @@ fn settle_named<L: Ledger>(
     ensures pair { OnOk result (pair_at kept.new.records.slots at.now.parent ≡ pair_at kept.old.records.slots at.now.parent) }
     ensures same { set.new ≡ set.old }
     ensures least { steps.old ≤ steps.new }
-    ensures steps { (siblings : Forest) (governs : ℕ → Governing) → AreGivenDown set.old doc.now governs siblings → element_numbers siblings ≡ at.now.node ∷ [] →
-        governs at.now.node ≡ pair_by set.old doc.now (pair_at kept.old.records.slots at.now.parent) at.now.parent at.now.place at.now.node →
-        steps.new ≤ steps.old + (8 * digits (width doc.now at.now.parent) + 3 * moved kept.old.records.slots governs siblings) }
-    ensures unmarked { (siblings : Forest) (governs : ℕ → Governing) → AreGivenDown set.old doc.now governs siblings → element_numbers siblings ≡ at.now.node ∷ [] →
-        governs at.now.node ≡ pair_by set.old doc.now (pair_at kept.old.records.slots at.now.parent) at.now.parent at.now.place at.now.node →
-        Lacks at.now.place (marked_places (family.model_of set.old kept.old at.now.parent) (family.symbols_of set.old doc.now kept.old at.now.parent)) →
-        steps.new ≤ steps.old + 3 * moved kept.old.records.slots governs siblings }
+    ensures steps { TakeAtMost set.old doc.now kept.old at.now steps.old steps.new }
+    ensures left { OnOk result (LeaveRoom set.old doc.now kept.old at.now kept.new steps.old steps.new) }
 {
     let was = kept.outcome(at.node);
-    let child = govern_at(doc, set, kept, at, steps)?;
-    settle_again(doc, set, kept, &child, steps)?;
+    settle_again_at(doc, set, kept, at, steps)?;
     let now = kept.outcome(at.node);
     recount(kept, at.parent, was, now);
     Ok(())
@@ -173,8 +205,7 @@ pub fn put_child<L: Ledger>(
     list_child(doc, set, kept, at, steps)?;
     note_stuck(doc, set, kept, parent, steps);
     settle_new(doc, set, kept, at, steps)?;
-    settle_all_marked(doc, set, kept, parent, steps)?;
-    settle_parent(doc, set, kept, parent, &was)
+    settle_rest(doc, set, kept, (parent, &was), steps)
 }
 
 /// Makes all records right, where a child element was taken out of the document that came to this, and nothing is kept of it any more.
@@ -195,8 +226,8 @@ pub fn take_child<L: Ledger>(
     ensures right { OnOk result (IsRightFor set.old doc.now kept.new) }
     ensures same { set.new ≡ set.old }
     ensures least { steps.old ≤ steps.new }
-    ensures steps { (siblings : Forest) (governs : ℕ → Governing) → GovernsBelow set.old doc.now (pair_at kept.old.records.slots taken.0.now.parent) taken.0.now.parent governs siblings →
-        steps.new ≤ steps.old + (24 * digits (width doc.now taken.0.now.parent + 1) + 1 + 16 * digits (width doc.now taken.0.now.parent + 1) * marked_count set.old doc.now kept.old taken.0.now.parent + 3 * moved kept.old.records.slots governs siblings) }
+    ensures steps { (siblings : Forest) (governs : ℕ → Governing) → GovernsBelow set.old doc.now (pair_at kept.old.records.slots taken.entry.0.now.parent) taken.entry.0.now.parent governs siblings →
+        steps.new ≤ steps.old + (24 * digits (width doc.now taken.entry.0.now.parent + 1) + 1 + 16 * digits (width doc.now taken.entry.0.now.parent + 1) * marked_count set.old doc.now kept.old taken.entry.0.now.parent + 3 * moved kept.old.records.slots governs siblings) }
 {
     let (at, outcome) = taken;
     let parent = at.parent;
@@ -204,8 +235,7 @@ pub fn take_child<L: Ledger>(
     unlist_child(set, kept, at, steps);
     count_out(kept, parent, outcome);
     note_stuck(doc, set, kept, parent, steps);
-    settle_all_marked(doc, set, kept, parent, steps)?;
-    settle_parent(doc, set, kept, parent, &was)
+    settle_rest(doc, set, kept, (parent, &was), steps)
 }
 
 /// Makes all records right, where a child element has another name now. Steps are as those of `put_child`.
@@ -234,6 +264,5 @@ pub fn name_child<L: Ledger>(
     relist_child(doc, set, kept, at, steps);
     note_stuck(doc, set, kept, parent, steps);
     settle_named(doc, set, kept, at, steps)?;
-    settle_all_marked(doc, set, kept, parent, steps)?;
-    settle_parent(doc, set, kept, parent, &was)
+    settle_rest(doc, set, kept, (parent, &was), steps)
 }

@@ -49,6 +49,9 @@ returns-clause-counted g c =
     (c.set_children.ensures.change made.0 made.1)
     (ap (λ (x : KeptChildren). x.counts) c.children-children.ensures ∙ ap (λ (x : KeptElement). x.counts) (kept-there c.args.kept.now.records.slots c.args.parent made.0 made.1))
 
+pub returns-clause-rest : goal.returns-clause-rest
+returns-clause-rest g c = let made = c.requires.midway.2.made in (c.set_children.ensures.change made.0 made.1).slots.others
+
 pub returns-clause-least : goal.returns-clause-least
 returns-clause-least g c = c.stuck_place-children.ensures.least
 

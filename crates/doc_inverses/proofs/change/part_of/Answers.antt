@@ -18,5 +18,7 @@ pub returns : goal.returns
 returns c = λ t d z fits.
     let a = is_at t c.args.links.now d c.args.node z fits in
     let r = c.in_ok-read_below.ensures t a.below a.over in
-    let first = c.in_ok-push.ensures.items ∙ ap (λ (l : List PartRow). l ++ (c.in_ok-read_row.field-0 ∷ [])) c.new-rows.ensures.items ∙ ap (λ (x : PartRow). x ∷ []) (c.in_ok-read_row.ensures a.it a.is) in
+    let first =
+    ◌∙◌ {A = List PartRow} c.in_ok-push.ensures.items
+    (◌∙◌ {A = List PartRow} (ap (λ (l : List PartRow). l ++ (c.in_ok-read_row.field-0 ∷ [])) c.new-rows.ensures.items) (ap (λ (x : PartRow). x ∷ []) (c.in_ok-read_row.ensures a.it a.is))) in
     subst (λ (rows : List PartRow). AreRows t 1 rows (node_of c.args.node d.forest) []) (sym (c.from_vec.ensures ∙ r.are ∙ ap (λ (l : List PartRow). l ++ r.more) first)) (a.rows r.more r.rows)

@@ -1,4 +1,4 @@
-use Rattle.std.proofs.Common.{◌≡◌, ◌+◌, List, length, drop, sym, ap, ◌∙◌, subst, refl, true, false, arith}
+use Rattle.std.proofs.Common.{◌+◌, List, length, sym, ap, ◌∙◌, subst, refl, arith}
 use Rattle.std.proofs.lemmas.List.{length-drop}
 use Rattle.xs_names.specs.Names.{NameTable}
 use Rattle.tree_rows.specs.Forest.{Forest, count}
@@ -9,7 +9,7 @@ use Rattle.doc_planting.proofs.Placing.{on_err}
 use Rattle.doc_planting.proofs.Pruning.{over, below_parent, pruned}
 use Rattle.doc_inverses.specs.inside.Putting.{Holds, PutSoFar}
 use Rattle.doc_inverses.specs.declared.part.PartRow.{PartRow}
-use Rattle.doc_inverses.proofs.RowsPut.{begun, ended, first, next, holds_next, within, room, next_so, count_one, free, level, text_put, text_count, own, can_whole, element_count, holds_below, element_put}
+use Rattle.doc_inverses.proofs.RowsPut.{begun, ended, first, next, holds_next, within, room, next_so, count_one, free, text_put, text_count, own, can_whole, element_count, holds_below, element_put}
 use Rattle.doc_inverses.proofs.Rows.{some_row}
 use Rattle.doc_inverses.proofs.putting.+put.Goals as goal
 

@@ -1,4 +1,4 @@
-use Rattle.std.proofs.Common.{◌≡◌, ◌+◌, sym, ap, ◌∙◌, refl, arith}
+use Rattle.std.proofs.Common.{◌+◌, sym, ap, arith}
 use Rattle.std.proofs.lemmas.Option.{slice_get_within}
 use Rattle.doc_nodes.specs.Nodes.{node, children_by, depth_by}
 use Rattle.doc_inverses.proofs.RowsRead.{begun, level, head, room, next_so, ended}

@@ -50,7 +50,7 @@ settle_all-settle_below-requires g t c κs within =
     let sound = c.requires.beside.over.1.stands.links in
     let child = get_or cs i zero-child in
     let here = slice_get-get_or cs i zero-child c.loop-child-test.true in (
-      one-less set ns sound r.0 cs r.2 i child here,
+      (let less = one-less set ns sound r.0 cs r.2 i child here in omega (arith, c.decreases, less)),
       (
         within,
         (
@@ -70,6 +70,9 @@ settle_all-settle_below-requires g t c κs within =
         ),
       ),
     )
+
+pub settle_all-offset_bounds-children-child-index : goal.settle_all-offset_bounds-children-child-index
+settle_all-offset_bounds-children-child-index g t c = let few = c.requires.fit.2.few in omega (arith, c.loop-child-test.true, few)
 
 pub settle_all-outcome-outcome-requires : goal.settle_all-outcome-outcome-requires
 settle_all-outcome-outcome-requires g t c = c.in_ok-settle_below.ensures.settled.made
@@ -185,8 +188,11 @@ settle_children-settle_all-requires g t c κs within =
     let sound = over.1.stands.links in
     let done = c.in_ok-listing.ensures in
     let cs = c.in_ok-listing.listing.children.items in
-    let are : AreGoverned set ns parent c.as_slice.result.now = subst (AreGoverned set ns parent) (sym c.as_slice.ensures) done.listing.children_are in (
-      all-less set ns sound parent c.as_slice.result.now are (λ i child e. element-depth set.names ns over.0 over.1.stands child.node (child-element set ns sound parent c.as_slice.result.now are i child e)),
+    let are : AreGoverned set ns parent c.as_slice.result.now = subst (AreGoverned set ns parent) (sym c.as_slice.ensures.value) done.listing.children_are in (
+      (
+        let less = all-less set ns sound parent c.as_slice.result.now are (λ i child e. element-depth set.names ns over.0 over.1.stands child.node (child-element set ns sound parent c.as_slice.result.now are i child e)) in
+        omega (arith, c.decreases, less)
+      ),
       (
         within,
         (
@@ -203,10 +209,12 @@ settle_children-returns-in_err-listing-clause-steps g t c = λ siblings governs 
 
 pub settle_children-returns-in_err-counts-clause-steps : goal.settle_children-returns-in_err-counts-clause-steps
 settle_children-returns-in_err-counts-clause-steps g t c = λ siblings governs down are given.
-    let all = settled-given c.args.set.now c.args.doc.now c.args.parent.now governs c.as_slice.result.now (subst (AreGoverned c.args.set.now c.args.doc.now c.args.parent.now) (sym c.as_slice.ensures) c.in_ok-listing.ensures.listing.children_are) given in
+    let all = settled-given c.args.set.now c.args.doc.now c.args.parent.now governs c.as_slice.result.now (subst (AreGoverned c.args.set.now c.args.doc.now c.args.parent.now) (sym c.as_slice.ensures.value) c.in_ok-listing.ensures.listing.children_are) given in
     let more = c.in_err-counts.ensures.steps siblings governs down (are ∙ sym all.0) all.1 in
     let many = ap length are in
-    omega (arith, many, c.list_children-listing.ensures.steps, more)
+    let same = ap (λ (k : KeptState). moved k.records.slots governs siblings) c.in_ok-listing.ensures.rest in
+    let first = c.list_children-listing.ensures.steps in
+    omega (arith, many, first, more, same)
 
 pub settle_children-returns : goal.settle_children-returns
 settle_children-returns g t c =
@@ -219,11 +227,11 @@ settle_children-returns g t c =
     let listed = c.in_ok-listing.ensures in
     let done = c.in_ok-counts.ensures in
     let listing = c.in_ok-listing.listing in
-    let are : AreGoverned set ns parent c.as_slice.result.now = subst (AreGoverned set ns parent) (sym c.as_slice.ensures) listed.listing.children_are in
+    let are : AreGoverned set ns parent c.as_slice.result.now = subst (AreGoverned set ns parent) (sym c.as_slice.ensures.value) listed.listing.children_are in
     let below = done.rest parent are in
     record {
       children = are-children set ns old mid new parent listing listed.listing below
-          (λ d h. done.governed d (subst (Has d) (sym c.as_slice.ensures) h)) c.in_ok-counts.counts (done.counts ∙ ap (λ xs. counts_of (map (record-of new) xs)) c.as_slice.ensures);
+          (λ d h. done.governed d (subst (Has d) (sym c.as_slice.ensures.value) h)) c.in_ok-counts.counts (done.counts ∙ ap (λ xs. counts_of (map (record-of new) xs)) c.as_slice.ensures.value);
       spare = spare-kept (IsBelow ns parent.node) mid new below listing.list listed.listing.spare;
       fresh = listed.listing.fresh;
       fit = λ waiting all. done.fit parent waiting are (more-fit set ns old mid listed.rest listed.others (parent.node ∷ waiting) all);
@@ -235,7 +243,9 @@ settle_children-returns g t c =
           let all = settled-given set ns parent governs c.as_slice.result.now are given in
           let more = done.steps siblings governs down (numbers ∙ sym all.0) all.1 in
           let many = ap length numbers in
-          omega (arith, many, c.list_children-listing.ensures.steps, more);
+          let same = ap (λ (k : KeptState). moved k.records.slots governs siblings) listed.rest in
+          let first = c.list_children-listing.ensures.steps in
+          omega (arith, many, first, more, same);
     }
 
 -- ---- one element
@@ -244,7 +254,7 @@ pub settle_below-settle_again-requires : goal.settle_below-settle_again-requires
 settle_below-settle_again-requires g t c κs within =
     let r = c.requires.fit in
     let n = c.args.element.now.node in (
-      omega arith,
+      omega (arith, c.decreases),
       (
         within,
         (
@@ -275,7 +285,7 @@ settle_below-returns-clause-fit g t c =
 pub settle_again-settle_children-requires : goal.settle_again-settle_children-requires
 settle_again-settle_children-requires g t c κs within =
     let r = c.requires.fit in
-    (omega arith, (within, (c.requires.beside, (c.requires.element, (r.0, r.1, r.3)))))
+    (omega (arith, c.decreases), (within, (c.requires.beside, (c.requires.element, (r.0, r.1, r.3)))))
 
 pub settle_again-returns-then-is_typed-clause-settled : goal.settle_again-returns-then-is_typed-clause-settled
 settle_again-returns-then-is_typed-clause-settled g t c =

@@ -1,0 +1,93 @@
+//! An edit of a document with all that is kept of its elements.
+
+ghost use Rattle.std.specs.Prelude.{◌≡◌, ◌≤◌, ◌⊎◌, ℕ, Bool, true, IfOk, OnOk, IfErr};
+ghost use Rattle.tree_rows.specs.Forest.{Document};
+ghost use Rattle.tree_edits.specs.Edits.{can_be_made};
+ghost use Rattle.tree_edits.specs.Tests.{edited};
+ghost use Rattle.session_model.specs.Spending.{BreaksWithin};
+ghost use Rattle.doc_changes.specs.Stands.{StandsFor};
+ghost use Rattle.doc_edits.specs.Changes.{CanMake, changed};
+ghost use Rattle.kept_children.specs.Edited.{IsRightFor};
+ghost use Rattle.kept_changes.specs.Steps.{Takes};
+ghost use Rattle.edit_session.specs.Costs.{edit_cost};
+ghost use Rattle.edit_session.specs.Edited.{IsDone, IsLeft, IsReady, IsRefused};
+ghost use Rattle.edit_session.specs.Held.{IsPresent, Stands, document_in, state_by};
+
+use compiled_schema::Compiled;
+use doc_edits::{Change, prepare};
+use doc_tree::DocTree;
+use kept_changes::{keep_change, records_stay_right_as_names_are_added};
+use kept_keys::settle_keys;
+use kept_state::KeptState;
+use std::alloc::AllocError;
+use tree_edits::{Edit, EditError};
+use xsv_steps::{Ledger, Steps};
+
+// The change that an edit is, once no test of it stands. The set gets the names that it brings.
+fn ready(
+    doc: &DocTree,
+    set: &mut Compiled,
+    kept: &KeptState,
+    edit: &Edit,
+) -> Result<Change, EditError>
+    requires block { can_be_made edit.now ≡ true }
+    requires right { IsRightFor set.old doc.now kept.now }
+    ensures stands { Stands set.new doc.now }
+    ensures ready { IfOk result (λ change. IsReady set.old set.new doc.now kept.now edit.now change) }
+    ensures refused { IfErr result (λ e. IsRefused set.old set.new doc.now edit.now e) }
+{
+    records_stay_right_as_names_are_added();
+    prepare(kept.alloc, doc, &mut set.names, edit)
+}
+
+// Makes a change that nothing refuses, and finds the codes of identity constraints and of IDs.
+fn make<L: Ledger>(
+    doc: &mut DocTree,
+    set: &mut Compiled,
+    kept: &mut KeptState,
+    change: Change,
+    steps: &mut Steps<L>,
+) -> Result<(), AllocError>
+    requires right { IsRightFor set.old doc.old kept.old }
+    requires can { (d : Document) × StandsFor set.old.names doc.old d × CanMake set.old.names doc.old d change }
+    ensures made { OnOk result ((d : Document) → StandsFor set.old.names doc.old d → StandsFor set.old.names doc.new (changed set.old.names d change)) }
+    ensures present { OnOk result (IsPresent set.old doc.new kept.new) }
+    ensures same { set.new ≡ set.old }
+    ensures least { steps.old ≤ steps.new }
+    ensures reach { (d : Document) → StandsFor set.old.names doc.old d → ((doc.new ≡ doc.old) × (steps.new ≡ steps.old)) ⊎
+        (StandsFor set.old.names doc.new (changed set.old.names d change) × Takes set.old doc.old doc.new kept.old change steps.old steps.new) }
+{
+    keep_change(doc, set, kept, change, steps)?;
+    settle_keys(doc, set, kept)
+}
+
+/// Makes an edit of a document, and all that is kept of its elements right. The table of the set gets the names of the edit.
+///
+/// # Errors
+///
+/// The least refusal that the edit has, and then nothing has changed. Or `EditError::Memory`: memory is wanting, or there are too many
+/// codes; nothing is stated then of what is kept.
+pub(crate) fn edit_kept<L: Ledger>(
+    doc: &mut DocTree,
+    set: &mut Compiled,
+    kept: &mut KeptState,
+    edit: &Edit,
+    steps: &mut Steps<L>,
+) -> Result<(), EditError>
+    requires block { can_be_made edit.now ≡ true }
+    requires present { IsPresent set.old doc.old kept.old }
+    ensures stands { Stands set.new doc.new }
+    ensures done { OnOk result (IsDone set.old set.new doc.old doc.new kept.new edit.now) }
+    ensures refused { IfErr result (λ e. IsLeft set.old set.new doc.old doc.new kept.old kept.new edit.now e) }
+    ensures least { steps.old ≤ steps.new }
+    ensures few { (revision : ℕ) (closed : Bool) → BreaksWithin edit_cost (state_by set.old doc.old kept.old revision closed) edit.now (edited (document_in set.old doc.old) edit.now) steps.old steps.new }
+{
+    let change = match ready(doc, set, kept, edit) {
+        Ok(change) => change,
+        Err(error) => return Err(error),
+    };
+    match make(doc, set, kept, change, steps) {
+        Ok(()) => Ok(()),
+        Err(_) => Err(EditError::Memory),
+    }
+}

@@ -1,0 +1,74 @@
+use Rattle.std.proofs.Common.{[]}
+use Rattle.kept_above.specs.Climbing.{with_outcome}
+use Rattle.kept_children.proofs.Counted.{few-less, fewer-less, made-parent, count-written, count-is, settled-midway, settled-attributed, settled-given, counted-all, settled-pair, settled-left}
+use Rattle.kept_children.proofs.edits.settle_new.Goals as goal
+
+pub outcome-requires : goal.outcome-requires
+outcome-requires g c = c.in_ok-settle_at.ensures.settled.made
+
+pub count_in-requires-clause-made : goal.count_in-requires-clause-made
+count_in-requires-clause-made g c =
+    made-parent c.args.set.now c.args.doc.now c.args.kept.now c.settle_at.new.kept c.args.at.now c.requires.place c.in_ok-settle_at.ensures.settled c.requires.midway.1.beside c.in_ok-settle_at.ensures.beside c.requires.midway.1.made
+
+pub count_in-requires-clause-few : goal.count_in-requires-clause-few
+count_in-requires-clause-few g c =
+    few-less c.args.set.now c.args.doc.now c.args.kept.now c.settle_at.new.kept c.args.at.now c.requires.place c.in_ok-settle_at.ensures.settled c.requires.midway.1.beside c.in_ok-settle_at.ensures.beside c.requires.midway.1.made c.requires.counted
+
+pub count_in-requires-clause-fewer : goal.count_in-requires-clause-fewer
+count_in-requires-clause-fewer g c =
+    fewer-less c.args.set.now c.args.doc.now c.args.kept.now c.settle_at.new.kept c.args.at.now c.requires.place c.in_ok-settle_at.ensures.settled c.requires.midway.1.beside c.in_ok-settle_at.ensures.beside c.requires.midway.1.made c.requires.counted
+
+pub returns-clause-midway : goal.returns-clause-midway
+returns-clause-midway g c = λ was m.
+    let written =
+        count-written c.args.set.now c.args.doc.now c.args.kept.now c.settle_at.new.kept c.args.at.now c.requires.place c.in_ok-settle_at.ensures.settled c.requires.midway.1.beside c.in_ok-settle_at.ensures.beside c.requires.midway.1.made c.count_in.new.kept c.outcome.result c.outcome.ensures c.requires.counted c.count_in.ensures.change in
+    let is =
+        count-is c.args.set.now c.args.doc.now c.args.kept.now c.settle_at.new.kept c.args.at.now c.requires.place c.in_ok-settle_at.ensures.settled c.requires.midway.1.beside c.in_ok-settle_at.ensures.beside c.requires.midway.1.made c.count_in.new.kept c.outcome.result c.outcome.ensures c.requires.counted c.count_in.ensures.change in
+    let counts = with_outcome c.outcome.result (made-parent c.args.set.now c.args.doc.now c.args.kept.now c.settle_at.new.kept c.args.at.now c.requires.place c.in_ok-settle_at.ensures.settled c.requires.midway.1.beside c.in_ok-settle_at.ensures.beside c.requires.midway.1.made).0.counts in
+    settled-midway c.args.set.now c.args.doc.now c.args.kept.now c.settle_at.new.kept c.args.at.now c.requires.place c.in_ok-settle_at.ensures.settled c.requires.midway.1.beside c.in_ok-settle_at.ensures.beside c.requires.midway.1.made c.count_in.new.kept counts written is
+    (c.count_in.ensures.booked c.in_ok-settle_at.ensures.beside.booked) c.in_ok-settle_at.ensures.fit was [] m
+
+pub returns-clause-attributed : goal.returns-clause-attributed
+returns-clause-attributed g c =
+    let written =
+        count-written c.args.set.now c.args.doc.now c.args.kept.now c.settle_at.new.kept c.args.at.now c.requires.place c.in_ok-settle_at.ensures.settled c.requires.midway.1.beside c.in_ok-settle_at.ensures.beside c.requires.midway.1.made c.count_in.new.kept c.outcome.result c.outcome.ensures c.requires.counted c.count_in.ensures.change in
+    let is =
+        count-is c.args.set.now c.args.doc.now c.args.kept.now c.settle_at.new.kept c.args.at.now c.requires.place c.in_ok-settle_at.ensures.settled c.requires.midway.1.beside c.in_ok-settle_at.ensures.beside c.requires.midway.1.made c.count_in.new.kept c.outcome.result c.outcome.ensures c.requires.counted c.count_in.ensures.change in
+    let counts = with_outcome c.outcome.result (made-parent c.args.set.now c.args.doc.now c.args.kept.now c.settle_at.new.kept c.args.at.now c.requires.place c.in_ok-settle_at.ensures.settled c.requires.midway.1.beside c.in_ok-settle_at.ensures.beside c.requires.midway.1.made).0.counts in
+    settled-attributed c.args.set.now c.args.doc.now c.args.kept.now c.settle_at.new.kept c.args.at.now c.requires.place c.in_ok-settle_at.ensures.settled c.requires.midway.1.beside c.in_ok-settle_at.ensures.beside c.requires.midway.1.made c.count_in.new.kept counts written is c.requires.attributed
+
+pub returns-clause-counted : goal.returns-clause-counted
+returns-clause-counted g c =
+    let written =
+        count-written c.args.set.now c.args.doc.now c.args.kept.now c.settle_at.new.kept c.args.at.now c.requires.place c.in_ok-settle_at.ensures.settled c.requires.midway.1.beside c.in_ok-settle_at.ensures.beside c.requires.midway.1.made c.count_in.new.kept c.outcome.result c.outcome.ensures c.requires.counted c.count_in.ensures.change in
+    let is =
+        count-is c.args.set.now c.args.doc.now c.args.kept.now c.settle_at.new.kept c.args.at.now c.requires.place c.in_ok-settle_at.ensures.settled c.requires.midway.1.beside c.in_ok-settle_at.ensures.beside c.requires.midway.1.made c.count_in.new.kept c.outcome.result c.outcome.ensures c.requires.counted c.count_in.ensures.change in
+    let counts = with_outcome c.outcome.result (made-parent c.args.set.now c.args.doc.now c.args.kept.now c.settle_at.new.kept c.args.at.now c.requires.place c.in_ok-settle_at.ensures.settled c.requires.midway.1.beside c.in_ok-settle_at.ensures.beside c.requires.midway.1.made).0.counts in
+    counted-all c.args.set.now c.args.doc.now c.args.kept.now c.settle_at.new.kept c.args.at.now c.requires.place c.in_ok-settle_at.ensures.settled c.requires.midway.1.beside c.in_ok-settle_at.ensures.beside c.requires.midway.1.made c.count_in.new.kept counts written is c.requires.counted
+
+pub returns-clause-given : goal.returns-clause-given
+returns-clause-given g c =
+    let written =
+        count-written c.args.set.now c.args.doc.now c.args.kept.now c.settle_at.new.kept c.args.at.now c.requires.place c.in_ok-settle_at.ensures.settled c.requires.midway.1.beside c.in_ok-settle_at.ensures.beside c.requires.midway.1.made c.count_in.new.kept c.outcome.result c.outcome.ensures c.requires.counted c.count_in.ensures.change in
+    let is =
+        count-is c.args.set.now c.args.doc.now c.args.kept.now c.settle_at.new.kept c.args.at.now c.requires.place c.in_ok-settle_at.ensures.settled c.requires.midway.1.beside c.in_ok-settle_at.ensures.beside c.requires.midway.1.made c.count_in.new.kept c.outcome.result c.outcome.ensures c.requires.counted c.count_in.ensures.change in
+    let counts = with_outcome c.outcome.result (made-parent c.args.set.now c.args.doc.now c.args.kept.now c.settle_at.new.kept c.args.at.now c.requires.place c.in_ok-settle_at.ensures.settled c.requires.midway.1.beside c.in_ok-settle_at.ensures.beside c.requires.midway.1.made).0.counts in
+    settled-given c.args.set.now c.args.doc.now c.args.kept.now c.settle_at.new.kept c.args.at.now c.requires.place c.in_ok-settle_at.ensures.settled c.requires.midway.1.beside c.in_ok-settle_at.ensures.beside c.requires.midway.1.made c.count_in.new.kept counts written is
+
+pub returns-clause-pair : goal.returns-clause-pair
+returns-clause-pair g c =
+    let written =
+        count-written c.args.set.now c.args.doc.now c.args.kept.now c.settle_at.new.kept c.args.at.now c.requires.place c.in_ok-settle_at.ensures.settled c.requires.midway.1.beside c.in_ok-settle_at.ensures.beside c.requires.midway.1.made c.count_in.new.kept c.outcome.result c.outcome.ensures c.requires.counted c.count_in.ensures.change in
+    let is =
+        count-is c.args.set.now c.args.doc.now c.args.kept.now c.settle_at.new.kept c.args.at.now c.requires.place c.in_ok-settle_at.ensures.settled c.requires.midway.1.beside c.in_ok-settle_at.ensures.beside c.requires.midway.1.made c.count_in.new.kept c.outcome.result c.outcome.ensures c.requires.counted c.count_in.ensures.change in
+    let counts = with_outcome c.outcome.result (made-parent c.args.set.now c.args.doc.now c.args.kept.now c.settle_at.new.kept c.args.at.now c.requires.place c.in_ok-settle_at.ensures.settled c.requires.midway.1.beside c.in_ok-settle_at.ensures.beside c.requires.midway.1.made).0.counts in
+    settled-pair c.args.set.now c.args.doc.now c.args.kept.now c.settle_at.new.kept c.args.at.now c.requires.place c.in_ok-settle_at.ensures.settled c.requires.midway.1.beside c.in_ok-settle_at.ensures.beside c.requires.midway.1.made c.count_in.new.kept counts written is
+
+pub returns-clause-left : goal.returns-clause-left
+returns-clause-left g c =
+    let written =
+        count-written c.args.set.now c.args.doc.now c.args.kept.now c.settle_at.new.kept c.args.at.now c.requires.place c.in_ok-settle_at.ensures.settled c.requires.midway.1.beside c.in_ok-settle_at.ensures.beside c.requires.midway.1.made c.count_in.new.kept c.outcome.result c.outcome.ensures c.requires.counted c.count_in.ensures.change in
+    let is =
+        count-is c.args.set.now c.args.doc.now c.args.kept.now c.settle_at.new.kept c.args.at.now c.requires.place c.in_ok-settle_at.ensures.settled c.requires.midway.1.beside c.in_ok-settle_at.ensures.beside c.requires.midway.1.made c.count_in.new.kept c.outcome.result c.outcome.ensures c.requires.counted c.count_in.ensures.change in
+    let counts = with_outcome c.outcome.result (made-parent c.args.set.now c.args.doc.now c.args.kept.now c.settle_at.new.kept c.args.at.now c.requires.place c.in_ok-settle_at.ensures.settled c.requires.midway.1.beside c.in_ok-settle_at.ensures.beside c.requires.midway.1.made).0.counts in
+    settled-left c.args.set.now c.args.doc.now c.args.kept.now c.settle_at.new.kept c.args.at.now c.requires.place c.in_ok-settle_at.ensures.settled c.requires.midway.1.beside c.in_ok-settle_at.ensures.beside c.requires.midway.1.made c.count_in.new.kept counts written is c.args.steps.now c.settle_at.new.steps c.in_ok-settle_at.ensures.left
