@@ -53,9 +53,9 @@ edit_logged t u log h d e edit back sound g can tree same is ok means =
 
 -- ---- the step that is taken
 
-match_weaker : {A P : Type 0} (o : Option A) (Q R : A → Type 0) → ((x : A) → Q x → R x) → MatchOption o P Q → MatchOption o P R
-match_weaker None Q R f m = m
-match_weaker (Some x) Q R f m = f x m
+match_weaker : {A : Type 0} (P : Type 0) (o : Option A) (Q R : A → Type 0) → ((x : A) → Q x → R x) → MatchOption o P Q → MatchOption o P R
+match_weaker P None Q R f m = m
+match_weaker P (Some x) Q R f m = f x m
 
 goes : (t : NameTable) (d : Document) (h g : History Forest) (step : Change) (answered : Change → Type 0) → IsTree d → h.present ≡ d.forest
     → Leads t d.next_free step h.present g.present → ((back : Change) → Leads t d.next_free back g.present h.present → answered back) → GoesTo t d step g answered
@@ -77,8 +77,8 @@ goes t d h g step answered tree same leads answer =
 module _ (t : NameTable) (log : Log Change) (h : History Forest) (d : Document) (tree : IsTree d) (same : h.present ≡ d.forest) (is : IsLogOf (Leads t d.next_free) log h) where
   pub undo_logged : MatchOption (last_item log.past) (undone h ≡ None) (λ step. (g : History Forest) × (undone h ≡ Some g)
       × GoesTo t d step g (λ back. IsLogOf (Leads t d.next_free) (with_undo_answered (with_undo_taken log) back) g))
-  undo_logged = match_weaker (last_item log.past) _ _ (λ step q. (q.0, q.1, goes t d h q.0 step _ tree same q.2 q.3)) (undone_on (Leads t d.next_free) log h is)
+  undo_logged = match_weaker (undone h ≡ None) (last_item log.past) _ _ (λ step q. (q.0, q.1, goes t d h q.0 step _ tree same q.2 q.3)) (undone_on (Leads t d.next_free) log h is)
 
   pub redo_logged : MatchOption (slice_get log.future 0) (redone h ≡ None) (λ step. (g : History Forest) × (redone h ≡ Some g)
       × GoesTo t d step g (λ back. IsLogOf (Leads t d.next_free) (with_redo_answered (with_redo_taken log) back) g))
-  redo_logged = match_weaker (slice_get log.future 0) _ _ (λ step q. (q.0, q.1, goes t d h q.0 step _ tree same q.2 q.3)) (redone_on (Leads t d.next_free) log h is)
+  redo_logged = match_weaker (redone h ≡ None) (slice_get log.future 0) _ _ (λ step q. (q.0, q.1, goes t d h q.0 step _ tree same q.2 q.3)) (redone_on (Leads t d.next_free) log h is)

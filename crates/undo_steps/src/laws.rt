@@ -36,7 +36,7 @@ pub fn edits_are_logged()
 pub fn undos_are_logged()
     ensures { (t : NameTable) (log : Log Change) (h : History Forest) (d : Document) → IsTree d → h.present ≡ d.forest → IsLogOf (Leads t d.next_free) log h
         → MatchOption (last_item log.past) (undone h ≡ None) (λ step. (g : History Forest) × (undone h ≡ Some g)
-            × GoesTo t d step g (λ back. IsLogOf (Leads t d.next_free) (with_undo_answered (with_undo_taken log) back) g)) }
+        × GoesTo t d step g (λ back. IsLogOf (Leads t d.next_free) (with_undo_answered (with_undo_taken log) back) g)) }
 {}
 
 /// The step that a log gives to be redone can be made of the present document, gives the one that was undone last, and is answered
@@ -44,5 +44,5 @@ pub fn undos_are_logged()
 pub fn redos_are_logged()
     ensures { (t : NameTable) (log : Log Change) (h : History Forest) (d : Document) → IsTree d → h.present ≡ d.forest → IsLogOf (Leads t d.next_free) log h
         → MatchOption (slice_get log.future 0) (redone h ≡ None) (λ step. (g : History Forest) × (redone h ≡ Some g)
-            × GoesTo t d step g (λ back. IsLogOf (Leads t d.next_free) (with_redo_answered (with_redo_taken log) back) g)) }
+        × GoesTo t d step g (λ back. IsLogOf (Leads t d.next_free) (with_redo_answered (with_redo_taken log) back) g)) }
 {}
