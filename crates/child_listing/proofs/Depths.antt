@@ -1,9 +1,8 @@
 -- The depths of elements, and how many child elements they have.
-use Rattle.std.proofs.Common.{◌≡◌, ◌≢◌, ◌⊎◌, ℕ, zero, suc, ◌+◌, ◌<◌, ◌≤◌, ◌^◌, List, [], ◌∷◌, length, Bool, true, false, Option, None, Some, refl, sym, ap, ◌∙◌, subst, inl, inr, arith}
-use Rattle.std.specs.Prelude.{max, nat_eq, filter}
+use Rattle.std.proofs.Common.{◌≡◌, ℕ, zero, suc, ◌+◌, ◌<◌, ◌≤◌, ◌^◌, List, [], ◌∷◌, length, true, Option, None, Some, refl, sym, ap, ◌∙◌, subst, inl, inr, arith}
+use Rattle.std.specs.Prelude.{nat_eq, filter}
 use Rattle.std.specs.List.{IsDistinct}
 use Rattle.std.specs.Option.{option_and_then}
-use Rattle.std.proofs.lemmas.Bool.{cases_lt}
 use Rattle.std.proofs.lemmas.Option.{none-some}
 use Rattle.xs_names.specs.Names.{NameTable}
 use Rattle.tree_rows.specs.Forest.{Forest, none, text, element, Document, deepest_of}
@@ -11,12 +10,12 @@ use Rattle.tree_rows.specs.Whole.{HasRoot}
 use Rattle.tree_rows.specs.declared.limits.TheConstants.{MAX_DEPTH}
 use Rattle.assessment.specs.Local.{HasElement}
 use Rattle.leaf_trees.proofs.FreeSlots.{In, distinct_more, few_below}
-use Rattle.doc_nodes.specs.Nodes.{Node, Nodes, node, IsNode, Has, Lacks, Distinct, IsSound, depth_by, children_by, is_element, is_element_by, is_element_at, element_children}
+use Rattle.doc_nodes.specs.Nodes.{Node, Nodes, node, IsNode, Has, Distinct, IsSound, depth_by, children_by, is_element, is_element_by, is_element_at, element_children}
 use Rattle.doc_nodes.proofs.Among.{lacks-has}
 use Rattle.doc_changes.specs.Held.{parent_at}
 use Rattle.doc_changes.specs.Stands.{StandFor, StandsFor, firsts}
 use Rattle.doc_documents.proofs.Reading.{depth_below}
-use Rattle.kept_records.proofs.Nodes.{has-element, root-there, there, by-node}
+use Rattle.kept_records.proofs.Nodes.{has-element, root-there, there}
 use Rattle.child_listing.proofs.Distinct.{distinct-filter, filtered}
 use Rattle.child_listing.proofs.Parents.{parent-of}
 

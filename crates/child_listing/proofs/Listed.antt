@@ -1,5 +1,5 @@
 -- The child elements of an element with their names, and what governs each.
-use Rattle.std.proofs.Common.{◌≡◌, ◌⊎◌, ℕ, zero, suc, ◌+◌, ◌<◌, ◌≤◌, ◌^◌, List, [], ◌∷◌, ◌++◌, map, take, cond, length, min, append-nil, All, Bool, true, false, Option, None, Some, get_or, refl, sym, ap, ◌∙◌, subst, inl, inr, arith, add-one}
+use Rattle.std.proofs.Common.{◌≡◌, ℕ, zero, suc, ◌+◌, ◌<◌, ◌≤◌, ◌^◌, List, [], ◌∷◌, ◌++◌, map, take, cond, length, min, append-nil, All, true, false, Option, None, Some, get_or, refl, sym, ap, ◌∙◌, subst, inl, inr, arith}
 use Rattle.std.specs.Prelude.{filter, slice_get, slice_index_or, unwrap_or}
 use Rattle.std.specs.Option.{option_and_then}
 use Rattle.std.specs.List.{range_with_len}
@@ -18,7 +18,7 @@ use Rattle.model_terms.specs.Terms.{stuck_in, term_in, terms_in}
 use Rattle.model_lists.specs.Lists.{ListsView, IsListOf, IsLive}
 use Rattle.model_lists.specs.declared.handle.ModelList.{ModelList}
 use Rattle.child_terms.specs.declared.attribution.Attribution.{Attribution}
-use Rattle.doc_nodes.specs.Nodes.{Node, Nodes, node, Has, IsSound, children_by, is_element, is_element_by, is_element_at, element_children}
+use Rattle.doc_nodes.specs.Nodes.{Node, Nodes, node, Has, children_by, is_element, is_element_by, is_element_at, element_children}
 use Rattle.doc_nodes.specs.declared.content.Content.{Content}
 use Rattle.doc_nodes.specs.declared.content.Content.TheVariants as contents
 use Rattle.doc_changes.specs.Held.{name_in}
@@ -31,7 +31,7 @@ use Rattle.kept_records.specs.Books.{HaveOwnLists}
 use Rattle.kept_state.specs.Kept.{CanGovern}
 use Rattle.kept_state.specs.declared.element.Governed.{Governed}
 use Rattle.kept_state.specs.declared.state.KeptState.{KeptState}
-use Rattle.kept_judging.specs.Judged.{symbols_by, given_pair, pair_by}
+use Rattle.kept_judging.specs.Judged.{symbols_by, given_pair}
 use Rattle.kept_judging.proofs.Heads.{element-kind}
 use Rattle.child_listing.specs.Children.{IsSpare, IsFresh, AreListed, AreGoverned, IsListing}
 use Rattle.child_listing.specs.declared.listing.Listing.{Listing}

@@ -1,10 +1,10 @@
 -- The symbols of child elements, by the content model of their parent's type.
-use Rattle.std.proofs.Common.{◌≡◌, ℕ, List, [], ◌∷◌, map, length, Option, None, Some, refl, sym, ap, ◌∙◌, subst}
+use Rattle.std.proofs.Common.{◌≡◌, ℕ, List, [], ◌∷◌, map, length, Option, None, Some, refl, ap, subst}
 use Rattle.std.proofs.lemmas.List.{length-map}
 use Rattle.xs_names.specs.Names.{NameTable}
 use Rattle.xs_components.specs.declared.common.TypeId.{TypeId}
 use Rattle.content_automaton.specs.Symbols.{AreNamesOf, symbol_of}
-use Rattle.content_automaton.specs.Terms.{ExpandedName, name_at}
+use Rattle.content_automaton.specs.Terms.{name_at}
 use Rattle.content_models.specs.Built.{symbols_of}
 use Rattle.content_models.specs.declared.automaton.ContentAutomaton.{ContentAutomaton}
 use Rattle.assessment.specs.Attribution.{content_particle}

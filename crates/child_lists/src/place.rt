@@ -40,6 +40,14 @@ pub fn place_of(doc: &DocTree, node: u32) -> Option<ChildPlace>
     }
 }
 
+// The list of an element's child elements.
+fn list_at(kept: &KeptState, node: u32) -> Option<ModelList>
+    requires { IsMade kept.now.records.slots node }
+    ensures { result ≡ (kept_at kept.now.records.slots node).list }
+{
+    kept.children(node).list
+}
+
 /// The list of an element's child elements and the automaton of its content model, where its type has one.
 pub fn list_of<'a>(
     set: &'a Compiled,
@@ -51,7 +59,11 @@ pub fn list_of<'a>(
         (((kept_at kept.now.records.slots node).list ≡ None) ⊎ (family.model_of set.now kept.now node ≡ None))
         (λ found. ((kept_at kept.now.records.slots node).list ≡ Some found.0) × (family.model_of set.now kept.now node ≡ Some found.1.now)) }
 {
-    let list = kept.children(node).list?;
-    let automaton = model_of(set, kept.pair(node).of)?;
-    Some((list, automaton))
+    match list_at(kept, node) {
+        None => None,
+        Some(list) => match model_of(set, kept.pair(node).of) {
+            None => None,
+            Some(automaton) => Some((list, automaton)),
+        },
+    }
 }

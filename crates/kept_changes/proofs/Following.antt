@@ -30,7 +30,7 @@ use Rattle.kept_children.specs.Edited.{IsRightFor, IsRenamed}
 use Rattle.kept_changes.specs.Own.{Retexts, Reattributes, Renames, IsRetexted, IsReattributed, IsNamedAnew}
 use Rattle.kept_changes.specs.Spots.{IsRemoval, IsSpot, HasCome, HasChangedAt, TakesSpot}
 use Rattle.kept_children.specs.Steps.{width}
-use Rattle.kept_changes.specs.Steps.{Takes, TakesAway, TakesBelow}
+use Rattle.kept_changes.specs.Steps.{Takes, TakesName, TakesAway, TakesBelow}
 use Rattle.kept_changes.specs.declared.change.Spot.{Spot}
 use Rattle.kept_changes.specs.declared.change.Spot.TheVariants.{Planted, Pruned, Retexted, Attributed, Renamed}
 use Rattle.kept_changes.proofs.Changed.{text-held, element-reattributed, element-renamed, text-planted, text-pruned}
@@ -161,6 +161,10 @@ module _ (c : Compiled) (old new : Nodes) (k : KeptState) (r : IsRightFor c old 
   named : (key name : ℕ) (h : HoldsElement old key) → IsMade c.names old new (changes.Rename key name) → IsNamedAnew c new k key
   named key name h made = record { old = old; right = r; node = h.it; is = h.is; element = h.e; content = h.holds; name = name; holds = made h.it h.e h.is h.holds }
 
+  named-parent : (key name : ℕ) (h : HoldsElement old key) → IsMade c.names old new (changes.Rename key name) → parent_at new key ≡ parent_at old key
+  unfolding named
+  named-parent key name h made = (renames-of c new k key (named key name h made)).elements.parents key (ap is_element_by h.is ∙ ap is_element h.holds)
+
   pub changed-at : (change : Change) (spot : Spot) → IsSpot old change spot → ((n : ℕ) → spot ≡ Pruned n → ⊥) → CanMake c.names old d change → IsMade c.names old new change → HasChangedAt c new k spot
   changed-at (changes.Insert parent index part) spot is here can made = subst (HasChangedAt c new k) (sym is.0) (came c old new k r d z sound parent index part is.1 can.0 made)
   changed-at (changes.AddText parent index chars) spot is here can made = subst (HasChangedAt c new k) (sym is) (added parent index chars can made)
@@ -187,7 +191,8 @@ module _ (c : Compiled) (old new : Nodes) (k : KeptState) (r : IsRightFor c old 
     takes-change (changes.AddText parent index chars) spot is here can made takes = subst (λ (x : Spot). TakesSpot c new k x first last) is takes
     takes-change (changes.SetText key chars) spot is here can made takes = subst (λ (x : Spot). TakesSpot c new k x first last) is.2 takes
     takes-change (changes.Remove key) spot is here can made takes = removed-takes key spot is here takes
-    takes-change (changes.Rename key name) spot is here can made takes = subst (λ (x : Spot). TakesSpot c new k x first last) is takes
+    takes-change (changes.Rename key name) spot is here can made takes =
+        subst (λ (o : Option ℕ). TakesName c new k key o first last) (named-parent key name (holds_element old key can.0) made) (subst (λ (x : Spot). TakesSpot c new k x first last) is takes)
     takes-change (changes.SetAttr key name value) spot is here can made takes = subst (λ (x : Spot). TakesSpot c new k x first last) is takes
     takes-change (changes.UnsetAttr key name) spot is here can made takes = subst (λ (x : Spot). TakesSpot c new k x first last) is takes
 

@@ -118,13 +118,15 @@ fn prune<L: Ledger>(
     ensures least { steps.old ≤ steps.new }
     ensures steps { (parent : ℕ) → parent_at doc.old node ≡ Some parent → TakesBelow set.old doc.new kept.old parent (width doc.new parent + 1) steps.old steps.new }
 {
-    let Some(at) = place_of(doc, node) else {
-        unreachable!()
-    };
-    let outcome = kept.outcome(node);
-    forget_below(doc, kept, node);
-    doc.remove(node);
-    take_child(doc, set, kept, (&at, outcome), steps)
+    match place_of(doc, node) {
+        None => unreachable!(),
+        Some(at) => {
+            let outcome = kept.outcome(node);
+            forget_below(doc, kept, node);
+            doc.remove(node);
+            take_child(doc, set, kept, (&at, outcome), steps)
+        }
+    }
 }
 
 // Keeps a part that was put into the document. The steps are those of `put_child`.

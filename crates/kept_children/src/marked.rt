@@ -93,10 +93,16 @@ fn marked_at(
         (slice_get (places_of set.now doc.now kept.now parent) number ≡ None)
         (λ found. IsPlaceOf doc.now (record { parent = parent; place = found.0; node = found.1 }) × (slice_get (places_of set.now doc.now kept.now parent) number ≡ Some found.0)) }
 {
-    let (list, _) = list_of(set, kept, parent)?;
-    let place = kept.lists.marked(list, number)?;
-    let node = doc.element_at(parent, place)?;
-    Some((place, node))
+    match list_of(set, kept, parent) {
+        None => None,
+        Some((list, _)) => match kept.lists.marked(list, number) {
+            None => None,
+            Some(place) => match doc.element_at(parent, place) {
+                None => None,
+                Some(node) => Some((place, node)),
+            },
+        },
+    }
 }
 
 /// Governs the child elements of an element whose names are ambivalent again. It takes at most `8 * (bits(n + 1) + 1)` steps for each of

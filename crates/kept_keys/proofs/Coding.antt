@@ -16,7 +16,7 @@ abbrev pub seen_times : ℕ → KeyForest → ℕ
 seen_times n none = 0
 seen_times n (element own below next) = (if own.number == n then 1 else 0) + (seen_times n below + seen_times n next)
 
-abbrev weight : Bool → ℕ
+abbrev pub weight : Bool → ℕ
 weight b = if b then 1 else 0
 
 module _ (names : NameTable) (t : Tables) (identities : List IdentityPaths) where

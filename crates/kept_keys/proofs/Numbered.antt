@@ -1,5 +1,5 @@
 -- The numbers of elements as they are seen, where what is kept of each has its number.
-use Rattle.std.proofs.Common.{◌≡◌, ℕ, ◌+◌, ◌≤◌, ◌==◌, if◌then◌else◌, ◌++◌, All, refl, sym, ap, ◌∙◌, subst, inl, inr, arith}
+use Rattle.std.proofs.Common.{◌≡◌, ℕ, ◌≤◌, ◌==◌, ◌++◌, All, refl, sym, ap, ◌∙◌, subst, inl, inr, arith}
 use Rattle.std.proofs.lemmas.List.Elements.{All-nil, All-cons, All-append}
 use Rattle.tree_rows.specs.Forest.{Forest, none, text, element}
 use Rattle.tree_rows.specs.Whole.{times}
@@ -9,7 +9,7 @@ use Rattle.doc_nodes.specs.Nodes.{Nodes, Lacks}
 use Rattle.kept_records.specs.Slots.{KeptSlots, entry_at}
 use Rattle.kept_records.specs.Found.{found_in}
 use Rattle.kept_keys.specs.Seen.{numbers_in}
-use Rattle.kept_keys.proofs.Coding.{seen_times}
+use Rattle.kept_keys.proofs.Coding.{seen_times, weight}
 use Rattle.kept_keys.proofs.Lists.{lacks-left, lacks-right}
 
 module _ (ns : Nodes) (ks : KeptSlots) where
@@ -21,7 +21,7 @@ module _ (ns : Nodes) (ks : KeptSlots) where
   seen-few none are n = omega arith
   seen-few (text number chars next) are n = let later = seen-few next are n in omega (arith, later)
   seen-few (element number name bindings attributes children next) are n =
-      let own = ap (λ (m : ℕ). if m == n then 1 else 0) (are number (inl refl)) in
+      let own = ap (λ (m : ℕ). weight (m == n)) (are number (inl refl)) in
       let below = seen-few children (λ m h. are m (inr (inl h))) n in
       let later = seen-few next (λ m h. are m (inr (inr h))) n in
       omega (arith, own, below, later)

@@ -26,10 +26,10 @@ if-both : (b : Bool) → (if b then no-found else no-found) ≡ no-found
 if-both true = refl
 if-both false = refl
 
-module _ (names : NameTable) (t : Tables) (identities : List IdentityPaths) (no : t.constraints.parts ≡ []) where
+module _ (names : NameTable) (t : Tables) (identities : List IdentityPaths) (bare : t.constraints.parts ≡ []) where
   no-code : (own : KeyElement) (below : KeyForest) (ks : List ℕ) → flat_map (λ k. codes_by names t identities k (slice_get t.constraints.parts k) own below) ks ≡ []
   no-code own below [] = refl
-  no-code own below (k ∷ ks) = (λ i. codes_by names t identities k (slice_get (no i) k) own below ++ no-code own below ks i)
+  no-code own below (k ∷ ks) = (λ i. codes_by names t identities k (slice_get (bare i) k) own below ++ no-code own below ks i)
 
   no-codes : (own : KeyElement) (below : KeyForest) → identity_codes names t identities own below ≡ []
   unfolding identity_codes
@@ -45,5 +45,5 @@ module _ (names : NameTable) (t : Tables) (identities : List IdentityPaths) (no 
 
 -- a usable set has a path for each of them
 pub none-coded : (c : Compiled) → IsUsable c → c.identities.items ≡ [] → (f : KeyForest) (n : ℕ) → codes_at c f n ≡ []
-none-coded c usable no f n =
-    none-at c.names c.parts c.identities.items (no-parts c.parts.constraints.parts (subst (λ (paths : List IdentityPaths). AreIdentities c.parts paths) no usable.identities_are)) n f
+none-coded c usable bare f n =
+    none-at c.names c.parts c.identities.items (no-parts c.parts.constraints.parts (subst (λ (paths : List IdentityPaths). AreIdentities c.parts paths) bare usable.identities_are)) n f

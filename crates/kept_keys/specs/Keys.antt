@@ -26,7 +26,7 @@ pub record KeepsElements (old new : KeptState) : Type 0 where
   pub made : (n : ℕ) → IsMade old.records.slots n ↔ IsMade new.records.slots n
   pub pairs : (n : ℕ) → pair_at new.records.slots n ≡ pair_at old.records.slots n
 
--- and with the same codes
+-- something is kept of the same elements, governed as before and with the same codes
 pub record KeepsCodes (old new : KeptState) : Type 0 where
   pub elements : KeepsElements old new
   pub identity : (n : ℕ) → (kept_at new.records.slots n).identity ≡ (kept_at old.records.slots n).identity

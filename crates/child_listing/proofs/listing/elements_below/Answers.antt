@@ -1,4 +1,4 @@
-use Rattle.std.proofs.Common.{◌≡◌, ◌++◌, List, [], ◌∷◌, get_or, sym, ap, ◌∙◌}
+use Rattle.std.proofs.Common.{sym, ◌∙◌}
 use Rattle.child_listing.proofs.Listed.{named-more, nameless-more}
 use Rattle.child_listing.proofs.listing.elements_below.Goals as goal
 use Rattle.child_listing.proofs.listing.elements_below.Goals.{in-Some+in_ok-push, in_default}

@@ -1,4 +1,4 @@
-use Rattle.std.proofs.Common.{◌≡◌, None, map, length, slice_index_or, refl, sym, ap, ◌∙◌}
+use Rattle.std.proofs.Common.{None, map, length, slice_index_or, refl, sym, ap, ◌∙◌}
 use Rattle.compiled_schema.specs.Usable.{set_of}
 use Rattle.kept_records.specs.Fit.{head_at}
 use Rattle.kept_judging.specs.Judged.{given_pair}
@@ -31,5 +31,5 @@ returns-clause-listing g c =
     c.in_ok-children.children.items
     (c.in_ok-children.ensures.nodes ∙ ap (map (λ e. e.0)) (c.as_slice-2.ensures.value ∙ sym c.as_slice.ensures.value))
     (λ place child e. c.in_ok-children.ensures.pairs place child e
-        ∙ ap (λ ts. given_pair (set_of c.args.set.now) c.args.parent.now.pair (slice_index_or ts place None) (head_at (set_of c.args.set.now) c.args.doc.now child.node)) c.as_slice-3.ensures.value)
+    ∙ ap (λ ts. given_pair (set_of c.args.set.now) c.args.parent.now.pair (slice_index_or ts place None) (head_at (set_of c.args.set.now) c.args.doc.now child.node)) c.as_slice-3.ensures.value)
     c.in_ok-children.ensures.governed _ refl refl refl

@@ -11,12 +11,12 @@ use Rattle.child_lists.proofs.lists.relist_child.Goals as goal
 pub list_of-requires : goal.list_of-requires
 list_of-requires g c = c.requires.midway.2.made
 
-pub returns-in-None-clause-listed : goal.returns-in-None-clause-listed
-returns-in-None-clause-listed g c =
+pub returns-in_default-clause-listed : goal.returns-in_default-clause-listed
+returns-in_default-clause-listed g c =
     let k = c.args.kept.now in
     let p = c.args.at.now.parent in
     let symbols = symbols_of c.args.set.now c.args.doc.now k p in
-    unlisted-any k.lists (model_of c.args.set.now k p) (kept_at k.records.slots p).list (slice_set symbols c.args.at.now.place c.requires.listed.0) symbols c.in-None.ensures c.requires.listed.1
+    unlisted-any k.lists (model_of c.args.set.now k p) (kept_at k.records.slots p).list (slice_set symbols c.args.at.now.place c.requires.listed.0) symbols c.in_default.ensures c.requires.listed.1
 
 pub listed-child-requires-clause-usable : goal.listed-child-requires-clause-usable
 listed-child-requires-clause-usable g c = c.requires.midway.2.beside.over.1.usable

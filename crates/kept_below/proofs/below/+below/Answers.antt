@@ -1,13 +1,13 @@
 use Rattle.std.proofs.Common.{◌≡◌, ◌≢◌, ◌+◌, ◌*◌, ◌<◌, ◌≤◌, ℕ, suc, List, [], ◌∷◌, map, take, drop, length, get_or, Option, Some, None, true, false, refl, sym, ap, subst, ◌∙◌, add-one, arith}
 use Rattle.std.specs.Prelude.{slice_get, unwrap_or}
 use Rattle.std.specs.Option.{option_map}
+use Rattle.std.proofs.lemmas.Bool.{false≢true}
 use Rattle.std.proofs.lemmas.List.{take_all, length-map}
 use Rattle.std.proofs.lemmas.Option.{slice_get-get_or, slice_get-map}
 use Rattle.tree_rows.specs.Forest.{Forest}
 use Rattle.assess_records.specs.Counts.{with_child, counts_of, child_count, attempt_count}
 use Rattle.assess_records.specs.declared.counts.ChildCounts.{ChildCounts}
 use Rattle.elem_governing.specs.declared.pairs.Governing.{Governing}
-use Rattle.elem_governing.specs.declared.pairs.Mode.TheVariants.{Strict}
 use Rattle.compiled_schema.specs.declared.compiled.Compiled.{Compiled}
 use Rattle.doc_nodes.specs.Nodes.{Nodes, Has, Lacks, IsSound, node, depth_by, element_children}
 use Rattle.doc_documents.specs.Readers.{element_numbers}
@@ -33,10 +33,6 @@ use Rattle.kept_below.proofs.Keeping.{spare-kept}
 use Rattle.kept_below.proofs.Moving.{CountsOwn, counts-own, not-typed, room-first, room-ended, HasRoom}
 use Rattle.kept_below.proofs.below.+below.Goals as goal
 
--- what is read past the end
-abbrev zero-child : Governed
-zero-child = record { node = 0; pair = record { declaration = None; of = None; mode = Strict } }
-
 -- ---- all child elements
 
 pub settle_all-settle_below-requires : goal.settle_all-settle_below-requires
@@ -48,8 +44,8 @@ settle_all-settle_below-requires g t c κs within =
     let inv = c.loop-child.invariant in
     let r = c.requires.fit in
     let sound = c.requires.beside.over.1.stands.links in
-    let child = get_or cs i zero-child in
-    let here = slice_get-get_or cs i zero-child c.loop-child-test.true in (
+    let child = c.child-item.result in
+    let here = slice_get-get_or cs i child c.loop-child-test.true ∙ ap Some (sym c.child-item.is) in (
       (let less = one-less set ns sound r.0 cs r.2 i child here in omega (arith, c.decreases, less)),
       (
         within,
@@ -106,8 +102,8 @@ settle_all-loop-child-preserved g t c =
     let inv = c.loop-child.invariant in
     let r = c.requires.fit in
     let sound = c.requires.beside.over.1.stands.links in
-    let child = get_or cs i zero-child in
-    let here = slice_get-get_or cs i zero-child c.loop-child-test.true in
+    let child = c.child-item.result in
+    let here = slice_get-get_or cs i child c.loop-child-test.true ∙ ap Some (sym c.child-item.is) in
     let a = c.loop-child.kept in
     let b = c.settle_below.new.kept in
     let done = c.in_ok-settle_below.ensures in
@@ -143,8 +139,8 @@ settle_all-returns-in_err-settle_below-clause-steps g t c = λ siblings governs 
     let i = c.loop-child.child-index in
     let inv = c.loop-child.invariant in
     let r = c.requires.fit in
-    let child = get_or cs i zero-child in
-    let here = slice_get-get_or cs i zero-child c.loop-child-test.true in
+    let child = c.child-item.result in
+    let here = slice_get-get_or cs i child c.loop-child-test.true ∙ ap Some (sym c.child-item.is) in
     steps-stopped set ns c.requires.beside.over.1.stands.links r.0 cs r.2 governs i child here c.loop-child.kept.records.slots c.loop-child.kept.records.slots c.loop-child.steps c.settle_below.new.steps
     (c.args.steps.now + 3 * moved c.args.kept.now.records.slots governs siblings) (inv.steps siblings governs down are so)
     (λ f given numbers. c.in_err-settle_below.ensures.steps f governs (subst (λ (s : Compiled). AreGivenDown s ns governs f) (sym inv.same) given) numbers (so child (has-place number cs i child here)))
@@ -182,7 +178,7 @@ settle_children-settle_all-requires g t c κs within =
     let set = c.args.set.now in
     let ns = c.args.doc.now in
     let old = c.args.kept.now in
-    let mid = c.list_children-listing.new.kept in
+    let mid = c.list_children.new.kept in
     let parent = c.args.parent.now in
     let over = c.requires.beside.over in
     let sound = over.1.stands.links in
@@ -205,7 +201,7 @@ settle_children-settle_all-requires g t c κs within =
 pub settle_children-returns-in_err-listing-clause-steps : goal.settle_children-returns-in_err-listing-clause-steps
 settle_children-returns-in_err-listing-clause-steps g t c = λ siblings governs down are given.
     let many = ap length are in
-    omega (arith, many, c.list_children-listing.ensures.steps)
+    omega (arith, many, c.list_children.ensures.steps)
 
 pub settle_children-returns-in_err-counts-clause-steps : goal.settle_children-returns-in_err-counts-clause-steps
 settle_children-returns-in_err-counts-clause-steps g t c = λ siblings governs down are given.
@@ -213,7 +209,7 @@ settle_children-returns-in_err-counts-clause-steps g t c = λ siblings governs d
     let more = c.in_err-counts.ensures.steps siblings governs down (are ∙ sym all.0) all.1 in
     let many = ap length are in
     let same = ap (λ (k : KeptState). moved k.records.slots governs siblings) c.in_ok-listing.ensures.rest in
-    let first = c.list_children-listing.ensures.steps in
+    let first = c.list_children.ensures.steps in
     omega (arith, many, first, more, same)
 
 pub settle_children-returns : goal.settle_children-returns
@@ -221,8 +217,8 @@ settle_children-returns g t c =
     let set = c.args.set.now in
     let ns = c.args.doc.now in
     let old = c.args.kept.now in
-    let mid = c.list_children-listing.new.kept in
-    let new = c.settle_all-counts.new.kept in
+    let mid = c.list_children.new.kept in
+    let new = c.settle_all.new.kept in
     let parent = c.args.parent.now in
     let listed = c.in_ok-listing.ensures in
     let done = c.in_ok-counts.ensures in
@@ -238,13 +234,13 @@ settle_children-returns g t c =
       rest = keeps-then (IsBelow ns parent.node) old mid new (keeps-lists (IsBelow ns parent.node) old mid listed.rest listed.others) below;
       beside = done.beside;
       same = done.same;
-      least = omega (arith, c.list_children-listing.ensures.least, done.least);
+      least = omega (arith, c.list_children.ensures.least, done.least);
       steps = λ siblings governs down numbers given.
           let all = settled-given set ns parent governs c.as_slice.result.now are given in
           let more = done.steps siblings governs down (numbers ∙ sym all.0) all.1 in
           let many = ap length numbers in
           let same = ap (λ (k : KeptState). moved k.records.slots governs siblings) listed.rest in
-          let first = c.list_children-listing.ensures.steps in
+          let first = c.list_children.ensures.steps in
           omega (arith, many, first, more, same);
     }
 
@@ -275,7 +271,7 @@ settle_below-settle_again-requires g t c κs within =
 
 pub settle_below-returns-then-is_governed-clause-settled : goal.settle_below-returns-then-is_governed-clause-settled
 settle_below-returns-then-is_governed-clause-settled g t c =
-    let so = c.if-is_governed.ensures.0 tt in
+    let so = c.if-is_governed.ensures.0 refl in
     settled-same c.args.doc.now c.args.kept.now c.args.element.now so.0 so.1
 
 pub settle_below-returns-clause-fit : goal.settle_below-returns-clause-fit
@@ -293,7 +289,7 @@ settle_again-returns-then-is_typed-clause-settled g t c =
 
 pub settle_again-returns-then-is_typed-clause-fit : goal.settle_again-returns-then-is_typed-clause-fit
 settle_again-returns-then-is_typed-clause-fit g t c =
-    let typed = c.if-is_typed.ensures.0 tt in
+    let typed = c.if-is_typed.ensures.0 refl in
     on-both c.judge.result _ _ _
     (λ anew beside. typed-fit c.args.set.now c.args.doc.now c.args.element.now c.args.kept.now c.judge.new.kept anew c.requires.beside c.requires.governed typed.0 typed.1 (c.requires.gathered typed.0 typed.1) beside)
     c.judge.ensures.judged c.judge.ensures.beside
@@ -302,16 +298,16 @@ pub settle_again-returns-clause-settled : goal.settle_again-returns-clause-settl
 settle_again-returns-clause-settled g t c =
     let done = c.in_ok-children.ensures in
     on-one c.keep_anew.result _ _
-    (λ made. anew-settled c.args.set.now c.args.doc.now c.args.element.now c.in_ok-children.children c.args.kept.now c.settle_children-children.new.kept c.keep_anew.new.kept done.rest
-    (subst (λ (s : Compiled). IsMadeAnew s c.args.doc.now c.settle_children-children.new.kept c.keep_anew.new.kept c.args.element.now c.in_ok-children.children) done.same made) done.fresh)
+    (λ made. anew-settled c.args.set.now c.args.doc.now c.args.element.now c.in_ok-children.children c.args.kept.now c.settle_children.new.kept c.keep_anew.new.kept done.rest
+    (subst (λ (s : Compiled). IsMadeAnew s c.args.doc.now c.settle_children.new.kept c.keep_anew.new.kept c.args.element.now c.in_ok-children.children) done.same made) done.fresh)
     c.keep_anew.ensures.made
 
 pub settle_again-returns-clause-fit : goal.settle_again-returns-clause-fit
 settle_again-returns-clause-fit g t c =
     let done = c.in_ok-children.ensures in
     on-one c.keep_anew.result _ _
-    (λ made. anew-fits c.args.set.now c.args.doc.now c.args.element.now c.in_ok-children.children c.args.kept.now c.settle_children-children.new.kept c.keep_anew.new.kept done.rest
-    (subst (λ (s : Compiled). IsMadeAnew s c.args.doc.now c.settle_children-children.new.kept c.keep_anew.new.kept c.args.element.now c.in_ok-children.children) done.same made) done.beside done.spare done.children done.fit)
+    (λ made. anew-fits c.args.set.now c.args.doc.now c.args.element.now c.in_ok-children.children c.args.kept.now c.settle_children.new.kept c.keep_anew.new.kept done.rest
+    (subst (λ (s : Compiled). IsMadeAnew s c.args.doc.now c.settle_children.new.kept c.keep_anew.new.kept c.args.element.now c.in_ok-children.children) done.same made) done.beside done.spare done.children done.fit)
     c.keep_anew.ensures.made
 
 pub settle_again-returns-clause-beside : goal.settle_again-returns-clause-beside
@@ -331,15 +327,15 @@ other-steps set ns k element old new other steps siblings governs down are so =
     omega (arith, more, fewer)
 
 pub settle_again-judge-requires-clause-made : goal.settle_again-judge-requires-clause-made
-settle_again-judge-requires-clause-made g t c = (c.if-is_typed.ensures.0 tt).0
+settle_again-judge-requires-clause-made g t c = (c.if-is_typed.ensures.0 refl).0
 
 pub settle_again-judge-requires-clause-text : goal.settle_again-judge-requires-clause-text
-settle_again-judge-requires-clause-text g t c = let typed = c.if-is_typed.ensures.0 tt in (c.requires.gathered typed.0 typed.1).text_is
+settle_again-judge-requires-clause-text g t c = let typed = c.if-is_typed.ensures.0 refl in (c.requires.gathered typed.0 typed.1).text_is
 
 pub settle_again-keep_anew-requires-clause-beside : goal.settle_again-keep_anew-requires-clause-beside
 settle_again-keep_anew-requires-clause-beside g t c =
     let done = c.in_ok-children.ensures in
-    subst (λ (s : Compiled). IsBeside s c.args.doc.now c.settle_children-children.new.kept) (sym done.same) done.beside
+    subst (λ (s : Compiled). IsBeside s c.args.doc.now c.settle_children.new.kept) (sym done.same) done.beside
 
 pub settle_again-keep_anew-requires-clause-governed : goal.settle_again-keep_anew-requires-clause-governed
 settle_again-keep_anew-requires-clause-governed g t c = subst (λ (s : Compiled). CanGovern s.parts c.args.element.now.pair) (sym c.in_ok-children.ensures.same) c.requires.governed
@@ -349,14 +345,14 @@ settle_again-returns-clause-same g t c = c.keep_anew.ensures.same ∙ c.in_ok-ch
 
 pub settle_again-returns-in_err-children-clause-steps : goal.settle_again-returns-in_err-children-clause-steps
 settle_again-returns-in_err-children-clause-steps g t c =
-    other-steps c.args.set.now c.args.doc.now c.args.kept.now c.args.element.now c.args.steps.now c.settle_children-children.new.steps
+    other-steps c.args.set.now c.args.doc.now c.args.kept.now c.args.element.now c.args.steps.now c.settle_children.new.steps
     (not-typed (at c.args.kept.now.records.slots c.args.element.now.node) c.args.element.now.pair.of
-    (λ k e q. c.if-is_typed.ensures.1 ((k, e), ap (λ o. (unwrap_or o blank).found.governing.of) e ∙ q)))
+    (λ k e q. false≢true (c.if-is_typed.ensures.1 ((k, e), ap (λ o. (unwrap_or o blank).found.governing.of) e ∙ q))))
     c.in_err-children.ensures.steps
 
 pub settle_again-returns-clause-steps : goal.settle_again-returns-clause-steps
 settle_again-returns-clause-steps g t c =
-    other-steps c.args.set.now c.args.doc.now c.args.kept.now c.args.element.now c.args.steps.now c.settle_children-children.new.steps
+    other-steps c.args.set.now c.args.doc.now c.args.kept.now c.args.element.now c.args.steps.now c.settle_children.new.steps
     (not-typed (at c.args.kept.now.records.slots c.args.element.now.node) c.args.element.now.pair.of
-    (λ k e q. c.if-is_typed.ensures.1 ((k, e), ap (λ o. (unwrap_or o blank).found.governing.of) e ∙ q)))
+    (λ k e q. false≢true (c.if-is_typed.ensures.1 ((k, e), ap (λ o. (unwrap_or o blank).found.governing.of) e ∙ q))))
     c.in_ok-children.ensures.steps

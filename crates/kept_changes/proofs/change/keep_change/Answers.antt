@@ -42,34 +42,34 @@ returns-in-Pruned-clause-reach g c = λ d z.
 pub follow-requires-clause-beside : goal.follow-requires-clause-beside
 follow-requires-clause-beside g c =
     let q = c.requires.can in
-    let stands = c.in_ok-make.ensures.made q.0 q.1 in
+    let stands = c.in_ok-make-in_default.ensures.made q.0 q.1 in
     subst (λ (set : Compiled). IsBeside set c.make.new.doc c.args.kept.now) (sym c.make.ensures.same)
-    (changed-beside c.args.set.now c.make.new.doc c.args.kept.now (changed c.args.set.now.names q.0 c.args.change) c.in_default.spot stands
-    (changed-at c.args.set.now c.args.doc.now c.make.new.doc c.args.kept.now c.requires.right q.0 q.1 stands.links c.args.change c.in_default.spot c.in_default.ensures c.in_default.not-Pruned q.2 c.in_ok-make.ensures.nodes))
+    (changed-beside c.args.set.now c.make.new.doc c.args.kept.now (changed c.args.set.now.names q.0 c.args.change) c.spot_of.result stands
+    (changed-at c.args.set.now c.args.doc.now c.make.new.doc c.args.kept.now c.requires.right q.0 q.1 stands.links c.args.change c.spot_of.result c.spot_of.ensures c.in_default.not-Pruned q.2 c.in_ok-make-in_default.ensures.nodes))
 
 pub follow-requires-clause-changed : goal.follow-requires-clause-changed
 follow-requires-clause-changed g c =
     let q = c.requires.can in
-    let stands = c.in_ok-make.ensures.made q.0 q.1 in
-    subst (λ (set : Compiled). HasChangedAt set c.make.new.doc c.args.kept.now c.in_default.spot) (sym c.make.ensures.same)
-    (changed-at c.args.set.now c.args.doc.now c.make.new.doc c.args.kept.now c.requires.right q.0 q.1 stands.links c.args.change c.in_default.spot c.in_default.ensures c.in_default.not-Pruned q.2 c.in_ok-make.ensures.nodes)
+    let stands = c.in_ok-make-in_default.ensures.made q.0 q.1 in
+    subst (λ (set : Compiled). HasChangedAt set c.make.new.doc c.args.kept.now c.spot_of.result) (sym c.make.ensures.same)
+    (changed-at c.args.set.now c.args.doc.now c.make.new.doc c.args.kept.now c.requires.right q.0 q.1 stands.links c.args.change c.spot_of.result c.spot_of.ensures c.in_default.not-Pruned q.2 c.in_ok-make-in_default.ensures.nodes)
 
-pub returns-clause-right : goal.returns-clause-right
-returns-clause-right g c = subst (λ (set : Compiled). OnOk c.follow.result (IsRightFor set c.make.new.doc c.follow.new.kept)) c.make.ensures.same c.follow.ensures.right
+pub returns-in_ok-make-in_default-clause-right : goal.returns-in_ok-make-in_default-clause-right
+returns-in_ok-make-in_default-clause-right g c = subst (λ (set : Compiled). OnOk c.follow.result (IsRightFor set c.make.new.doc c.follow.new.kept)) c.make.ensures.same c.follow.ensures.right
 
-pub returns-clause-made : goal.returns-clause-made
-returns-clause-made g c = ok-of c.follow.result c.in_ok-make.ensures.made
+pub returns-in_ok-make-in_default-clause-made : goal.returns-in_ok-make-in_default-clause-made
+returns-in_ok-make-in_default-clause-made g c = ok-of c.follow.result c.in_ok-make-in_default.ensures.made
 
-pub returns-clause-reach : goal.returns-clause-reach
-returns-clause-reach g c = λ d z.
+pub returns-in_ok-make-in_default-clause-reach : goal.returns-in_ok-make-in_default-clause-reach
+returns-in_ok-make-in_default-clause-reach g c = λ d z.
     let q = c.requires.can in
-    let stands = c.in_ok-make.ensures.made q.0 q.1 in
-    let takes = subst (λ (set : Compiled). TakesSpot set c.make.new.doc c.args.kept.now c.in_default.spot c.args.steps.now c.follow.new.steps) c.make.ensures.same c.follow.ensures.steps in
+    let stands = c.in_ok-make-in_default.ensures.made q.0 q.1 in
+    let takes = subst (λ (set : Compiled). TakesSpot set c.make.new.doc c.args.kept.now c.spot_of.result c.args.steps.now c.follow.new.steps) c.make.ensures.same c.follow.ensures.steps in
     inr (
-      c.in_ok-make.ensures.made d z,
-      takes-change c.args.set.now c.args.doc.now c.make.new.doc c.args.kept.now c.requires.right q.0 q.1 stands.links c.args.steps.now c.follow.new.steps c.args.change c.in_default.spot c.in_default.ensures c.in_default.not-Pruned
-      q.2 c.in_ok-make.ensures.nodes takes,
+      c.in_ok-make-in_default.ensures.made d z,
+      takes-change c.args.set.now c.args.doc.now c.make.new.doc c.args.kept.now c.requires.right q.0 q.1 stands.links c.args.steps.now c.follow.new.steps c.args.change c.spot_of.result c.spot_of.ensures c.in_default.not-Pruned
+      q.2 c.in_ok-make-in_default.ensures.nodes takes,
     )
 
-pub returns-in_err-make-clause-reach : goal.returns-in_err-make-clause-reach
-returns-in_err-make-clause-reach g c = λ d z. inl (c.in_err-make.ensures.err, refl)
+pub returns-in_err-make-in_default-clause-reach : goal.returns-in_err-make-in_default-clause-reach
+returns-in_err-make-in_default-clause-reach g c = λ d z. inl (c.in_err-make-in_default.ensures.err, refl)

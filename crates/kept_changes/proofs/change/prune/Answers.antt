@@ -14,8 +14,8 @@ use Rattle.kept_changes.proofs.Reread.{right-made}
 use Rattle.kept_changes.proofs.Gone.{gone-beside, gone-pruned, gone-takes}
 use Rattle.kept_changes.proofs.change.prune.Goals as goal
 
-pub place_of-at-requires : goal.place_of-at-requires
-place_of-at-requires g c = c.requires.element
+pub place_of-requires : goal.place_of-requires
+place_of-requires g c = c.requires.element
 
 pub unreachable-requires : goal.unreachable-requires
 unreachable-requires g c = c.requires.below c.in-None.ensures

@@ -1,6 +1,7 @@
 use Rattle.std.proofs.Common.{◌≡◌, ◌+◌, ◌*◌, ◌≤◌, [], sym, ap, subst, ◌∙◌}
 use Rattle.std.proofs.lemmas.Result.{on_ok_weaker}
 use Rattle.compiled_schema.specs.declared.compiled.Compiled.{Compiled}
+use Rattle.doc_nodes.specs.Nodes.{element_children}
 use Rattle.kept_records.specs.Slots.{pair_at}
 use Rattle.kept_state.specs.Kept.{children_at}
 use Rattle.kept_state.specs.declared.children.KeptChildren.{KeptChildren}
@@ -61,7 +62,8 @@ settle_rest-requires-clause-attributed g c = c.note_stuck.ensures.attributed
 
 pub settle_rest-requires-clause-counted : goal.settle_rest-requires-clause-counted
 settle_rest-requires-clause-counted g c =
-    c.note_stuck.ensures.counted _ (taken-all c.args.set.now c.args.doc.now c.args.kept.now c.args.taken.0.now c.args.taken.1 c.requires.beside c.requires.pruned c.unlist_child.new.kept c.unlist_child.ensures.records c.count_out.new.kept c.count_out.ensures.change)
+    c.note_stuck.ensures.counted (element_children c.args.doc.now c.args.taken.0.now.parent)
+    (taken-all c.args.set.now c.args.doc.now c.args.kept.now c.args.taken.0.now c.args.taken.1 c.requires.beside c.requires.pruned c.unlist_child.new.kept c.unlist_child.ensures.records c.count_out.new.kept c.count_out.ensures.change)
 
 pub settle_rest-requires-clause-given : goal.settle_rest-requires-clause-given
 settle_rest-requires-clause-given g c =

@@ -26,7 +26,7 @@ left-preserved g t c =
     let next_size = ap size c.next-left.ensures in
     record {
       fewer = omega (arith, sizes, fewer, next_size);
-      so_far = numbers-next (forest l.left) (forest c.below.result) (forest c.next-left.result) first l.numbers.items c.push.new.self.items c.add_numbers.new.numbers.items _
+      so_far = numbers-next (forest l.left) (forest c.below.result) (forest c.next-left.result) first l.numbers.items c.push.new.self.items c.add_numbers.new.numbers.items (c.args.numbers.now.items ++ numbers_in (forest c.args.siblings))
           c.in-Some.ensures c.below.ensures c.next-left.ensures c.in_ok-push.ensures.items c.in_ok-add_numbers.ensures l.invariant.so_far;
     }
 

@@ -37,7 +37,7 @@ left-init c =
       elements = elements-same k;
       made = subst (All (IsMade k.records.slots)) (sym (all.ensures.numbers over.0 over.1))
           (all-numbers ns k.records.slots (IsMade k.records.slots) over.0.forest (numbered set ns k c.requires over.0 over.1) (there-made set ns k c.requires over.0 over.1));
-      coded = λ d o. coded-none set ns k c.requires d o all.numbers.items all.codes.items (all.ensures.numbers d o) (all.ensures.codes d o);
+      coded = λ d o. coded-none set ns k c.requires d o all.field-0.numbers.items all.field-0.codes.items (all.ensures.numbers d o) (all.ensures.codes d o);
     }
 
 -- there are as many numbers as codes
@@ -45,7 +45,7 @@ pub unreachable-requires : goal.unreachable-requires
 unreachable-requires c =
     let over = c.requires.beside.over in
     coded-short c.args.set.now (seen (found_in c.args.doc.now c.args.kept.now.records.slots over.0.forest)) c.left.kept c.left.numbers.items c.left.codes.items c.pop.new.self.items c.in-Some.own
-    (nil_from_length c.left.numbers.items (omega (arith, c.in_default-2.ensures.cases.0, c.left.numbers.ok.0))) c.in-Some.ensures.items (c.left.invariant.coded over.0 over.1)
+    (nil_from_length c.left.numbers.items (omega (arith, c.in_default-pop.ensures.cases.0, c.left.numbers.ok.0))) c.in-Some.ensures.items (c.left.invariant.coded over.0 over.1)
 
 pub settle_scope-requires-clause-some : goal.settle_scope-requires-clause-some
 settle_scope-requires-clause-some c =
@@ -57,8 +57,8 @@ settle_scope-requires-clause-some c =
 pub settle_scope-requires-clause-made : goal.settle_scope-requires-clause-made
 settle_scope-requires-clause-made c =
     let slots = c.args.kept.now.records.slots in
-    (c.left.invariant.elements.made c.in-Some-2.node).0
-    (All-pop (IsMade slots) c.left.numbers.items c.pop-2.new.self.items (Some c.in-Some-2.node) c.in-Some-2.ensures.items c.left.invariant.made).1
+    (c.left.invariant.elements.made c.in-Some-pop.node).0
+    (All-pop (IsMade slots) c.left.numbers.items c.pop-in-Some.new.self.items (Some c.in-Some-pop.node) c.in-Some-pop.ensures.items c.left.invariant.made).1
 
 pub left-preserved : goal.left-preserved
 left-preserved c =
@@ -72,13 +72,16 @@ left-preserved c =
       same = c.settle_scope.ensures.same ∙ l.invariant.same;
       whole = subst (λ (s : Compiled). IsWhole s ns new) (sym c.settle_scope.ensures.same) c.in_ok-settle_scope.ensures.whole;
       elements = elements-again old l.kept new l.invariant.elements coded.elements;
-      made = (All-pop (IsMade old.records.slots) l.numbers.items c.pop-2.new.self.items (Some c.in-Some-2.node) c.in-Some-2.ensures.items l.invariant.made).0;
+      made = (All-pop (IsMade old.records.slots) l.numbers.items c.pop-in-Some.new.self.items (Some c.in-Some-pop.node) c.in-Some-pop.ensures.items l.invariant.made).0;
       coded = λ d o.
-          coded-more set (seen (found_in ns old.records.slots d.forest)) l.kept new l.numbers.items c.pop-2.new.self.items l.codes.items c.pop.new.self.items c.in-Some-2.node c.in-Some.own
-          c.in-Some-2.ensures.items c.in-Some.ensures.items coded (l.invariant.coded d o);
+          coded-more set (seen (found_in ns old.records.slots d.forest)) l.kept new l.numbers.items c.pop-in-Some.new.self.items l.codes.items c.pop.new.self.items c.in-Some-pop.node c.in-Some.own
+          c.in-Some-pop.ensures.items c.in-Some.ensures.items coded (l.invariant.coded d o);
     }
 
 -- none waits
+pub returns-clause-whole : goal.returns-clause-whole
+returns-clause-whole c = subst (λ (s : Compiled). IsWhole s c.args.doc.now c.left.kept) c.left.invariant.same c.left.invariant.whole
+
 pub returns-clause-coded : goal.returns-clause-coded
 returns-clause-coded c = λ d over.
     let set = c.args.set.now in

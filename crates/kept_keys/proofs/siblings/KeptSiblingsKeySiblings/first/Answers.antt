@@ -1,7 +1,7 @@
 use Rattle.std.proofs.Common.{sym, subst}
 use Rattle.identity_constraints.specs.Seen.{KeyForest}
 use Rattle.path_walk.specs.Sight.{IsFirst, seen}
-use Rattle.kept_keys.specs.Seen.{elements_under, siblings_of}
+use Rattle.kept_keys.specs.Seen.{elements_under}
 use Rattle.kept_keys.proofs.Firsts.{first-is}
 use Rattle.kept_keys.proofs.siblings.KeptSiblingsKeySiblings.first.Goals as goal
 

@@ -1,6 +1,6 @@
 use Rattle.std.proofs.Common.{sym, ap}
 use Rattle.path_walk.specs.Sight.{behind_first}
-use Rattle.kept_keys.specs.Seen.{elements_under, siblings_of}
+use Rattle.kept_keys.specs.Seen.{elements_under}
 use Rattle.kept_keys.proofs.Firsts.{first-is}
 use Rattle.kept_keys.proofs.siblings.KeptSiblingsKeySiblings.next.Goals as goal
 
