@@ -223,12 +223,20 @@ module _ (L M : List ℕ → Type 0) (base n k : ℕ) (a b : Sets) (da : Describ
       begins_right p l h = elim ((or_begins L M p).1 h) [ inl g ↦ (let w = da.within p (begins_passes L p g) in absurd (omega arith)) | inr g ↦ g ]
 
       or_loop_left : (s : Span) → IsLoop L base n s → IsLoop (Or L M) base (n + k) s
-      or_loop_left s h = (h.0, (let a = h.1 in omega arith), λ p q x y e b. (or_follows L M p q).0 (inl (h.2 p q x y
-          (ends_left p (let a = h.1 in let c = x.1 in omega arith) e) (begins_left q (let a = h.1 in let c = y.1 in omega arith) b))))
+      or_loop_left s h = (
+        h.0,
+        (let a = h.1 in omega arith),
+        λ p q x y e b. (or_follows L M p q).0 (inl (h.2 p q x y
+            (ends_left p (let a = h.1 in let c = x.1 in omega arith) e) (begins_left q (let a = h.1 in let c = y.1 in omega arith) b))),
+      )
 
       or_loop_right : (s : Span) → IsLoop M (base + n) k s → IsLoop (Or L M) base (n + k) s
-      or_loop_right s h = ((let a = h.0 in omega arith), (let a = h.1 in omega arith), λ p q x y e b. (or_follows L M p q).0 (inr (h.2 p q x y
-          (ends_right p (let a = h.0 in let c = x.0 in omega arith) e) (begins_right q (let a = h.0 in let c = y.0 in omega arith) b))))
+      or_loop_right s h = (
+        (let a = h.0 in omega arith),
+        (let a = h.1 in omega arith),
+        λ p q x y e b. (or_follows L M p q).0 (inr (h.2 p q x y
+            (ends_right p (let a = h.0 in let c = x.0 in omega arith) e) (begins_right q (let a = h.0 in let c = y.0 in omega arith) b))),
+      )
 
   -- ---- a word of the one and then a word of the other
   module _ (x y : Bool) (s : Sets) (j : IsJoined base a x b y s) (lx : IsTrue x ↔ L []) (my : IsTrue y ↔ M []) (hl : HasWord L) (hm : HasWord M) where
@@ -303,12 +311,26 @@ module _ (L M : List ℕ → Type 0) (base n k : ℕ) (a b : Sets) (da : Describ
         join_begins_right p l h = elim (begins_join L M p h) [ inl g ↦ (let w = da.within p (begins_passes L p g.0) in absurd (omega arith)) | inr g ↦ g.1 ]
 
         join_loop_left : (s : Span) → IsLoop L base n s → IsLoop (Joins L M) base (n + k) s
-        join_loop_left s h = (h.0, (let a = h.1 in omega arith), λ p q x y e b. join_follows L M p q (inl (h.2 p q x y
-            (join_ends_left p (let a = h.1 in let c = x.1 in omega arith) e) (join_begins_left q (let a = h.1 in let c = y.1 in omega arith) b), hm)))
+        join_loop_left s h = (
+          h.0,
+          (let a = h.1 in omega arith),
+          λ p q x y e b. join_follows L M p q (inl (
+            h.2 p q x y
+                (join_ends_left p (let a = h.1 in let c = x.1 in omega arith) e) (join_begins_left q (let a = h.1 in let c = y.1 in omega arith) b),
+            hm,
+          )),
+        )
 
         join_loop_right : (s : Span) → IsLoop M (base + n) k s → IsLoop (Joins L M) base (n + k) s
-        join_loop_right s h = ((let a = h.0 in omega arith), (let a = h.1 in omega arith), λ p q x y e b. join_follows L M p q (inr (inr (hl, h.2 p q x y
-            (join_ends_right p (let a = h.0 in let c = x.0 in omega arith) e) (join_begins_right q (let a = h.0 in let c = y.0 in omega arith) b)))))
+        join_loop_right s h = (
+          (let a = h.0 in omega arith),
+          (let a = h.1 in omega arith),
+          λ p q x y e b. join_follows L M p q (inr (inr (
+            hl,
+            h.2 p q x y
+                (join_ends_right p (let a = h.0 in let c = x.0 in omega arith) e) (join_begins_right q (let a = h.0 in let c = y.0 in omega arith) b),
+          ))),
+        )
 
         first_if : (z : Bool) (p : ℕ) → Contains (if z then a.first ++ b.first else a.first) p ↔ (Contains a.first p ⊎ (IsTrue z × Contains b.first p))
         first_if true p = then_iff (Contains-both a.first b.first p) (both_iff ((λ h. h), (λ h. h)) ((λ h. (refl, h)), (λ h. h.1)))

@@ -35,9 +35,9 @@ module _ (tree : Tree) (inside : Inside) (part : Part) (listed : inside.symbols.
     nullable = rw (rest.3, e) (empty_is tree 0);
     first = rw rest.0 d.first;
     last = rw rest.1 d.last;
-    follow = λ p q l. (let f = d.follow p q l in let m = sorted.members p q (let c = d.follow_count in omega arith) in
-        (rw zero-add at ((λ h. f.0 (m.0 h)), (λ h. m.1 (f.1 h)))));
-    useful = λ p l. (let f = d.useful p l in rw (rest.2, zero-add) at f);
+    follow = λ p q l. (let f = rw zero-add at (d.follow p q l) in let m = sorted.members p q (let c = d.follow_count in omega arith) in
+        ((λ h. f.0 (m.0 h)), (λ h. m.1 (f.1 h))));
+    useful = λ p l. rw rest.2 (let f = d.useful p l in rw zero-add at f);
     exchange = exchange tree 0;
     spelling = spelling_is tree inside.symbols.items listed;
     count = count_is;
@@ -58,7 +58,7 @@ rows_small tree part old new d small e s =
     let a = length-map new (λ (v : Vec ℕ Global). v.items) in
     let b = length-map old (λ (v : Vec ℕ Global). v.items) in
     let c = s.count in
-    let f = d.follow_count in
+    let f : length (lists part.follow.items) ≡ size tree = d.follow_count in
     let g = length-map part.follow.items (λ (v : Vec ℕ Global). v.items) in
     let h = ap length e in
     omega arith

@@ -118,3 +118,17 @@ taken_few old new was numbers one n a made few =
     let e = length_push was n in
     let f = ap length made in
     omega arith
+
+-- copies of rows and of their numbers
+pub cloned_there : (rows copy : List (Vec ℕ Global)) (numbers same : List ℕ) → lists copy ≡ lists rows → same ≡ numbers → All (λ n. n < length rows) numbers →
+    All (λ n. n < length copy) same
+cloned_there rows copy numbers same e f there = rw f (λ k d l.
+    let a = length-map rows (λ (v : Vec ℕ Global). v.items) in
+    let b = length-map copy (λ (v : Vec ℕ Global). v.items) in
+    let c = ap length e in
+    let t = there k d l in
+    omega arith)
+
+pub cloned_rows : (rows copy : List (Vec ℕ Global)) (numbers same : List ℕ) → lists copy ≡ lists rows → same ≡ numbers →
+    rows_of (lists copy) same ≡ rows_of (lists rows) numbers
+cloned_rows rows copy numbers same e f = ap (rows_of (lists copy)) f ∙ ap (λ (xs : List (List ℕ)). rows_of xs numbers) e

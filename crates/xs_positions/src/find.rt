@@ -1,13 +1,15 @@
 //! The positions of an expression.
 
-ghost use Rattle.std.specs.Prelude.{◌≡◌, ℕ, ◌<◌, ◌↔◌, [], length, slice_index, slice_index_or, false, IfOk, IsErr, IsTrue};
+ghost use Rattle.std.specs.Prelude.{◌≡◌, ℕ, ◌<◌, ◌^◌, ◌↔◌, [], length, slice_index, slice_index_or, false, IfOk, IsErr, IsTrue};
 ghost use Rattle.xs_positions.specs.Tree.{size};
 ghost use Rattle.xs_positions.specs.Sets.{row};
 ghost use Rattle.xs_positions.specs.Nodes.{tree_at};
+ghost use Rattle.xs_positions.specs.Walk.{tree_in};
+ghost use Rattle.xs_positions.specs.Measures.{AreMeasured};
 ghost use Rattle.xs_positions.specs.Positions.{ArePositionsOf};
 
-use crate::expr::{Expr, ExprId};
-use crate::measures::measure_nodes;
+use crate::expr::{Expr, ExprId, Node};
+use crate::measures::{Measure, measure_nodes};
 use crate::sets::{Part, sorted};
 use crate::shared::{SharedRows, share_rows};
 use crate::symbols::list_symbols;
@@ -140,13 +142,29 @@ pub fn find_positions(
     if measures[root.index()].size > u64::from(limit) {
         return Ok(Err(PositionsError::TooMany));
     }
-    let symbols = list_symbols(alloc, nodes, &measures, root)?;
-    let mut sets = find_sets(alloc, nodes, &measures, root)?;
+    let positions = list_positions(alloc, nodes, &measures, root)?;
+    Ok(Ok(positions))
+}
+
+/// The positions of an expression that has few enough.
+fn list_positions(
+    alloc: Global,
+    nodes: &[Node],
+    measures: &[Measure],
+    root: ExprId,
+) -> Result<Positions, AllocError>
+    requires measured { AreMeasured nodes.now measures.now }
+    requires root { root < length nodes.now }
+    requires fits { size (tree_in nodes.now root) < 2 ^ 32 }
+    ensures { IfOk result (ArePositionsOf (tree_in nodes.now root)) }
+{
+    let symbols = list_symbols(alloc, nodes, measures, root)?;
+    let mut sets = find_sets(alloc, nodes, measures, root)?;
     let rows = mem::replace(&mut sets.follow, Vec::new(alloc));
     let follow = share_rows(alloc, sorted(rows))?;
-    Ok(Ok(Positions {
+    Ok(Positions {
         symbols,
         sets,
         follow,
-    }))
+    })
 }

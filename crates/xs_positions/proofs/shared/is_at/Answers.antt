@@ -9,6 +9,8 @@ returns-in-Some c = λ t.
     let known = c.in-Some.known.now in
     let at = c.in-Some.ensures.lookup in
     let there : c.args.number < length c.args.rows.now = at.3.0 in
-    let same : c.as_slice.result.now ≡ c.args.row.now = (slice_eq-Decides Decides-eqb _ _ _ c.eq.ensures).0 t in
-    (there, get_or-map (λ (v : Vec ℕ Global). v.items) c.args.rows.now c.args.number known [] there ∙
-    (ap (λ (v : Vec ℕ Global). v.items) (sym at.1) ∙ (sym c.as_slice.ensures.value ∙ same)))
+    let same : c.as_slice.result.now ≡ c.args.row.now = (slice_eq-Decides Decides-eqb _ _ _ c.eq.ensures).0 t in (
+      there,
+      get_or-map (λ (v : Vec ℕ Global). v.items) c.args.rows.now c.args.number known [] there ∙
+          (ap (λ (v : Vec ℕ Global). v.items) (sym at.1) ∙ (sym c.as_slice.ensures.value ∙ same)),
+    )
