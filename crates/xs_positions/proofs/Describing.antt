@@ -206,7 +206,7 @@ module _ (L M : List ℕ → Type 0) (base n k : ℕ) (a b : Sets) (da : Describ
     useful_count = length-append a.useful b.useful ∙ (let e = da.useful_count in let f = db.useful_count in omega arith);
     first_rises = firsts_rise;
     last_rises = lasts_rise;
-    loops = All-append a.loops b.loops
+    loops = All-append (IsLoop (Or L M) base (n + k)) a.loops b.loops
         (λ k x l. or_loop_left (get_or a.loops k x) (da.loops k x l)) (λ k x l. or_loop_right (get_or b.loops k x) (db.loops k x l));
   }
     where
@@ -294,7 +294,7 @@ module _ (L M : List ℕ → Type 0) (base n k : ℕ) (a b : Sets) (da : Describ
       useful_count = ap length j.useful ∙ (length-append a.useful b.useful ∙ (let e = da.useful_count in let f = db.useful_count in omega arith));
       first_rises = rw j.first (first_rises_if x);
       last_rises = rw j.last (last_rises_if y);
-      loops = rw j.loops (All-append a.loops b.loops
+      loops = rw j.loops (All-append (IsLoop (Joins L M) base (n + k)) a.loops b.loops
           (λ k x l. join_loop_left (get_or a.loops k x) (da.loops k x l)) (λ k x l. join_loop_right (get_or b.loops k x) (db.loops k x l)));
     }
       where

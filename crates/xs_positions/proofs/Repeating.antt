@@ -1,5 +1,5 @@
 -- The words of a repeat, by its copies in a row.
-use Rattle.std.proofs.Common.{◌≡◌, ℕ, zero, suc, ◌+◌, ◌-◌, ◌*◌, ◌<◌, ◌≤◌, min, max, ◌⊎◌, ◌↔◌, ◌||◌, ◌==◌, IsTrue, List, [], ◌∷◌, ◌++◌, Some, None, Contains, refl, ap, inl, inr, arith, append-nil, append_assoc, eqb-true, zero-add, suc-mul, mul-le-mul_right}
+use Rattle.std.proofs.Common.{◌≡◌, ℕ, zero, suc, ◌+◌, ◌-◌, ◌*◌, ◌<◌, ◌≤◌, min, max, ◌⊎◌, ◌↔◌, ◌||◌, ◌==◌, IsTrue, List, [], ◌∷◌, ◌++◌, Some, None, Contains, sym, refl, ap, ◌∙◌, inl, inr, arith, append-nil, append_assoc, eqb-true, zero-add, zero-mul, suc-mul, mul-le-mul_right}
 use Rattle.std.specs.List.Sorted.{IsStrictlyIncreasing}
 use Rattle.std.proofs.lemmas.Bool.{cases_lt, or_cases, or_left, or_right}
 use Rattle.xs_positions.specs.Tree.{Tree, repeat, size}

@@ -8,4 +8,4 @@ returns-then-is_at c =
     known_row c.args.rows.now.items c.args.row.items c.args.known is.0 is.1
 
 pub returns : goal.returns
-returns c = row_pushed c.args.rows.now.items c.push.new.self.items c.args.row c.len.result (c.len.ensures ∙ c.args.rows.now.ok.0) c.in_ok-push.ensures.items
+returns c = row_pushed c.args.rows.now.items c.push.new.self.items c.args.row c.len-number.result (c.len-number.ensures ∙ c.args.rows.now.ok.0) c.in_ok-push.ensures.items

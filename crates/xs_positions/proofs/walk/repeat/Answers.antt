@@ -1,4 +1,4 @@
-use Rattle.std.proofs.Common.{◌≡◌, Some, length, ap, ◌∙◌, arith}
+use Rattle.std.proofs.Common.{rules, ◌≡◌, Some, length, ap, ◌∙◌, arith}
 use Rattle.xs_positions.specs.Tree.{copies}
 use Rattle.xs_positions.proofs.Parting.{copies_count, counted_copies}
 use Rattle.xs_positions.proofs.Steps.{bounded_sets, once_sets}
@@ -9,13 +9,15 @@ find_copies-requires c = (c.requires.0, counted_copies c.args.base _ c.requires.
 
 pub swap_remove-requires : goal.swap_remove-requires
 swap_remove-requires c =
-    let e : c.args.max ≡ Some 1 = c.in-Some-eq1.is ∙ ap Some c.in-Some-eq1.field-0-test in
+    let one : c.in-Some-eq1.field-0 ≡ 1 = search rules in
+    let e : c.args.max ≡ Some 1 = c.in-Some-eq1.is ∙ ap Some one in
     let n : length c.args.parts.items ≡ 1 = copies_count c.args.base _ c.requires.0 c.args.parts.items c.requires.1.parts ∙ ap (copies c.args.min) e in
     omega (arith, n, c.args.parts.ok.0)
 
 pub returns-in-Some-eq1 : goal.returns-in-Some-eq1
 returns-in-Some-eq1 c = λ tree are.
-    let e : c.args.max ≡ Some 1 = c.in-Some-eq1.is ∙ ap Some c.in-Some-eq1.field-0-test in
+    let one : c.in-Some-eq1.field-0 ≡ 1 = ? in
+    let e : c.args.max ≡ Some 1 = c.in-Some-eq1.is ∙ ap Some one in
     once_sets tree c.args.base c.args.min c.args.max c.args.parts.items c.swap_remove.result e are c.swap_remove.ensures.value
 
 pub returns-in_ok-copies-in-Some : goal.returns-in_ok-copies-in-Some

@@ -19,3 +19,12 @@ returns-then-waits c =
       next = λ q. ((λ h. inl h), elim [ inl h ↦ h | inr h ↦ already q h ]);
       size = refl;
     }
+
+pub returns : goal.returns
+returns c =
+    let more = c.insert_all.ensures.members in
+    record {
+      done = (c.requires.within, λ q h. (more q).1 (inr (rw c.follow.ensures h)));
+      next = λ q. rw c.follow.ensures at (more q);
+      size = c.insert_all.ensures.size;
+    }
