@@ -16,7 +16,7 @@ swap_remove-requires c =
 
 pub returns-in-Some-eq1 : goal.returns-in-Some-eq1
 returns-in-Some-eq1 c = λ tree are.
-    let one : c.in-Some-eq1.field-0 ≡ 1 = ? in
+    let one : c.in-Some-eq1.field-0 ≡ 1 = search rules in
     let e : c.args.max ≡ Some 1 = c.in-Some-eq1.is ∙ ap Some one in
     once_sets tree c.args.base c.args.min c.args.max c.args.parts.items c.swap_remove.result e are c.swap_remove.ensures.value
 
