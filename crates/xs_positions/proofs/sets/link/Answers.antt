@@ -1,4 +1,3 @@
-use Rattle.std.proofs.Common.{◌≡◌, ◌++◌, ℕ}
 use Rattle.xs_positions.proofs.Rising.{Contains-both}
 use Rattle.xs_positions.proofs.Linking.{link_step}
 use Rattle.xs_positions.proofs.sets.link.Goals as goal
