@@ -93,6 +93,6 @@ pub done_within : (table : Table) (set : List Bool) (done : Option ℕ) → IfSo
 done_within table set None h = h
 done_within table set (Some q) h = h.0
 
-pub wait_already : (table : Table) (set : List Bool) (done : Option ℕ) (p q : ℕ) → IfSome done (AreWaiting table set) → done ≡ Some q → row table.follow q ≡ row table.follow p →
+pub wait_already : (table : Table) (set : List Bool) (waited : Option ℕ) (p q : ℕ) → IfSome waited (AreWaiting table set) → waited ≡ Some q → row table.follow q ≡ row table.follow p →
     (r : ℕ) → Contains (row table.follow p) r → Has set r
-wait_already table set done p q h e same r c = let w : AreWaiting table set q = rw e at h in w.1 r (rw same c)
+wait_already table set waited p q h e same r c = let w : AreWaiting table set q = rw e at h in w.1 r (rw same c)
