@@ -98,7 +98,7 @@ module _ (p : ℕ) (cs ds : Forest) where
     pub node_is : it.node ≡ element p name bindings attributes ds none
 
   apart : (n more : ℕ) → (if n == p then 1 else 0) + more ≤ 1 → 1 ≤ more → (n == p) ≡ false
-  apart n more few some = ne_eqb n p (λ e. let one : (if n == p then 1 else 0) ≡ 1 = ap (λ (b : Bool). if b then 1 else 0) (eq-eqb n p e) in absurd (omega (arith, few, some, one)))
+  apart n more few some = ne_eqb n p (λ e. let one : ◌≡◌ {A = ℕ} (if n == p then 1 else 0) 1 = ap (λ (b : Bool). if b then 1 else 0) (eq-eqb n p e) in absurd (omega (arith, few, some, one)))
 
   pub at-found : (f g : Forest) (depth : ℕ) → IsAt p cs ds f g → times p g ≤ 1 → IsFoundWith depth g
   at-found none g depth h few = absurd h

@@ -30,7 +30,7 @@ has-parts m (element n name bindings attributes children next) g (inr (inr h)) =
 module _ (key : ℕ) (change : Forest → Forest) (few : (node : Forest) (m : ℕ) → HasElement m (change node) → HasElement m node) where
   text-elements : (n : ℕ) (chars : List ℕ) (next : Forest) (m : ℕ) (b : Bool) → (HasElement m (replaced key change next) → HasElement m next) →
       HasElement m (if b then append (change (text n chars none)) next else text n chars (replaced key change next)) → HasElement m next
-  text-elements n chars next m true on h = elim (has-parts m (change (text n chars none)) next h) [ inl own ↦ few (text n chars none) m own | inr later ↦ later ]
+  text-elements n chars next m true on h = elim (has-parts m (change (text n chars none)) next h) [ inl own ↦ absurd (few (text n chars none) m own) | inr later ↦ later ]
   text-elements n chars next m false on h = on h
 
   element-elements : (n : ℕ) (name : Expanded) (bindings : List Binding) (attributes : List Attribute) (children next : Forest) (m : ℕ) (b x : Bool) →
@@ -68,8 +68,8 @@ attributed-elements change none m h = h
 attributed-elements change (text n chars next) m h = h
 attributed-elements change (element n name bindings attributes children next) m h = h
 
-pub gone-elements : (node : Forest) (m : ℕ) → HasElement m none → HasElement m node
-gone-elements node m h = absurd h
+pub gone-elements : (own : Forest) (m : ℕ) → HasElement m none → HasElement m own
+gone-elements own m h = absurd h
 
 -- an element whose attributes are others is there
 module _ (key : ℕ) (change : List Attribute → List Attribute) where

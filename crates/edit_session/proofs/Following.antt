@@ -118,7 +118,7 @@ module _ (k : ℕ → Kept) where
   -- another number stands before
   other-number : (number key more : ℕ) → (if number == key then 1 else 0) + more ≤ 1 → 1 ≤ more → (number ≡ key → ⊥)
   other-number number key more few some e =
-      let one : (if number == key then 1 else 0) ≡ 1 = ap (λ (b : Bool). if b then 1 else 0) (eq-eqb number key e) in
+      let one : ◌≡◌ {A = ℕ} (if number == key then 1 else 0) 1 = ap (λ (b : Bool). if b then 1 else 0) (eq-eqb number key e) in
       omega (arith, few, some, one)
 
   less : (key number more : ℕ) → (if number == key then 1 else 0) + more ≤ 1 → more ≤ 1
