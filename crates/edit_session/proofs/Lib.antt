@@ -1,3 +1,7 @@
+mod Results
 mod Following
 mod Standing
 mod Known
+mod Opening
+mod Editing
+mod Applying

@@ -1,0 +1,52 @@
+-- A session that was opened, and one that has made an edit.
+use Rattle.std.proofs.Common.{◌≡◌, ℕ, List, Bool, Result, Ok, Err, refl, sym, ap, ◌∙◌, subst}
+use Rattle.std.specs.Prelude.{false}
+use Rattle.tree_rows.specs.Forest.{Document}
+use Rattle.tree_edits.specs.Tests.{edited}
+use Rattle.tree_edits.specs.declared.edit.Edit.{Edit}
+use Rattle.tree_edits.specs.declared.edit.EditError.{EditError}
+use Rattle.assessment.specs.Assessment.{Entry, entries}
+use Rattle.assessment.specs.Attribution.{SchemaSet}
+use Rattle.compiled_schema.specs.Usable.{set_of}
+use Rattle.compiled_schema.specs.declared.compiled.Compiled.{Compiled}
+use Rattle.what_is_found.specs.IsFound.{IsFound}
+use Rattle.session_model.specs.Applying.{IsEdited}
+use Rattle.session_model.specs.Spending.{Counts, BreaksWithin}
+use Rattle.session_model.specs.State.{State, IsOpened, with_names, next_revision, opened, after_edit}
+use Rattle.doc_nodes.specs.Nodes.{Nodes}
+use Rattle.doc_changes.specs.Stands.{StandsFor}
+use Rattle.doc_documents.proofs.Levels.{document_is}
+use Rattle.kept_records.specs.Found.{found_in}
+use Rattle.kept_state.specs.declared.state.KeptState.{KeptState}
+use Rattle.edit_session.specs.Costs.{edit_cost}
+use Rattle.edit_session.specs.Edited.{IsDone}
+use Rattle.edit_session.specs.Held.{document_in, found_by, IsPresent, state_by}
+use Rattle.edit_session.proofs.Standing.{found-now}
+
+pub opened-so : (set : SchemaSet) (new : Compiled) (ns : Nodes) (k : KeptState) (d : Document) → StandsFor new.names ns d → IsPresent new ns k → set_of new ≡ with_names set d.forest → IsOpened set d (state_by new ns k 0 false)
+opened-so set new ns k d stands present named =
+    let is = document_is new.names ns d stands in
+    record {
+      found_is = subst (λ (s : SchemaSet). IsFound s d (found_by new ns k)) named (subst (λ (x : Document). IsFound (set_of new) x (found_by new ns k)) is (found-now new ns k present));
+      new_is = λ i. record { set = named i; document = is i; found = found_by new ns k; revision = 0; closed = false };
+    }
+
+module _ (old new : Compiled) (ns ms : Nodes) (k l : KeptState) (edit : Edit) (done : IsDone old new ns ms l edit) (revision : ℕ) (closed : Bool) where
+  abbrev before : State
+  before = state_by old ns k revision closed
+
+  found-so : IsFound (with_names (set_of old) (document_in new ms).forest) (document_in new ms) (found_by new ms l)
+  found-so = subst (λ (s : SchemaSet). IsFound s (document_in new ms) (found_by new ms l)) done.set_is (found-now new ms l done.present)
+
+  after-is : (next : ℕ) (shut : Bool) → next ≡ next_revision revision → shut ≡ false → state_by new ms l next shut ≡ after_edit before (document_in new ms) (found_by new ms l)
+  after-is next shut is open_now = λ i. record { set = done.set_is i; document = document_in new ms; found = found_by new ms l; revision = is i; closed = open_now i }
+
+  pub edited-so : (next : ℕ) (shut : Bool) → closed ≡ false → next ≡ next_revision revision → shut ≡ false → IsEdited before edit (state_by new ms l next shut)
+  edited-so next shut was is open_now = record { open_before = was; document_is = done.document_is; found_is = found-so; new_is = after-is next shut is open_now }
+
+  -- it counts no more than what is found then allows
+  pub spent-so : (next : ℕ) (shut : Bool) (first last : ℕ) → next ≡ next_revision revision → shut ≡ false → BreaksWithin edit_cost before edit (edited (document_in old ns) edit) first last →
+      Counts first last (edit_cost before edit (state_by new ms l next shut))
+  spent-so next shut first last is open_now within =
+      let made = subst (λ (r : Result Document EditError). BreaksWithin edit_cost before edit r first last) done.document_is within in
+      subst (λ (x : State). Counts first last (edit_cost before edit x)) (sym (after-is next shut is open_now)) (made (found_by new ms l) found-so)
