@@ -84,18 +84,16 @@ use Rattle.change_budgets.proofs.Shapes.{replaced-elements, named-elements, attr
 
 -- ---- what governs an element, by entries
 
-pair-of : Option Entry → Governing
+abbrev pair-of : Option Entry → Governing
 pair-of None = skipped
 pair-of (Some e) = e.governing
 
 governing-of : (es : List Entry) (n : ℕ) → governing_at es n ≡ pair-of (asking.entry_at n es)
-unfolding pair-of
 governing-of [] n = refl
 governing-of (e ∷ more) n = by (e.number == n) (governing-of more n)
   where
     by : (b : Bool) → governing_at more n ≡ pair-of (asking.entry_at n more) → (if b then e.governing else governing_at more n) ≡ pair-of (if b then Some e else asking.entry_at n more)
-    unfolding pair-of
-    by true r = refl
+        by true r = refl
     by false r = r
 
 kind-by : (o : Option Node) → option_map (λ (it : Node). kind_in it.content) o ≡ Some kinds.Element → is_element_by o ≡ true
@@ -153,8 +151,7 @@ module _ (c : Compiled) (old : Nodes) (k : KeptState) (d : Document) (right : Is
   old-governed = assessed-governed s said d (found_in old ks d.forest) z.tree (assessed c old ks k.lists k.root_ids d settled said (record { identity = λ n made. refl; ids = λ n made. refl }))
 
   before-is : (n : ℕ) (x : KeptElement) → at ks n ≡ Some x → before n ≡ x.found.governing
-  unfolding pair-of
-  before-is n x there =
+    before-is n x there =
       governing-of was n
       ∙ ap pair-of (entry-is c old ks k.lists k.root_ids d settled n ∙ ap (option_map (λ (y : KeptElement). entry_of y.found)) there)
 

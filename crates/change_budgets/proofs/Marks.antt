@@ -65,7 +65,7 @@ module _ (c : Compiled) (usable : IsUsable c) (ns : Nodes) (d : Document) (z : S
         sym (ap (name_in c.names) (sym r.0.name_is) ∙ name_shown c.names ns d z number (shown c.names ns d.forest z.nodes number (has number (inl refl)))) in
         let own = mark-is (name_at ns number) ∙ ap (is_ambivalent s p) named in
         let rest = marks-are next r.2 (λ m h. has m (inr (inr h))) in
-        let one = ap (λ (b : Bool). if b then 1 else 0) own in
+        let one = ap {B = ℕ} (λ (b : Bool). if b then 1 else 0) own in
         omega (arith, one, rest)
 
   pub marked-are : (of : Option TypeId) (n : ℕ) (f : Forest) → AreRead (readers_of c.names ns) f → ((m : ℕ) → HasElement m f → HasElement m d.forest) → element_children ns n ≡ element_numbers f →

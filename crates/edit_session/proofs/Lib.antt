@@ -2,6 +2,6 @@ mod Results
 mod Following
 mod Standing
 mod Known
-mod Opening
-mod Editing
+mod Fresh
+mod Making
 mod Applying
