@@ -10,7 +10,7 @@ use Rattle.what_is_found.specs.IsFound.{IsFound}
 use Rattle.session_model.specs.Asking.{code_total, root_validity}
 use Rattle.session_model.specs.State as sessions
 use Rattle.session_model.specs.State.{with_names}
-use Rattle.plain_session.specs.Costs as costs
+use Rattle.edit_session.specs.Costs as costs
 use Rattle.told.specs.Outcomes.{Question, SetOutcome, accepted, broken, IsOutcomeOf}
 use Rattle.told.specs.Told.{Told}
 use Rattle.open_document.specs.Replies.{line_told, made_reply, report_reply}

@@ -8,7 +8,8 @@ ghost use Rattle.open_document.specs.Held.{basis_of, state_of, work_of, IsKept};
 ghost use Rattle.open_document.specs.State.{Basis, working, ready, with_documents, IsReady, IsOpen};
 
 use compiled_schema::Compiled;
-use plain_session::{PlainSession, let_go};
+use edit_session::EditSession;
+use plain_session::let_go;
 use plain_tree::Tree;
 use schema_set::SchemaInput;
 use session_model::Session;
@@ -35,7 +36,7 @@ impl CompiledBasis {
 /// A document that is open.
 #[derive(Drop)]
 pub(crate) struct OpenDocument {
-    pub session: PlainSession,
+    pub session: EditSession,
     /// The schema documents of the stream.
     pub documents: Vec<SchemaInput>,
     /// How many record lines a question for those with a code is answered by at most.
@@ -152,7 +153,7 @@ fn open_by<L: Ledger>(
     ensures kept { IsKept held.new }
 {
     let CompiledBasis { set, documents } = basis;
-    match PlainSession::open(alloc, set, tree, steps) {
+    match EditSession::open(alloc, set, tree, steps) {
         Ok(session) => {
             let document = OpenDocument {
                 session,

@@ -13,7 +13,7 @@ use Rattle.edit_script.specs.declared.command.ScriptFault.{ScriptFault}
 use Rattle.assessment.specs.Assessment.{Entry}
 use Rattle.what_is_found.specs.IsFound.{IsFound}
 use Rattle.session_model.specs.State.{with_names, after_edit}
-use Rattle.plain_session.specs.Costs.{edit_cost}
+use Rattle.edit_session.specs.Costs.{edit_cost}
 use Rattle.told.specs.Outcomes.{SetOutcome, accepted, broken, IsOutcomeOf}
 use Rattle.told.specs.Told.{Said, free, silent, joined}
 use Rattle.open_document.specs.Answers.{opened, opening_cost, verdict}

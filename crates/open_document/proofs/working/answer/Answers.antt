@@ -1,7 +1,7 @@
 use Rattle.std.proofs.Common.{Result, refl, subst}
 use Rattle.edit_script.specs.declared.command.Command.{Command}
 use Rattle.edit_script.specs.declared.command.ScriptFault.{ScriptFault}
-use Rattle.plain_session.specs.Costs.{edit_cost}
+use Rattle.edit_session.specs.Costs.{edit_cost}
 use Rattle.told.proofs.Saying.{memory_breaks}
 use Rattle.told.specs.Going.{Answers, trace}
 use Rattle.open_document.specs.Answers.{command_told}
