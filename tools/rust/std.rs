@@ -34,6 +34,9 @@ pub mod rc {
 pub fn rbox<T>(_: Global, v: T) -> Result<Box<T>, AllocFailed<T>> {
     Ok(Box::new(v))
 }
+pub fn rc<T>(_: Global, v: T) -> Result<std::rc::Rc<T>, AllocFailed<T>> {
+    Ok(std::rc::Rc::new(v))
+}
 pub fn unbox<T>(b: Box<T>) -> T {
     *b
 }

@@ -1,35 +1,34 @@
 -- A change takes no more steps than its edit may cost.
-use Rattle.std.proofs.Common.{◌≡◌, ◌⊎◌, ℕ, ◌+◌, ◌*◌, ◌≤◌, ◌==◌, max, List, [], ◌∷◌, length, map, Bool, true, false, Option, None, Some, Ok, refl, sym, ap, ◌∙◌, subst, inl, inr, arith}
+use Rattle.std.proofs.Common.{◌≡◌, ◌⊎◌, ℕ, ◌+◌, ◌*◌, ◌≤◌, ◌==◌, max, List, [], ◌∷◌, length, map, Bool, true, false, Option, None, Some, refl, sym, ap, ◌∙◌, subst, inl, inr, arith}
 use Rattle.std.specs.Prelude.{slice_get, if◌then◌else◌}
 use Rattle.std.specs.Option.{option_map}
 use Rattle.std.proofs.lemmas.Option.{none-some}
 use Rattle.std.proofs.lemmas.Bool.{false≢true}
-use Rattle.xs_names.specs.Names.{NameTable}
-use Rattle.tree_rows.specs.Forest.{Forest, none, text, element, Document}
+use Rattle.tree_rows.specs.Forest.{Forest, none, Document, count}
 use Rattle.tree_rows.specs.declared.row.NodeKind.TheVariants as kinds
 use Rattle.tree_edits.specs.Changes.{with_name, with_attributes, set_in, unset_in}
 use Rattle.tree_edits.specs.Edits.{Found, found, has, replaced, renumbered, insert_at, with_children, width}
-use Rattle.tree_edits.specs.Tests.{is_element, element_node, width_of, edited}
+use Rattle.tree_edits.specs.Tests.{is_element, element_node, width_of}
 use Rattle.tree_edits.specs.declared.edit.Edit.{Edit}
 use Rattle.tree_edits.specs.declared.edit.Edit.TheVariants as edits
 use Rattle.tree_edits.proofs.Keeping.{not_given}
-use Rattle.tree_edits.proofs.Lying.{Lies, lies}
+use Rattle.tree_edits.proofs.Lying.{lies}
 use Rattle.elem_governing.specs.Governing.{skipped}
 use Rattle.elem_governing.specs.declared.pairs.Governing.{Governing}
 use Rattle.assessment.specs.Attribution.{SchemaSet, content_particle}
-use Rattle.assessment.specs.Assessment.{Entry, Beside, entries, IsAssessment}
+use Rattle.assessment.specs.Assessment.{Entry, Beside, entries}
 use Rattle.assessment.specs.Local.{AreRead, HasElement}
 use Rattle.assessment.specs.Local as local
 use Rattle.assessment.proofs.Alike.{element-counts}
 use Rattle.identity_assessment.specs.Identity.{beside_of}
 use Rattle.governing_laws.specs.Governed.{AreGovernings, governing_at}
 use Rattle.governing_laws.proofs.Governed.{assessed-governed}
-use Rattle.compiled_schema.specs.Usable.{IsUsable, set_of}
+use Rattle.compiled_schema.specs.Usable.{set_of}
 use Rattle.compiled_schema.specs.declared.compiled.Compiled.{Compiled}
 use Rattle.tree_assess.specs.Entries.{entry_of}
 use Rattle.edit_budgets.specs.Budget.{list_budget, ambivalent_by, ambivalent_below, ambivalent_in, changed_list, edit_budget}
 use Rattle.edit_budgets.specs.Budget as budget
-use Rattle.edit_budgets.specs.Lists.{parent_in, edited_list}
+use Rattle.edit_budgets.specs.Lists.{parent_in}
 use Rattle.what_is_found.specs.IsFound.{IsFound}
 use Rattle.session_model.specs.Asking as asking
 use Rattle.doc_nodes.specs.Nodes.{Node, Nodes, node, element_children, is_element_by, is_element_at}
@@ -37,9 +36,8 @@ use Rattle.doc_nodes.specs.Nodes as nodes
 use Rattle.doc_nodes.specs.declared.content.Content.{Content}
 use Rattle.doc_nodes.specs.declared.content.Content.TheVariants as contents
 use Rattle.doc_changes.specs.Held.{kind_in, kind_at, parent_at, attributes_in, attributes_by, attributes_at, has_number}
-use Rattle.doc_changes.specs.Stands.{StandFor, StandsFor, expanded_of}
+use Rattle.doc_changes.specs.Stands.{StandsFor, expanded_of}
 use Rattle.doc_changes.proofs.Standing.{present_times, absent_times}
-use Rattle.doc_documents.specs.Documents.{document_of}
 use Rattle.doc_documents.specs.Readers.{element_numbers}
 use Rattle.doc_documents.proofs.Levels.{document_is}
 use Rattle.doc_documents.proofs.Reading.{are_read}
@@ -68,7 +66,6 @@ use Rattle.model_terms.specs.Terms.{term_in}
 use Rattle.tree_rows.specs.declared.row.Attribute.{Attribute}
 use Rattle.doc_documents.specs.Readers.{name_at}
 use Rattle.kept_below.specs.Moved.{AreGivenDown, moved}
-use Rattle.child_lists.specs.Family.{marked_places}
 use Rattle.kept_children.specs.Edited.{IsRightFor}
 use Rattle.kept_children.specs.Steps.{GovernsBelow, digits, marked_count}
 use Rattle.kept_children.specs.Steps as steps
@@ -76,9 +73,9 @@ use Rattle.kept_changes.specs.Steps.{TakesBelow, TakesAt, TakesName, TakesAway, 
 use Rattle.change_budgets.proofs.Attributed.{names_in, names-read, attributed-numbers, attributed-names, at-place}
 use Rattle.change_budgets.proofs.Governed.{given-down, root-given}
 use Rattle.change_budgets.proofs.Marks.{marked-are}
-use Rattle.change_budgets.proofs.Moves.{IsOld, IsNew, AllOld, AllNew, elements-fit, old-moved, put-moved, at-moved}
+use Rattle.change_budgets.proofs.Moves.{IsOld, AllOld, AllNew, elements-fit, old-moved, put-moved, at-moved}
 use Rattle.change_budgets.proofs.Nodes.{numbers-same, own-at, own-numbers, own-below, own-stand, own-moved, top-is}
-use Rattle.change_budgets.proofs.Paths.{IsAt, at-sym, at-element, at-below, at-stand, at-numbers, at-read, at-found, same-whole, below_of, put-at, IsFirst, ChangesBelow, changed-at}
+use Rattle.change_budgets.proofs.Paths.{IsAt, at-sym, at-element, at-below, at-stand, at-numbers, at-read, at-found, same-whole, below_of, put-at, ChangesBelow, changed-at}
 use Rattle.change_budgets.proofs.Rooms.{within, within-node}
 use Rattle.change_budgets.proofs.Shapes.{replaced-elements, named-elements, attributed-elements, gone-elements, changed-element, gone-width, parent-found}
 
@@ -268,22 +265,21 @@ module _ (c : Compiled) (old : Nodes) (k : KeptState) (d : Document) (right : Is
   none-taken : (first last x : ℕ) → last ≡ first → last ≤ first + x
   none-taken first last x e = omega (arith, e)
 
-  put-budgeted : (new : Nodes) (p index : ℕ) (part : Document) (w : StandsFor c.names new (changed c.names d (changes.Insert p index part))) (found_es : List Entry) → IsFound s (changed c.names d (changes.Insert p index part)) found_es →
-      CanMake c.names old d (changes.Insert p index part) → (first last : ℕ) → Takes c old new k (changes.Insert p index part) first last →
-      last ≤ first + (changed_list s d was (changed c.names d (changes.Insert p index part)) found_es (Some p) + 8 * budget.moved d.forest before (governing_at found_es) (changed c.names d (changes.Insert p index part)).forest)
-  put-budgeted new p index part w found_es is can first last takes =
-      let own = element-by p (found p 1 d.forest) can.0.element in
+  -- nodes came below an element, none of which was there
+  pub came-budgeted : (new : Nodes) (p index : ℕ) (fresh : Forest) (free : ℕ) (w : StandsFor c.names new (record { forest = replaced p (with_children index fresh) d.forest; next_free = free })) (found_es : List Entry) →
+      IsFound s (record { forest = replaced p (with_children index fresh) d.forest; next_free = free }) found_es → is_element (found p 1 d.forest) ≡ true → ((m : ℕ) → HasElement m fresh → has m d.forest ≡ false) →
+      (first last : ℕ) → TakesBelow c new k p (steps.width new p) first last →
+      last ≤ first + (changed_list s d was (record { forest = replaced p (with_children index fresh) d.forest; next_free = free }) found_es (Some p)
+      + 8 * budget.moved d.forest before (governing_at found_es) (replaced p (with_children index fresh) d.forest))
+  came-budgeted new p index fresh free w found_es is below none-was first last takes =
+      let own = element-by p (found p 1 d.forest) below in
       let lie = lies p 1 d.forest own.0 own.1 in
-      let fresh = renumbered d.next_free part.forest in
       let cs = below_of own.0.node in
       let ds = insert_at index fresh cs in
       let path = put-at p index 1 fresh d.forest own.0 lie own.2 in
-      let e = changed c.names d (changes.Insert p index part) in
+      let e : Document = record { forest = replaced p (with_children index fresh) d.forest; next_free = free } in
       let after = governing_at found_es in
-      let all-new : AllNew ks d.forest before after fresh = λ m h.
-      let above = (number_within d.next_free m part.forest (present_times m fresh (element-counts m fresh h))).0 in
-      let gone = absent_times m d.forest (not_given d.next_free m d.forest z.tree.nodes above) in
-      record { was = gone; none = unmade m gone (at ks m) refl } in
+      let all-new : AllNew ks d.forest before after fresh = λ m h. record { was = none-was m h; none = unmade m (none-was m h) (at ks m) refl } in
       let all-old : AllOld ks d.forest before after cs = λ m h. old-at new e w found_es is m (at-below p ds cs e.forest d.forest (at-sym p cs ds d.forest e.forest path) m h) in
       list-budgeted new e w found_es is p cs ds path (steps.width new p) first last (inr (elements new e w found_es is p cs ds path))
       (put-moved ks d.forest before after index fresh cs all-new all-old) takes
@@ -293,6 +289,17 @@ module _ (c : Compiled) (old : Nodes) (k : KeptState) (d : Document) (right : Is
       unmade m gone (Some x) there =
           let h = has-element c.names old d z m (over.only m (x, there)) in
           absurd (false≢true (sym gone ∙ present_times m d.forest (element-counts m d.forest h)))
+
+  put-budgeted : (new : Nodes) (p index : ℕ) (part : Document) (w : StandsFor c.names new (changed c.names d (changes.Insert p index part))) (found_es : List Entry) → IsFound s (changed c.names d (changes.Insert p index part)) found_es →
+      CanMake c.names old d (changes.Insert p index part) → (first last : ℕ) → Takes c old new k (changes.Insert p index part) first last →
+      last ≤ first + (changed_list s d was (changed c.names d (changes.Insert p index part)) found_es (Some p) + 8 * budget.moved d.forest before (governing_at found_es) (changed c.names d (changes.Insert p index part)).forest)
+  put-budgeted new p index part w found_es is can first last takes =
+      let fresh = renumbered d.next_free part.forest in
+      came-budgeted new p index fresh (d.next_free + count part.forest) w found_es is can.0.element
+      (λ m h.
+      let above = (number_within d.next_free m part.forest (present_times m fresh (element-counts m fresh h))).0 in
+      absent_times m d.forest (not_given d.next_free m d.forest z.tree.nodes above))
+      first last takes
 
   -- the elements of an edited document that come of an element's children were there
   module _ (new : Nodes) (e : Document) (w : StandsFor c.names new e) (found_es : List Entry) (is : IsFound s e found_es) (key p : ℕ) (change : Forest → Forest)

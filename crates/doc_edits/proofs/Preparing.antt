@@ -105,6 +105,7 @@ insert_prepared t u ns d parent place its part p names = record {
   can = (p.fits, subst (λ x. HasNames x part.forest) (sym names) (names_found t part.forest));
   names = names ∙ ap (document_table t) p.is;
   is_of = (part, refl);
+  called = tt;
 }
 
 -- a text
@@ -115,6 +116,7 @@ text_prepared t ns d parent place chars p room = record {
   can = record { element = p.element; within = p.within; few = room.few; shallow = room.shallow };
   names = refl;
   is_of = refl;
+  called = tt;
 }
 
 pub text_misplaced : (d : Document) (parent place : ℕ) (chars : List ℕ) (e : EditError)
@@ -126,6 +128,16 @@ pub text_refused : (d : Document) (parent place : ℕ) (chars : List ℕ) (e : E
     → put_within d parent place (text 0 chars none) (depth_of (found parent 1 d.forest)) ≡ Err e → IsWhy (edited d (edits.AddText parent place chars)) e
 text_refused d parent place chars e p refused =
     why_is (edited d (edits.AddText parent place chars)) e (sym (edit_tested d (edits.AddText parent place chars)) ∙ p.puts (put_within d parent place (text 0 chars none)) ∙ refused)
+
+-- the number of a name that a change has
+renamed_number : (n number other : ℕ) → changes.Rename n number ≡ changes.Rename n other → number ≡ other
+renamed_number n number other same = cc same
+
+set_number_is : (n number other : ℕ) (value : List ℕ) → changes.SetAttr n number value ≡ changes.SetAttr n other value → number ≡ other
+set_number_is n number other value same = cc same
+
+unset_number_is : (n number other : ℕ) → changes.UnsetAttr n number ≡ changes.UnsetAttr n other → number ≡ other
+unset_number_is n number other same = cc same
 
 -- a name is refused
 by_reason : (change : Expanded → Result Document EditError) (r : Result Expanded NameReason) (e : EditError) → IsReason r e → e ≢ Memory → by_name change r ≡ Err e
@@ -145,6 +157,7 @@ module _ (t : NameTable) (ns : Nodes) (d : Document) (z : StandsFor t ns d) (n :
     can = (k, within);
     names = names ∙ ap (with_expanded t) (sym (element_is (names_scope d n) name x is));
     is_of = (number, refl);
+    called = λ other same. ap (expanded_of u) (sym (renamed_number n number other same)) ∙ called ∙ sym (element_is (names_scope d n) name x is);
   }
 
   set_is : (name value : List ℕ) → edited d (edits.SetAttr n name value)
@@ -171,6 +184,7 @@ module _ (t : NameTable) (ns : Nodes) (d : Document) (z : StandsFor t ns d) (n :
     can = (k, s.room, s.within);
     names = s.names ∙ ap (with_expanded t) (sym (attribute_is (names_scope d n) name x is));
     is_of = (number, refl);
+    called = λ other same. ap (expanded_of u) (sym (set_number_is n number other value same)) ∙ s.called ∙ sym (attribute_is (names_scope d n) name x is);
   }
 
   unset_is : (name : List ℕ) → edited d (edits.UnsetAttr n name)
@@ -196,6 +210,7 @@ module _ (t : NameTable) (ns : Nodes) (d : Document) (z : StandsFor t ns d) (n :
     can = h.1;
     names = refl;
     is_of = (number, refl);
+    called = λ other same. ap (expanded_of t) (sym (unset_number_is n number other same)) ∙ h.2 ∙ sym (attribute_is (names_scope d n) name x is);
   }
 
 -- an element that is missing
@@ -215,6 +230,7 @@ chars_prepared t ns d z n chars new k same = record {
   can = k;
   names = refl;
   is_of = ap (changes.SetText n) same;
+  called = tt;
 }
 
 -- a name that was put into the table

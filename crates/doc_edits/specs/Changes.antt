@@ -4,7 +4,7 @@ use Rattle.xs_names.specs.Names.{NameTable}
 use Rattle.tree_rows.specs.Forest.{Forest, none, text, Document}
 use Rattle.tree_rows.specs.declared.row.NodeKind.TheVariants as kinds
 use Rattle.tree_edits.specs.Edits.{renamed, attribute_set, attribute_unset}
-use Rattle.tree_edits.specs.Tests.{with_nodes, made, edited}
+use Rattle.tree_edits.specs.Tests.{with_nodes, made, edited, new_name, attribute_named}
 use Rattle.tree_edits.specs.Refusals.{IsWhy}
 use Rattle.tree_edits.specs.declared.edit.Edit.{Edit}
 use Rattle.tree_edits.specs.declared.edit.Edit.TheVariants as edits
@@ -66,6 +66,16 @@ IsOf (edits.Rename key name) change = (number : ℕ) × (change ≡ changes.Rena
 IsOf (edits.SetAttr key name value) change = (number : ℕ) × (change ≡ changes.SetAttr key number value)
 IsOf (edits.UnsetAttr key name) change = (number : ℕ) × (change ≡ changes.UnsetAttr key number)
 
+-- a name of the change is the one that the edit resolves to
+abbrev pub IsCalled : NameTable → Document → Edit → Change → Type 0
+IsCalled t d (edits.Insert parent index its) change = Unit {0}
+IsCalled t d (edits.AddText parent index chars) change = Unit {0}
+IsCalled t d (edits.SetText key chars) change = Unit {0}
+IsCalled t d (edits.Remove key) change = Unit {0}
+IsCalled t d (edits.Rename key name) change = (number : ℕ) → change ≡ changes.Rename key number → expanded_of t number ≡ new_name d key name
+IsCalled t d (edits.SetAttr key name value) change = (number : ℕ) → change ≡ changes.SetAttr key number value → expanded_of t number ≡ attribute_named d key name
+IsCalled t d (edits.UnsetAttr key name) change = (number : ℕ) → change ≡ changes.UnsetAttr key number → expanded_of t number ≡ attribute_named d key name
+
 -- no test of the edit stands, and the change is the edit's: it makes of the document what the edit makes of it; the table of before has
 -- become one with the names that the edit brings
 pub record IsPrepared (t u : NameTable) (ns : Nodes) (d : Document) (edit : Edit) (change : Change) : Type 0 where
@@ -73,6 +83,7 @@ pub record IsPrepared (t u : NameTable) (ns : Nodes) (d : Document) (edit : Edit
   pub can : CanMake u ns d change
   pub names : u ≡ table_with t d edit
   pub is_of : IsOf edit change
+  pub called : IsCalled u d edit change
 
 -- memory is wanting, or the refusal is that of the first of the edit's tests that stands, and no name was added
 pub record IsRefused (t u : NameTable) (ns : Nodes) (edit : Edit) (error : EditError) : Type 0 where

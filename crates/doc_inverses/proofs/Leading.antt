@@ -42,7 +42,7 @@ module _ (t u : NameTable) (g : Grown t u) (sound : IsSound t) where
   named_on : (n : ℕ) → n < length t.names → n < length u.names
   named_on n l = let m = g.more_names in omega (arith, l, m)
 
-  means_grown : (change : Change) (c : law.Change) → Means t change c → Means u change c
+  pub means_grown : (change : Change) (c : law.Change) → Means t change c → Means u change c
   means_grown (changes.PutBack p k part) (put_back parent place f) m = (m.0, m.1, rows_grown 1 part f _ m.2)
   means_grown (changes.Take node) (take_out key) m = m
   means_grown (changes.Name node n) (rename key name) m = (m.0, named_on n m.1, expanded_grown t u g sound n m.1 ∙ m.2)

@@ -69,6 +69,29 @@ fn part_of(alloc: Global, links: &NodeLinks, node: u32) -> Result<Part, AllocErr
     Ok(Listed::from_vec(rows))
 }
 
+/// The change that puts a node back with all that is below it, once it was taken out.
+///
+/// # Errors
+///
+/// `AllocError` is want of memory.
+pub fn put_back_of(alloc: Global, links: &NodeLinks, node: u32) -> Result<Change, AllocError>
+    requires { (t : NameTable) × (d : Document) × StandsFor t links.now d × Fits d (take_out node) }
+    ensures { IfOk result (λ back. (t : NameTable) (d : Document) → StandsFor t links.now d → Fits d (take_out node) → Means t back (inverse_of d (take_out node))) }
+{
+    let part = part_of(alloc, links, node)?;
+    match links.parent(node) {
+        None => unreachable!(),
+        Some(parent) => match links.place(node) {
+            None => unreachable!(),
+            Some(index) => Ok(Change::PutBack {
+                parent,
+                index,
+                part,
+            }),
+        },
+    }
+}
+
 /// Takes a node out, and answers the change that puts it back.
 fn take(alloc: Global, links: &mut NodeLinks, node: u32) -> Result<Change, AllocError>
     requires { (t : NameTable) × (d : Document) × StandsFor t links.old d × Fits d (take_out node) }
@@ -78,21 +101,9 @@ fn take(alloc: Global, links: &mut NodeLinks, node: u32) -> Result<Change, Alloc
     ensures err { OnErr result (links.new ≡ links.old) }
     ensures sound { IsSound links.new }
 {
-    let part = part_of(alloc, links, node)?;
-    match links.parent(node) {
-        None => unreachable!(),
-        Some(parent) => match links.place(node) {
-            None => unreachable!(),
-            Some(index) => {
-                remove_node(links, node);
-                Ok(Change::PutBack {
-                    parent,
-                    index,
-                    part,
-                })
-            }
-        },
-    }
+    let back = put_back_of(alloc, links, node)?;
+    remove_node(links, node);
+    Ok(back)
 }
 
 /// Puts a part back, and answers the change that takes it out.

@@ -10,6 +10,6 @@ mod putting;
 mod reading;
 mod texts;
 
-pub use change::{Change, make_change};
+pub use change::{Change, make_change, put_back_of};
 pub use laws::{changes_count_nodes, changes_lead_on, inverses_lead_back};
 pub use part::{Part, PartRow};

@@ -1,5 +1,5 @@
 -- There are as many nodes by number as in the tree for which they stand.
-use Rattle.std.proofs.Common.{◌≡◌, ◌≢◌, ℕ, zero, suc, ◌+◌, ◌<◌, ◌≤◌, List, [], ◌∷◌, length, sym, ap, ◌∙◌, Bool, true, false, ◌==◌, if◌then◌else◌, Option, Some, None, Result, Ok, Err, OnOk, OnErr, refl, inl, inr, arith}
+use Rattle.std.proofs.Common.{◌≡◌, ◌≢◌, ℕ, zero, suc, ◌+◌, ◌<◌, ◌≤◌, List, [], ◌∷◌, length, sym, ap, ◌∙◌, Bool, true, false, ◌==◌, if◌then◌else◌, Option, Some, None, Result, Ok, Err, OnOk, OnErr, refl, inl, inr, arith, append-nil}
 use Rattle.std.proofs.lemmas.Bool.{eq-eqb, ne_eqb, cases_eq, false≢true, or_parts, ltb-false}
 use Rattle.std.specs.Prelude.{nat_lt}
 use Rattle.xs_names.specs.Names.{NameTable}
@@ -22,6 +22,12 @@ use Rattle.doc_changes.proofs.Holding.{HoldsElement}
 use Rattle.doc_changes.proofs.Lain.{at, lain, apart}
 use Rattle.doc_changes.proofs.Standing.{has_times, no_times}
 use Rattle.doc_planting.specs.Fits.{Fits}
+use Rattle.tree_inverses.specs.Changes as law
+use Rattle.doc_inverses.specs.Changes.{Means, put_count}
+use Rattle.doc_inverses.specs.declared.change.Change.{Change}
+use Rattle.doc_inverses.specs.declared.change.Change.TheVariants as changes
+use Rattle.doc_inverses.proofs.Counted.{nodes_counted}
+use Rattle.doc_inverses.proofs.Rows.{rows_front}
 use Rattle.doc_tree.specs.Counted.{live_count}
 use Rattle.doc_tree.proofs.Answering.{no_such}
 
@@ -175,3 +181,23 @@ room_for t old d z parent place f fits =
     let b = or_parts (nat_lt 131072 (count d.forest + count f)) (nat_lt 4294967295 (d.next_free + count f)) fits.few in
     let l = ltb-false 131072 (count d.forest + count f) b.0 in
     omega (arith, a, l)
+
+-- a change that puts nodes back keeps the limit on them
+pub put_back_few : (t : NameTable) (old : Nodes) (d : Document) → StandsFor t old d → (c : law.Change) (change : Change) → law.Fits d c → Means t change c → live_count old + put_count change ≤ 131072
+put_back_few t old d z (law.put_back parent place f) (changes.PutBack p k rows) fits m =
+    let a = counted t old d z in let r = rows_front t 1 rows f [] m.2 in
+    let many : length rows ≡ count f = ap length r.are ∙ ap length (append-nil r.front) ∙ r.many in
+    let few : count d.forest + count f ≤ 131072 = fits.few in
+    omega (arith, a, many, few)
+put_back_few t old d z (law.take_out key) (changes.Take node) fits m = let a = counted t old d z in let few : count d.forest ≤ 131072 = z.tree.few in omega (arith, a, few)
+put_back_few t old d z (law.rename key name) (changes.Name node n) fits m = let a = counted t old d z in let few : count d.forest ≤ 131072 = z.tree.few in omega (arith, a, few)
+put_back_few t old d z (law.write key name place value) (changes.Attr node n k v) fits m = let a = counted t old d z in let few : count d.forest ≤ 131072 = z.tree.few in omega (arith, a, few)
+put_back_few t old d z (law.reword key chars) (changes.Chars node other) fits m = let a = counted t old d z in let few : count d.forest ≤ 131072 = z.tree.few in omega (arith, a, few)
+put_back_few t old d z c change fits m = absurd m
+
+-- the nodes that a change puts back are there, and those that its inverse puts back are gone
+pub changed_count : (t : NameTable) (old new : Nodes) (d : Document) (c : law.Change) (change back : Change) → StandsFor t old d → law.Fits d c → Means t change c
+    → StandsFor t new (law.changed d c) → Means t back (law.inverse_of d c) → live_count new + put_count back ≡ live_count old + put_count change
+changed_count t old new d c change back z fits means y inverse =
+    let a = counted t old d z in let b = counted t new (law.changed d c) y in let e = nodes_counted t d c change back fits means inverse in
+    omega (arith, a, b, e)

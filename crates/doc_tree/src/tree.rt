@@ -2,12 +2,14 @@
 
 ghost use Rattle.std.specs.Prelude.{◌≡◌, ◌≢◌, ◌<◌, ◌^◌, ℕ, All, length, map, filter, take, slice_get, true, Some, None, IfSome, IfOk, OnOk, OnErr};
 ghost use Rattle.std.specs.Option.{option_map, option_and_then, option_copied};
+ghost use Rattle.doc_inverses.specs.Changes.{put_count};
 
 use crate::above::{bind_above, element_past, elements_before, scope_upwards};
 use crate::contents::{attribute_in, count_bindings, kind_in, name_in, text_in};
 use crate::joining::texts_of;
 use crate::read_tree;
 use doc_changes::{remove_node, rename_node, set_attribute, set_text, unset_attribute};
+use doc_inverses::{Change, make_change, put_back_of};
 use doc_nodes::{Content, NodeLinks};
 use doc_planting::{add_text, insert_part, nodes_of};
 use plain_tree::Tree;
@@ -36,6 +38,16 @@ impl Model for DocTree {
     ghost view = { λ d. d.links };
 
     ghost invariant = { λ d. d.count ≡ live_count d.links };
+}
+
+/// How many nodes a change puts back.
+fn count_put_back(change: &Change) -> usize
+    ensures { result ≡ put_count change.now }
+{
+    match change {
+        Change::PutBack { part, .. } => part.len(),
+        Change::Take { .. } | Change::Name { .. } | Change::Attr { .. } | Change::Chars { .. } => 0,
+    }
 }
 
 impl DocTree {
@@ -69,6 +81,9 @@ impl DocTree {
     ghost use Rattle.doc_documents.specs.Readers.{own_chars, scope_at as bound_at};
     ghost use Rattle.doc_tree.specs.Counted.{live_count};
     ghost use Rattle.doc_tree.specs.Following.{next_of};
+    ghost use Rattle.tree_inverses.specs.Changes as law;
+    ghost use Rattle.doc_inverses.specs.Changes.{Means};
+    ghost use Rattle.doc_inverses.specs.Changes as numbered;
 
     /// A document of the nodes of a plain tree, which keep their numbers. Names that `names` lacks are added to it;
     /// where it has them all, it stays as it is.
@@ -430,5 +445,38 @@ impl DocTree {
         ensures sound { IsSound self.new }
     {
         set_text(&mut self.links, node, text);
+    }
+
+    /// The change that puts a node back with all that is below it, once it was taken out. It takes work in proportion to the nodes.
+    ///
+    /// # Errors
+    ///
+    /// `AllocError` is want of memory.
+    pub fn put_back_of(&self, node: u32) -> Result<Change, AllocError>
+        requires { (t : NameTable) × (d : Document) × StandsFor t self.now d × law.Fits d (law.take_out node) }
+        ensures { IfOk result (λ back. (t : NameTable) (d : Document) → StandsFor t self.now d → law.Fits d (law.take_out node) → Means t back (law.inverse_of d (law.take_out node))) }
+    {
+        put_back_of(self.alloc, &self.links, node)
+    }
+
+    /// Makes a change, and answers the change that undoes it. A node that is put back has its number again, and the next free number
+    /// stays as it is.
+    ///
+    /// # Errors
+    ///
+    /// `AllocError` is want of memory. All is then as it was.
+    pub fn change(&mut self, change: Change) -> Result<Change, AllocError>
+        requires can { (t : NameTable) × (d : Document) × (c : law.Change) × StandsFor t self.old d × Means t change c × law.Fits d c }
+        ensures tree { OnOk result ((t : NameTable) (d : Document) (c : law.Change) → StandsFor t self.old d → Means t change c → law.Fits d c → StandsFor t self.new (law.changed d c)) }
+        ensures inverse { IfOk result (λ back. (t : NameTable) (d : Document) (c : law.Change) → StandsFor t self.old d → Means t change c → law.Fits d c → Means t back (law.inverse_of d c)) }
+        ensures nodes { OnOk result ((t : NameTable) (d : Document) (c : law.Change) → StandsFor t self.old d → Means t change c → law.Fits d c → numbered.IsMade t self.old self.new change c) }
+        ensures err { OnErr result (self.new ≡ self.old) }
+        ensures sound { IsSound self.new }
+    {
+        let put = count_put_back(&change);
+        let back = make_change(self.alloc, &mut self.links, change)?;
+        let taken = count_put_back(&back);
+        self.count = (self.count as usize + put - taken) as u32;
+        Ok(back)
     }
 }

@@ -86,10 +86,22 @@ abbrev pub no_field : Option (List ℕ) → Result (Unit {0}) ScriptFault
 no_field None = Ok tt
 no_field (Some rest) = Err WrongFields
 
--- a command without fields: `errors`, `report`, `total`
+-- a command without fields: `errors`, `report`, `total`, `undo`, `redo`
 abbrev pub alone : Command → Option (List ℕ) → Result Command ScriptFault
 alone command rest = no_field rest >>= λ none. Ok command
 
+-- a question, or a step in the history
+abbrev pub by_other_word : List ℕ → Option (List ℕ) → Result Command ScriptFault
+by_other_word word rest =
+    if bytes_eq word (codes "assess") then assess rest
+    else (if bytes_eq word (codes "errors") then alone commands.Errors rest
+    else (if bytes_eq word (codes "report") then alone commands.Report rest
+    else (if bytes_eq word (codes "total") then alone commands.Total rest
+    else (if bytes_eq word (codes "undo") then alone commands.Undo rest
+    else (if bytes_eq word (codes "redo") then alone commands.Redo rest
+    else Err UnknownCommand)))))
+
+-- an edit, or another command
 abbrev pub by_word : List ℕ → Option (List ℕ) → Option (List Item) → Result Command ScriptFault
 by_word word rest block =
     if bytes_eq word (codes "insert") then insert rest block
@@ -99,11 +111,7 @@ by_word word rest block =
     else (if bytes_eq word (codes "rename") then rename rest
     else (if bytes_eq word (codes "set") then set rest
     else (if bytes_eq word (codes "unset") then unset rest
-    else (if bytes_eq word (codes "assess") then assess rest
-    else (if bytes_eq word (codes "errors") then alone commands.Errors rest
-    else (if bytes_eq word (codes "report") then alone commands.Report rest
-    else (if bytes_eq word (codes "total") then alone commands.Total rest
-    else Err UnknownCommand))))))))))
+    else by_other_word word rest))))))
 
 -- the command of a line and its block, or the first fault by its number
 abbrev pub command : List ℕ → Option (List Item) → Result Command ScriptFault
@@ -116,6 +124,8 @@ IsReady (commands.Assess node) = Unit {0}
 IsReady commands.Errors = Unit {0}
 IsReady commands.Report = Unit {0}
 IsReady commands.Total = Unit {0}
+IsReady commands.Undo = Unit {0}
+IsReady commands.Redo = Unit {0}
 
 abbrev pub IsReadyOr : Result Command ScriptFault → Type 0
 IsReadyOr (Ok read) = IsReady read

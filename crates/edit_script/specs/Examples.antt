@@ -35,3 +35,9 @@ errors_alone = refl
 
 report_with_a_field : command (codes "report ") None ≡ Err WrongFields
 report_with_a_field = refl
+
+undo_alone : command (codes "undo") None ≡ Ok commands.Undo
+undo_alone = refl
+
+redo_with_a_field : command (codes "redo 1") None ≡ Err WrongFields
+redo_with_a_field = refl

@@ -16,6 +16,10 @@ pub enum Command {
     Report,
     /// `total`: a question for the number of codes.
     Total,
+    /// `undo`: back to the tree from before the last change.
+    Undo,
+    /// `redo`: on to the tree that was left by the last undo.
+    Redo,
 }
 
 /// Why a line is no command.

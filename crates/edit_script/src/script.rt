@@ -210,6 +210,33 @@ fn no_field(rest: Option<&str>) -> Result<(), ScriptFault>
     }
 }
 
+/// What a line says whose word is not that of an edit: a question, or a step in the history.
+fn read_other(word: &str, rest: Option<&str>) -> Result<Command, ScriptFault>
+    ensures gives { result ≡ script.by_other_word word.now (option_copied rest.entry) }
+    ensures ready { IfOk result script.IsReady }
+{
+    if word == "assess" {
+        Ok(Command::Assess(only_number(rest)?))
+    } else if word == "errors" {
+        no_field(rest)?;
+        Ok(Command::Errors)
+    } else if word == "report" {
+        no_field(rest)?;
+        Ok(Command::Report)
+    } else if word == "total" {
+        no_field(rest)?;
+        Ok(Command::Total)
+    } else if word == "undo" {
+        no_field(rest)?;
+        Ok(Command::Undo)
+    } else if word == "redo" {
+        no_field(rest)?;
+        Ok(Command::Redo)
+    } else {
+        Err(ScriptFault::UnknownCommand)
+    }
+}
+
 fn read_by_word(
     alloc: Global,
     word: &str,
@@ -234,19 +261,8 @@ fn read_by_word(
         read_set(alloc, rest)
     } else if word == "unset" {
         read_unset(alloc, rest)
-    } else if word == "assess" {
-        Ok(Command::Assess(only_number(rest)?))
-    } else if word == "errors" {
-        no_field(rest)?;
-        Ok(Command::Errors)
-    } else if word == "report" {
-        no_field(rest)?;
-        Ok(Command::Report)
-    } else if word == "total" {
-        no_field(rest)?;
-        Ok(Command::Total)
     } else {
-        Err(ScriptError::Refused(ScriptFault::UnknownCommand))
+        Ok(read_other(word, rest)?)
     }
 }
 

@@ -1,12 +1,11 @@
 -- A session that was opened, and one that has made an edit.
-use Rattle.std.proofs.Common.{◌≡◌, ◌≢◌, ℕ, List, Bool, Result, Ok, Err, refl, sym, ap, ◌∙◌, subst}
+use Rattle.std.proofs.Common.{◌≡◌, ◌≢◌, ℕ, Bool, Result, Err, sym, subst}
 use Rattle.std.specs.Prelude.{false}
 use Rattle.tree_rows.specs.Forest.{Document}
 use Rattle.tree_edits.specs.Tests.{edited}
 use Rattle.tree_edits.specs.declared.edit.Edit.{Edit}
 use Rattle.tree_edits.specs.declared.edit.EditError.{EditError}
 use Rattle.tree_edits.specs.declared.edit.EditError.TheVariants.{Memory}
-use Rattle.assessment.specs.Assessment.{Entry, entries}
 use Rattle.assessment.specs.Attribution.{SchemaSet}
 use Rattle.compiled_schema.specs.Usable.{set_of}
 use Rattle.compiled_schema.specs.declared.compiled.Compiled.{Compiled}
@@ -14,11 +13,10 @@ use Rattle.what_is_found.specs.IsFound.{IsFound}
 use Rattle.session_model.specs.Applying.{Applies, IsEdited}
 use Rattle.session_model.specs.Spending.{Counts, BreaksWithin}
 use Rattle.session_model.specs.declared.session.SessionError.TheVariants.{Refused}
-use Rattle.session_model.specs.State.{State, IsOpened, with_names, next_revision, opened, after_edit}
+use Rattle.session_model.specs.State.{State, IsOpened, with_names, next_revision, after_edit}
 use Rattle.doc_nodes.specs.Nodes.{Nodes}
 use Rattle.doc_changes.specs.Stands.{StandsFor}
 use Rattle.doc_documents.proofs.Levels.{document_is}
-use Rattle.kept_records.specs.Found.{found_in}
 use Rattle.kept_state.specs.declared.state.KeptState.{KeptState}
 use Rattle.edit_session.specs.Costs.{edit_cost}
 use Rattle.edit_session.specs.Edited.{IsDone, IsLeft}

@@ -1,6 +1,6 @@
 -- What a session holds is what contracts see of it.
-use Rattle.std.proofs.Common.{◌≡◌, ℕ, List, [], ◌∷◌, Option, None, Some, refl, sym, ap, ◌∙◌, subst}
-use Rattle.std.specs.Prelude.{All, false, IfSome, if◌then◌else◌, ◌==◌, Bool, true}
+use Rattle.std.proofs.Common.{◌≡◌, ℕ, List, [], ◌∷◌, Option, None, Some, sym, ap, ◌∙◌, subst}
+use Rattle.std.specs.Prelude.{All, false, if◌then◌else◌, ◌==◌, Bool, true}
 use Rattle.std.specs.Option.{option_map}
 use Rattle.std.proofs.lemmas.List.Elements.{All-head, All-tail}
 use Rattle.std.proofs.lemmas.Option.{none-some, same_Some}
@@ -9,7 +9,6 @@ use Rattle.tree_rows.specs.Forest.{Forest, none, text, element, Document}
 use Rattle.tree_rows.specs.Kinds.{kind_of}
 use Rattle.tree_rows.specs.Whole.{HasRoot}
 use Rattle.tree_rows.specs.declared.row.NodeKind.{NodeKind}
-use Rattle.assess_records.specs.declared.outcome.Validity.{Validity}
 use Rattle.assessment.specs.Assessment.{Entry, Assessed, Beside, entries, IsAssessment}
 use Rattle.assessment.specs.Local.{HasElement}
 use Rattle.assessment.specs.Attribution.{SchemaSet}

@@ -5,3 +5,4 @@ mod Known
 mod Fresh
 mod Making
 mod Applying
+pub mod Changing

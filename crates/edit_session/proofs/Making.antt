@@ -1,5 +1,5 @@
 -- An edit that is made, what it counts, and one that is refused.
-use Rattle.std.proofs.Common.{◌≡◌, ◌≢◌, ◌⊎◌, ℕ, ◌+◌, ◌≤◌, List, Bool, Result, Ok, Err, refl, sym, ap, ◌∙◌, subst, inl, inr, arith}
+use Rattle.std.proofs.Common.{◌≡◌, ◌≢◌, ◌⊎◌, ℕ, ◌+◌, ◌≤◌, Bool, Result, Ok, Err, refl, sym, ap, ◌∙◌, subst, inl, inr, arith}
 use Rattle.xs_names.specs.Names.{NameTable, Grown, IsSound}
 use Rattle.tree_rows.specs.Forest.{Document}
 use Rattle.tree_edits.specs.Refusals.{IsWhy}
@@ -7,14 +7,13 @@ use Rattle.tree_edits.specs.Tests.{edited}
 use Rattle.tree_edits.specs.declared.edit.Edit.{Edit}
 use Rattle.tree_edits.specs.declared.edit.EditError.{EditError}
 use Rattle.tree_edits.specs.declared.edit.EditError.TheVariants as errors
-use Rattle.assessment.specs.Assessment.{Entry}
 use Rattle.assessment.specs.Attribution.{SchemaSet}
 use Rattle.compiled_schema.specs.Usable.{set_of}
 use Rattle.compiled_schema.specs.declared.compiled.Compiled.{Compiled}
 use Rattle.edit_budgets.specs.Budget.{edit_budget}
 use Rattle.edit_names.proofs.Edited.{table_after}
 use Rattle.what_is_found.specs.IsFound.{IsFound}
-use Rattle.session_model.specs.Spending.{Counts, BreaksWithin}
+use Rattle.session_model.specs.Spending.{BreaksWithin}
 use Rattle.session_model.specs.State.{State, with_names}
 use Rattle.doc_nodes.specs.Nodes.{Nodes}
 use Rattle.doc_changes.specs.Stands.{StandsFor}
@@ -78,6 +77,7 @@ module _ (c : Compiled) (names : NameTable) (ns : Nodes) (k : KeptState) (edit :
         makes = p.makes;
         can = p.can;
         is_of = p.is_of;
+        prepared = p;
         named = ap (λ (t : NameTable). record (set_of c) { names = t }) (p.names ∙ sym (table_after c.names d edit (changed names d change) (has_names c.names z.table ns d.forest z.nodes) p.makes));
         same_document = document_is names ns d (stands_grown c.names names ns d grown sound z);
         right = still;

@@ -1,6 +1,6 @@
 -- What is said of results.
 use Rattle.std.proofs.Common.{Result, Ok, Err}
-use Rattle.std.specs.Prelude.{OnOk, IfOk}
+use Rattle.std.specs.Prelude.{OnOk}
 
 pub on-ok : {T E P : Type 0} (r : Result T E) → P → OnOk r P
 on-ok (Ok x) p = p

@@ -1,5 +1,5 @@
 -- The document that nodes stand for by the names of a set, and what is found of it.
-use Rattle.std.proofs.Common.{◌≡◌, ℕ, sym, subst}
+use Rattle.std.proofs.Common.{sym, subst}
 use Rattle.tree_rows.specs.Forest.{Document}
 use Rattle.compiled_schema.specs.Usable.{set_of}
 use Rattle.compiled_schema.specs.declared.compiled.Compiled.{Compiled}

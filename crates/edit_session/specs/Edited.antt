@@ -1,5 +1,5 @@
 -- What an edit does to a document with all that is kept of its elements.
-use Rattle.std.specs.Prelude.{◌≡◌, ◌≢◌, Result, Ok, Err}
+use Rattle.std.specs.Prelude.{◌≡◌, ◌≢◌, Ok, Err}
 use Rattle.tree_edits.specs.Tests.{edited}
 use Rattle.tree_edits.specs.declared.edit.Edit.{Edit}
 use Rattle.tree_edits.specs.declared.edit.EditError.{EditError}
@@ -8,7 +8,7 @@ use Rattle.compiled_schema.specs.Usable.{set_of}
 use Rattle.compiled_schema.specs.declared.compiled.Compiled.{Compiled}
 use Rattle.session_model.specs.State.{with_names}
 use Rattle.doc_nodes.specs.Nodes.{Nodes}
-use Rattle.doc_edits.specs.Changes.{CanMake, IsOf, changed}
+use Rattle.doc_edits.specs.Changes.{CanMake, IsOf, IsPrepared, changed}
 use Rattle.doc_edits.specs.declared.change.Change.{Change}
 use Rattle.kept_state.specs.declared.state.KeptState.{KeptState}
 use Rattle.kept_children.specs.Edited.{IsRightFor}
@@ -20,6 +20,7 @@ pub record IsReady (old new : Compiled) (ns : Nodes) (k : KeptState) (edit : Edi
   pub makes : edited (document_in old ns) edit ≡ Ok (changed new.names (document_in old ns) change)
   pub can : CanMake new.names ns (document_in old ns) change
   pub is_of : IsOf edit change
+  pub prepared : IsPrepared old.names new.names ns (document_in old ns) edit change
   pub named : set_of new ≡ with_names (set_of old) (changed new.names (document_in old ns) change).forest
   pub same_document : document_in new ns ≡ document_in old ns
   pub right : IsRightFor new ns k

@@ -12,10 +12,18 @@ ghost use Rattle.kept_changes.specs.Steps.{Takes};
 ghost use Rattle.edit_session.specs.Costs.{edit_cost};
 ghost use Rattle.edit_session.specs.Edited.{IsDone, IsLeft, IsReady, IsRefused};
 ghost use Rattle.edit_session.specs.Held.{IsPresent, Stands, document_in, state_by};
+ghost use Rattle.tree_edits.specs.declared.edit.Edit.{Edit as EditData};
+ghost use Rattle.tree_inverses.specs.Changes.{inverse_of};
+ghost use Rattle.tree_inverses.specs.Edits.{change_of};
+ghost use Rattle.doc_edits.specs.Changes.{IsPrepared};
+ghost use Rattle.doc_inverses.specs.Changes.{Means};
+ghost use Rattle.xs_names.specs.Names.{NameTable};
 
 use compiled_schema::Compiled;
 use doc_edits::{Change, prepare};
+use doc_inverses::Change as Inverse;
 use doc_tree::DocTree;
+use edit_inverses::inverse_of;
 use kept_changes::{keep_change, records_stay_right_as_names_are_added};
 use kept_keys::settle_keys;
 use kept_state::KeptState;
@@ -61,7 +69,32 @@ fn make<L: Ledger>(
     settle_keys(doc, set, kept)
 }
 
-/// Makes an edit of a document, and all that is kept of its elements right. The table of the set gets the names of the edit.
+// Makes a change that nothing refuses, as `make` does, and answers the change that undoes it, which is read before.
+fn make_undoable<L: Ledger>(
+    doc: &mut DocTree,
+    set: &mut Compiled,
+    kept: &mut KeptState,
+    change: Change,
+    steps: &mut Steps<L>,
+) -> Result<Inverse, AllocError>
+    requires right { IsRightFor set.old doc.old kept.old }
+    requires can { (d : Document) × StandsFor set.old.names doc.old d × CanMake set.old.names doc.old d change }
+    ensures made { OnOk result ((d : Document) → StandsFor set.old.names doc.old d → StandsFor set.old.names doc.new (changed set.old.names d change)) }
+    ensures inverse { IfOk result (λ back. (t : NameTable) (d : Document) (edit : EditData) → StandsFor set.old.names doc.old d → can_be_made edit ≡ true
+        → IsPrepared t set.old.names doc.old d edit change → Means set.old.names back (inverse_of d (change_of d edit))) }
+    ensures present { OnOk result (IsPresent set.old doc.new kept.new) }
+    ensures same { set.new ≡ set.old }
+    ensures least { steps.old ≤ steps.new }
+    ensures reach { (d : Document) → StandsFor set.old.names doc.old d → ((doc.new ≡ doc.old) × (steps.new ≡ steps.old)) ⊎
+        (StandsFor set.old.names doc.new (changed set.old.names d change) × Takes set.old doc.old doc.new kept.old change steps.old steps.new) }
+{
+    let back = inverse_of(kept.alloc, doc, &change)?;
+    make(doc, set, kept, change, steps)?;
+    Ok(back)
+}
+
+/// Makes an edit of a document, and all that is kept of its elements right; answers the change that undoes it. The table of the set gets
+/// the names of the edit.
 ///
 /// # Errors
 ///
@@ -73,11 +106,12 @@ pub(crate) fn edit_kept<L: Ledger>(
     kept: &mut KeptState,
     edit: &Edit,
     steps: &mut Steps<L>,
-) -> Result<(), EditError>
+) -> Result<Inverse, EditError>
     requires block { can_be_made edit.now ≡ true }
     requires present { IsPresent set.old doc.old kept.old }
     ensures stands { Stands set.new doc.new }
     ensures done { OnOk result (IsDone set.old set.new doc.old doc.new kept.new edit.now) }
+    ensures inverse { IfOk result (λ back. Means set.new.names back (inverse_of (document_in set.old doc.old) (change_of (document_in set.old doc.old) edit.now))) }
     ensures refused { IfErr result (λ e. IsLeft set.old set.new doc.old doc.new kept.old kept.new edit.now e) }
     ensures least { steps.old ≤ steps.new }
     ensures few { (revision : ℕ) (closed : Bool) → BreaksWithin edit_cost (state_by set.old doc.old kept.old revision closed) edit.now (edited (document_in set.old doc.old) edit.now) steps.old steps.new }
@@ -86,8 +120,8 @@ pub(crate) fn edit_kept<L: Ledger>(
         Ok(change) => change,
         Err(error) => return Err(error),
     };
-    match make(doc, set, kept, change, steps) {
-        Ok(()) => Ok(()),
+    match make_undoable(doc, set, kept, change, steps) {
+        Ok(back) => Ok(back),
         Err(_) => Err(EditError::Memory),
     }
 }

@@ -4,5 +4,6 @@
 mod editing;
 mod opening;
 mod session;
+mod undoing;
 
 pub use session::EditSession;

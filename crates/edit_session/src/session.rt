@@ -2,8 +2,10 @@ ghost use Rattle.std.specs.Prelude.{◌≡◌};
 
 use crate::editing::edit_kept;
 use crate::opening::open_document;
+use crate::undoing::change_kept;
 use assess_records::Validity;
 use compiled_schema::Compiled;
+use doc_inverses::Change;
 use doc_tree::DocTree;
 use kept_state::KeptState;
 use plain_tree::Tree;
@@ -42,6 +44,78 @@ impl Model for EditSession {
 }
 
 impl EditSession {
+    ghost use Rattle.std.specs.Prelude.{true, false, IfOk};
+    ghost use Rattle.tree_edits.specs.Edits.{can_be_made};
+    ghost use Rattle.tree_inverses.specs.Changes as law;
+    ghost use Rattle.tree_inverses.specs.Edits.{change_of};
+    ghost use Rattle.doc_inverses.specs.Changes.{Means};
+    ghost use Rattle.session_model.specs.Applying.{Applies};
+    ghost use Rattle.session_model.specs.Spending.{Spends};
+    ghost use Rattle.edit_session.specs.Costs.{edit_cost};
+    ghost use Rattle.edit_session.specs.Changed.{forgotten, CanChange, Changes, SpendsOn};
+
+    /// Makes an edit as `apply` does, and answers the change that undoes it.
+    ///
+    /// # Errors
+    ///
+    /// Those of `apply`.
+    pub fn apply_keeping<L: Ledger>(
+        &mut self,
+        edit: &Edit,
+        steps: &mut Steps<L>,
+    ) -> Result<Change, SessionError>
+        requires { can_be_made edit.now ≡ true }
+        ensures applies { Applies self.old edit.now (forgotten result) self.new }
+        ensures inverse { IfOk result (λ back. Means self.new.set.names back (law.inverse_of self.old.document (change_of self.old.document edit.now))) }
+        ensures spends { Spends edit_cost self.old edit.now (forgotten result) self.new steps.old steps.new }
+    {
+        if self.closed {
+            return Err(SessionError::Closed);
+        }
+        match edit_kept(&mut self.doc, &mut self.set, &mut self.kept, edit, steps) {
+            Ok(back) => {
+                self.revision = self.revision.saturating_add(1);
+                Ok(back)
+            }
+            Err(EditError::Memory) => {
+                self.closed = true;
+                Err(SessionError::Memory)
+            }
+            Err(refusal) => Err(SessionError::Refused(refusal)),
+        }
+    }
+
+    /// Makes a change of the document that can be made of it, such as one that undoes an edit, adds one to the revision as an edit does,
+    /// and answers the change that undoes it.
+    ///
+    /// # Errors
+    ///
+    /// `Memory`, which closes the session; `Closed` after an earlier want of memory.
+    pub fn apply_change<L: Ledger>(
+        &mut self,
+        change: Change,
+        steps: &mut Steps<L>,
+    ) -> Result<Change, SessionError>
+        requires { (c : law.Change) × CanChange self.old change c }
+        ensures changes { (c : law.Change) → CanChange self.old change c → Changes self.old c result self.new }
+        ensures inverse { IfOk result (λ back. (c : law.Change) → CanChange self.old change c → Means self.new.set.names back (law.inverse_of self.old.document c)) }
+        ensures spends { (c : law.Change) → CanChange self.old change c → SpendsOn self.old c result self.new steps.old steps.new }
+    {
+        if self.closed {
+            return Err(SessionError::Closed);
+        }
+        match change_kept(&mut self.doc, &mut self.set, &mut self.kept, change, steps) {
+            Ok(back) => {
+                self.revision = self.revision.saturating_add(1);
+                Ok(back)
+            }
+            Err(_) => {
+                self.closed = true;
+                Err(SessionError::Memory)
+            }
+        }
+    }
+
     /// Lets go of it.
     pub fn close(self) {
         let EditSession { set, doc, kept, .. } = self;
@@ -91,19 +165,9 @@ impl Session for EditSession {
     }
 
     fn apply<L: Ledger>(&mut self, edit: &Edit, steps: &mut Steps<L>) -> Result<(), SessionError> {
-        if self.closed {
-            return Err(SessionError::Closed);
-        }
-        match edit_kept(&mut self.doc, &mut self.set, &mut self.kept, edit, steps) {
-            Ok(()) => {
-                self.revision = self.revision.saturating_add(1);
-                Ok(())
-            }
-            Err(EditError::Memory) => {
-                self.closed = true;
-                Err(SessionError::Memory)
-            }
-            Err(refusal) => Err(SessionError::Refused(refusal)),
+        match self.apply_keeping(edit, steps) {
+            Ok(_) => Ok(()),
+            Err(error) => Err(error),
         }
     }
 

@@ -173,9 +173,9 @@ fn copied_steps(alloc: Global, steps: &[Alternatives]) -> Result<Listed<Alternat
 fn copied_patterns(alloc: Global, patterns: &[PatternText]) -> Result<Alternatives, AllocError>
     ensures { IfOk result (λ copies. copies ≡ patterns.now) }
 {
-    let mut copies = Alternatives::new(alloc);
+    let mut copies = Vec::with_capacity(alloc, patterns.len())?;
     for pattern in patterns {
         copies.push(pattern.try_clone(alloc)?)?;
     }
-    Ok(copies)
+    Ok(Alternatives::from_vec(copies))
 }

@@ -5,7 +5,8 @@ use Rattle.std.proofs.lemmas.Option.{same_Some}
 use Rattle.xs_names.specs.Names.{NameTable}
 use Rattle.tree_rows.specs.Forest.{Forest, none, text, element, Document}
 use Rattle.tree_rows.specs.Whole.{HasRoot, AreNodes, IsTree}
-use Rattle.tree_edits.specs.Edits.{renumbered}
+use Rattle.tree_edits.specs.Edits.{found, renumbered}
+use Rattle.tree_edits.specs.Tests as tests
 use Rattle.compiled_schema.specs.declared.compiled.Compiled.{Compiled}
 use Rattle.doc_nodes.specs.Nodes.{Node, Nodes, node, IsNode, IsSound, Has, children_by, is_element, is_element_by, is_element_at}
 use Rattle.doc_nodes.proofs.Among.{has-inserted}
@@ -17,7 +18,7 @@ use Rattle.doc_planting.proofs.Placing.{IsParent, parent_of}
 use Rattle.kept_records.proofs.Nodes.{by-node}
 use Rattle.kept_state.specs.declared.state.KeptState.{KeptState}
 use Rattle.kept_forgetting.proofs.Placed.{in-table}
-use Rattle.kept_children.specs.Edited.{IsRightFor, IsPlanted}
+use Rattle.kept_children.specs.Edited.{IsRightFor, IsPlanted, ComesAt}
 use Rattle.child_lists.specs.Places.{IsPlaceOf}
 use Rattle.child_lists.specs.declared.place.ChildPlace.{ChildPlace}
 use Rattle.kept_changes.specs.Spots.{HasCome}
@@ -34,55 +35,61 @@ free-above d tree = by d.forest tree.root tree.nodes
 
 -- ---- the nodes
 
-module _ (t : NameTable) (old new : Nodes) (p place : ℕ) (f : Forest) (plants : Plants t old new p place f) where
-  -- all that were elements still are
-  pub come-elements : (m : ℕ) → is_element_at old m ≡ true → is_element_at new m ≡ true
-  come-elements m is =
-      let it = by-node old m (node old m) refl is in
-      elim (cases_eq m p) [
-        | inl e ↦
-            let here : IsNode old p it.0 = ap (node old) (sym e) ∙ it.1 in
-            ap (is_element_at new) e ∙ ap is_element_by (plants.parent it.0 here) ∙ sym (ap is_element_by here) ∙ ap (is_element_at old) (sym e) ∙ is
-        | inr other ↦ ap is_element_by (plants.others m (in-table old m it.0 it.1) other) ∙ is
-      ]
+-- all that were elements still are
+pub come-elements : (old new : Nodes) (p place n : ℕ) → ComesAt old new p place n → (m : ℕ) → is_element_at old m ≡ true → is_element_at new m ≡ true
+come-elements old new p place n comes m is =
+    let it = by-node old m (node old m) refl is in
+    elim (cases_eq m p) [
+      | inl e ↦
+          let here : IsNode old p it.0 = ap (node old) (sym e) ∙ it.1 in
+          ap (is_element_at new) e ∙ ap is_element_by (comes.parent it.0 here) ∙ sym (ap is_element_by here) ∙ ap (is_element_at old) (sym e) ∙ is
+      | inr other ↦ ap is_element_by (comes.others m it.0 it.1 other) ∙ is
+    ]
 
+-- it is a child of the node
+come-below : (old new : Nodes) (p place n : ℕ) → ComesAt old new p place n → (it : Node) → IsNode old p it → Has n (children_by (node new p))
+come-below old new p place n comes it is = subst (λ (o : Option Node). Has n (children_by o)) (sym (comes.parent it is)) (has-inserted it.children place n)
+
+-- so it comes below the node
+pub come-up : (t : NameTable) (old new : Nodes) (d : Document) → StandsFor t old d → IsSound new → (parent place n : ℕ) → tests.is_element (found parent 1 d.forest) ≡ true → ComesAt old new parent place n →
+    parent_at new n ≡ Some parent
+come-up t old new d z sound parent place n below comes =
+    let own : IsParent t old d parent = parent_of t old d parent z below in
+    child-up new sound parent n (come-below old new parent place n comes own.shown.it own.shown.is)
+
+module _ (t : NameTable) (old new : Nodes) (p place : ℕ) (f : Forest) (plants : Plants t old new p place f) where
   root-by : (g : Forest) → HasRoot g → StandFor t new (renumbered (length old) g) → is_element_at new (length old) ≡ true
   root-by none root s = absurd root
   root-by (text number chars next) root s = absurd root
   root-by (element number name bindings attributes children next) root s = ap is_element_by s.0.is ∙ ap is_element s.0.content
 
-  -- the root of the part is one
-  pub come-root : HasRoot f → is_element_at new (length old) ≡ true
+  -- the root of a part that is planted is an element
+  come-root : HasRoot f → is_element_at new (length old) ≡ true
   come-root root = root-by f root plants.stand
 
-  -- it is a child of the node
-  pub come-below : (it : Node) → IsNode old p it → Has (length old) (children_by (node new p))
-  come-below it is = subst (λ (o : Option Node). Has (length old) (children_by o)) (sym (plants.parent it is)) (has-inserted it.children place (length old))
+  pub plants-come : ComesAt old new p place (length old)
+  plants-come = record { parent = plants.parent; others = λ m it is other. plants.others m (in-table old m it is) other }
 
 -- ---- what is kept
 
--- the part is below the node
-pub come-up : (t : NameTable) (old new : Nodes) (d : Document) → StandsFor t old d → IsSound new → (parent place : ℕ) (f : Forest) → Fits d parent place f → Plants t old new parent place f →
-    parent_at new (length old) ≡ Some parent
-come-up t old new d z sound parent place f fits plants =
-    let own : IsParent t old d parent = parent_of t old d parent z fits.element in
-    child-up new sound parent (length old) (come-below t old new parent place f plants own.shown.it own.shown.is)
-
-pub came : (c : Compiled) (old new : Nodes) (k : KeptState) → IsRightFor c old k → (d : Document) → StandsFor c.names old d → IsSound new → (parent place : ℕ) (part : Document) → IsTree part →
-    Fits d parent place part.forest → Plants c.names old new parent place part.forest → HasCome c new k (length old)
-came c old new k r d z sound parent place part tree fits plants =
-    let own : IsParent c.names old d parent = parent_of c.names old d parent z fits.element in record {
+pub came : (c : Compiled) (old new : Nodes) (k : KeptState) → IsRightFor c old k → (d : Document) → StandsFor c.names old d → IsSound new → (parent place n : ℕ) →
+    tests.is_element (found parent 1 d.forest) ≡ true → is_element_at new n ≡ true → ComesAt old new parent place n → HasCome c new k n
+came c old new k r d z sound parent place n below is comes =
+    let own : IsParent c.names old d parent = parent_of c.names old d parent z below in record {
       old = old;
       right = r;
       parent = parent;
-      parent_is = come-up c.names old new d z sound parent place part.forest fits plants;
-      element = come-root c.names old new parent place part.forest plants tree.root;
+      parent_is = come-up c.names old new d z sound parent place n below comes;
+      element = is;
       was_element = ap is_element_by own.shown.is ∙ ap is_element own.shown.content;
       place = place;
-      part = part.forest;
-      plants = plants;
-      number = refl;
+      comes = comes;
     }
+
+pub part-came : (c : Compiled) (old new : Nodes) (k : KeptState) → IsRightFor c old k → (d : Document) → StandsFor c.names old d → IsSound new → (parent place : ℕ) (part : Document) → IsTree part →
+    Fits d parent place part.forest → Plants c.names old new parent place part.forest → HasCome c new k (length old)
+part-came c old new k r d z sound parent place part tree fits plants =
+    came c old new k r d z sound parent place (length old) fits.element (come-root c.names old new parent place part.forest plants tree.root) (plants-come c.names old new parent place part.forest plants)
 
 -- where it stands among the child elements of its parent
 pub come-planted : (c : Compiled) (ns : Nodes) (k : KeptState) (n : ℕ) → HasCome c ns k n → (at : ChildPlace) → at.node ≡ n → IsPlaceOf ns at → IsPlanted c ns k at
@@ -92,7 +99,5 @@ come-planted c ns k n h at same placed =
       right = h.right;
       parent = subst (λ (p : ℕ). is_element_at h.old p ≡ true) up h.was_element;
       place = h.place;
-      part = h.part;
-      plants = subst (λ (p : ℕ). Plants c.names h.old ns p h.place h.part) up h.plants;
-      number = same ∙ h.number;
+      comes = subst (λ (m : ℕ). ComesAt h.old ns at.parent h.place m) (sym same) (subst (λ (p : ℕ). ComesAt h.old ns p h.place n) up h.comes);
     }

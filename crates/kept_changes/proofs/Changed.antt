@@ -19,6 +19,7 @@ use Rattle.doc_changes.specs.Stands.{StandsFor}
 use Rattle.doc_documents.specs.Readers.{name_by, chars_by, chars_at, own_chars, own_scope, outer_scope, scope_upto, scope_at}
 use Rattle.doc_planting.specs.Planted.{Plants}
 use Rattle.kept_forgetting.proofs.Placed.{has-at, in-table, parent-element}
+use Rattle.kept_children.specs.Edited.{ComesAt}
 use Rattle.kept_changes.specs.Own.{Stays, HaveSameElements, Retexts, Reattributes, Renames}
 
 -- ---- lists
@@ -157,65 +158,72 @@ element-node None is = absurd (false≢true is)
 element-node (Some it) is = (it, refl)
 
 module _ (t : NameTable) (old new : Nodes) (d : Document) (z : StandsFor t old d) (p place : ℕ) (it : Node) (is : IsNode old p it) where
-  module _ (chars : List ℕ) (plants : Plants t old new p place (text 0 chars none)) where
-    abbrev planted : ℕ
-    planted = length old
-
+  -- a text came
+  module _ (n : ℕ) (comes : ComesAt old new p place n) (was_none : is_element_at old n ≡ false) (is_none : is_element_at new n ≡ false)
+      (rest : (m : ℕ) → m ≢ n → node old m ≡ None → is_element_at new m ≡ false) where
     -- the same is read of all that were nodes, but for children
-    alike : {A : Type 0} (read : Option Node → A) → read (Some (record it { children = insert it.children place planted })) ≡ read (Some it) → (m : ℕ) → m < length old → read (node new m) ≡ read (node old m)
-    alike read same m lt = elim (cases_eq m p) [
-      | inl e ↦ ap (λ k. read (node new k)) e ∙ ap read (plants.parent it is) ∙ same ∙ ap read (sym is) ∙ ap (λ k. read (node old k)) (sym e)
-      | inr other ↦ ap read (plants.others m lt other)
+    alike : {A : Type 0} (read : Option Node → A) → read (Some (record it { children = insert it.children place n })) ≡ read (Some it) → (m : ℕ) (x : Node) → IsNode old m x → read (node new m) ≡ read (node old m)
+    alike read same m x there = elim (cases_eq m p) [
+      | inl e ↦ ap (λ k. read (node new k)) e ∙ ap read (comes.parent it is) ∙ same ∙ ap read (sym is) ∙ ap (λ k. read (node old k)) (sym e)
+      | inr other ↦ ap read (comes.others m x there other)
     ]
 
-    known : (m : ℕ) → is_element_at old m ≡ true → m < length old
-    known m k = let a = element-node (node old m) k in in-table old m a.0 a.1
-
-    behind : (m : ℕ) → length old ≤ m → is_element_at new m ≡ false
-    behind m past = elim (cases_eq m planted) [
-      | inl e ↦ ap (is_element_at new) e ∙ ap is_element_by plants.stand.0.is ∙ ap is_element plants.stand.0.content
-      | inr other ↦ let size = plants.size in ap is_element_by (get_or-eq_default new None (omega arith))
-    ]
+    alike-at : {A : Type 0} (read : Option Node → A) → read (Some (record it { children = insert it.children place n })) ≡ read (Some it) → (m : ℕ) → is_element_at old m ≡ true → read (node new m) ≡ read (node old m)
+    alike-at read same m k = let x = element-node (node old m) k in alike read same m x.0 x.1
 
     same-elements : (m : ℕ) → is_element_at new m ≡ is_element_at old m
-    same-elements m = elim (cases_lt m (length old)) [
-      | inl lt ↦ alike is_element_by refl m lt
-      | inr past ↦ behind m past ∙ sym (ap is_element_by (get_or-eq_default old None past))
-    ]
-
-    no-element : is_element_at old planted ≡ false
-    no-element = ap is_element_by (get_or-eq_default old None (omega arith))
+    same-elements m = by (node old m) refl
+      where
+        by : (o : Option Node) → node old m ≡ o → is_element_at new m ≡ is_element_at old m
+        by (Some x) there = alike is_element_by refl m x there
+        by None absent = elim (cases_eq m n) [
+          | inl e ↦ ap (is_element_at new) e ∙ is_none ∙ sym was_none ∙ ap (is_element_at old) (sym e)
+          | inr other ↦ rest m other absent ∙ sym (ap is_element_by absent)
+        ]
 
     same-children : (m : ℕ) → is_element_at old m ≡ true → element_children new m ≡ element_children old m
     same-children m k =
         filter-same (is_element_at new) (is_element_at old) (children_by (node new m)) same-elements
         ∙ elim (cases_eq m p) [
           | inl e ↦
-              ap (λ j. filter (is_element_at old) (children_by (node new j))) e ∙ ap (λ o. filter (is_element_at old) (children_by o)) (plants.parent it is)
-              ∙ filter-insert (is_element_at old) it.children place planted no-element
+              ap (λ j. filter (is_element_at old) (children_by (node new j))) e ∙ ap (λ o. filter (is_element_at old) (children_by o)) (comes.parent it is)
+              ∙ filter-insert (is_element_at old) it.children place n was_none
               ∙ ap (λ o. filter (is_element_at old) (children_by o)) (sym is) ∙ ap (λ j. filter (is_element_at old) (children_by (node old j))) (sym e)
-          | inr other ↦ ap (λ o. filter (is_element_at old) (children_by o)) (plants.others m (known m k) other)
+          | inr other ↦ let x = element-node (node old m) k in ap (λ o. filter (is_element_at old) (children_by o)) (comes.others m x.0 x.1 other)
         ]
 
-    pub text-planted : Retexts old new p
-    text-planted = record {
+    pub text-came : Retexts old new p
+    text-came = record {
       elements = record {
         elements = same-elements;
-        parents = λ m k. alike (option_and_then (λ (x : Node). x.parent)) refl m (known m k);
+        parents = λ m k. alike-at (option_and_then (λ (x : Node). x.parent)) refl m k;
         children = same-children;
-        scopes = scopes-stay t old new d z (λ m k. alike (option_and_then (λ (x : Node). x.parent)) refl m (known m k)) (λ m k. alike bindings_by refl m (known m k))
-            (λ m k. alike depth_by refl m (known m k));
+        scopes = scopes-stay t old new d z (λ m k. alike-at (option_and_then (λ (x : Node). x.parent)) refl m k) (λ m k. alike-at bindings_by refl m k) (λ m k. alike-at depth_by refl m k);
       };
-      names = λ m k. alike name_by refl m (known m k);
-      attributes = λ m k. alike attributes_by refl m (known m k);
+      names = λ m k. alike-at name_by refl m k;
+      attributes = λ m k. alike-at attributes_by refl m k;
       texts = λ m k other.
-          ap (λ o. flat_map (chars_at new) (children_by o)) (plants.others m (known m k) other)
-          ∙ flat-same (chars_at new) (chars_at old) (children_by (node old m)) (λ x h. alike chars_by refl x (child-known m x (node old m) refl h));
+          let above = element-node (node old m) k in
+          ap (λ o. flat_map (chars_at new) (children_by o)) (comes.others m above.0 above.1 other)
+          ∙ flat-same (chars_at new) (chars_at old) (children_by (node old m)) (λ x h.
+          let below = z.links.down m x above.0 above.1 (subst (λ (o : Option Node). Has x (children_by o)) above.1 h) in alike chars_by refl x below.child below.is);
     }
-      where
-        child-known : (m x : ℕ) (o : Option Node) → node old m ≡ o → Has x (children_by o) → x < length old
-        child-known m x None e h = absurd h
-        child-known m x (Some above) e h = let c = z.links.down m x above e h in in-table old x c.child c.is
+
+  module _ (chars : List ℕ) (plants : Plants t old new p place (text 0 chars none)) where
+    behind : (m : ℕ) → m ≢ length old → length old ≤ m → is_element_at new m ≡ false
+    behind m other past = let size = plants.size in ap is_element_by (get_or-eq_default new None (omega arith))
+
+    pub text-planted : Retexts old new p
+    text-planted =
+        text-came (length old) (record { parent = plants.parent; others = λ m x there other. plants.others m (in-table old m x there) other })
+        (ap is_element_by (get_or-eq_default old None (omega arith))) (ap is_element_by plants.stand.0.is ∙ ap is_element plants.stand.0.content)
+        (λ m other absent. elim (cases_lt m (length old)) [
+          | inl lt ↦ elim (cases_eq m p) [
+            | inl e ↦ absurd (none-some it (sym absent ∙ ap (node old) e ∙ is))
+            | inr apart ↦ ap is_element_by (plants.others m lt apart ∙ absent)
+          ]
+          | inr past ↦ behind m other past
+        ])
 
   module _ (c : ℕ) (gone : Node) (there : IsNode old c gone) (was : List ℕ) (f : gone.content ≡ contents.Chars was) (child : slice_get it.children place ≡ Some c) (prunes : Prunes old new p place c none) where
     up : parent_at old c ≡ Some p

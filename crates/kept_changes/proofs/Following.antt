@@ -34,7 +34,7 @@ use Rattle.kept_changes.specs.Steps.{Takes, TakesName, TakesAway, TakesBelow}
 use Rattle.kept_changes.specs.declared.change.Spot.{Spot}
 use Rattle.kept_changes.specs.declared.change.Spot.TheVariants.{Planted, Pruned, Retexted, Attributed, Renamed}
 use Rattle.kept_changes.proofs.Changed.{text-held, element-reattributed, element-renamed, text-planted, text-pruned}
-use Rattle.kept_changes.proofs.Came.{come-elements, come-up, came}
+use Rattle.kept_changes.proofs.Came.{come-elements, come-up, part-came, plants-come}
 
 -- ---- nodes
 
@@ -106,7 +106,7 @@ pub named-root : (c : Compiled) (ns : Nodes) (k : KeptState) (n : ℕ) → IsBes
 named-root c ns k n beside h bare = root-alone c.names ns beside.over.0 beside.over.1.stands n (named-element c ns k n h) bare
 
 pub changed-beside : (c : Compiled) (ns : Nodes) (k : KeptState) (d : Document) (spot : Spot) → StandsFor c.names ns d → HasChangedAt c ns k spot → IsBeside c ns k
-changed-beside c ns k d (Planted n) z h = beside-more c h.old ns k d h.right.beside z (come-elements c.names h.old ns h.parent h.place h.part h.plants)
+changed-beside c ns k d (Planted n) z h = beside-more c h.old ns k d h.right.beside z (come-elements h.old ns h.parent h.place n h.comes)
 changed-beside c ns k d (Pruned n) z h = absurd h
 changed-beside c ns k d (Retexted n) z h = beside-more c h.old ns k d h.right.beside z (λ m is. h.retexts.elements.elements m ∙ is)
 changed-beside c ns k d (Attributed n) z h = beside-more c h.old ns k d h.right.beside z (λ m is. h.reattributes.elements.elements m ∙ is)
@@ -166,7 +166,7 @@ module _ (c : Compiled) (old new : Nodes) (k : KeptState) (r : IsRightFor c old 
   named-parent key name h made = (renames-of c new k key (named key name h made)).elements.parents key (ap is_element_by h.is ∙ ap is_element h.holds)
 
   pub changed-at : (change : Change) (spot : Spot) → IsSpot old change spot → ((n : ℕ) → spot ≡ Pruned n → ⊥) → CanMake c.names old d change → IsMade c.names old new change → HasChangedAt c new k spot
-  changed-at (changes.Insert parent index part) spot is here can made = subst (HasChangedAt c new k) (sym is.0) (came c old new k r d z sound parent index part is.1 can.0 made)
+  changed-at (changes.Insert parent index part) spot is here can made = subst (HasChangedAt c new k) (sym is.0) (part-came c old new k r d z sound parent index part is.1 can.0 made)
   changed-at (changes.AddText parent index chars) spot is here can made = subst (HasChangedAt c new k) (sym is) (added parent index chars can made)
   changed-at (changes.SetText key chars) spot is here can made = subst (HasChangedAt c new k) (sym is.2) (rewritten key is.0 chars is.1 can made)
   changed-at (changes.Remove key) spot is here can made = removed key spot is here made
@@ -187,7 +187,7 @@ module _ (c : Compiled) (old new : Nodes) (k : KeptState) (r : IsRightFor c old 
     pub takes-change : (change : Change) (spot : Spot) → IsSpot old change spot → ((n : ℕ) → spot ≡ Pruned n → ⊥) → CanMake c.names old d change → IsMade c.names old new change →
         TakesSpot c new k spot first last → Takes c old new k change first last
     takes-change (changes.Insert parent index part) spot is here can made takes =
-        subst (λ (x : Spot). TakesSpot c new k x first last) is.0 takes parent (come-up c.names old new d z sound parent index part.forest can.0 made)
+        subst (λ (x : Spot). TakesSpot c new k x first last) is.0 takes parent (come-up c.names old new d z sound parent index (length old) can.0.element (plants-come c.names old new parent index part.forest made))
     takes-change (changes.AddText parent index chars) spot is here can made takes = subst (λ (x : Spot). TakesSpot c new k x first last) is takes
     takes-change (changes.SetText key chars) spot is here can made takes = subst (λ (x : Spot). TakesSpot c new k x first last) is.2 takes
     takes-change (changes.Remove key) spot is here can made takes = removed-takes key spot is here takes

@@ -1,11 +1,9 @@
 -- Which element a change begins at, and what is another there once it is made.
 use Rattle.std.specs.Prelude.{◌≡◌, ℕ, length, true, false, Some}
-use Rattle.tree_rows.specs.Forest.{Forest}
 use Rattle.tree_rows.specs.Whole.{IsTree}
 use Rattle.compiled_schema.specs.declared.compiled.Compiled.{Compiled}
 use Rattle.doc_nodes.specs.Nodes.{Nodes, is_element_at}
 use Rattle.doc_changes.specs.Held.{parent_at}
-use Rattle.doc_planting.specs.Planted.{Plants}
 use Rattle.doc_edits.specs.declared.change.Change.{Change}
 use Rattle.doc_edits.specs.declared.change.Change.TheVariants as changes
 use Rattle.compiled_schema.specs.Usable.{set_of}
@@ -13,7 +11,7 @@ use Rattle.kept_records.specs.Fit.{head_at}
 use Rattle.kept_records.specs.Slots.{pair_at}
 use Rattle.kept_state.specs.declared.state.KeptState.{KeptState}
 use Rattle.kept_judging.specs.Judged.{again_pair}
-use Rattle.kept_children.specs.Edited.{IsRightFor}
+use Rattle.kept_children.specs.Edited.{IsRightFor, ComesAt}
 use Rattle.kept_children.specs.Steps.{width}
 use Rattle.kept_changes.specs.Own.{IsRetexted, IsReattributed, IsNamedAnew}
 use Rattle.kept_changes.specs.Steps.{TakesBelow, TakesAt, TakesName}
@@ -47,9 +45,7 @@ pub record HasCome (c : Compiled) (ns : Nodes) (k : KeptState) (n : ℕ) : Type 
   pub element : is_element_at ns n ≡ true
   pub was_element : is_element_at old parent ≡ true
   pub place : ℕ
-  pub part : Forest
-  pub plants : Plants c.names old ns parent place part
-  pub number : n ≡ length old
+  pub comes : ComesAt old ns parent place n
 
 -- what is another at the element, once the change is made; where it is gone, that is another matter
 abbrev pub HasChangedAt : Compiled → Nodes → KeptState → Spot → Type 0

@@ -29,18 +29,18 @@ use std::alloc::AllocError;
 use tree_rows::NodeKind;
 use xsv_steps::{Ledger, Steps};
 
-// Which element a change begins at.
+/// Which element a change begins at.
 #[derive(Clone, Copy)]
-enum Spot {
-    // The part is put under this number.
+pub enum Spot {
+    /// This element, with all below it, is put in.
     Planted(u32),
-    // This element, with all below it, is taken away.
+    /// This element, with all below it, is taken away.
     Pruned(u32),
-    // The texts of this element are others.
+    /// The texts of this element are others.
     Retexted(u32),
-    // Its attributes are.
+    /// Its attributes are.
     Attributed(u32),
-    // Its name is.
+    /// Its name is.
     Renamed(u32),
 }
 
@@ -53,8 +53,8 @@ fn number_of_part(doc: &DocTree, part: &Tree) -> u32
     doc.next_free()
 }
 
-// The parent of a node that has one.
-fn owner_of(doc: &DocTree, node: u32) -> u32
+/// The parent of a node that has one.
+pub fn owner_of(doc: &DocTree, node: u32) -> u32
     requires { parent_at doc.now node ≢ None }
     ensures { parent_at doc.now node ≡ Some result }
 {
@@ -64,8 +64,8 @@ fn owner_of(doc: &DocTree, node: u32) -> u32
     }
 }
 
-// Where a node goes.
-fn removal(doc: &DocTree, node: u32) -> Spot
+/// Where a node goes.
+pub fn removal(doc: &DocTree, node: u32) -> Spot
     requires { parent_at doc.now node ≢ None }
     ensures { IsRemoval doc.now node result }
 {
@@ -101,8 +101,12 @@ fn make(doc: &mut DocTree, set: &mut Compiled, change: Change) -> Result<(), All
     make_change(doc, &mut set.names, change)
 }
 
-// Takes an element that is not the root out of what is kept and out of the document. The steps are those of `take_child`.
-fn prune<L: Ledger>(
+/// Takes an element that is not the root out of what is kept and out of the document. The steps are those of `take_child`.
+///
+/// # Errors
+///
+/// `AllocError` is want of memory, or there are too many codes. The element is gone, and nothing is stated of what is kept.
+pub fn prune<L: Ledger>(
     doc: &mut DocTree,
     set: &mut Compiled,
     kept: &mut KeptState,
@@ -150,8 +154,12 @@ fn plant<L: Ledger>(
     }
 }
 
-// Makes all that is kept right, where the document has changed at an element that is there.
-fn follow<L: Ledger>(
+/// Makes all that is kept right, where the document has changed at an element that is there.
+///
+/// # Errors
+///
+/// `AllocError` is want of memory, or there are too many codes. Nothing is stated of what is kept.
+pub fn follow<L: Ledger>(
     doc: &DocTree,
     set: &mut Compiled,
     kept: &mut KeptState,

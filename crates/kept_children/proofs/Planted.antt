@@ -1,5 +1,5 @@
 -- What holds of an element as soon as a child element came.
-use Rattle.std.proofs.Common.{◌≡◌, ◌≢◌, ℕ, List, [], ◌∷◌, length, map, true, Option, Some, refl, sym, ap, ◌∙◌, subst, inl, inr}
+use Rattle.std.proofs.Common.{◌≡◌, ◌≢◌, ℕ, List, [], ◌∷◌, map, true, Option, Some, refl, sym, ap, ◌∙◌, subst, inl, inr}
 use Rattle.std.specs.Prelude.{filter, flat_map, insert, remove, slice_get}
 use Rattle.std.proofs.lemmas.Bool.{cases_eq}
 use Rattle.tree_edits.specs.Edits.{has}
@@ -26,7 +26,7 @@ use Rattle.child_lists.proofs.Edits.{inserted-at, among-removed, passes, filter-
 use Rattle.kept_forgetting.proofs.Placed.{one-place}
 use Rattle.kept_children.proofs.Still.{IsStill, says-same, still-node, still-held, SeesNodes, ShowsSame, fit-nodes, sees-still, shows-still, head-still, judged-nodes, element-silent}
 use Rattle.child_lists.proofs.Terms.{symbols-remove}
-use Rattle.kept_children.proofs.Starting.{in-table, all-made, given-moved}
+use Rattle.kept_children.proofs.Starting.{all-made, given-moved}
 use Rattle.kept_records.proofs.Frames.{map-same}
 use Rattle.elem_governing.specs.Governing.{govern_root}
 
@@ -46,15 +46,15 @@ module _ (c : Compiled) (ns : Nodes) (k : KeptState) (spot : ChildPlace) (place 
   parent-node : (it : Node) × IsNode h.old p it
   parent-node = by-node h.old p (node h.old p) refl h.parent
 
-  parent-now : IsNode ns p (record parent-node.0 { children = insert parent-node.0.children h.place (length h.old) })
-  parent-now = h.plants.parent parent-node.0 parent-node.1
+  parent-now : IsNode ns p (record parent-node.0 { children = insert parent-node.0.children h.place spot.node })
+  parent-now = h.comes.parent parent-node.0 parent-node.1
 
   same-node : (n : ℕ) → n ≢ p → Stays n → node ns n ≡ node h.old n
-  same-node n other (it, is) = h.plants.others n (in-table h.old n it is) other
+  same-node n other (it, is) = h.comes.others n it is other
 
   still : (n : ℕ) → Stays n → IsStill h.old ns n
   still n stays = elim (cases_eq n p) [
-    | inl e ↦ subst (IsStill h.old ns) (sym e) (still-held h.old ns p parent-node.0 (record parent-node.0 { children = insert parent-node.0.children h.place (length h.old) }) parent-node.1 parent-now refl
+    | inl e ↦ subst (IsStill h.old ns) (sym e) (still-held h.old ns p parent-node.0 (record parent-node.0 { children = insert parent-node.0.children h.place spot.node }) parent-node.1 parent-now refl
         (says-same parent-node.0.content))
     | inr other ↦ still-node h.old ns n (same-node n other stays)
   ]
@@ -98,7 +98,7 @@ module _ (c : Compiled) (ns : Nodes) (k : KeptState) (spot : ChildPlace) (place 
   was-children = parent-node.0.children
 
   abbrev now-children : List ℕ
-  now-children = insert was-children h.place (length h.old)
+  now-children = insert was-children h.place spot.node
 
   children-now : children_by (node ns p) ≡ now-children
   children-now = ap children_by parent-now
@@ -107,7 +107,7 @@ module _ (c : Compiled) (ns : Nodes) (k : KeptState) (spot : ChildPlace) (place 
   children-was = ap children_by parent-node.1
 
   place-now : (j : ℕ) × (slice_get now-children j ≡ Some spot.node) × (remove now-children j ≡ was-children)
-  place-now = let i = inserted-at was-children h.place (length h.old) in (i.place, i.there ∙ ap Some (sym h.number), i.others)
+  place-now = let i = inserted-at was-children h.place spot.node in (i.place, i.there, i.others)
 
   new-element : is_element_at ns spot.node ≡ true
   new-element = passes (is_element_at ns) (children_by (node ns p)) spot.place spot.node place.node_is

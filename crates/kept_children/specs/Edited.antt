@@ -1,13 +1,12 @@
 -- A child element that came, is gone or has another name, where what is kept is right for the document as it was before.
-use Rattle.std.specs.Prelude.{◌≡◌, ℕ, [], length, true}
+use Rattle.std.specs.Prelude.{◌≡◌, ◌≢◌, ℕ, [], insert, true}
 use Rattle.tree_rows.specs.Forest.{Forest}
 use Rattle.compiled_schema.specs.Usable.{set_of}
 use Rattle.compiled_schema.specs.declared.compiled.Compiled.{Compiled}
-use Rattle.doc_nodes.specs.Nodes.{Node, Nodes, IsNode, IsChildAt, Holds, is_element_at}
+use Rattle.doc_nodes.specs.Nodes.{Node, Nodes, node, IsNode, IsChildAt, Holds, is_element_at}
 use Rattle.doc_nodes.specs.declared.content.Content.TheVariants as contents
 use Rattle.doc_nodes.specs.declared.content.Element.{Element}
 use Rattle.doc_changes.specs.Parts.{Prunes}
-use Rattle.doc_planting.specs.Planted.{Plants}
 use Rattle.kept_records.specs.Fit.{IsTop}
 use Rattle.kept_records.specs.Slots.{pair_at}
 use Rattle.kept_state.specs.Kept.{FitBut, IsBeside, outcome_at}
@@ -25,15 +24,18 @@ pub record IsRightFor (c : Compiled) (ns : Nodes) (k : KeptState) : Type 0 where
   pub top : IsTop (set_of c) ns k.records.slots
   pub fit : FitBut c ns k []
 
+-- n has become the child of p at this place, and each other node that was there is as it was
+pub record ComesAt (old new : Nodes) (p place n : ℕ) : Type 0 where
+  pub parent : (it : Node) → IsNode old p it → IsNode new p (record it { children = insert it.children place n })
+  pub others : (m : ℕ) (it : Node) → IsNode old m it → m ≢ p → node new m ≡ node old m
+
 -- the element came, with all that is below it
 pub record IsPlanted (c : Compiled) (ns : Nodes) (k : KeptState) (at : ChildPlace) : Type 0 where
   pub old : Nodes
   pub right : IsRightFor c old k
   pub parent : is_element_at old at.parent ≡ true
   pub place : ℕ
-  pub part : Forest
-  pub plants : Plants c.names old ns at.parent place part
-  pub number : at.node ≡ length old
+  pub comes : ComesAt old ns at.parent place at.node
 
 -- the element is gone with all that was below it, and nothing is kept of these; it had come to this
 pub record IsPruned (c : Compiled) (ns : Nodes) (k : KeptState) (at : ChildPlace) (outcome : Outcome) : Type 0 where

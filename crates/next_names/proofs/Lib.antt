@@ -1,1 +1,4 @@
 mod Symbols
+pub mod Fits
+pub mod Orders
+mod Pushing

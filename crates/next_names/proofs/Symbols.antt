@@ -77,10 +77,6 @@ one_at_most No = omega arith
 one_at_most Prefix = omega arith
 one_at_most Word = omega arith
 
-pub fits_within : (fit_of : ℕ → Fit) (n : ℕ) → fits_below fit_of n ≤ n
-fits_within fit_of zero = omega arith
-fits_within fit_of (suc n) = omega (arith, fits_within fit_of n, one_at_most (fit_of n))
-
 pub fits_more : (fit_of : ℕ → Fit) (n m lines : ℕ) → m ≡ suc n → lines ≡ fits_below fit_of n → lines + lines_of (fit_of n) ≡ fits_below fit_of m
 fits_more fit_of n m lines e is = ap (λ (k : ℕ). k + lines_of (fit_of n)) is ∙ sym (ap (fits_below fit_of) e)
 

@@ -8,12 +8,19 @@ use Rattle.next_names.specs.declared.symbol.Fit.{Fit}
 use Rattle.next_names.specs.declared.symbol.Fit.TheVariants.{No, Prefix, Word}
 
 -- How one more child element, with this symbol, fits at a place, by the words of a content model (Structures 3.8.4) and the symbols of
--- the child elements before the place and from it on: with it they are a word; else they begin one; else they begin none.
-module _ (is_word : List ℕ → Type 0) (before behind : List ℕ) (symbol : ℕ) where
+-- the child elements before the place and from it on: with it they are a word; else they begin one; else they begin none. So for names as
+-- for symbols.
+module _ {X : Type 0} (is_word : List X → Type 0) (before behind : List X) (one : X) where
   abbrev pub FitsAs : Fit → Type 0
-  FitsAs Word = is_word (before ++ symbol ∷ behind)
-  FitsAs Prefix = (is_word (before ++ symbol ∷ behind) → ⊥) × ((more : List ℕ) × is_word (before ++ symbol ∷ (behind ++ more)))
-  FitsAs No = (more : List ℕ) → is_word (before ++ symbol ∷ (behind ++ more)) → ⊥
+  FitsAs Word = is_word (before ++ one ∷ behind)
+  FitsAs Prefix = (is_word (before ++ one ∷ behind) → ⊥) × ((more : List X) × is_word (before ++ one ∷ (behind ++ more)))
+  FitsAs No = (more : List X) → is_word (before ++ one ∷ (behind ++ more)) → ⊥
+
+-- How each of so many symbols fits, in their order: by the words, by the symbols of the child elements before the place and from it on, of
+-- which this is said, and by the symbol that each one is.
+abbrev pub AreFits : {X : Type 0} → (List X → Type 0) → (List X → List X → Type 0) → (ℕ → X) → ℕ → (ℕ → Fit) → Type 0
+AreFits {X} is_word are_around one_at count fit_of =
+    (before : List X) × (behind : List X) × are_around before behind × ((n : ℕ) → n < count → FitsAs is_word before behind (one_at n) (fit_of n))
 
 -- none for a symbol that does not fit
 abbrev pub lines_of : Fit → ℕ

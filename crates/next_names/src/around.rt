@@ -1,7 +1,6 @@
 ghost use Rattle.std.specs.Prelude.{◌≡◌, ℕ, ◌+◌, ◌<◌, ◌≤◌, List};
 ghost use Rattle.next_names.specs.Next.{FitsAs};
 ghost use Rattle.next_names.specs.declared.symbol.SymbolName.{SymbolName as SymbolNameData};
-ghost use Rattle.next_names.specs.declared.symbol.Fit.{Fit as FitData};
 
 use crate::{Fit, SymbolName};
 use xsv_steps::{Ledger, Steps};
@@ -12,23 +11,20 @@ pub trait Around {
     /// A state of the automaton.
     type State: Copy;
 
-    /// How many symbols the content model has, in the order in which they are printed.
+    /// How many symbols the content model has. They are numbered in the order in which they are printed.
     ghost count: { Self → ℕ };
 
     /// What a symbol stands for.
     ghost name_of: { Self → ℕ → SymbolNameData };
 
-    /// The words of the content model, by symbols.
+    /// The words of the content model. They may have other numbers for the symbols.
     ghost is_word: { Self → List ℕ → Type 0 };
 
-    /// The symbols of the child elements before the place.
-    ghost elements_before: { Self → List ℕ };
+    /// The number that words have for a symbol.
+    ghost in_words: { Self → ℕ → ℕ };
 
-    /// The symbols of the child elements from the place on.
-    ghost elements_behind: { Self → List ℕ };
-
-    /// How an element with the symbol fits at the place.
-    ghost fit_of: { Self → ℕ → FitData };
+    /// The child elements before the place, and those from it on, have these symbols, by the numbers that words have for them.
+    ghost are_around: { Self → List ℕ → List ℕ → Type 0 };
 
     /// The child elements before the place lead to the state.
     ghost is_before: { Self → Self.State → Type 0 };
@@ -46,10 +42,10 @@ pub trait Around {
 
     ghost after_most: { Self → ℕ };
 
-    /// How many symbols there are. How each fits at the place is by the words of the content model.
+    /// How many symbols there are.
     fn symbols(&self) -> u32
         ensures number { result ≡ count self.now }
-        ensures fits { (symbol : ℕ) → symbol < count self.now → FitsAs (is_word self.now) (elements_before self.now) (elements_behind self.now) symbol (fit_of self.now symbol) };
+        ensures around { (before : List ℕ) × (behind : List ℕ) × are_around self.now before behind };
 
     /// What a symbol stands for.
     fn symbol_name(&self, symbol: u32) -> SymbolName
@@ -77,8 +73,9 @@ pub trait Around {
         ensures least { steps.old ≤ steps.new }
         ensures most { steps.new ≤ steps.old + after_most self.now };
 
-    /// How the one more child element fits, by the state behind all.
+    /// How the one more child element fits at the place, by the state behind all.
     fn verdict(&self, state: Self::State) -> Fit
         requires { (symbol : ℕ) × (symbol < count self.now) × is_after self.now symbol state }
-        ensures { (symbol : ℕ) → symbol < count self.now → is_after self.now symbol state → result ≡ fit_of self.now symbol };
+        ensures { (symbol : ℕ) → symbol < count self.now → is_after self.now symbol state →
+            (before behind : List ℕ) → are_around self.now before behind → FitsAs (is_word self.now) before behind (in_words self.now symbol) result };
 }

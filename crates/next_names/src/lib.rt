@@ -2,10 +2,16 @@
 #![tactic(auto)]
 
 mod around;
+mod laws;
 mod lines;
+mod listing;
 mod next;
+mod order;
+mod sorting;
 mod symbol;
 
 pub use around::Around;
+pub use laws::{symbols_are_in_a_total_order, symbols_fit_in_one_way};
 pub use next::write_next;
+pub use order::{Symbol, symbol_order};
 pub use symbol::{Fit, SymbolName};

@@ -1,9 +1,10 @@
-ghost use Rattle.std.specs.Prelude.{◌≡◌, ℕ, ◌+◌, ◌*◌, ◌<◌, ◌≤◌, OnOk, IfOk, OnErr};
+ghost use Rattle.std.specs.Prelude.{◌≡◌, ℕ, ◌+◌, ◌*◌, ◌<◌, ◌≤◌, List, OnOk, IfOk, OnErr};
 ghost use Rattle.std.specs.Io.KnownBytes.{Appends};
 ghost use Rattle.xsv_io.specs.Causes.{HasCause};
 ghost use Rattle.xsv_io.specs.Writing.{AppendsFront};
 ghost use Rattle.next_names.specs.Next as spec;
-ghost use Rattle.next_names.specs.Next.{IsNamed, FitsAs, lines_below, fits_below};
+ghost use Rattle.next_names.specs.Next.{IsNamed, FitsAs, AreFits, lines_below, fits_below};
+ghost use Rattle.next_names.specs.declared.symbol.Fit.{Fit as FitData};
 
 use crate::lines::write_line;
 use crate::{Around, Fit};
@@ -20,7 +21,7 @@ fn fit_at<A: Around, L: Ledger>(
 ) -> Fit
     requires symbol { symbol < A.count around.now }
     requires before { A.is_before around.now before }
-    ensures fit { result ≡ A.fit_of around.now symbol }
+    ensures fit { (before behind : List ℕ) → A.are_around around.now before behind → FitsAs (A.is_word around.now) before behind (A.in_words around.now symbol) result }
     ensures least { steps.old ≤ steps.new }
     ensures most { steps.new ≤ steps.old + (A.with_most around.now + A.after_most around.now) }
 {
@@ -42,10 +43,13 @@ pub fn write_next<W: Sink, A: Around, L: Ledger>(
     steps: &mut Steps<L>,
 ) -> Result<u32, Failed>
     requires named { (symbol : ℕ) → symbol < A.count around.now → IsNamed names.now (A.name_of around.now symbol) }
-    ensures ok { OnOk result (Appends (W.taken sink.old) (W.taken sink.new) (lines_below names.now (A.name_of around.now) (A.fit_of around.now) (A.count around.now))) }
-    ensures count { IfOk result (λ lines. lines ≡ fits_below (A.fit_of around.now) (A.count around.now)) }
-    ensures err { OnErr result (AppendsFront (W.taken sink.old) (W.taken sink.new) (lines_below names.now (A.name_of around.now) (A.fit_of around.now) (A.count around.now))) }
-    ensures fits { (symbol : ℕ) → symbol < A.count around.now → FitsAs (A.is_word around.now) (A.elements_before around.now) (A.elements_behind around.now) symbol (A.fit_of around.now symbol) }
+    ensures ok { OnOk result ((fit_of : ℕ → FitData) → AreFits (A.is_word around.now) (A.are_around around.now) (A.in_words around.now) (A.count around.now) fit_of →
+        Appends (W.taken sink.old) (W.taken sink.new) (lines_below names.now (A.name_of around.now) fit_of (A.count around.now))) }
+    ensures count { IfOk result (λ lines. (fit_of : ℕ → FitData) → AreFits (A.is_word around.now) (A.are_around around.now) (A.in_words around.now) (A.count around.now) fit_of →
+        lines ≡ fits_below fit_of (A.count around.now)) }
+    ensures err { OnErr result ((fit_of : ℕ → FitData) → AreFits (A.is_word around.now) (A.are_around around.now) (A.in_words around.now) (A.count around.now) fit_of →
+        AppendsFront (W.taken sink.old) (W.taken sink.new) (lines_below names.now (A.name_of around.now) fit_of (A.count around.now))) }
+    ensures few { IfOk result (λ lines. lines ≤ A.count around.now) }
     ensures cause { HasCause (W.faults sink.old) (W.faults sink.new) result }
     ensures kept { W.fault_bound sink.new ≡ W.fault_bound sink.old }
     ensures least { steps.old ≤ steps.new }
@@ -65,5 +69,8 @@ pub fn write_next<W: Sink, A: Around, L: Ledger>(
 fn lines_of(fit: Fit) -> u32
     ensures { result ≡ spec.lines_of fit }
 {
-    u32::from(fit != Fit::No)
+    match fit {
+        Fit::No => 0,
+        Fit::Prefix | Fit::Word => 1,
+    }
 }

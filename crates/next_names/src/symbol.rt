@@ -1,7 +1,7 @@
 use xs_names::{NameId, NsId};
 
 /// What a symbol of a content model stands for.
-#[derive(Clone, Copy, Debug, PartialEq, Eq)]
+#[derive(Clone, Copy)]
 pub enum SymbolName {
     /// A name.
     Name(NameId),
@@ -12,7 +12,7 @@ pub enum SymbolName {
 }
 
 /// How an element fits at a place among child elements (Structures 3.8.4).
-#[derive(Clone, Copy, Debug, PartialEq, Eq)]
+#[derive(Clone, Copy)]
 pub enum Fit {
     /// With it the child elements begin no word of the content model.
     No,

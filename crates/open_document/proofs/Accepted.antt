@@ -1,5 +1,5 @@
 -- What schema documents come to.
-use Rattle.std.specs.Prelude.{◌≡◌, ℕ, List, Result, Ok, Err, IfOk, OnOk}
+use Rattle.std.specs.Prelude.{◌≡◌, ℕ, List, [], Result, Ok, Err, IfOk, OnOk}
 use Rattle.std.proofs.Common.{arith, inl, inr, refl, sym, ap, ◌∙◌, subst}
 use Rattle.tree_rows.specs.Forest.{Document}
 use Rattle.session_model.specs.State.{State, IsOpened}
@@ -11,7 +11,13 @@ use Rattle.schema_compile.specs.declared.outcome.Outcome.{Outcome}
 use Rattle.schema_compile.specs.declared.outcome.Outcome.TheVariants.{Accepted}
 use Rattle.told.specs.Outcomes.{told_of}
 use Rattle.open_document.specs.Answers.{IsCompiled, IsOpenedBy, verdict_of, work_after}
-use Rattle.open_document.specs.State.{Basis, OpenState, WorkState, working, IsOpen}
+use Rattle.doc_inverses.specs.declared.change.Change.{Change}
+use Rattle.undo_log.specs.Log.{Log, log_of}
+use Rattle.undo_log.specs.declared.log.Taken.TheVariants.{Nothing}
+use Rattle.undo_histories.specs.Through as histories
+use Rattle.open_document.specs.Held.{begun, state_of, IsLogged}
+use Rattle.open_document.specs.State.{Basis, WorkState, working, kept_trees, IsOpen}
+use Rattle.open_document.specs.declared.held.OpenDocument.{OpenDocument}
 use Rattle.open_document.specs.declared.verdict.SetVerdict.{SetVerdict}
 
 module _ (documents : List SchemaInput) where
@@ -37,17 +43,29 @@ opened_open (Ok x) most basis d w h =
     subst IsOpen (sym (h.work_is ∙ ap working h.document_is)) refl
 opened_open (Err e) most basis d w h = tt
 
--- a document with this session
-abbrev open_by : ℕ → Basis → State → OpenState
-open_by most basis session = record { session = session; documents = basis.documents; most = most }
-
 -- a session that was opened is that of the document
 pub opened_by : {T E : Type 0} (r : Result T E) (most : ℕ) (basis : Basis) (d : Document) (w : WorkState) (session : State) → IsOpened basis.set d session
-    → OnOk r (w ≡ working (open_by most basis session)) → OnOk r (IsOpenedBy most basis d w)
+    → OnOk r (w ≡ working (begun session basis.documents most)) → OnOk r (IsOpenedBy most basis d w)
 opened_by (Ok x) most basis d w session is h = record {
-  document = open_by most basis session;
+  document = begun session basis.documents most;
   work_is = h;
   found_is = is.found_is;
-  document_is = ap (open_by most basis) is.new_is;
+  document_is = ap (λ (x : State). begun x basis.documents most) is.new_is;
 }
 opened_by (Err e) most basis d w session is h = tt
+
+-- ---- a document that was just opened, whose log has no steps
+
+pub begun_logged : (x : OpenDocument) → x.log ≡ log_of kept_trees [] [] Nothing → IsLogged x
+begun_logged x is = record {
+  depth = ap (λ (l : Log Change). l.depth) is;
+  logged = subst (histories.IsLogged x.session.set.names x.session.document) (sym is) (record { leads = record { past = tt; future = tt }; answered = refl });
+}
+
+state_begun : (x : OpenDocument) → x.log ≡ log_of kept_trees [] [] Nothing → state_of x ≡ begun x.session x.documents.items x.most
+state_begun x is = ap (λ (l : Log Change). state_of (record x { log = l })) is
+
+pub worked_begun : {T E : Type 0} (r : Result T E) (w : WorkState) (x : OpenDocument) → x.log ≡ log_of kept_trees [] [] Nothing → OnOk r (w ≡ working (state_of x))
+    → OnOk r (w ≡ working (begun x.session x.documents.items x.most))
+worked_begun (Ok y) w x is h = h ∙ ap working (state_begun x is)
+worked_begun (Err e) w x is h = tt

@@ -12,6 +12,7 @@ use Rattle.session_model.specs.Spending.{Counts, BreaksWithin, Spends}
 use Rattle.session_model.specs.State.{State, with_names, after_edit}
 use Rattle.session_model.specs.declared.session.SessionError.{SessionError}
 use Rattle.session_model.specs.declared.session.SessionError.TheVariants as errors
+use Rattle.edit_session.specs.Costs.{edit_cost}
 use Rattle.told.specs.Going.{trace, Breaks, Answers}
 use Rattle.told.specs.Tells.{Wrote}
 use Rattle.told.specs.Told.{Told, says}
@@ -19,70 +20,72 @@ use Rattle.told.specs.declared.break_off.BreakOff.{BreakOff}
 use Rattle.told.specs.declared.break_off.BreakOff.TheVariants.{Memory}
 use Rattle.told.proofs.Saying.{said_answers, free_answers, looked_answers, looks_breaks, memory_breaks}
 use Rattle.open_document.specs.Replies.{refusal, made_reply, made_said, edit_told}
-use Rattle.open_document.specs.State.{OpenState, with_session}
+use Rattle.open_document.specs.State.{OpenState}
+use Rattle.open_document.specs.Steps.{with_edit}
 
 -- the text of a refusal
 pub refusal-is : (n k : ℕ) (name word : List ℕ) → n ≡ k → name ≡ word → refusal n name ≡ refusal k word
 refusal-is n k name word e h = λ i. refusal (e i) (h i)
 
 -- the cases of what a session answers, where it is known which it is
-module _ (budget : State → Edit → State → ℕ) (old : State) (edit : Edit) (new : State) (n m : ℕ) (x : SessionError) where
-  pub refused_of : (why : EditError) → x ≡ errors.Refused why → Applies old edit (Err x) new → Spends budget old edit (Err x) new n m
+module _ (old : State) (edit : Edit) (new : State) (n m : ℕ) (x : SessionError) where
+  pub refused_of : (why : EditError) → x ≡ errors.Refused why → Applies old edit (Err x) new → Spends edit_cost old edit (Err x) new n m
       → (edited old.document edit ≡ Err why) × (new ≡ old) × (m ≡ n)
   refused_of why is applies spends =
       let h = subst (λ (e : SessionError). Applies old edit (Err e) new) is applies in
-      (h.1, h.3, subst (λ (e : SessionError). Spends budget old edit (Err e) new n m) is spends)
+      (h.1, h.3, subst (λ (e : SessionError). Spends edit_cost old edit (Err e) new n m) is spends)
 
-  pub memory_of : x ≡ errors.Memory → Spends budget old edit (Err x) new n m → (n ≤ m) × BreaksWithin budget old edit (edited old.document edit) n m
-  memory_of is spends = subst (λ (e : SessionError). Spends budget old edit (Err e) new n m) is spends
+  pub memory_of : x ≡ errors.Memory → Spends edit_cost old edit (Err x) new n m → (n ≤ m) × BreaksWithin edit_cost old edit (edited old.document edit) n m
+  memory_of is spends = subst (λ (e : SessionError). Spends edit_cost old edit (Err e) new n m) is spends
 
-module _ (budget : State → Edit → State → ℕ) (s : OpenState) (old : State) (edit : Edit) (next : OpenState → Told) where
+module _ (s : OpenState) (edit : Edit) (next : OpenState → Told) where
   abbrev pub told_by : Result Document EditError → Told
-  told_by r = edit_told budget (with_session s old) edit r next
-
-  abbrev after_in : State → Unit {0} → Told
-  after_in new done = next (with_session s new)
+  told_by r = edit_told s edit r next
 
   module _ (r : Result (Unit {0}) BreakOff) (taken taken' : Option (List ℕ)) (n m : ℕ) where
-    made_at : (d : Document) (found : List Entry) → IsFound (with_names old.set d.forest) d found → Wrote r taken taken' (made_reply (after_edit old d found))
-        → Counts n m (budget old edit (after_edit old d found)) → Answers (told_by (Ok d)) r (trace taken n) (trace taken' m) (after_in (after_edit old d found))
+    made_at : (d : Document) (found : List Entry) → IsFound (with_names s.session.set d.forest) d found
+        → Wrote r taken taken' (made_reply (after_edit s.session d found)) → Counts n m (edit_cost s.session edit (after_edit s.session d found))
+        → Answers (told_by (Ok d)) r (trace taken n) (trace taken' m) (λ done. next (with_edit s edit d found))
     made_at d found is w counts =
-        looked_answers (with_names old.set d.forest) d
-        (λ (es : List Entry). says (made_said budget old edit (after_edit old d es)) (next (with_session s (after_edit old d es)))) found r (trace taken n) (trace taken' m)
-        (after_in (after_edit old d found)) is
-        (said_answers (made_said budget old edit (after_edit old d found)) (after_in (after_edit old d found)) (next (with_session s (after_edit old d found))) r taken taken' n m
+        looked_answers (with_names s.session.set d.forest) d
+        (λ (es : List Entry). says (made_said s.session edit (after_edit s.session d es)) (next (with_edit s edit d es))) found r (trace taken n) (trace taken' m)
+        (λ done. next (with_edit s edit d found)) is
+        (said_answers (made_said s.session edit (after_edit s.session d found)) (λ done. next (with_edit s edit d found)) (next (with_edit s edit d found)) r taken taken' n m
         (λ done. refl) w counts.later counts.few)
 
     -- an edit was made, and its reply was written, or broken off
-    pub made_answers : (new : State) → IsEdited old edit new → Wrote r taken taken' (made_reply new) → Counts n m (budget old edit new)
-        → Answers (told_by (edited old.document edit)) r (trace taken n) (trace taken' m) (after_in new)
-    made_answers new e w counts =
-        let last : State = after_edit old new.document new.found in
-        subst (λ (x : State). Answers (told_by (edited old.document edit)) r (trace taken n) (trace taken' m) (after_in x)) (sym e.new_is)
-        (subst (λ (x : Result Document EditError). Answers (told_by x) r (trace taken n) (trace taken' m) (after_in last)) (sym e.document_is)
-        (made_at new.document new.found e.found_is
+    pub made_answers : (new : OpenState) → IsEdited s.session edit new.session → new ≡ with_edit s edit new.session.document new.session.found
+        → Wrote r taken taken' (made_reply new.session) → Counts n m (edit_cost s.session edit new.session)
+        → Answers (told_by (edited s.session.document edit)) r (trace taken n) (trace taken' m) (λ done. next new)
+    made_answers new e behind w counts =
+        let d = new.session.document in
+        let found = new.session.found in
+        subst (λ (x : OpenState). Answers (told_by (edited s.session.document edit)) r (trace taken n) (trace taken' m) (λ done. next x)) (sym behind)
+        (subst (λ (x : Result Document EditError). Answers (told_by x) r (trace taken n) (trace taken' m) (λ done. next (with_edit s edit d found))) (sym e.document_is)
+        (made_at d found e.found_is
         (subst (λ (x : State). Wrote r taken taken' (made_reply x)) e.new_is w)
-        (subst (λ (x : State). Counts n m (budget old edit x)) e.new_is counts)))
+        (subst (λ (x : State). Counts n m (edit_cost s.session edit x)) e.new_is counts)))
 
     -- it was refused
-    pub refused_answers : (why : EditError) (new : State) → (edited old.document edit ≡ Err why) × (new ≡ old) × (m ≡ n)
-        → Wrote r taken taken' (refusal (refusals.number_of why) (refusals.name_of why)) → Answers (told_by (edited old.document edit)) r (trace taken n) (trace taken' m) (after_in new)
-    refused_answers why new h w =
-        subst (λ (x : Result Document EditError). Answers (told_by x) r (trace taken n) (trace taken' m) (after_in new)) (sym h.0)
-        (subst (λ (x : State). Answers (told_by (Err why)) r (trace taken n) (trace taken' m) (after_in x)) (sym h.1)
-        (subst (λ (k : ℕ). Answers (told_by (Err why)) r (trace taken n) (trace taken' k) (after_in old)) (sym h.2)
-        (free_answers (refusal (refusals.number_of why) (refusals.name_of why)) (after_in old) (next (with_session s old)) r taken taken' n (λ done. refl) w)))
+    pub refused_answers : (why : EditError) (new : OpenState) → edited s.session.document edit ≡ Err why → new ≡ s → m ≡ n
+        → Wrote r taken taken' (refusal (refusals.number_of why) (refusals.name_of why))
+        → Answers (told_by (edited s.session.document edit)) r (trace taken n) (trace taken' m) (λ done. next new)
+    refused_answers why new refused same steps w =
+        subst (λ (x : Result Document EditError). Answers (told_by x) r (trace taken n) (trace taken' m) (λ done. next new)) (sym refused)
+        (subst (λ (x : OpenState). Answers (told_by (Err why)) r (trace taken n) (trace taken' m) (λ done. next x)) (sym same)
+        (subst (λ (k : ℕ). Answers (told_by (Err why)) r (trace taken n) (trace taken' k) (λ done. next s)) (sym steps)
+        (free_answers (refusal (refusals.number_of why) (refusals.name_of why)) (λ done. next s) (next s) r taken taken' n (λ done. refl) w)))
 
   -- memory was wanting for it
-  broken_by : (r : Result Document EditError) (taken : Option (List ℕ)) (n m : ℕ) → n ≤ m → BreaksWithin budget old edit r n m
+  broken_by : (r : Result Document EditError) (taken : Option (List ℕ)) (n m : ℕ) → n ≤ m → BreaksWithin edit_cost s.session edit r n m
       → Breaks (told_by r) Memory (trace taken n) (trace taken m)
   broken_by (Ok d) taken n m later h =
-      looks_breaks (with_names old.set d.forest) d
-      (λ (es : List Entry). says (made_said budget old edit (after_edit old d es)) (next (with_session s (after_edit old d es))))
-      (λ (es : List Entry). budget old edit (after_edit old d es)) taken taken n m (λ es k within. within) refl later (λ es is. (h es is).few)
+      looks_breaks (with_names s.session.set d.forest) d
+      (λ (es : List Entry). says (made_said s.session edit (after_edit s.session d es)) (next (with_edit s edit d es)))
+      (λ (es : List Entry). edit_cost s.session edit (after_edit s.session d es)) taken taken n m (λ es k within. within) refl later (λ es is. (h es is).few)
   broken_by (Err e) taken n m later h =
       subst (λ (k : ℕ). Breaks (told_by (Err e)) Memory (trace taken n) (trace taken k)) (sym h) (memory_breaks (told_by (Err e)) (trace taken n))
 
-  pub broken_answers : (taken : Option (List ℕ)) (n m : ℕ) → (n ≤ m) × BreaksWithin budget old edit (edited old.document edit) n m
-      → Breaks (told_by (edited old.document edit)) Memory (trace taken n) (trace taken m)
-  broken_answers taken n m h = broken_by (edited old.document edit) taken n m h.0 h.1
+  pub broken_answers : (taken : Option (List ℕ)) (n m : ℕ) → (n ≤ m) × BreaksWithin edit_cost s.session edit (edited s.session.document edit) n m
+      → Breaks (told_by (edited s.session.document edit)) Memory (trace taken n) (trace taken m)
+  broken_answers taken n m h = broken_by (edited s.session.document edit) taken n m h.0 h.1

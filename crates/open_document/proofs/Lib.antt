@@ -1,4 +1,7 @@
 pub mod Accepted
 pub mod Edits
+pub mod Logging
+pub mod Making
+pub mod Stepping
 pub mod Worked
 mod Entries

@@ -1,5 +1,5 @@
 -- What schema documents come to, what is written of an open document, and what is told of a command.
-use Rattle.std.specs.Prelude.{◌≡◌, ℕ, List, Option, None}
+use Rattle.std.specs.Prelude.{◌≡◌, ℕ, List, [], Option, None}
 use Rattle.item_listing.specs.declared.item.Item.{Item}
 use Rattle.tree_rows.specs.Forest.{Document}
 use Rattle.edit_script.specs.Commands.{command}
@@ -10,11 +10,14 @@ use Rattle.what_is_found.specs.IsFound.{IsFound}
 use Rattle.session_model.specs.Asking.{code_total, root_validity}
 use Rattle.session_model.specs.State as sessions
 use Rattle.session_model.specs.State.{with_names}
-use Rattle.plain_session.specs.Costs as costs
+use Rattle.edit_session.specs.Costs as costs
 use Rattle.told.specs.Outcomes.{Question, SetOutcome, accepted, broken, IsOutcomeOf}
 use Rattle.told.specs.Told.{Told}
 use Rattle.open_document.specs.Replies.{line_told, made_reply, report_reply}
-use Rattle.open_document.specs.State.{Basis, OpenState, WorkState, ready, working, with_documents}
+use Rattle.undo_log.specs.History as histories
+use Rattle.undo_log.specs.Log.{log_of}
+use Rattle.undo_log.specs.declared.log.Taken.TheVariants.{Nothing}
+use Rattle.open_document.specs.State.{Basis, OpenState, WorkState, ready, working, with_documents, kept_trees}
 use Rattle.open_document.specs.declared.verdict.SetVerdict.{SetVerdict}
 use Rattle.open_document.specs.declared.verdict.SetVerdict.TheVariants.{Accepted, Broken}
 use Rattle.open_document.specs.declared.verdict.Verdict.{Verdict}
@@ -44,10 +47,16 @@ pub record IsCompiled (documents : List SchemaInput) (old : WorkState) (told : S
 
 -- ---- an open document
 
--- A document that was just opened by a schema set, whose table gets the names of the document, and of which this is found; its revision is 0. So
--- many record lines a question for those with a code is answered by at most.
+-- A document that was just opened by a schema set, whose table gets the names of the document, and of which this is found; its revision is 0, and
+-- its history has no past and no future. So many record lines a question for those with a code is answered by at most.
 abbrev pub opened : ℕ → Basis → Document → List Entry → OpenState
-opened most basis d found = record { session = sessions.opened basis.set d found; documents = basis.documents; most = most }
+opened most basis d found = record {
+  session = sessions.opened basis.set d found;
+  documents = basis.documents;
+  most = most;
+  history = histories.opened d.forest;
+  log = log_of kept_trees [] [] Nothing;
+}
 
 -- so many steps it takes to open a document, at most
 abbrev pub opening_cost : Document → ℕ
@@ -62,7 +71,7 @@ pub record IsOpenedBy (most : ℕ) (basis : Basis) (d : Document) (work : WorkSt
 
 -- what is told of a command with its block, and behind it
 abbrev pub command_told : OpenState → List ℕ → Option (List Item) → (OpenState → Told) → Told
-command_told s line block next = line_told costs.edit_cost s (command line block) next
+command_told s line block next = line_told s (command line block) next
 
 -- the report: the record lines of each element and attribute, and how many codes there are
 abbrev pub report : OpenState → List ℕ

@@ -18,8 +18,12 @@ use Rattle.assessment.specs.Attribution.{SchemaSet}
 use Rattle.session_model.specs.Asking.{entry_at, code_total}
 use Rattle.session_model.specs.Reports.{entry_text, report}
 use Rattle.session_model.specs.State.{State, with_names, after_edit}
+use Rattle.tree_inverses.specs.Changes.{Change}
+use Rattle.edit_session.specs.Changed.{after_change}
+use Rattle.edit_session.specs.Costs.{edit_cost, change_cost}
 use Rattle.told.specs.Told.{Said, free, Told, says, looks}
-use Rattle.open_document.specs.State.{OpenState, with_session}
+use Rattle.open_document.specs.State.{OpenState}
+use Rattle.open_document.specs.Steps.{Step, undo_of, redo_of, document_behind, with_edit, with_step}
 
 -- ---- what is written
 
@@ -57,26 +61,45 @@ report_reply most s = report most s ++ total_reply s
 abbrev pub made_reply : State → List ℕ
 made_reply s = made s.revision (code_total s.found)
 
+-- no tree was before the present one, or was left by undoing
+abbrev pub no_past : List ℕ
+no_past = refusal 30 (codes "NothingToUndo")
+
+abbrev pub no_future : List ℕ
+no_future = refusal 31 (codes "NothingToRedo")
+
 -- ---- what is told
 
--- where an edit costs this, by the states before and after it
-module _ (budget : State → Edit → State → ℕ) where
-  -- an edit that is made, behind which what is found is this: the reply, and what it costs
-  abbrev pub made_said : State → Edit → State → Said
-  made_said old edit new = record { text = made_reply new; cost = budget old edit new }
+-- an edit that is made, behind which what is found is this: the reply, and what it costs
+abbrev pub made_said : State → Edit → State → Said
+made_said old edit new = record { text = made_reply new; cost = edit_cost old edit new }
 
-  -- Of an edit that gives this document, or is refused: what is found of the document is looked at, and the document stands with it then; a
-  -- refusal changes nothing and costs no step.
-  abbrev pub edit_told : OpenState → Edit → Result Document EditError → (OpenState → Told) → Told
-  edit_told s edit (Ok d) next =
-      looks (with_names s.session.set d.forest) d (λ found. says (made_said s.session edit (after_edit s.session d found)) (next (with_session s (after_edit s.session d found))))
-  edit_told s edit (Err e) next = says (free (refusal (refusals.number_of e) (refusals.name_of e))) (next s)
+-- Of an edit that gives this document, or is refused: what is found of the document is looked at, and the document stands with it then; a
+-- refusal changes nothing and costs no step.
+abbrev pub edit_told : OpenState → Edit → Result Document EditError → (OpenState → Told) → Told
+edit_told s edit (Ok d) next =
+    looks (with_names s.session.set d.forest) d (λ found. says (made_said s.session edit (after_edit s.session d found)) (next (with_edit s edit d found)))
+edit_told s edit (Err e) next = says (free (refusal (refusals.number_of e) (refusals.name_of e))) (next s)
 
-  -- of a line, and what is told behind it: a question, or a line that is no command, changes nothing
-  abbrev pub line_told : OpenState → Result Command ScriptFault → (OpenState → Told) → Told
-  line_told s (Ok (commands.Change edit)) next = edit_told s edit (edited s.session.document edit) next
-  line_told s (Ok (commands.Assess node)) next = says (free (assess_reply s.session node)) (next s)
-  line_told s (Ok commands.Errors) next = says (free (report_reply (Some s.most) s.session)) (next s)
-  line_told s (Ok commands.Report) next = says (free (report_reply None s.session)) (next s)
-  line_told s (Ok commands.Total) next = says (free (total_reply s.session)) (next s)
-  line_told s (Err fault) next = says (free (refusal (faults.number_of fault) (faults.name_of fault))) (next s)
+-- a step that is made: the reply, and what the change costs that it is
+abbrev pub step_said : State → Change → State → Said
+step_said old c new = record { text = made_reply new; cost = change_cost old c new }
+
+-- Of a step: what is found of the document behind it is looked at, and the document stands with it then; where there is no step, this is said,
+-- and nothing changes.
+abbrev pub step_told : OpenState → Option Step → List ℕ → (OpenState → Told) → Told
+step_told s (Some step) refused next =
+    looks s.session.set (document_behind s step) (λ found.
+    says (step_said s.session step.change (after_change s.session (document_behind s step) found)) (next (with_step s step found)))
+step_told s None refused next = says (free refused) (next s)
+
+-- of a line, and what is told behind it: a question, or a line that is no command, changes nothing
+abbrev pub line_told : OpenState → Result Command ScriptFault → (OpenState → Told) → Told
+line_told s (Ok (commands.Change edit)) next = edit_told s edit (edited s.session.document edit) next
+line_told s (Ok (commands.Assess node)) next = says (free (assess_reply s.session node)) (next s)
+line_told s (Ok commands.Errors) next = says (free (report_reply (Some s.most) s.session)) (next s)
+line_told s (Ok commands.Report) next = says (free (report_reply None s.session)) (next s)
+line_told s (Ok commands.Total) next = says (free (total_reply s.session)) (next s)
+line_told s (Ok commands.Undo) next = step_told s (undo_of s) no_past next
+line_told s (Ok commands.Redo) next = step_told s (redo_of s) no_future next
+line_told s (Err fault) next = says (free (refusal (faults.number_of fault) (faults.name_of fault))) (next s)

@@ -1,8 +1,12 @@
 -- What a stream works on.
 use Rattle.std.specs.Prelude.{◌≡◌, false, ℕ, List}
+use Rattle.tree_rows.specs.Forest.{Forest}
+use Rattle.tree_inverses.specs.Changes.{Change}
 use Rattle.assessment.specs.Attribution.{SchemaSet}
 use Rattle.schema_set.specs.declared.inputs.SchemaInput.{SchemaInput}
 use Rattle.session_model.specs.State.{State}
+use Rattle.undo_log.specs.History.{History}
+use Rattle.undo_log.specs.Log.{Log}
 
 -- what documents are assessed by: a schema set, and the schema documents of the stream, of which another set can be asked for
 pub record Basis : Type 0 where
@@ -14,15 +18,18 @@ abbrev pub with_documents : List SchemaInput → SchemaSet → Basis
 with_documents documents set = record { set = set; documents = documents }
 
 -- A session over a document, the schema documents of the stream, and how many record lines a question for those with a code is answered by at
--- most. What else commands come to need, a history, the number of the present set, a log of authors, has its field here.
+-- most; the trees that were before the present one and those that were left by undoing; and the changes that lead from each to the next, by which
+-- goes what going there costs. What else commands come to need, the number of the present set, a log of authors, has its field here.
 pub record OpenState : Type 0 where
   pub session : State
   pub documents : List SchemaInput
   pub most : ℕ
+  pub history : History Forest
+  pub log : Log Change
 
--- the document with its session in this state
-abbrev pub with_session : OpenState → State → OpenState
-with_session s x = record s { session = x }
+-- so many trees that were before the present one are kept at most
+abbrev pub kept_trees : ℕ
+kept_trees = 64
 
 -- nothing yet, the schema set that documents are assessed by, or the document that is open
 pub data WorkState : Type 0 where

@@ -1,20 +1,26 @@
 //! What a workspace keeps.
 
-ghost use Rattle.std.specs.Prelude.{◌≡◌, IfOk, OnOk};
+ghost use Rattle.std.specs.Prelude.{◌≡◌, false, IfOk, OnOk};
 ghost use Rattle.compiled_schema.specs.Usable.{IsUsable, set_of};
 ghost use Rattle.session_model.specs.Spending.{Counts};
 ghost use Rattle.open_document.specs.Answers as answers;
-ghost use Rattle.open_document.specs.Held.{basis_of, state_of, work_of, IsKept};
+ghost use Rattle.open_document.specs.Held.{basis_of, state_of, work_of, begun, IsKept, IsLogged};
 ghost use Rattle.open_document.specs.State.{Basis, working, ready, with_documents, IsReady, IsOpen};
 
 use compiled_schema::Compiled;
-use plain_session::{PlainSession, let_go};
+use doc_inverses::Change;
+use edit_session::EditSession;
+use plain_session::let_go;
 use plain_tree::Tree;
 use schema_set::SchemaInput;
 use session_model::Session;
 use std::alloc::{AllocError, Global};
 use std::mem;
+use undo_log::UndoLog;
 use xsv_steps::{Ledger, Steps};
+
+/// How many trees that were before the present one are kept.
+const KEPT_TREES: u32 = 64;
 
 /// A set by which documents may be assessed, and the schema documents that it was compiled of.
 #[derive(Drop)]
@@ -35,11 +41,13 @@ impl CompiledBasis {
 /// A document that is open.
 #[derive(Drop)]
 pub(crate) struct OpenDocument {
-    pub session: PlainSession,
+    pub session: EditSession,
     /// The schema documents of the stream.
     pub documents: Vec<SchemaInput>,
     /// How many record lines a question for those with a code is answered by at most.
     pub most: u32,
+    /// The changes that lead back to the trees before, and on to those that were left by undoing.
+    pub log: UndoLog<Change>,
 }
 
 impl OpenDocument {
@@ -48,10 +56,12 @@ impl OpenDocument {
         let OpenDocument {
             session,
             documents,
+            log,
             ..
         } = self;
         session.close();
         drop(documents);
+        drop(log);
     }
 }
 
@@ -120,6 +130,7 @@ pub(crate) fn make_ready(
 // Keeps a document that is open.
 fn work_on(held: &mut Held, alloc: Global, document: OpenDocument) -> Result<(), AllocError>
     requires kept { IsKept held.old }
+    requires logged { document.session.closed ≡ false → IsLogged document }
     ensures working { OnOk result (work_of held.new ≡ working (state_of document)) }
     ensures kept { IsKept held.new }
 {
@@ -131,6 +142,36 @@ fn work_on(held: &mut Held, alloc: Global, document: OpenDocument) -> Result<(),
         Err(failed) => {
             failed.value.close();
             Err(AllocError)
+        }
+    }
+}
+
+// Keeps a session that was just opened over a document.
+fn work_in(
+    held: &mut Held,
+    alloc: Global,
+    session: EditSession,
+    documents: Vec<SchemaInput>,
+    most: u32,
+) -> Result<(), AllocError>
+    requires kept { IsKept held.old }
+    ensures working { OnOk result (work_of held.new ≡ working (begun session documents.items most)) }
+    ensures kept { IsKept held.new }
+{
+    match UndoLog::new(alloc, KEPT_TREES) {
+        Ok(log) => {
+            let document = OpenDocument {
+                session,
+                documents,
+                most,
+                log,
+            };
+            work_on(held, alloc, document)
+        }
+        Err(error) => {
+            session.close();
+            drop(documents);
+            Err(error)
         }
     }
 }
@@ -152,15 +193,8 @@ fn open_by<L: Ledger>(
     ensures kept { IsKept held.new }
 {
     let CompiledBasis { set, documents } = basis;
-    match PlainSession::open(alloc, set, tree, steps) {
-        Ok(session) => {
-            let document = OpenDocument {
-                session,
-                documents,
-                most,
-            };
-            work_on(held, alloc, document)
-        }
+    match EditSession::open(alloc, set, tree, steps) {
+        Ok(session) => work_in(held, alloc, session, documents, most),
         Err(error) => Err(error),
     }
 }

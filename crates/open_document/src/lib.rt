@@ -2,6 +2,7 @@
 //! written to a sink.
 #![tactic(auto)]
 
+mod changing;
 mod compiling;
 mod held;
 mod line;
@@ -11,7 +12,6 @@ mod working;
 mod workspace;
 
 pub use held::boxed;
-pub use line::answer_read;
 pub use reply::{write_answer, write_made, write_total};
 pub use verdict::{SetVerdict, Verdict};
 pub use workspace::Workspace;

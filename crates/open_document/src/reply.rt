@@ -1,25 +1,18 @@
-ghost use Rattle.std.specs.Prelude.{◌≡◌, ◌≤◌, Some, true, false, OnOk};
+ghost use Rattle.std.specs.Prelude.{◌≡◌, Some, false, OnOk};
 ghost use Rattle.xsv_io.specs.Causes.{KeepsCount};
 ghost use Rattle.xsv_io.specs.Parts.{parts_text};
 ghost use Rattle.xsv_io.specs.Written.{Written};
-ghost use Rattle.tree_edits.specs.Edits.{can_be_made};
-ghost use Rattle.tree_edits.specs.Tests.{edited};
 ghost use Rattle.report_text.specs.Lines.{records_text};
 ghost use Rattle.report_text.specs.Named.{IsNamed, AreNamed};
-ghost use Rattle.told.specs.Going.{Answers, trace};
 ghost use Rattle.told.specs.Tells.{Tells, Wrote, IsWriteFault};
-ghost use Rattle.told.specs.Told.{Told};
-ghost use Rattle.open_document.specs.Replies.{made, total_line, total_reply, report_reply, refusal, no_element, assess_reply, made_reply, edit_told};
-ghost use Rattle.open_document.specs.State.{OpenState, with_session};
+ghost use Rattle.open_document.specs.Replies.{made, total_line, total_reply, report_reply, refusal, no_element, assess_reply, made_reply};
 
 use compiled_schema::Compiled;
 use report_text::{Records, write_records};
-use session_model::{Session, SessionError, write_report};
+use session_model::{Session, write_report};
 use told::BreakOff;
-use tree_edits::Edit;
 use tree_rows::NodeKind;
 use xsv_io::{Failed, Part, Sink, write_parts};
-use xsv_steps::{Ledger, Steps};
 
 /// Writes the parts of an answer.
 ///
@@ -157,33 +150,6 @@ fn tell_records<W: Sink>(
     match write_records(sink, &set.names, &set.parts, node, records) {
         Ok(()) => Ok(()),
         Err(_) => Err(BreakOff::WriteFault),
-    }
-}
-
-/// Makes an edit, and writes the reply.
-pub fn answer_change<S: Session, W: Sink, L: Ledger>(
-    session: &mut S,
-    edit: &Edit,
-    sink: &mut W,
-    steps: &mut Steps<L>,
-) -> Result<(), BreakOff>
-    requires made { can_be_made edit.now ≡ true }
-    requires live { (S.state session.old).closed ≡ false }
-    ensures answers { (s : OpenState) (next : OpenState → Told) → Answers (edit_told S.budget (with_session s (S.state session.old)) edit.now (edited (S.state session.old).document edit.now) next)
-        result (trace (W.taken sink.old) steps.old) (trace (W.taken sink.new) steps.new) (λ done. next (with_session s (S.state session.new))) }
-    ensures open { OnOk result ((S.state session.new).closed ≡ false) }
-    ensures writes { KeepsCount W.faults W.fault_bound sink.old sink.new (IsWriteFault result) }
-    ensures later { steps.old ≤ steps.new }
-{
-    match session.apply(edit, steps) {
-        Ok(()) => answer_made(session, sink),
-        Err(SessionError::Refused(refused)) => write_refusal(
-            sink,
-            refused.number(),
-            refused.name(),
-        ),
-        Err(SessionError::Memory) => Err(BreakOff::Memory),
-        Err(SessionError::Closed) => unreachable!(),
     }
 }
 

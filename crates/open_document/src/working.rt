@@ -6,7 +6,7 @@ ghost use Rattle.told.specs.Going.{Answers, trace};
 ghost use Rattle.told.specs.Tells.{Wrote, IsWriteFault};
 ghost use Rattle.told.specs.Told.{Told};
 ghost use Rattle.open_document.specs.Answers as answers;
-ghost use Rattle.open_document.specs.Held.{state_of};
+ghost use Rattle.open_document.specs.Held.{state_of, IsLogged};
 ghost use Rattle.open_document.specs.State.{OpenState};
 
 use crate::Verdict;
@@ -49,15 +49,17 @@ pub(crate) fn answer<W: Sink, L: Ledger>(
     sink: &mut W,
     steps: &mut Steps<L>,
 ) -> Result<(), BreakOff>
-    requires { document.old.session.closed ≡ false }
+    requires live { document.old.session.closed ≡ false }
+    requires logged { IsLogged document.old }
     ensures answers { (next : OpenState → Told) → Answers (answers.command_told (state_of document.old) line.now block next)
         result (trace (W.taken sink.old) steps.old) (trace (W.taken sink.new) steps.new) (λ done. next (state_of document.new)) }
     ensures open { OnOk result (document.new.session.closed ≡ false) }
+    ensures logged { document.new.session.closed ≡ false → IsLogged document.new }
     ensures writes { KeepsCount W.faults W.fault_bound sink.old sink.new (IsWriteFault result) }
     ensures later { steps.old ≤ steps.new }
 {
     match read_command(alloc, line, block) {
-        Ok(read) => answer_read(&mut document.session, document.most, read, sink, steps),
+        Ok(read) => answer_read(document, read, sink, steps),
         Err(_) => Err(BreakOff::Memory),
     }
 }

@@ -6,7 +6,7 @@ use Rattle.std.proofs.lemmas.Bool.{and_parts, and_from, cases_eq, cases_lt, fals
 use Rattle.particle_restrict.specs.Maps.{HasMap, HasLaxMap}
 use Rattle.particle_restrict.proofs.Rising.{rising_tail, above_head, rising_cons, rising_none, contains_head, contains_tail, contains_cases, contains_above}
 use Rattle.std.proofs.Math.Seq.{drop-cons}
-use Rattle.std.proofs.lemmas.List.{get_or_past, get_or_append_left, get_or_push, drop_all, length-replicate, get_or-replicate}
+use Rattle.std.proofs.lemmas.List.{get_or_past, get_or_append_left, get_or_push, length_push, drop_all, length-replicate, get_or-replicate}
 
 -- a map of the members from i on to those from j on
 pub record IsMapFrom (restricts : ℕ → ℕ → Type 0) (n i j : ℕ) (flags : List Bool) (targets : List ℕ) : Type 0 where
@@ -201,6 +201,63 @@ table_more restricts optional n behind j flag old new l e f count before turned 
       ])),
     ) in
     rw (d, a) goal
+
+-- ---- outside of a window of the table there is nothing
+abbrev pub IsOutside : ℕ → ℕ → List Bool → Type 0
+IsOutside low end row = (i : ℕ) → (i < low ⊎ end ≤ i) → get_or row i false ≡ false
+
+no_true : (b : Bool) → (IsTrue b → ⊥) → b ≡ false
+no_true true n = absurd (n refl)
+no_true false n = refl
+
+pub window_first : (n : ℕ) (row : List Bool) → row ≡ replicate n false ++ true ∷ [] → IsOutside n (n + 1) row
+window_first n row e i h =
+    let long : length (replicate n false) ≡ n = length-replicate n false in
+    elim h [
+      | inl b ↦ ap (λ r. get_or r i false) e ∙ (get_or_append_left (replicate n false) (true ∷ []) false i (omega arith) ∙ get_or-replicate n i false false b)
+      | inr b ↦ rw e (get_or_past (replicate n false ++ true ∷ []) i false (let c = length_push (replicate n false) true in omega arith))
+    ]
+
+pub window_more : (restricts : ℕ → ℕ → Type 0) (j low next end after : ℕ) (flag : Bool) (old new : List Bool) → length new ≡ length old →
+    (next + 1 ≤ low) ⊎ (next ≡ 0) → (IsTrue flag → end ≤ after) → end ≤ after + 1 → IsOutside low end old →
+    ((i : ℕ) → i < length old → IsTrue (get_or new i false) ↔ (IsTrue (flag && get_or old i false) ⊎ (IsTrue (get_or old (i + 1) false) × restricts i j))) →
+    IsOutside next after new
+window_more restricts j low next end after flag old new count lows ends close outside turned i h =
+    elim (cases_lt i (length old)) [
+      | inl l ↦ no_true (get_or new i false) (λ t. elim ((turned i l).0 t) [
+        | inl p ↦ (let q = and_parts flag (get_or old i false) p in false≢true (sym (outside i (here q.0)) ∙ q.1))
+        | inr p ↦ false≢true (sym (outside (i + 1) there) ∙ p.0)
+      ])
+      | inr g ↦ get_or_past new i false (omega arith)
+    ]
+  where
+    here : IsTrue flag → i < low ⊎ end ≤ i
+    here t = elim h [ inl l ↦ inl (elim lows [ inl a ↦ (omega arith) | inr e ↦ absurd (omega arith) ]) | inr g ↦ inr (let a = ends t in omega arith) ]
+
+    there : i + 1 < low ⊎ end ≤ i + 1
+    there = elim h [ inl l ↦ inl (elim lows [ inl a ↦ (omega arith) | inr e ↦ absurd (omega arith) ]) | inr g ↦ inr (omega arith) ]
+
+-- one place of the table where there was nothing, nor at the next
+turned_nothing : (restricts : ℕ → ℕ → Type 0) (i j : ℕ) (flag : Bool) (old new : List Bool) → get_or new i false ≡ get_or old i false → get_or old i false ≡ false →
+    get_or old (i + 1) false ≡ false → IsTrue (get_or new i false) ↔ (IsTrue (flag && get_or old i false) ⊎ (IsTrue (get_or old (i + 1) false) × restricts i j))
+turned_nothing restricts i j flag old new same none next = (
+  (λ t. absurd (false≢true (sym (same ∙ none) ∙ t))),
+  (λ t. elim t [ inl p ↦ absurd (false≢true (sym none ∙ (and_parts flag (get_or old i false) p).1)) | inr p ↦ absurd (false≢true (sym next ∙ p.0)) ]),
+)
+
+-- the window is turned, so all of the table is
+pub turned_window : (restricts : ℕ → ℕ → Type 0) (j low end last : ℕ) (flag : Bool) (old new : List Bool) → end ≤ last → IsOutside low end old →
+    ((i : ℕ) → i < low → get_or old (i + 1) false ≡ false) →
+    ((i : ℕ) → low ≤ i → i < last → IsTrue (get_or new i false) ↔ (IsTrue (flag && get_or old i false) ⊎ (IsTrue (get_or old (i + 1) false) × restricts i j))) →
+    ((i : ℕ) → i < low → get_or new i false ≡ get_or old i false) → ((i : ℕ) → last ≤ i → get_or new i false ≡ get_or old i false) →
+    (i : ℕ) → IsTrue (get_or new i false) ↔ (IsTrue (flag && get_or old i false) ⊎ (IsTrue (get_or old (i + 1) false) × restricts i j))
+turned_window restricts j low end last flag old new past outside next done under left i = elim (cases_lt i low) [
+  | inl l ↦ turned_nothing restricts i j flag old new (under i l) (outside i (inl l)) (next i l)
+  | inr g ↦ elim (cases_lt i last) [
+    | inl l ↦ done i g l
+    | inr b ↦ turned_nothing restricts i j flag old new (left i b) (outside i (inr (omega arith))) (outside (i + 1) (inr (omega arith)))
+  ]
+]
 
 at_first : (xs : List Bool) (b : Bool) → 0 < length xs → get_or xs 0 b ≡ get_or xs 0 false
 at_first [] b l = absurd (omega arith)

@@ -22,12 +22,19 @@ pub fn has_map<P: Pairs>(
     requires base { length optional.now ≡ P.base_count pairs.now }
     ensures map { IfOk result (λ fits. IsTrue fits ↔ HasMap (P.restricts pairs.now) members optional.now) }
 {
-    // For each i, whether the members from i on fit those of the base behind the present one.
+    // For each i, whether the members from i on fit those of the base behind the present one: none before `low`, and none
+    // from `end` on.
     let mut row = vec![in alloc; false; members]?;
     row.push(true)?;
+    let mut low = members;
+    let mut end = members + 1;
     for behind in 0..optional.len() {
         let j = optional.len() - 1 - behind;
-        turn(&mut row, pairs, members, j, optional[j]);
+        low = low.saturating_sub(1);
+        turn(&mut row, pairs, members, low, end, j, optional[j]);
+        if !optional[j] {
+            end = end.saturating_sub(1);
+        }
     }
     Ok(row[0])
 }
@@ -51,17 +58,28 @@ pub fn has_lax_map<P: Pairs>(
     has_map(alloc, pairs, members, &optional)
 }
 
-/// Brings the table from the members behind one of the base to those from it on.
-fn turn<P: Pairs>(row: &mut Vec<bool>, pairs: &P, members: usize, j: usize, optional: bool)
+/// Brings the table from the members behind one of the base to those from it on. Outside of some members it stays as it is.
+fn turn<P: Pairs>(
+    row: &mut Vec<bool>,
+    pairs: &P,
+    members: usize,
+    low: usize,
+    end: usize,
+    j: usize,
+    optional: bool,
+)
     requires valid { P.is_valid pairs.now }
     requires members { members ≡ P.count pairs.now }
     requires base { j < P.base_count pairs.now }
     requires row { length row.old.items ≡ members + 1 }
+    requires end { end ≤ members + 1 }
+    requires outside { (i : ℕ) → (i < low ⊎ end ≤ i) → slice_index_or row.old.items i false ≡ false }
+    requires next { (i : ℕ) → i < low → slice_index_or row.old.items (i + 1) false ≡ false }
     ensures len { length row.new.items ≡ length row.old.items }
     ensures values { (i : ℕ) → i < length row.old.items → IsTrue (slice_index_or row.new.items i false) ↔
         (IsTrue (optional && slice_index_or row.old.items i false) ⊎ (IsTrue (slice_index_or row.old.items (i + 1) false) × P.restricts pairs.now i j)) }
 {
-    for i in 0..row.len() {
+    for i in low..end {
         let fits = fits_from(row, pairs, members, i, j, optional);
         row[i] = fits;
     }

@@ -106,6 +106,9 @@ pub fn derives(
     requires base { IsType parts.now base }
     ensures derives { IfOk result (λ answer. IsTrue answer ↔ Derives parts.now excluded.now sub base) }
 {
+    if sub == base {
+        return Ok(true);
+    }
     let within = Within::of(alloc, parts, base)?;
     Ok(within.derives(parts, sub, excluded))
 }

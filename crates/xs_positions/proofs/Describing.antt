@@ -1,11 +1,13 @@
 -- The sets of a language made of other languages, from theirs.
-use Rattle.std.proofs.Common.{◌≡◌, ℕ, zero, suc, ◌+◌, ◌-◌, ◌<◌, ◌≤◌, ◌⊎◌, ◌↔◌, Bool, true, false, IsTrue, if◌then◌else◌, List, [], ◌∷◌, ◌++◌, length, get_or, replicate, Contains, refl, ap, ◌∙◌, inl, inr, arith, length-append, append_assoc}
+use Rattle.std.proofs.Common.{◌≡◌, ℕ, zero, suc, ◌+◌, ◌-◌, ◌<◌, ◌≤◌, ◌⊎◌, ◌↔◌, Bool, true, false, IsTrue, if◌then◌else◌, List, [], ◌∷◌, ◌++◌, length, get_or, All, Contains, refl, ap, ◌∙◌, inl, inr, arith, length-append, append_assoc}
 use Rattle.std.specs.List.Sorted.{IsStrictlyIncreasing}
 use Rattle.std.proofs.lemmas.Bool.{cases_lt, false≢true}
-use Rattle.std.proofs.lemmas.List.{get_or_append_left, get_or-append_right, get_or-replicate, get_or_past, length-replicate}
+use Rattle.std.proofs.lemmas.List.{get_or_append_left, get_or-append_right, get_or-replicate, length-replicate}
+use Rattle.std.proofs.lemmas.List.Elements.{All-append}
 use Rattle.xs_positions.specs.PositionWords.{Begins, Ends, Follows, Passes, HasWord}
-use Rattle.xs_positions.specs.Sets.{Sets, row, Describes}
-use Rattle.xs_positions.specs.Parts.{one_position, unused, beside, IsJoined, IsLooped}
+use Rattle.xs_positions.specs.Sets.{Sets, row, IsLoop, Describes}
+use Rattle.xs_positions.specs.Parts.{one_position, unused, beside, span_of, IsJoined, IsLooped}
+use Rattle.xs_positions.specs.declared.sets.Span.{Span}
 use Rattle.xs_positions.proofs.Languages.{Joins, begins_join, join_begins, ends_join, join_ends, follows_join, join_follows, passes_join, join_passes}
 use Rattle.xs_positions.proofs.Rounds.{Plus, begins_plus, ends_plus, follows_plus, passes_plus}
 use Rattle.xs_positions.proofs.Rising.{rises-nil, rises-one, rises-append, Contains-none, Contains-one, Contains-both}
@@ -41,7 +43,7 @@ Describes-as L M base n s b e f g d = record {
   useful_count = d.useful_count;
   first_rises = d.first_rises;
   last_rises = d.last_rises;
-  follow_rises = d.follow_rises;
+  loops = λ k x l. (let h = d.loops k x l in (h.0, h.1, λ p q a c x y. (f p q).0 (h.2 p q a c ((e p).1 x) ((b q).1 y))));
 }
 
 pub Describes-same : (L M : List ℕ → Type 0) (base n : ℕ) (s : Sets) →
@@ -60,14 +62,6 @@ row_left xs ys i l = get_or_append_left xs ys [] i l
 row_right : (xs ys : List (List ℕ)) (i : ℕ) → length xs ≤ i → row (xs ++ ys) i ≡ row ys (i - length xs)
 row_right xs ys i g = get_or-append_right xs ys (length xs) i [] refl g
 
-pub rows_rise-append : (xs ys : List (List ℕ)) → ((i : ℕ) → IsStrictlyIncreasing (row xs i)) → ((i : ℕ) → IsStrictlyIncreasing (row ys i)) →
-    (i : ℕ) → IsStrictlyIncreasing (row (xs ++ ys) i)
-rows_rise-append xs ys rx ry i =
-    elim (cases_lt i (length xs)) [
-      | inl l ↦ rw (row_left xs ys i l) (rx i)
-      | inr g ↦ rw (row_right xs ys i g) (ry (i - length xs))
-    ]
-
 -- no word goes through any position
 pub Describes-none : (L : List ℕ → Type 0) (base n : ℕ) → ((p : ℕ) → Passes L p → ⊥) → Describes L base n (unused n)
 Describes-none L base n none = record {
@@ -80,10 +74,7 @@ Describes-none L base n none = record {
   useful_count = length-replicate {A = Bool} n false;
   first_rises = rises-nil;
   last_rises = rises-nil;
-  follow_rises = λ i. elim (cases_lt i n) [
-    | inl l ↦ rw (get_or-replicate {A = List ℕ} n i [] [] l) rises-nil
-    | inr g ↦ rw (get_or_past {X = List ℕ} (replicate n []) i [] (rw (length-replicate {A = List ℕ} n []) g)) rises-nil
-  ];
+  loops = λ k x l. absurd (omega arith);
 }
 
 alone : (w v : List ℕ) (p b : ℕ) → w ++ p ∷ v ≡ b ∷ [] → (w ≡ []) × (p ≡ b) × (v ≡ [])
@@ -102,7 +93,7 @@ Describes-one base = record {
   useful_count = refl;
   first_rises = rises-one base;
   last_rises = rises-one base;
-  follow_rises = elim [ zero ↦ rises-nil | suc zero ↦ rises-nil | suc (suc i) ↦ rises-nil ];
+  loops = λ k x l. absurd (omega arith);
 }
   where
     nothing_behind : (w v : List ℕ) (p q b : ℕ) → w ++ p ∷ q ∷ v ≡ b ∷ [] → ⊥
@@ -215,8 +206,37 @@ module _ (L M : List ℕ → Type 0) (base n k : ℕ) (a b : Sets) (da : Describ
     useful_count = length-append a.useful b.useful ∙ (let e = da.useful_count in let f = db.useful_count in omega arith);
     first_rises = firsts_rise;
     last_rises = lasts_rise;
-    follow_rises = rows_rise-append a.follow b.follow da.follow_rises db.follow_rises;
+    loops = All-append (IsLoop (Or L M) base (n + k)) a.loops b.loops
+        (λ k x l. or_loop_left (get_or a.loops k x) (da.loops k x l)) (λ k x l. or_loop_right (get_or b.loops k x) (db.loops k x l));
   }
+    where
+      ends_left : (p : ℕ) → p < base + n → Ends (Or L M) p → Ends L p
+      ends_left p l h = elim ((or_ends L M p).1 h) [ inl g ↦ g | inr g ↦ (let w = db.within p (ends_passes M p g) in absurd (omega arith)) ]
+
+      ends_right : (p : ℕ) → base + n ≤ p → Ends (Or L M) p → Ends M p
+      ends_right p l h = elim ((or_ends L M p).1 h) [ inl g ↦ (let w = da.within p (ends_passes L p g) in absurd (omega arith)) | inr g ↦ g ]
+
+      begins_left : (p : ℕ) → p < base + n → Begins (Or L M) p → Begins L p
+      begins_left p l h = elim ((or_begins L M p).1 h) [ inl g ↦ g | inr g ↦ (let w = db.within p (begins_passes M p g) in absurd (omega arith)) ]
+
+      begins_right : (p : ℕ) → base + n ≤ p → Begins (Or L M) p → Begins M p
+      begins_right p l h = elim ((or_begins L M p).1 h) [ inl g ↦ (let w = da.within p (begins_passes L p g) in absurd (omega arith)) | inr g ↦ g ]
+
+      or_loop_left : (s : Span) → IsLoop L base n s → IsLoop (Or L M) base (n + k) s
+      or_loop_left s h = (
+        h.0,
+        (let a = h.1 in omega arith),
+        λ p q x y e b. (or_follows L M p q).0 (inl (h.2 p q x y
+            (ends_left p (let a = h.1 in let c = x.1 in omega arith) e) (begins_left q (let a = h.1 in let c = y.1 in omega arith) b))),
+      )
+
+      or_loop_right : (s : Span) → IsLoop M (base + n) k s → IsLoop (Or L M) base (n + k) s
+      or_loop_right s h = (
+        (let a = h.0 in omega arith),
+        (let a = h.1 in omega arith),
+        λ p q x y e b. (or_follows L M p q).0 (inr (h.2 p q x y
+            (ends_right p (let a = h.0 in let c = x.0 in omega arith) e) (begins_right q (let a = h.0 in let c = y.0 in omega arith) b))),
+      )
 
   -- ---- a word of the one and then a word of the other
   module _ (x y : Bool) (s : Sets) (j : IsJoined base a x b y s) (lx : IsTrue x ↔ L []) (my : IsTrue y ↔ M []) (hl : HasWord L) (hm : HasWord M) where
@@ -274,9 +294,44 @@ module _ (L M : List ℕ → Type 0) (base n k : ℕ) (a b : Sets) (da : Describ
       useful_count = ap length j.useful ∙ (length-append a.useful b.useful ∙ (let e = da.useful_count in let f = db.useful_count in omega arith));
       first_rises = rw j.first (first_rises_if x);
       last_rises = rw j.last (last_rises_if y);
-      follow_rises = rw j.follow (rows_rise-append j.rows b.follow (j.linked.rises da.follow_rises db.first_rises) db.follow_rises);
+      loops = rw j.loops (All-append (IsLoop (Joins L M) base (n + k)) a.loops b.loops
+          (λ k x l. join_loop_left (get_or a.loops k x) (da.loops k x l)) (λ k x l. join_loop_right (get_or b.loops k x) (db.loops k x l)));
     }
       where
+        join_ends_left : (p : ℕ) → p < base + n → Ends (Joins L M) p → Ends L p
+        join_ends_left p l h = elim (ends_join L M p h) [ inl g ↦ (let w = db.within p (ends_passes M p g.0) in absurd (omega arith)) | inr g ↦ g.1 ]
+
+        join_ends_right : (p : ℕ) → base + n ≤ p → Ends (Joins L M) p → Ends M p
+        join_ends_right p l h = elim (ends_join L M p h) [ inl g ↦ g.0 | inr g ↦ (let w = da.within p (ends_passes L p g.1) in absurd (omega arith)) ]
+
+        join_begins_left : (p : ℕ) → p < base + n → Begins (Joins L M) p → Begins L p
+        join_begins_left p l h = elim (begins_join L M p h) [ inl g ↦ g.0 | inr g ↦ (let w = db.within p (begins_passes M p g.1) in absurd (omega arith)) ]
+
+        join_begins_right : (p : ℕ) → base + n ≤ p → Begins (Joins L M) p → Begins M p
+        join_begins_right p l h = elim (begins_join L M p h) [ inl g ↦ (let w = da.within p (begins_passes L p g.0) in absurd (omega arith)) | inr g ↦ g.1 ]
+
+        join_loop_left : (s : Span) → IsLoop L base n s → IsLoop (Joins L M) base (n + k) s
+        join_loop_left s h = (
+          h.0,
+          (let a = h.1 in omega arith),
+          λ p q x y e b. join_follows L M p q (inl (
+            h.2 p q x y
+                (join_ends_left p (let a = h.1 in let c = x.1 in omega arith) e) (join_begins_left q (let a = h.1 in let c = y.1 in omega arith) b),
+            hm,
+          )),
+        )
+
+        join_loop_right : (s : Span) → IsLoop M (base + n) k s → IsLoop (Joins L M) base (n + k) s
+        join_loop_right s h = (
+          (let a = h.0 in omega arith),
+          (let a = h.1 in omega arith),
+          λ p q x y e b. join_follows L M p q (inr (inr (
+            hl,
+            h.2 p q x y
+                (join_ends_right p (let a = h.0 in let c = x.0 in omega arith) e) (join_begins_right q (let a = h.0 in let c = y.0 in omega arith) b),
+          ))),
+        )
+
         first_if : (z : Bool) (p : ℕ) → Contains (if z then a.first ++ b.first else a.first) p ↔ (Contains a.first p ⊎ (IsTrue z × Contains b.first p))
         first_if true p = then_iff (Contains-both a.first b.first p) (both_iff ((λ h. h), (λ h. h)) ((λ h. (refl, h)), (λ h. h.1)))
         first_if false p = left_iff (λ h. false≢true h.0)
@@ -319,9 +374,13 @@ Describes-plus N base n a s j d = record {
   useful_count = ap length j.useful ∙ d.useful_count;
   first_rises = rw j.first d.first_rises;
   last_rises = rw j.last d.last_rises;
-  follow_rises = j.linked.rises d.follow_rises d.first_rises;
+  loops = rw (j.loops, d.follow_count) one_loop;
 }
   where
+    one_loop : All (IsLoop (Plus N) base n) (span_of base n ∷ [])
+    one_loop zero x l = (omega arith, omega arith, λ p q a b e f. (follows_plus N p q).1 (inr ((ends_plus N p).0 e, (begins_plus N q).0 f)))
+    one_loop (suc k) x l = absurd (omega arith)
+
     swap_iff : {A B : Type 0} → (A ↔ B) → B ↔ A
     swap_iff f = (f.1, f.0)
 

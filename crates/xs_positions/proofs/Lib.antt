@@ -5,6 +5,8 @@ pub mod Describing
 pub mod Growing
 pub mod Measuring
 pub mod Linking
+pub mod Ordering
+pub mod Sharing
 pub mod Walking
 pub mod Worded
 pub mod Repeating

@@ -78,6 +78,9 @@ counted_copies base n t ps h = rw (copies_count base n t ps h) h
 pub before_fits : (base n k s len : ℕ) → n ≡ k + 1 → base + n * s < 2 ^ 32 → len ≡ k * s → base + len < 2 ^ 32
 before_fits base n k s len e l m = let a : n * s ≡ k * s + s = (let b : n ≡ suc k = omega arith in rw b (suc-mul k s)) in omega arith
 
+pub all_fit : (base n k s len last : ℕ) → n ≡ k + 1 → base + n * s < 2 ^ 32 → len ≡ k * s → last ≡ s → (base + len) + last < 2 ^ 32
+all_fit base n k s len last e l m f = let a : n * s ≡ k * s + s = (let b : n ≡ suc k = omega arith in rw b (suc-mul k s)) in omega arith
+
 -- the last of some copies, and those before it
 pub last_copy : (base n : ℕ) (t : Tree) (ps : List Part) (p : Part) → AreParts base (replicate n t) (ps ++ p ∷ []) →
     (n ≡ length ps + 1) × AreParts base (replicate (length ps) t) ps × IsPartOf t (base + length ps * size t) p

@@ -1,5 +1,5 @@
 -- The words of a repeat, by its copies in a row.
-use Rattle.std.proofs.Common.{◌≡◌, ℕ, zero, suc, ◌+◌, ◌-◌, ◌*◌, ◌<◌, ◌≤◌, min, max, ◌⊎◌, ◌↔◌, ◌||◌, ◌==◌, IsTrue, List, [], ◌∷◌, ◌++◌, Some, None, Contains, refl, ap, inl, inr, arith, append-nil, append_assoc, eqb-true, zero-add, suc-mul, mul-le-mul_right}
+use Rattle.std.proofs.Common.{◌≡◌, ℕ, zero, suc, ◌+◌, ◌-◌, ◌*◌, ◌<◌, ◌≤◌, min, max, ◌⊎◌, ◌↔◌, ◌||◌, ◌==◌, IsTrue, List, [], ◌∷◌, ◌++◌, Some, None, Contains, sym, refl, ap, ◌∙◌, inl, inr, arith, append-nil, append_assoc, eqb-true, zero-add, zero-mul, suc-mul, mul-le-mul_right}
 use Rattle.std.specs.List.Sorted.{IsStrictlyIncreasing}
 use Rattle.std.proofs.lemmas.Bool.{cases_lt, or_cases, or_left, or_right}
 use Rattle.xs_positions.specs.Tree.{Tree, repeat, size}
@@ -114,7 +114,7 @@ module _ (t : Tree) (b : ℕ) where
 
     pub Describes-within : (s : Sets) (ends : List ℕ) → Describes (Rounds C m 0) b (m * size t) s →
         ((p : ℕ) → Contains ends p ↔ Ends (WithinRounds t b n m) p) → IsStrictlyIncreasing ends →
-        Describes (IsWord (repeat t n (Some m)) b) b (m * size t) (record s { last = ends })
+        Describes (IsWord (repeat t n (Some m)) b) b (m * size t) (record s { last = ends; loops = [] })
     Describes-within s ends d last rises = record {
       first = λ p. (
         (λ h. let g = (d.first p).0 h in (g.0, all_copies (p ∷ g.0) g.1)),
@@ -137,7 +137,7 @@ module _ (t : Tree) (b : ℕ) where
       useful_count = d.useful_count;
       first_rises = d.first_rises;
       last_rises = rises;
-      follow_rises = d.follow_rises;
+      loops = λ k x l. absurd (omega arith);
     }
       where
         passes_on : (p : ℕ) (f r : List ℕ) → IsWord (repeat t n (Some m)) b (f ++ p ∷ r) → Passes (Rounds C m 0) p
@@ -145,6 +145,34 @@ module _ (t : Tree) (b : ℕ) where
             let g = goes_on (f ++ p ∷ r) h in
             let e : (f ++ p ∷ r) ++ g.0 ≡ f ++ p ∷ (r ++ g.0) = append_assoc f (p ∷ r) g.0 in
             (f, r ++ g.0, rw e at g.1)
+
+  -- ---- at most one copy
+  module _ (n : ℕ) (le : n ≤ 1) where
+    once_place : place b 1 (size t) 0 ≡ b
+    once_place = let z = zero-mul (size t) in omega arith
+
+    once_to : (w : List ℕ) → IsWord t b w → IsWord (repeat t n (Some 1)) b w
+    once_to w h = (1, (le, omega arith), (w, [], (let e : w ++ [] ≡ w = simp append-nil refl in sym e), rw once_place h, refl))
+
+    once_from : (w : List ℕ) → IsWord (repeat t n (Some 1)) b w → (w ≡ []) ⊎ IsWord t b w
+    once_from w (zero, l, r) = inl r
+    once_from w (suc zero, l, r) =
+        let e : r.0 ++ [] ≡ r.0 = simp append-nil refl in
+        let same : w ≡ r.0 = r.2 ∙ (ap (λ x. r.0 ++ x) r.4 ∙ e) in
+        inr (rw same (rw once_place at r.3))
+    once_from w (suc (suc k), l, r) = absurd (let a : suc (suc k) ≤ 1 = l.1 in omega arith)
+
+    no_middle : (p : ℕ) (w v : List ℕ) → w ++ p ∷ v ≡ [] → ⊥
+    no_middle p [] v e = cc
+    no_middle p (x ∷ w) v e = cc
+
+    pub Describes-once : (k : ℕ) (s : Sets) → Describes (IsWord t b) b k s → Describes (IsWord (repeat t n (Some 1)) b) b k s
+    Describes-once k s d =
+        Describes-as (IsWord t b) (IsWord (repeat t n (Some 1)) b) b k s
+        (λ p. ((λ h. (h.0, once_to _ h.1)), (λ h. elim (once_from _ h.1) [ inl e ↦ absurd (no_middle p [] h.0 e) | inr g ↦ (h.0, g) ])))
+        (λ p. ((λ h. (h.0, once_to _ h.1)), (λ h. elim (once_from _ h.1) [ inl e ↦ absurd (no_middle p h.0 [] e) | inr g ↦ (h.0, g) ])))
+        (λ p q. ((λ h. (h.0, h.1, once_to _ h.2)), (λ h. elim (once_from _ h.2) [ inl e ↦ absurd (no_middle p h.0 (q ∷ h.1) e) | inr g ↦ (h.0, h.1, g) ])))
+        (λ p. ((λ h. (h.0, h.1, once_to _ h.2)), (λ h. elim (once_from _ h.2) [ inl e ↦ absurd (no_middle p h.0 h.1 e) | inr g ↦ (h.0, h.1, g) ]))) d
 
   -- ---- a repeat with no upper bound
   module _ (n c : ℕ) (c_is : max n 1 ≡ c + 1) where

@@ -1,5 +1,5 @@
 -- One part more in a sequence, a choice or a repeat: what the walk's loops keep.
-use Rattle.std.proofs.Common.{◌≡◌, ℕ, zero, suc, ◌+◌, ◌*◌, ◌^◌, ◌<◌, ◌≤◌, max, ◌⊎◌, ◌↔◌, Bool, true, false, ◌&&◌, ◌||◌, ◌==◌, IsTrue, if◌then◌else◌, List, [], ◌∷◌, ◌++◌, Option, Some, None, length, get_or, take, replicate, Contains, sym, refl, ap, ◌∙◌, inl, inr, arith, suc-mul, zero-mul, Result, Ok, Err, IfOk, Vec, Global, ne_eqb, leb-true}
+use Rattle.std.proofs.Common.{◌≡◌, ℕ, zero, suc, ◌+◌, ◌-◌, ◌*◌, ◌^◌, ◌<◌, ◌≤◌, max, ◌⊎◌, ◌↔◌, Bool, true, false, ◌&&◌, ◌||◌, ◌==◌, IsTrue, if◌then◌else◌, List, [], ◌∷◌, ◌++◌, Option, Some, None, length, get_or, take, replicate, All, Contains, sym, refl, ap, ◌∙◌, inl, inr, arith, suc-mul, zero-mul, one-mul, Result, Ok, Err, IfOk, Vec, Global, ne_eqb, leb-true}
 use Rattle.std.specs.List.Sorted.{IsStrictlyIncreasing}
 use Rattle.std.proofs.lemmas.Bool.{and_parts, false≢true}
 use Rattle.std.proofs.lemmas.List.{length-map, take_more, take_all}
@@ -7,20 +7,20 @@ use Rattle.std.proofs.lemmas.List.Elements.{Contains-get_or}
 use Rattle.xs_positions.specs.Tree.{Tree, nothing, repeat, copies, size, sequence_of, choice_of}
 use Rattle.xs_positions.specs.PositionWords.{IsWord, Rounds, place, Ends, Passes}
 use Rattle.xs_positions.specs.Measures.{has_rounds, has_empty, has_word, measure_of}
-use Rattle.xs_positions.specs.Sets.{Describes}
+use Rattle.xs_positions.specs.Sets.{Describes, AreLinkedIn}
 use Rattle.xs_positions.specs.Parts.{sets_of, unused, beside, IsJoined, IsLooped, IsPartOf, AreParts}
-use Rattle.xs_positions.specs.Copies.{AreJoined}
+use Rattle.xs_positions.specs.Copies.{AreCopies, AreJoined}
 use Rattle.xs_positions.specs.Walk.{CopyOf, WithinRounds}
 use Rattle.xs_positions.specs.declared.sets.Part.{Part}
 use Rattle.xs_positions.specs.declared.measures.Measure.{Measure}
 use Rattle.xs_positions.proofs.Languages.{Joins}
 use Rattle.xs_positions.proofs.Rounds.{rounds_last, last_round, some_rounds, Plus, plus_one, empty_plus}
 use Rattle.xs_positions.proofs.Rising.{rises-nil, rises-append, Contains-none, Contains-both}
-use Rattle.xs_positions.proofs.Parting.{parts_length, part_at, copy_part}
-use Rattle.xs_positions.proofs.Describing.{Describes-same, Describes-none, Describes-or, Describes-join, Describes-plus, Or, ends_passes}
+use Rattle.xs_positions.proofs.Parting.{parts_length, part_at, copy_part, copies_count}
+use Rattle.xs_positions.proofs.Describing.{Describes-same, Describes-none, Describes-or, Describes-join, Describes-plus, Or, begins_passes, ends_passes}
 use Rattle.xs_positions.proofs.Measuring.{size-sequence_of, size-choice_of, has_empty-sequence_of, has_empty-choice_of, has_word-sequence_of}
 use Rattle.xs_positions.proofs.Worded.{empty_is, word_is, words_within, passes_at, sequence_words, choice_words}
-use Rattle.xs_positions.proofs.Repeating.{copy_words, rounds_empty, ends_go_on, ends_last, ends_before, ends_more, more_ends, Describes-within, Describes-unbounded}
+use Rattle.xs_positions.proofs.Repeating.{copy_words, rounds_empty, ends_go_on, ends_last, ends_before, ends_more, more_ends, Describes-within, Describes-once, Describes-unbounded}
 
 -- ---- what the sets of a part say of its vectors
 module _ (L : List ℕ → Type 0) (base n : ℕ) (part : Part) (d : Describes L base n (sets_of part)) where
@@ -191,11 +191,40 @@ no_rounds t n m base k e z p g =
 -- ---- a repeat with an upper bound, as the walk builds it
 pub bounded_sets : (t : Tree) (base n most : ℕ) (m : Option ℕ) (whole part : Part) (ends : Vec ℕ Global) → m ≡ Some most → IsTrue (has_rounds n m) → IsTrue (has_word t) →
     Describes (Rounds (CopyOf t base) most 0) base (most * size t) (sets_of whole) →
-    ((p : ℕ) → Contains ends.items p ↔ Ends (WithinRounds t base n most) p) → IsStrictlyIncreasing ends.items → part ≡ record whole { last = ends } →
+    ((p : ℕ) → Contains ends.items p ↔ Ends (WithinRounds t base n most) p) → IsStrictlyIncreasing ends.items → sets_of part ≡ record (sets_of whole) { last = ends.items; loops = [] } →
     Describes (IsWord (repeat t n m) base) base (size (repeat t n m)) (sets_of part)
 bounded_sets t base n most m whole part ends e rounds some d last rises made =
     let l : n ≤ most = leb-true n most (rw e at rounds) in
     rw (e, made) (Describes-within t base n most l some (sets_of whole) ends.items d last rises)
+
+pub once_sets : (t : Tree) (base n : ℕ) (m : Option ℕ) (parts : List Part) (part : Part) → m ≡ Some 1 → AreCopies t base n m parts → part ≡ get_or parts 0 part →
+    Describes (IsWord (repeat t n m) base) base (size (repeat t n m)) (sets_of part)
+once_sets t base n m parts part e are is =
+    let one : copies n m ≡ 1 = ap (copies n) e in
+    let many : length parts ≡ 1 = copies_count base (copies n m) t parts are.parts ∙ one in
+    let place : base + 0 * size t ≡ base = (let z = zero-mul (size t) in omega arith) in
+    let d = copy_part base (copies n m) t parts 0 part are.parts (omega arith) is in
+    let l : n ≤ 1 = leb-true n 1 (rw e at are.rounds) in
+    let s : 1 * size t ≡ size t = one-mul (size t) in
+    rw (e, s) (Describes-once t base n l (size t) (sets_of part) (rw place at d.sets))
+
+-- ---- where positions are linked already, as the sets say
+module _ (L : List ℕ → Type 0) (base n : ℕ) (part : Part) (d : Describes L base n (sets_of part)) where
+  pub first_within : (k e : ℕ) → k < length part.first.items → (base ≤ get_or part.first.items k e) × (get_or part.first.items k e < base + length part.follow.items)
+  first_within k e l =
+      let p : ℕ = get_or part.first.items k e in
+      let w = d.within p (begins_passes L p ((d.first p).0 (Contains-get_or part.first.items k e l))) in
+      let c = row_count L base n part d in
+      (w.0, let u : p < base + n = w.1 in omega arith)
+
+  pub linked_in : All (AreLinkedIn base part.last.items part.first.items (sets_of part).follow) part.loops.items
+  linked_in k x l p q a b e f =
+      let loop = d.loops k x l in
+      let low : base ≤ p = (let u = loop.0 in let v = a.0 in omega arith) in
+      let high : p - base < n = (let u = loop.1 in let v = a.1 in omega arith) in
+      let place : base + (p - base) ≡ p = omega arith in
+      let follows = loop.2 p q a b ((d.last p).0 e) ((d.first q).0 f) in
+      (d.follow (p - base) q high).1 (rw place follows)
 
 -- ---- parts so far
 pub empty_sequence : (base : ℕ) (part : Part) → sets_of part ≡ unused 0 → part.nullable ≡ true → IsPartOf (sequence_of []) base part

@@ -4,6 +4,7 @@ pub mod Tree
 pub mod PositionWords
 pub mod TreeCode
 pub mod Sets
+pub mod Shared
 pub mod Nodes
 pub mod Measures
 pub mod Parts

@@ -1,18 +1,22 @@
 //! The positions of an expression.
 
-ghost use Rattle.std.specs.Prelude.{◌≡◌, ℕ, ◌<◌, ◌↔◌, [], length, slice_index, slice_index_or, false, IfOk, IsErr};
+ghost use Rattle.std.specs.Prelude.{◌≡◌, ℕ, ◌<◌, ◌^◌, ◌↔◌, [], length, slice_index, slice_index_or, false, IfOk, IsErr, IsTrue};
 ghost use Rattle.xs_positions.specs.Tree.{size};
 ghost use Rattle.xs_positions.specs.Sets.{row};
 ghost use Rattle.xs_positions.specs.Nodes.{tree_at};
+ghost use Rattle.xs_positions.specs.Walk.{tree_in};
+ghost use Rattle.xs_positions.specs.Measures.{AreMeasured};
 ghost use Rattle.xs_positions.specs.Positions.{ArePositionsOf};
 
-use crate::expr::{Expr, ExprId};
-use crate::measures::measure_nodes;
-use crate::sets::Part;
+use crate::expr::{Expr, ExprId, Node};
+use crate::measures::{Measure, measure_nodes};
+use crate::sets::{Part, sorted};
+use crate::shared::{SharedRows, share_rows};
 use crate::symbols::list_symbols;
 use crate::walk::find_sets;
 use std::alloc::{AllocError, Global};
 use std::marker::Model;
+use std::mem;
 
 /// Why an expression's positions are not listed.
 #[derive(Clone, Copy, Debug, PartialEq, Eq)]
@@ -25,7 +29,9 @@ pub enum PositionsError {
 #[derive(Debug, Drop)]
 pub struct Positions {
     symbols: Vec<u32>,
+    /// The sets without the rows of followers.
     sets: Part,
+    follow: SharedRows,
 }
 
 impl Model for Positions {
@@ -52,6 +58,7 @@ impl Positions {
         Ok(Positions {
             symbols: Vec::from_slice(alloc, &self.symbols)?,
             sets: self.sets.try_clone(alloc)?,
+            follow: self.follow.try_clone(alloc)?,
         })
     }
 
@@ -81,7 +88,15 @@ impl Positions {
         requires { p < length self.now.symbols }
         ensures { result.now ≡ row self.now.follow p }
     {
-        &self.sets.follow[p as usize]
+        self.follow.row(p)
+    }
+
+    /// Whether the same positions follow both, as it is known where many positions have the same followers.
+    pub fn follow_alike(&self, p: u32, q: u32) -> bool
+        requires { (p < length self.now.symbols) × (q < length self.now.symbols) }
+        ensures { IsTrue result → row self.now.follow p ≡ row self.now.follow q }
+    {
+        self.follow.is_one(p, q)
     }
 
     /// Whether the empty word is one.
@@ -127,7 +142,29 @@ pub fn find_positions(
     if measures[root.index()].size > u64::from(limit) {
         return Ok(Err(PositionsError::TooMany));
     }
-    let symbols = list_symbols(alloc, nodes, &measures, root)?;
-    let sets = find_sets(alloc, nodes, &measures, root)?;
-    Ok(Ok(Positions { symbols, sets }))
+    let positions = list_positions(alloc, nodes, &measures, root)?;
+    Ok(Ok(positions))
+}
+
+/// The positions of an expression that has few enough.
+fn list_positions(
+    alloc: Global,
+    nodes: &[Node],
+    measures: &[Measure],
+    root: ExprId,
+) -> Result<Positions, AllocError>
+    requires measured { AreMeasured nodes.now measures.now }
+    requires root { root < length nodes.now }
+    requires fits { size (tree_in nodes.now root) < 2 ^ 32 }
+    ensures { IfOk result (ArePositionsOf (tree_in nodes.now root)) }
+{
+    let symbols = list_symbols(alloc, nodes, measures, root)?;
+    let mut sets = find_sets(alloc, nodes, measures, root)?;
+    let rows = mem::replace(&mut sets.follow, Vec::new(alloc));
+    let follow = share_rows(alloc, sorted(rows))?;
+    Ok(Positions {
+        symbols,
+        sets,
+        follow,
+    })
 }

@@ -5,6 +5,7 @@ mod expr;
 mod find;
 mod measures;
 mod sets;
+mod shared;
 mod symbols;
 mod walk;
 

@@ -213,12 +213,13 @@ fn repeat(
     base: u32,
     min: u32,
     max: Option<u32>,
-    parts: Vec<Part>,
+    mut parts: Vec<Part>,
 ) -> Result<Part, AllocError>
     requires { (tree : Tree) × AreCopies tree base min max parts.items }
     ensures { (tree : Tree) → AreCopies tree base min max parts.items → IfOk result (λ whole. Describes (IsWord (repeat tree min max) base) base (size (repeat tree min max)) (sets_of whole)) }
 {
     match max {
+        Some(1) => Ok(parts.swap_remove(0)),
         Some(_) => {
             let copies = find_copies(alloc, base, min, parts)?;
             Ok(copies.within())
@@ -253,10 +254,12 @@ struct Copies {
 impl Copies {
     /// The sets of the words of enough copies.
     fn within(self) -> Part
-        ensures { result ≡ record self.whole { last = self.ends } }
+        ensures sets { sets_of result ≡ record (sets_of self.whole) { last = self.ends.items; loops = [] } }
+        ensures nullable { result.nullable ≡ self.whole.nullable }
     {
         let Copies { mut whole, ends } = self;
         whole.last = ends;
+        whole.loops.clear();
         whole
     }
 }

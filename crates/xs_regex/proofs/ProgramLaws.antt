@@ -1,6 +1,6 @@
 -- The sets of positions lie below the count, and sets along a list.
 use Rattle.std.proofs.Common.{◌≡◌, ℕ, zero, suc, ◌+◌, ◌<◌, ◌↔◌, ◌⊎◌, ◌≤◌, Bool, true, false, ◌||◌, List, [], ◌∷◌, ◌++◌, length, get_or, take, refl, sym, ◌∙◌, inl, inr, append_assoc, arith}
-use Rattle.std.specs.Prelude.{Contains, All, IsTrue}
+use Rattle.std.specs.Prelude.{Contains, All, IsTrue, Option, None, Some, IfSome}
 use Rattle.xs_positions.specs.Tree.{Tree}
 use Rattle.xs_positions.specs.PositionWords.{IsWord, Passes}
 use Rattle.xs_positions.specs.Sets.{row}
@@ -8,6 +8,7 @@ use Rattle.xs_positions.specs.Positions.{Table, ArePositionsOf}
 use Rattle.std.proofs.lemmas.List.{take_all}
 use Rattle.std.proofs.lemmas.Bool.{or_cases, or_left, or_right}
 use Rattle.xs_regex.specs.Sets.{Has}
+use Rattle.xs_regex.specs.Program.{AreWaiting}
 use Rattle.xs_regex.specs.Listed.{IsListed}
 use Rattle.xs_regex.proofs.SetLaws.{has_within, taken_cases, taken_from, none_contained}
 
@@ -86,3 +87,12 @@ after_turns P Q xs i set Told l m t =
 
 pub members_within : (flags : List Bool) (members : List ℕ) (capacity : ℕ) → IsListed flags members capacity → All (λ p. p < length flags) members
 members_within flags members capacity h = all_contained (λ p. p < length flags) members (λ p k. has_within flags p ((h.listed p).0 k))
+
+-- ---- the position that is done
+pub done_within : (table : Table) (set : List Bool) (done : Option ℕ) → IfSome done (AreWaiting table set) → IfSome done (λ q. q < length table.symbols)
+done_within table set None h = h
+done_within table set (Some q) h = h.0
+
+pub wait_already : (table : Table) (set : List Bool) (waited : Option ℕ) (p q : ℕ) → IfSome waited (AreWaiting table set) → waited ≡ Some q → row table.follow q ≡ row table.follow p →
+    (r : ℕ) → Contains (row table.follow p) r → Has set r
+wait_already table set waited p q h e same r c = let w : AreWaiting table set q = rw e at h in w.1 r (rw same c)

@@ -1,7 +1,8 @@
 -- The positions of a term and the classes that they take.
-use Rattle.std.specs.Prelude.{◌≡◌, ℕ, ◌↔◌, Bool, IsTrue, List, length, slice_index, Contains}
+use Rattle.std.specs.Prelude.{◌≡◌, ℕ, ◌<◌, ◌↔◌, Bool, IsTrue, List, length, slice_index, Contains}
 use Rattle.xs_positions.specs.Nodes.{tree_at}
 use Rattle.xs_positions.specs.Positions.{Table, ArePositionsOf}
+use Rattle.xs_positions.specs.Sets.{row}
 use Rattle.pattern_syntax.specs.Classes.{Class, has}
 use Rattle.pattern_syntax.specs.Trees.{class_at}
 use Rattle.pattern_syntax.specs.Terms.{classes_of, trees_of}
@@ -22,6 +23,10 @@ takes program p c = takes_by (classes_of program.terms) program.positions p c
 -- some position of the set takes the character, and the fact holds of it
 abbrev pub SomeTakes : Program → List Bool → ℕ → (ℕ → Type 0) → Type 0
 SomeTakes program set c Fact = (p : ℕ) × Has set p × IsTrue (takes program p c) × Fact p
+
+-- the positions that follow one are all in the set
+abbrev pub AreWaiting : Table → List Bool → ℕ → Type 0
+AreWaiting table set p = (p < length table.symbols) × ((q : ℕ) → Contains (row table.follow p) q → Has set q)
 
 -- the positions are those of the term, and the marks are those of the positions that end a word
 pub record IsProgram (program : Program) : Type 0 where

@@ -5,10 +5,10 @@ use Rattle.xs_regex.specs.Program.{expression_of, IsProgram}
 use Rattle.xs_regex.specs.declared.pattern.Pattern.TheInside.{Inside}
 
 abbrev pub inside_expression : Inside → Expression
-inside_expression pattern = expression_of pattern.program
+inside_expression pattern = expression_of pattern.program.value
 
 -- the sets have a flag for each position
 pub record IsReady (pattern : Inside) : Type 0 where
-  pub program : IsProgram pattern.program
-  pub waiting : length pattern.waiting ≡ length pattern.program.positions.symbols
-  pub next : length pattern.next ≡ length pattern.program.positions.symbols
+  pub program : IsProgram pattern.program.value
+  pub waiting : length pattern.waiting ≡ length pattern.program.value.positions.symbols
+  pub next : length pattern.next ≡ length pattern.program.value.positions.symbols

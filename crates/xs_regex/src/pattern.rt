@@ -14,11 +14,13 @@ use crate::set::PositionSet;
 use pattern_syntax::{PatternFault, Term, read_pattern};
 use std::alloc::{AllocError, Global};
 use std::marker::Model;
+use std::rc::Rc;
 
 /// A regular expression, ready to match texts. Contracts see its term.
 #[derive(Debug, Drop)]
 pub struct Pattern {
-    program: Program,
+    /// Shared by the copies of the pattern.
+    program: Rc<Program>,
     /// The positions that wait for the next character.
     waiting: PositionSet,
     next: PositionSet,
@@ -78,23 +80,22 @@ impl Pattern {
         };
         let count = program.len();
         Ok(Ok(Pattern {
-            program,
+            program: Rc::new(alloc, program)?,
             waiting: PositionSet::new(alloc, count)?,
             next: PositionSet::new(alloc, count)?,
         }))
     }
 
-    /// A copy of the pattern with memory of its own.
+    /// A copy of the pattern with memory of its own for matching; what the pattern is, is shared.
     ///
     /// # Errors
     /// When memory runs out.
     pub fn try_clone(&self, alloc: Global) -> Result<Pattern, AllocError>
         ensures { IfOk result (λ pattern. pattern ≡ self.now) }
     {
-        let program = self.program.try_clone(alloc)?;
-        let count = program.len();
+        let count = self.program.len();
         Ok(Pattern {
-            program,
+            program: self.program.clone()?,
             waiting: PositionSet::new(alloc, count)?,
             next: PositionSet::new(alloc, count)?,
         })

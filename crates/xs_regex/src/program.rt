@@ -1,6 +1,6 @@
 //! The positions of a term, and how they take the characters of a text.
 
-ghost use Rattle.std.specs.Prelude.{◌≡◌, ℕ, ◌<◌, ◌≤◌, ◌↔◌, ◌⊎◌, length, replicate, false, All, Contains, IfOk, IsErr, IsTrue};
+ghost use Rattle.std.specs.Prelude.{◌≡◌, ℕ, ◌<◌, ◌≤◌, ◌↔◌, ◌⊎◌, length, replicate, false, All, Contains, IfOk, IfSome, IsErr, IsTrue, Some};
 ghost use Rattle.std.specs.Str.{chars};
 ghost use Rattle.xs_positions.specs.Sets.{row};
 ghost use Rattle.xs_positions.specs.Nodes.{tree_at};
@@ -9,7 +9,7 @@ ghost use Rattle.pattern_syntax.specs.Terms.{regexes_of, classes_of, trees_of};
 ghost use Rattle.xs_regex.specs.Sets.{Has};
 ghost use Rattle.xs_positions.specs.Expressions.{size};
 ghost use Rattle.xs_regex.specs.Expression.{regex};
-ghost use Rattle.xs_regex.specs.Program.{expression_of, takes, SomeTakes, IsProgram};
+ghost use Rattle.xs_regex.specs.Program.{expression_of, takes, SomeTakes, AreWaiting, IsProgram};
 
 use crate::set::PositionSet;
 use pattern_syntax::Terms;
@@ -55,20 +55,6 @@ impl Program {
         }))
     }
 
-    /// A copy with memory of its own.
-    pub(crate) fn try_clone(&self, alloc: Global) -> Result<Program, AllocError>
-        requires { IsProgram self.now }
-        ensures program { IfOk result IsProgram }
-        ensures term { IfOk result (λ program. expression_of program ≡ expression_of self.now) }
-    {
-        Ok(Program {
-            terms: self.terms.try_clone(alloc)?,
-            root: self.root,
-            positions: self.positions.try_clone(alloc)?,
-            ends: Vec::from_slice(alloc, &self.ends)?,
-        })
-    }
-
     /// How many positions there are.
     pub(crate) fn len(&self) -> u32
         ensures { result ≡ length self.now.positions.symbols }
@@ -107,17 +93,21 @@ impl Program {
     {
         next.clear();
         let mut accepted = false;
+        let mut done = None;
         for p in waiting.members() {
-            accepted = self.visit(*p, c, next) || accepted;
+            accepted = self.visit(*p, c, next, &mut done) || accepted;
         }
         accepted
     }
 
-    /// Whether the position takes the character and may end a word. Where it takes it, those that follow it wait.
-    fn visit(&self, p: u32, c: char, next: &mut PositionSet) -> bool
+    /// Whether the position takes the character and may end a word. Where it takes it, those that follow it wait; those
+    /// that follow the position that is done wait already.
+    fn visit(&self, p: u32, c: char, next: &mut PositionSet, done: &mut Option<u32>) -> bool
         requires program { IsProgram self.now }
         requires within { p < length self.now.positions.symbols }
         requires next { length next.old ≡ length self.now.positions.symbols }
+        requires done { IfSome done.old (AreWaiting self.now.positions next.old) }
+        ensures done { IfSome done.new (AreWaiting self.now.positions next.new) }
         ensures accepted { IsTrue result ↔ (IsTrue (takes self.now p c) × Contains self.now.positions.last p) }
         ensures next { (q : ℕ) → Has next.new q ↔ (Has next.old q ⊎ (IsTrue (takes self.now p c) × Contains (row self.now.positions.follow p) q)) }
         ensures size { length next.new ≡ length next.old }
@@ -125,8 +115,37 @@ impl Program {
         if !self.takes(p, c) {
             return false;
         }
-        next.insert_all(self.positions.follow(p));
+        self.put_followers(p, next, done);
         self.ends[p as usize]
+    }
+
+    /// Those that follow the position wait; where the same ones follow the position that is done, they do already.
+    fn put_followers(&self, p: u32, next: &mut PositionSet, done: &mut Option<u32>)
+        requires program { IsProgram self.now }
+        requires within { p < length self.now.positions.symbols }
+        requires next { length next.old ≡ length self.now.positions.symbols }
+        requires done { IfSome done.old (AreWaiting self.now.positions next.old) }
+        ensures done { IfSome done.new (AreWaiting self.now.positions next.new) }
+        ensures next { (q : ℕ) → Has next.new q ↔ (Has next.old q ⊎ Contains (row self.now.positions.follow p) q) }
+        ensures size { length next.new ≡ length next.old }
+    {
+        if self.waits(*done, p) {
+            return;
+        }
+        next.insert_all(self.positions.follow(p));
+        *done = Some(p);
+    }
+
+    /// Whether the same positions follow the one that is done, as far as that is known.
+    fn waits(&self, done: Option<u32>, p: u32) -> bool
+        requires within { p < length self.now.positions.symbols }
+        requires done { IfSome done (λ q. q < length self.now.positions.symbols) }
+        ensures { IsTrue result → (q : ℕ) × (done ≡ Some q) × (row self.now.positions.follow q ≡ row self.now.positions.follow p) }
+    {
+        match done {
+            Some(q) => self.positions.follow_alike(q, p),
+            None => false,
+        }
     }
 
     /// Whether the class of the position's symbol has the character.

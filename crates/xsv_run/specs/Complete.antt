@@ -1,5 +1,5 @@
 -- What is written for a whole stream of which no line is refused.
-use Rattle.std.specs.Prelude.{◌≡◌, ℕ, ◌+◌, List, [], ◌∷◌, ◌++◌, Some, None, Result, Ok, Err}
+use Rattle.std.specs.Prelude.{◌≡◌, ℕ, ◌+◌, List, [], ◌∷◌, ◌++◌, Option, Some, None, Result, Ok, Err}
 use Rattle.tree_rows.specs.Forest.{Document}
 use Rattle.tree_edits.specs.Refusals as refusals
 use Rattle.tree_edits.specs.Tests.{edited}
@@ -13,12 +13,13 @@ use Rattle.edit_script.specs.declared.command.ScriptFault.{ScriptFault}
 use Rattle.assessment.specs.Assessment.{Entry}
 use Rattle.what_is_found.specs.IsFound.{IsFound}
 use Rattle.session_model.specs.State.{with_names, after_edit}
-use Rattle.plain_session.specs.Costs.{edit_cost}
+use Rattle.edit_session.specs.Changed.{after_change}
 use Rattle.told.specs.Outcomes.{SetOutcome, accepted, broken, IsOutcomeOf}
 use Rattle.told.specs.Told.{Said, free, silent, joined}
 use Rattle.open_document.specs.Answers.{opened, opening_cost, verdict}
-use Rattle.open_document.specs.Replies.{refusal, assess_reply, report_reply, total_reply, made_said}
-use Rattle.open_document.specs.State.{OpenState, with_documents, with_session}
+use Rattle.open_document.specs.Replies.{refusal, no_past, no_future, assess_reply, report_reply, total_reply, made_said, step_said}
+use Rattle.open_document.specs.State.{OpenState, with_documents}
+use Rattle.open_document.specs.Steps.{Step, undo_of, redo_of, document_behind, with_edit, with_step}
 use Rattle.stream_sections.specs.Spelled.{Order}
 use Rattle.stream_sections.specs.declared.asked.Asked.{Asked}
 use Rattle.stream_sections.specs.declared.schemas.SchemaSection.{SchemaSection}
@@ -40,8 +41,15 @@ answer text cost status = record { text = text; cost = cost; status = Some statu
 abbrev pub IsEditReply : OpenState → Edit → Result Document EditError → Said → OpenState → Type 0
 IsEditReply s edit (Ok d) own next =
     (found : List Entry) × IsFound (with_names s.session.set d.forest) d found
-    × (own ≡ made_said edit_cost s.session edit (after_edit s.session d found)) × (next ≡ with_session s (after_edit s.session d found))
+    × (own ≡ made_said s.session edit (after_edit s.session d found)) × (next ≡ with_edit s edit d found)
 IsEditReply s edit (Err e) own next = (own ≡ free (refusal (refusals.number_of e) (refusals.name_of e))) × (next ≡ s)
+
+-- The reply to a step along the history, and the document behind it with what is found of it; or where there is no such step, this reply.
+abbrev pub IsStepReply : OpenState → Option Step → List ℕ → Said → OpenState → Type 0
+IsStepReply s (Some step) refused own next =
+    (found : List Entry) × IsFound s.session.set (document_behind s step) found
+    × (own ≡ step_said s.session step.change (after_change s.session (document_behind s step) found)) × (next ≡ with_step s step found)
+IsStepReply s None refused own next = (own ≡ free refused) × (next ≡ s)
 
 -- the reply to a line, and the document behind it
 abbrev pub IsReply : OpenState → Result Command ScriptFault → Said → OpenState → Type 0
@@ -50,6 +58,8 @@ IsReply s (Ok (commands.Assess node)) own next = (own ≡ free (assess_reply s.s
 IsReply s (Ok commands.Errors) own next = (own ≡ free (report_reply (Some s.most) s.session)) × (next ≡ s)
 IsReply s (Ok commands.Report) own next = (own ≡ free (report_reply None s.session)) × (next ≡ s)
 IsReply s (Ok commands.Total) own next = (own ≡ free (total_reply s.session)) × (next ≡ s)
+IsReply s (Ok commands.Undo) own next = IsStepReply s (undo_of s) no_past own next
+IsReply s (Ok commands.Redo) own next = IsStepReply s (redo_of s) no_future own next
 IsReply s (Err fault) own next = (own ≡ free (refusal (faults.number_of fault) (faults.name_of fault))) × (next ≡ s)
 
 -- the replies to commands, one behind another, and the document behind them
@@ -57,6 +67,10 @@ abbrev pub AreReplies : OpenState → List Order → Said → OpenState → Type
 AreReplies s [] all last = (all ≡ silent) × (last ≡ s)
 AreReplies s (o ∷ more) all last =
     (own : Said) × (next : OpenState) × (later : Said) × IsReply s (command o.line o.block) own next × AreReplies next more later last × (all ≡ joined own later)
+
+-- the document is the present one of its history
+abbrev pub IsPresent : OpenState → Type 0
+IsPresent s = s.history.present ≡ s.session.document.forest
 
 -- ---- the whole output
 

@@ -5,11 +5,13 @@ ghost use Rattle.item_listing.specs.declared.item.Item.{Item};
 ghost use Rattle.tree_rows.specs.Forest.{Document};
 ghost use Rattle.stream_sections.specs.Spelled.{whole, Order, SpellsCheck, SpellsStream};
 ghost use Rattle.stream_answers.specs.declared.wanted.Wanted.{Wanted};
+ghost use Rattle.told.specs.Told.{Said};
+ghost use Rattle.open_document.specs.State.{OpenState};
 ghost use Rattle.stream_sections.specs.declared.asked.Asked.TheVariants.{Check};
 ghost use Rattle.stream_sections.specs.declared.schemas.SchemaSection.{SchemaSection};
 ghost use Rattle.command_words.specs.declared.request.Request.{Request};
 ghost use Rattle.xsv_run.specs.Output.{Output, IsAnswer, IsOutput};
-ghost use Rattle.xsv_run.specs.Complete.{IsByOutcome, IsCheckOutput, IsStreamOutput};
+ghost use Rattle.xsv_run.specs.Complete.{AreReplies, IsPresent, IsByOutcome, IsCheckOutput, IsStreamOutput};
 
 use outcome_laws::outcomes_are_one;
 use stream_sections::streams_are_read;
@@ -39,3 +41,9 @@ pub fn streams_are_answered()
 {
     streams_are_read();
 }
+
+/// Behind the replies to any commands, a document that was the present one of its history is so again: edits, undos and redos have led
+/// to it.
+pub fn documents_are_present()
+    ensures { (s : OpenState) (orders : List Order) (all : Said) (last : OpenState) → AreReplies s orders all last → IsPresent s → IsPresent last }
+{}

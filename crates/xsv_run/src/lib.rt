@@ -11,6 +11,6 @@ mod stream;
 mod trial;
 mod wanted;
 
-pub use laws::{outputs_are_one, streams_are_answered};
+pub use laws::{documents_are_present, outputs_are_one, streams_are_answered};
 pub use running::{run, run_by};
 pub use status::Status;

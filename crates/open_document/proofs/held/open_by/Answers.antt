@@ -4,9 +4,9 @@ use Rattle.open_document.proofs.held.open_by.Goals as goal
 
 pub returns-in-Ok-clause-opened : goal.returns-in-Ok-clause-opened
 returns-in-Ok-clause-opened g c =
-    opened_by c.work_on.result c.args.most (basis_of c.args.basis) c.args.tree (work_of c.work_on.new.held) c.in-Ok.session c.in-Ok.ensures.opened c.work_on.ensures.working
+    opened_by c.work_in.result c.args.most (basis_of c.args.basis) c.args.tree (work_of c.work_in.new.held) c.in-Ok.session c.in-Ok.ensures.opened c.work_in.ensures.working
 
 pub returns-in-Ok-clause-open : goal.returns-in-Ok-clause-open
 returns-in-Ok-clause-open g c =
-    opened_open c.work_on.result c.args.most (basis_of c.args.basis) c.args.tree (work_of c.work_on.new.held)
-    (opened_by c.work_on.result c.args.most (basis_of c.args.basis) c.args.tree (work_of c.work_on.new.held) c.in-Ok.session c.in-Ok.ensures.opened c.work_on.ensures.working)
+    opened_open c.work_in.result c.args.most (basis_of c.args.basis) c.args.tree (work_of c.work_in.new.held)
+    (opened_by c.work_in.result c.args.most (basis_of c.args.basis) c.args.tree (work_of c.work_in.new.held) c.in-Ok.session c.in-Ok.ensures.opened c.work_in.ensures.working)

@@ -1,4 +1,4 @@
-use Rattle.std.proofs.Common.{sym, ap, ◌∙◌}
+use Rattle.std.proofs.Common.{sym, ◌∙◌}
 use Rattle.edit_session.proofs.Known.{after-held, none-held, live-next}
 use Rattle.edit_session.proofs.session.EditSessionSession.node_after.Goals as goal
 

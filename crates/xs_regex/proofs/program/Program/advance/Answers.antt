@@ -35,6 +35,7 @@ loop-p-preserved c =
       next = λ q. turn (λ p. IsTrue (takes program p c.args.c)) (λ p. Contains (row program.positions.follow p) q) xs i x (Has c.loop-p.next q) (Has c.visit.new.next q)
           c.loop-p-test.true (same_at xs i x 0 c.loop-p-test.true) (c.visit.ensures.next q) (c.loop-p.invariant.next q);
       size = c.visit.ensures.size ∙ c.loop-p.invariant.size;
+      done = c.visit.ensures.done;
     }
 
 pub returns-clause-accepted : goal.returns-clause-accepted

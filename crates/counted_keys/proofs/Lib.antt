@@ -1,0 +1,5 @@
+pub mod Links
+pub mod Sums
+mod Tallies
+mod Keeping
+mod Parents

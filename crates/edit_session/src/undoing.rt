@@ -1,0 +1,44 @@
+//! A change that undoes another, with all that is kept of a document's elements.
+
+ghost use Rattle.std.specs.Prelude.{◌≡◌, ◌≤◌, ℕ, Bool, IfOk, OnOk};
+ghost use Rattle.tree_inverses.specs.Changes as law;
+ghost use Rattle.doc_inverses.specs.Changes.{Means};
+ghost use Rattle.edit_session.specs.Held.{IsPresent, Stands, document_in, state_by};
+ghost use Rattle.edit_session.specs.Changed.{IsReached, TakesWithin};
+
+use compiled_schema::Compiled;
+use doc_inverses::Change;
+use doc_tree::DocTree;
+use kept_inverses::keep_inverse;
+use kept_keys::settle_keys;
+use kept_state::KeptState;
+use std::alloc::AllocError;
+use xsv_steps::{Ledger, Steps};
+
+/// Makes a change of a document, and all that is kept of its elements right; answers the change that undoes it.
+///
+/// # Errors
+///
+/// `AllocError` is want of memory, or there are too many codes; nothing is stated then of what is kept.
+pub(crate) fn change_kept<L: Ledger>(
+    doc: &mut DocTree,
+    set: &mut Compiled,
+    kept: &mut KeptState,
+    change: Change,
+    steps: &mut Steps<L>,
+) -> Result<Change, AllocError>
+    requires present { IsPresent set.old doc.old kept.old }
+    requires can { (c : law.Change) × Means set.old.names change c × law.Fits (document_in set.old doc.old) c }
+    ensures stands { Stands set.new doc.new }
+    ensures done { OnOk result ((c : law.Change) → Means set.old.names change c → law.Fits (document_in set.old doc.old) c → IsReached set.old doc.old doc.new kept.new c) }
+    ensures inverse { IfOk result (λ back. (c : law.Change) → Means set.old.names change c → law.Fits (document_in set.old doc.old) c
+        → Means set.old.names back (law.inverse_of (document_in set.old doc.old) c)) }
+    ensures same { set.new ≡ set.old }
+    ensures least { steps.old ≤ steps.new }
+    ensures few { (revision : ℕ) (closed : Bool) (c : law.Change) → Means set.old.names change c → law.Fits (document_in set.old doc.old) c
+        → TakesWithin (state_by set.old doc.old kept.old revision closed) c steps.old steps.new }
+{
+    let back = keep_inverse(doc, set, kept, change, steps)?;
+    settle_keys(doc, set, kept)?;
+    Ok(back)
+}

@@ -1,0 +1,6 @@
+//! A change of a document that undoes another, with what is kept of its elements.
+#![tactic(auto)]
+
+mod change;
+
+pub use change::keep_inverse;

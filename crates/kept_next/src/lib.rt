@@ -1,0 +1,11 @@
+//! Which names may stand at a place of a list of child elements, by the automaton of their parent's content model.
+#![tactic(auto)]
+
+mod asked;
+mod laws;
+mod place;
+
+pub use laws::{
+    lists_have_their_children, places_have_answers, places_have_fits, symbols_fit_as_their_names,
+};
+pub use place::AroundAt;

@@ -1,0 +1,50 @@
+-- Edits, and steps along the history of an open document: an undo goes back to the last tree of the past, a redo on to the first of the future.
+use Rattle.std.specs.Prelude.{List, Option, Some, None, slice_get}
+use Rattle.circular_buffer.specs.Buffer.{last_item}
+use Rattle.tree_rows.specs.Forest.{Forest, Document}
+use Rattle.tree_edits.specs.declared.edit.Edit.{Edit}
+use Rattle.tree_inverses.specs.Changes.{Change, inverse_of}
+use Rattle.tree_inverses.specs.Edits.{change_of}
+use Rattle.assessment.specs.Assessment.{Entry}
+use Rattle.session_model.specs.State.{after_edit}
+use Rattle.edit_session.specs.Changed.{after_change}
+use Rattle.undo_log.specs.History.{History, edited, undone, redone}
+use Rattle.undo_log.specs.Log.{Log, noted, with_undo_taken, with_undo_answered, with_redo_taken, with_redo_answered}
+use Rattle.open_document.specs.State.{OpenState, kept_trees}
+
+-- behind an edit that gives this document, of which this is found: the tree before it is past, the oldest of 65 is forgotten, and there is no
+-- future
+abbrev pub with_edit : OpenState → Edit → Document → List Entry → OpenState
+with_edit s edit d found = record s {
+  session = after_edit s.session d found;
+  history = edited kept_trees s.history d.forest;
+  log = noted s.log (inverse_of s.session.document (change_of s.session.document edit));
+}
+
+-- where a step goes: the history behind it, the change of the present document that it is, and the changes behind it
+pub record Step : Type 0 where
+  pub history : History Forest
+  pub change : Change
+  pub log : Log Change
+
+-- there are as many changes as trees
+abbrev pub step_by : Option (History Forest) → Option Change → (Change → Log Change) → Option Step
+step_by (Some h) (Some c) log = Some (record { history = h; change = c; log = log c })
+step_by (Some h) None log = None
+step_by None c log = None
+
+-- none where there is no past
+abbrev pub undo_of : OpenState → Option Step
+undo_of s = step_by (undone s.history) (last_item s.log.past) (λ c. with_undo_answered (with_undo_taken s.log) (inverse_of s.session.document c))
+
+-- none where there is no future
+abbrev pub redo_of : OpenState → Option Step
+redo_of s = step_by (redone s.history) (slice_get s.log.future 0) (λ c. with_redo_answered (with_redo_taken s.log) (inverse_of s.session.document c))
+
+-- the document behind a step: the next free number never goes back
+abbrev pub document_behind : OpenState → Step → Document
+document_behind s step = record { forest = step.history.present; next_free = s.session.document.next_free }
+
+-- behind a step, where this is found of the document then, whose names the set has
+abbrev pub with_step : OpenState → Step → List Entry → OpenState
+with_step s step found = record s { session = after_change s.session (document_behind s step) found; history = step.history; log = step.log }

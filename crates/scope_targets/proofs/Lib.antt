@@ -1,0 +1,5 @@
+pub mod Scopes
+pub mod Staying
+pub mod Growing
+mod Finding
+mod Upwards

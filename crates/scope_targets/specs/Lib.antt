@@ -1,0 +1,3 @@
+pub mod Targetings
+pub mod Kin
+pub mod Found

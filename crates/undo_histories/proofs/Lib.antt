@@ -1,0 +1,3 @@
+mod Meaning
+mod Leading
+pub mod Remembering
