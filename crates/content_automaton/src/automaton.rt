@@ -101,6 +101,13 @@ impl Automaton {
         self.machine.dead() + 1
     }
 
+    /// The symbols, with the names and namespaces that they stand for.
+    pub fn symbols(&self) -> &Symbols
+        ensures { result.now ≡ self.now.symbols }
+    {
+        &self.symbols
+    }
+
     /// How many symbols there are.
     pub fn symbol_count(&self) -> u32
         ensures { result ≡ count_of self.now.symbols }

@@ -123,6 +123,20 @@ impl Symbols {
         Ok(())
     }
 
+    /// The names with symbols of their own, in the order of these, which are the first.
+    pub fn names(&self) -> &[NameId]
+        ensures { result.now ≡ self.now.names }
+    {
+        self.names.as_slice()
+    }
+
+    /// The namespaces with symbols of their own, in the order of these, which come behind those of names.
+    pub fn spaces(&self) -> &[NsId]
+        ensures { result.now ≡ self.now.spaces }
+    {
+        self.spaces.as_slice()
+    }
+
     /// How many symbols there are.
     pub fn count(&self) -> u32
         ensures count { result ≡ count_of self.now }
@@ -148,6 +162,7 @@ impl Symbols {
         }
         (self.names.len() + self.spaces.len()) as u32
     }
+
     /// Whether a wildcard with this constraint accepts the names that have the symbol.
     pub(crate) fn is_admitted(&self, names: &Names, namespaces: &NsConstraint, symbol: u32) -> bool
         requires { AreNamesOf names.now self.now.names }

@@ -19,7 +19,7 @@ use crate::all_content::{AllFound, find_all, read_members};
 use crate::reading::{read_terms, term_ids};
 use crate::refused::ModelError;
 use crate::source::ModelSource;
-use content_automaton::{Automaton, BuildError};
+use content_automaton::{Automaton, BuildError, Symbols};
 use particle_forms::unroll_by;
 use std::alloc::{AllocError, Global};
 use xs_components::{ParticleId, TermId};
@@ -81,6 +81,16 @@ impl ContentAutomaton {
                 u32::from(automaton.width() - 1) * automaton.symbol_count()
             },
             ContentAutomaton::All(automaton) => automaton.symbol_count(),
+        }
+    }
+
+    /// The symbols of the model, with the names and namespaces that they stand for.
+    pub fn symbols(&self) -> &Symbols
+        ensures { result.now ≡ symbols_of self.now }
+    {
+        match self {
+            ContentAutomaton::States(automaton) => automaton.symbols(),
+            ContentAutomaton::All(automaton) => automaton.symbols(),
         }
     }
 
