@@ -1,1 +1,4 @@
 pub mod Children
+pub mod kept_judging
+pub mod kept_records
+pub mod kept_state

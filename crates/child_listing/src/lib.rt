@@ -3,4 +3,7 @@
 
 mod listing;
 
+pub use kept_judging::kept_records;
+pub use kept_judging::kept_state;
+pub use kept_judging;
 pub use listing::{Listing, list_children};

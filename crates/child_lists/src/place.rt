@@ -3,15 +3,15 @@
 ghost use Rattle.std.specs.Prelude.{◌≡◌, ◌⊎◌, None, Some, true, MatchOption};
 ghost use Rattle.doc_nodes.specs.Nodes.{is_element_at};
 ghost use Rattle.doc_changes.specs.Held.{parent_at};
-ghost use Rattle.kept_records.specs.Slots.{IsMade, kept_at};
+ghost use Rattle.child_listing.specs.kept_records.Slots.{IsMade, kept_at};
 ghost use Rattle.child_lists.specs.Places.{IsPlaceOf};
 ghost use Rattle.child_lists.specs.Family as family;
 
 use compiled_schema::Compiled;
 use content_models::ContentAutomaton;
 use doc_tree::DocTree;
-use kept_records::model_of;
-use kept_state::KeptState;
+use child_listing::kept_records::model_of;
+use child_listing::kept_state::KeptState;
 use model_lists::ModelList;
 
 /// A child element, with its parent and its place among the child elements.

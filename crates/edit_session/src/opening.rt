@@ -6,14 +6,14 @@ ghost use Rattle.compiled_schema.specs.Usable.{IsUsable, set_of};
 ghost use Rattle.session_model.specs.State.{with_names};
 ghost use Rattle.doc_changes.specs.Stands.{StandsFor};
 ghost use Rattle.kept_slots.specs.Slots.{at};
-ghost use Rattle.kept_state.specs.Kept.{IsBeside};
+ghost use Rattle.kept_inverses.specs.kept_state.Kept.{IsBeside};
 ghost use Rattle.edit_session.specs.Held.{Stands, IsPresent};
 
 use compiled_schema::{Compiled, usable_with_more_names};
 use doc_tree::DocTree;
 use kept_below::open_records;
 use kept_keys::settle_keys;
-use kept_state::KeptState;
+use kept_inverses::kept_state::KeptState;
 use plain_tree::Tree;
 use std::alloc::{AllocError, Global};
 use tree_names::{add_names, document_names_are_found};

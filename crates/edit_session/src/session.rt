@@ -7,7 +7,7 @@ use assess_records::Validity;
 use compiled_schema::Compiled;
 use doc_inverses::Change;
 use doc_tree::DocTree;
-use kept_state::KeptState;
+use kept_inverses::kept_state::KeptState;
 use plain_tree::Tree;
 use report_text::Records;
 use session_model::{Session, SessionError, entries_are_named};

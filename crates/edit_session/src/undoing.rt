@@ -11,7 +11,7 @@ use doc_inverses::Change;
 use doc_tree::DocTree;
 use kept_inverses::keep_inverse;
 use kept_keys::settle_keys;
-use kept_state::KeptState;
+use kept_inverses::kept_state::KeptState;
 use std::alloc::AllocError;
 use xsv_steps::{Ledger, Steps};
 

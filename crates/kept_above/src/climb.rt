@@ -4,16 +4,16 @@ ghost use Rattle.std.specs.Prelude.{◌≡◌, ◌<◌, ◌^◌, [], Some, IfOk,
 ghost use Rattle.assess_records.specs.Counts.{child_count, attempt_count};
 ghost use Rattle.assess_records.specs.declared.counts.ChildCounts.{ChildCounts};
 ghost use Rattle.doc_changes.specs.Held.{parent_at};
-ghost use Rattle.kept_records.specs.Slots.{IsKept, IsMade, kept_at};
-ghost use Rattle.kept_records.specs.Books.{IsBooked};
-ghost use Rattle.kept_records.specs.declared.element.KeptElement.{KeptElement as KeptData};
-ghost use Rattle.kept_state.specs.Kept.{FitBut, IsBeside, Rewrites};
+ghost use Rattle.kept_judging.specs.kept_records.Slots.{IsKept, IsMade, kept_at};
+ghost use Rattle.kept_judging.specs.kept_records.Books.{IsBooked};
+ghost use Rattle.kept_judging.specs.kept_records.KeptElement.{KeptElement as KeptData};
+ghost use Rattle.kept_judging.specs.kept_state.Kept.{FitBut, IsBeside, Rewrites};
 ghost use Rattle.kept_above.specs.Climbing.{IsClimbing, KeepsRest, with_outcome};
 
 use compiled_schema::Compiled;
 use doc_tree::DocTree;
 use kept_judging::judge_if_apart;
-use kept_state::{KeptState, Outcome};
+use kept_judging::kept_state::{KeptState, Outcome};
 use std::alloc::AllocError;
 
 /// Counts a child element of an element by what it comes to now, in place of what it came to.

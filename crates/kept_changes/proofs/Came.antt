@@ -15,12 +15,12 @@ use Rattle.doc_changes.specs.Stands.{StandFor, StandsFor}
 use Rattle.doc_planting.specs.Fits.{Fits}
 use Rattle.doc_planting.specs.Planted.{Plants}
 use Rattle.doc_planting.proofs.Placing.{IsParent, parent_of}
-use Rattle.kept_records.proofs.Nodes.{by-node}
-use Rattle.kept_state.specs.declared.state.KeptState.{KeptState}
-use Rattle.kept_forgetting.proofs.Placed.{in-table}
+use Rattle.kept_children.proofs.kept_records.Nodes.{by-node}
+use Rattle.kept_children.specs.kept_state.KeptState.{KeptState}
+use Rattle.kept_children.proofs.kept_forgetting.Placed.{in-table}
 use Rattle.kept_children.specs.Edited.{IsRightFor, IsPlanted, ComesAt}
-use Rattle.child_lists.specs.Places.{IsPlaceOf}
-use Rattle.child_lists.specs.declared.place.ChildPlace.{ChildPlace}
+use Rattle.kept_children.specs.child_lists.Places.{IsPlaceOf}
+use Rattle.kept_children.specs.child_lists.ChildPlace.{ChildPlace}
 use Rattle.kept_changes.specs.Spots.{HasCome}
 use Rattle.kept_changes.proofs.Changed.{child-up}
 

@@ -15,24 +15,24 @@ use Rattle.doc_changes.specs.Parts.{IsOver, Prunes}
 use Rattle.doc_changes.specs.Stands.{StandFor, StandsFor, firsts}
 use Rattle.doc_changes.proofs.Changing.{own_below, is_over, some_place}
 use Rattle.kept_slots.specs.Slots.{at}
-use Rattle.kept_records.specs.Slots.{IsMade, blank, pair_at}
-use Rattle.kept_records.specs.Fit.{models_of}
-use Rattle.kept_records.proofs.Nodes.{by-node, there}
-use Rattle.kept_state.specs.Kept.{IsBeside, outcome_at}
-use Rattle.kept_state.specs.declared.element.Outcome.{Outcome}
-use Rattle.kept_state.specs.declared.state.KeptState.{KeptState}
-use Rattle.kept_judging.specs.Judged.{symbols_by, pair_by}
-use Rattle.kept_forgetting.specs.Below.{upwards, IsBelow, IsWithin}
-use Rattle.kept_forgetting.specs.Forgotten.{Forgets}
-use Rattle.kept_forgetting.proofs.Placed.{parent-has}
-use Rattle.kept_forgetting.proofs.Walks.{self-within, below-within, child-below, parent-of}
-use Rattle.kept_below.specs.Moved.{moved}
-use Rattle.kept_below.proofs.Moving.{moved-alike}
+use Rattle.kept_children.specs.kept_records.Slots.{IsMade, blank, pair_at}
+use Rattle.kept_children.specs.kept_records.Fit.{models_of}
+use Rattle.kept_children.proofs.kept_records.Nodes.{by-node, there}
+use Rattle.kept_children.specs.kept_state.Kept.{IsBeside, outcome_at}
+use Rattle.kept_children.specs.kept_state.Outcome.{Outcome}
+use Rattle.kept_children.specs.kept_state.KeptState.{KeptState}
+use Rattle.kept_children.specs.kept_judging.Judged.{symbols_by, pair_by}
+use Rattle.kept_children.specs.kept_forgetting.Below.{upwards, IsBelow, IsWithin}
+use Rattle.kept_children.specs.kept_forgetting.Forgotten.{Forgets}
+use Rattle.kept_children.proofs.kept_forgetting.Placed.{parent-has}
+use Rattle.kept_children.proofs.kept_forgetting.Walks.{self-within, below-within, child-below, parent-of}
+use Rattle.kept_children.specs.kept_below.Moved.{moved}
+use Rattle.kept_children.proofs.kept_below.Moving.{moved-alike}
 use Rattle.kept_children.specs.Edited.{IsRightFor, IsPruned}
 use Rattle.kept_children.specs.Steps.{digits, marked_count, width}
-use Rattle.child_lists.specs.Family.{marked_places}
-use Rattle.child_lists.specs.Places.{IsPlaceOf}
-use Rattle.child_lists.specs.declared.place.ChildPlace.{ChildPlace}
+use Rattle.kept_children.specs.child_lists.Family.{marked_places}
+use Rattle.kept_children.specs.child_lists.Places.{IsPlaceOf}
+use Rattle.kept_children.specs.child_lists.ChildPlace.{ChildPlace}
 use Rattle.kept_changes.specs.Steps.{TakesBelow}
 
 -- what has a node of these numbers as a child's descendant is below its parent

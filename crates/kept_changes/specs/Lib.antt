@@ -1,3 +1,9 @@
 pub mod Own
 pub mod Spots
 pub mod Steps
+pub mod child_lists
+pub mod kept_below
+pub mod kept_children
+pub mod kept_judging
+pub mod kept_records
+pub mod kept_state

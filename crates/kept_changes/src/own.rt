@@ -3,23 +3,23 @@
 ghost use Rattle.std.specs.Prelude.{◌≡◌, ◌≤◌, OnOk};
 ghost use Rattle.compiled_schema.specs.Usable.{set_of};
 ghost use Rattle.doc_changes.specs.Held.{parent_at};
-ghost use Rattle.kept_records.specs.Fit.{head_at};
-ghost use Rattle.kept_records.specs.Slots.{pair_at};
-ghost use Rattle.kept_state.specs.Kept.{IsBeside};
-ghost use Rattle.kept_judging.specs.Judged.{again_pair, root_pair};
+ghost use Rattle.kept_children.specs.kept_records.Fit.{head_at};
+ghost use Rattle.kept_children.specs.kept_records.Slots.{pair_at};
+ghost use Rattle.kept_children.specs.kept_state.Kept.{IsBeside};
+ghost use Rattle.kept_children.specs.kept_judging.Judged.{again_pair, root_pair};
 ghost use Rattle.kept_children.specs.Edited.{IsRightFor};
 ghost use Rattle.kept_changes.specs.Own.{IsRetexted, IsReattributed, IsNamedAnew};
 ghost use Rattle.kept_changes.specs.Steps.{TakesAt, TakesName};
 
-use child_lists::place_of;
+use kept_children::child_lists::place_of;
 use compiled_schema::Compiled;
 use doc_texts::chars_of;
 use doc_tree::DocTree;
-use kept_above::settle_above;
-use kept_below::settle_again;
+use kept_children::kept_above::settle_above;
+use kept_children::kept_below::settle_again;
 use kept_children::name_child;
-use kept_judging::{judge, pair_again, pair_of_root};
-use kept_state::{Governed, KeptState};
+use kept_children::kept_judging::{judge, pair_again, pair_of_root};
+use kept_children::kept_state::{Governed, KeptState};
 use std::alloc::AllocError;
 use xsv_steps::{Ledger, Steps};
 

@@ -14,21 +14,21 @@ use Rattle.doc_heads.proofs.Reading.{readers_are}
 use Rattle.doc_nodes.specs.Nodes.{Nodes, node, Has, IsSound, is_element_at, element_children}
 use Rattle.doc_changes.specs.Held.{parent_at}
 use Rattle.kept_slots.specs.Slots.{at}
-use Rattle.kept_records.specs.declared.element.KeptElement.{KeptElement}
-use Rattle.kept_records.specs.Slots.{IsMade, blank, kept_at, pair_at, record_at}
-use Rattle.kept_records.specs.Fit.{models_of, IsListed, IsFit, IsTop}
-use Rattle.kept_records.proofs.Counting.{counts-at}
-use Rattle.kept_records.proofs.Frames.{map-same}
-use Rattle.kept_records.proofs.Made.{made-in}
-use Rattle.kept_records.proofs.Nodes.{by-node, has-element, root-numbers}
-use Rattle.kept_state.specs.Kept.{FitBut, IsBeside, children_of, children_at, outcome_at}
-use Rattle.kept_state.specs.declared.children.KeptChildren.{KeptChildren}
-use Rattle.kept_state.specs.declared.state.KeptState.{KeptState}
-use Rattle.kept_judging.specs.Judged.{symbols_by, AreChildren, IsJudgedBy, IsJudgedAnew}
-use Rattle.kept_judging.proofs.Anew.{not-own-parent, fit-judged, anew-pair, anew-all-fit}
+use Rattle.child_lists.specs.kept_records.KeptElement.{KeptElement}
+use Rattle.child_lists.specs.kept_records.Slots.{IsMade, blank, kept_at, pair_at, record_at}
+use Rattle.child_lists.specs.kept_records.Fit.{models_of, IsListed, IsFit, IsTop}
+use Rattle.child_lists.proofs.kept_records.Counting.{counts-at}
+use Rattle.child_lists.proofs.kept_records.Frames.{map-same}
+use Rattle.child_lists.proofs.kept_records.Made.{made-in}
+use Rattle.child_lists.proofs.kept_records.Nodes.{by-node, has-element, root-numbers}
+use Rattle.child_lists.specs.kept_state.Kept.{FitBut, IsBeside, children_of, children_at, outcome_at}
+use Rattle.child_lists.specs.kept_state.KeptChildren.{KeptChildren}
+use Rattle.child_lists.specs.kept_state.KeptState.{KeptState}
+use Rattle.child_lists.specs.kept_judging.Judged.{symbols_by, AreChildren, IsJudgedBy, IsJudgedAnew}
+use Rattle.child_lists.proofs.kept_judging.Anew.{not-own-parent, fit-judged, anew-pair, anew-all-fit}
 use Rattle.kept_above.specs.Climbing.{with_outcome, IsNearly, IsClimbing, KeepsRest}
 use Rattle.kept_above.proofs.Climbing.{judged-kept}
-use Rattle.kept_forgetting.proofs.Placed.{others-differ, children-differ, child-place, parent-element}
+use Rattle.child_lists.proofs.kept_forgetting.Placed.{others-differ, children-differ, child-place, parent-element}
 use Rattle.child_lists.specs.Family.{AreCounted, IsAttributed, AreGivenBut, IsMidway}
 
 -- its child elements are given, listed, attributed and counted

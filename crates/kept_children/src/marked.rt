@@ -4,9 +4,9 @@ ghost use Rattle.std.specs.Prelude.{◌≡◌, ◌+◌, ◌*◌, ◌≤◌, ℕ,
 ghost use Rattle.tree_rows.specs.Forest.{Forest};
 ghost use Rattle.elem_governing.specs.declared.pairs.Governing.{Governing};
 ghost use Rattle.doc_nodes.specs.Nodes.{element_children};
-ghost use Rattle.kept_records.specs.Slots.{IsMade, pair_at};
-ghost use Rattle.kept_state.specs.Kept.{FitBut, IsBeside};
-ghost use Rattle.kept_state.specs.declared.children.KeptChildren.{KeptChildren as KeptChildrenData};
+ghost use Rattle.child_lists.specs.kept_records.Slots.{IsMade, pair_at};
+ghost use Rattle.child_lists.specs.kept_state.Kept.{FitBut, IsBeside};
+ghost use Rattle.child_lists.specs.kept_state.KeptChildren.{KeptChildren as KeptChildrenData};
 ghost use Rattle.kept_below.specs.Moved.{moved};
 ghost use Rattle.child_lists.specs.Places.{IsPlaceOf};
 ghost use Rattle.child_lists.specs.Family.{AreCounted, AreGivenBut, IsAttributed, IsListedBy, IsMidway};
@@ -19,7 +19,7 @@ use compiled_schema::Compiled;
 use doc_tree::DocTree;
 use kept_above::recount;
 use kept_below::settle_below;
-use kept_state::KeptState;
+use child_lists::kept_state::KeptState;
 use std::alloc::AllocError;
 use xsv_steps::{Ledger, Steps};
 

@@ -1,2 +1,3 @@
 pub mod Returned
 pub mod Following
+pub mod kept_records

@@ -8,18 +8,18 @@ ghost use Rattle.doc_nodes.specs.Nodes.{is_element_at};
 ghost use Rattle.doc_changes.specs.Held.{parent_at};
 ghost use Rattle.doc_changes.specs.Stands.{StandsFor};
 ghost use Rattle.doc_inverses.specs.Changes.{Means};
-ghost use Rattle.kept_children.specs.Edited.{IsRightFor};
+ghost use Rattle.kept_changes.specs.kept_children.Edited.{IsRightFor};
 ghost use Rattle.kept_inverses.specs.Spots.{IsSpotOf, IsReturn};
 ghost use Rattle.kept_inverses.specs.Steps.{TakesInverse};
 ghost use Rattle.kept_changes.specs.Steps.{TakesBelow};
-ghost use Rattle.kept_children.specs.Steps.{width};
+ghost use Rattle.kept_changes.specs.kept_children.Steps.{width};
 
 use compiled_schema::Compiled;
 use doc_inverses::{Change, Part};
 use doc_nodes::Content;
 use doc_tree::DocTree;
 use kept_changes::{Spot, follow, owner_of, prune, removal};
-use kept_state::KeptState;
+use kept_changes::kept_state::KeptState;
 use std::alloc::AllocError;
 use xsv_steps::{Ledger, Steps};
 

@@ -4,3 +4,5 @@
 mod change;
 
 pub use change::keep_inverse;
+pub use kept_changes::kept_state;
+pub use kept_changes;

@@ -6,10 +6,10 @@ ghost use Rattle.identity_assessment.specs.Identity.{seen};
 ghost use Rattle.identity_tables.specs.Ids.{id_codes};
 ghost use Rattle.assessment.specs.Bearings.{borne_values};
 ghost use Rattle.compiled_schema.specs.Usable.{set_of};
-ghost use Rattle.kept_records.specs.Slots.{IsMade, kept_at};
-ghost use Rattle.kept_records.specs.Fit.{models_of, IsGathered, IsTop};
-ghost use Rattle.kept_records.specs.Found.{IsOver, SaysFound, found_in};
-ghost use Rattle.kept_state.specs.Kept.{FitBut, IsBeside};
+ghost use Rattle.kept_above.specs.kept_records.Slots.{IsMade, kept_at};
+ghost use Rattle.kept_above.specs.kept_records.Fit.{models_of, IsGathered, IsTop};
+ghost use Rattle.kept_above.specs.kept_records.Found.{IsOver, SaysFound, found_in};
+ghost use Rattle.kept_above.specs.kept_state.Kept.{FitBut, IsBeside};
 ghost use Rattle.kept_keys.specs.Keys.{IsCoded, IsWhole, KeepsCodes, KeepsElements, codes_at};
 
 use crate::codes::{NumberedCodes, codes_of};
@@ -17,8 +17,8 @@ use assess_records::Codes;
 use compiled_schema::Compiled;
 use doc_tree::DocTree;
 use kept_above::settle_above;
-use kept_judging::judge;
-use kept_state::{Governed, KeptState};
+use kept_above::kept_judging::judge;
+use kept_above::kept_state::{Governed, KeptState};
 use std::alloc::AllocError;
 
 // Judges an element again whose codes of identity constraints, or of IDs, are others, and makes the records above it right.

@@ -1,7 +1,7 @@
 use Rattle.std.proofs.Common.{ap, ◌∙◌}
-use Rattle.kept_records.specs.declared.element.KeptElement.{KeptElement}
-use Rattle.kept_state.specs.declared.children.KeptChildren.{KeptChildren}
-use Rattle.kept_state.proofs.Beside.{kept-there}
+use Rattle.child_listing.specs.kept_records.KeptElement.{KeptElement}
+use Rattle.child_listing.specs.kept_state.KeptChildren.{KeptChildren}
+use Rattle.child_listing.proofs.kept_state.Beside.{kept-there}
 use Rattle.child_lists.proofs.Written.{midway-written, stuck-written, given-written, counted-written, pair-stays}
 use Rattle.child_lists.proofs.lists.note_stuck.Goals as goal
 

@@ -1,0 +1,3 @@
+-- What crates above name of `kept_above`, passed on.
+pub use Rattle.kept_above.proofs.Climbing
+pub use Rattle.kept_above.proofs.Whole
