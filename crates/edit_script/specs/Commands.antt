@@ -90,6 +90,12 @@ no_field (Some rest) = Err WrongFields
 abbrev pub alone : Command → Option (List ℕ) → Result Command ScriptFault
 alone command rest = no_field rest >>= λ none. Ok command
 
+-- `next P I`
+abbrev pub next : Option (List ℕ) → Result Command ScriptFault
+next rest =
+    needed rest >>= λ more. needed (split more) >>= λ parts. last parts.1 >>= λ second.
+    number parts.0 >>= λ parent. number second >>= λ place. Ok (commands.Next parent place)
+
 -- a question, or a step in the history
 abbrev pub by_other_word : List ℕ → Option (List ℕ) → Result Command ScriptFault
 by_other_word word rest =
@@ -99,7 +105,8 @@ by_other_word word rest =
     else (if bytes_eq word (codes "total") then alone commands.Total rest
     else (if bytes_eq word (codes "undo") then alone commands.Undo rest
     else (if bytes_eq word (codes "redo") then alone commands.Redo rest
-    else Err UnknownCommand)))))
+    else (if bytes_eq word (codes "next") then next rest
+    else Err UnknownCommand))))))
 
 -- an edit, or another command
 abbrev pub by_word : List ℕ → Option (List ℕ) → Option (List Item) → Result Command ScriptFault
@@ -126,6 +133,7 @@ IsReady commands.Report = Unit {0}
 IsReady commands.Total = Unit {0}
 IsReady commands.Undo = Unit {0}
 IsReady commands.Redo = Unit {0}
+IsReady (commands.Next parent index) = Unit {0}
 
 abbrev pub IsReadyOr : Result Command ScriptFault → Type 0
 IsReadyOr (Ok read) = IsReady read

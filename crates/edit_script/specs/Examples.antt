@@ -41,3 +41,9 @@ undo_alone = refl
 
 redo_with_a_field : command (codes "redo 1") None ≡ Err WrongFields
 redo_with_a_field = refl
+
+next_of_a_place : command (codes "next 1 0") None ≡ Ok (commands.Next 1 0)
+next_of_a_place = refl
+
+next_without_a_place : command (codes "next 1") None ≡ Err WrongFields
+next_without_a_place = refl

@@ -20,6 +20,8 @@ pub enum Command {
     Undo,
     /// `redo`: on to the tree that was left by the last undo.
     Redo,
+    /// `next P I`: a question for the names that may stand before the child at a place of an element.
+    Next { parent: u32, index: u32 },
 }
 
 /// Why a line is no command.

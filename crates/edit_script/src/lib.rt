@@ -5,6 +5,7 @@
 
 mod command;
 mod fields;
+mod next;
 mod script;
 
 pub use command::{Command, ScriptFault};

@@ -8,6 +8,7 @@ ghost use Rattle.edit_script.specs.Commands as script;
 ghost use Rattle.edit_script.specs.Faults.{Gives};
 
 use crate::fields::{has_space, number, split};
+use crate::next::read_next;
 use crate::{Command, ScriptFault};
 use item_listing::{Items, unescape};
 use std::alloc::{AllocError, Global};
@@ -232,6 +233,8 @@ fn read_other(word: &str, rest: Option<&str>) -> Result<Command, ScriptFault>
     } else if word == "redo" {
         no_field(rest)?;
         Ok(Command::Redo)
+    } else if word == "next" {
+        read_next(rest)
     } else {
         Err(ScriptFault::UnknownCommand)
     }

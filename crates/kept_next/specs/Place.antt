@@ -18,6 +18,7 @@ use Rattle.next_names.specs.declared.symbol.SymbolName.{SymbolName}
 use Rattle.next_names.specs.declared.symbol.SymbolName.TheVariants.{Other}
 use Rattle.next_names.specs.Order.{IsOrderOf}
 use Rattle.next_names.specs.declared.order.Symbol.{Symbol}
+use Rattle.kept_next.specs.Spaces.{HasSpacesNamed}
 use Rattle.kept_next.specs.Words.{fit_by}
 
 -- a list among others, its automaton, the symbols of the automaton in the order in which they are printed, and a place of the list
@@ -28,11 +29,17 @@ pub record ListPlace : Type 0 where
   pub symbols : List Symbol
   pub place : ℕ
 
--- The automaton is that of the content model of a particle of a schema set, and the list that of child elements with these names.
-pub record IsPlaceBy (v : ListPlace) (s : SchemaSet) (p : ℕ) (names : List ExpandedName) : Type 0 where
-  pub fits : IsAutomatonFor s p v.automaton
+-- The automaton is that of the content model of a particle of a schema set, and the list that of child elements with these names. The
+-- table of the set has the namespaces that its wildcards name.
+pub record IsListBy (lists : ListsView) (list : ModelList) (a : ContentAutomaton) (s : SchemaSet) (p : ℕ) (names : List ExpandedName) : Type 0 where
+  pub fits : IsAutomatonFor s p a
   pub sound : IsSound s.names
-  pub list_is : IsListOf v.lists v.list v.automaton (map (symbol_of s.names (symbols_of v.automaton)) names)
+  pub spaced : HasSpacesNamed s
+  pub list_is : IsListOf lists list a (map (symbol_of s.names (symbols_of a)) names)
+
+-- it is a place of such a list, with the symbols of the automaton in the order in which they are printed
+pub record IsPlaceBy (v : ListPlace) (s : SchemaSet) (p : ℕ) (names : List ExpandedName) : Type 0 where
+  pub listed : IsListBy v.lists v.list v.automaton s p names
   pub within : v.place ≤ length names
   pub ordered : IsOrderOf s.names (symbols_of v.automaton).names (symbols_of v.automaton).spaces v.symbols
   pub few : length v.symbols < 2 ^ 32

@@ -9,8 +9,8 @@ ghost use Rattle.assessment.specs.Attribution.{SchemaSet};
 ghost use Rattle.model_lists.specs.Lists.{ListsView, IsListOf};
 ghost use Rattle.model_lists.specs.declared.handle.ModelList.{ModelList as ModelListData};
 ghost use Rattle.xs_names.specs.Names.{NameTable};
-ghost use Rattle.next_names.specs.Next.{AreFits, FitsAs, fits_below, lines_below};
-ghost use Rattle.kept_next.specs.Answers.{AreAnswers, answers_of, count, lines};
+ghost use Rattle.next_names.specs.Next.{AreFits, FitsAs, IsNamed, fits_below, lines_below};
+ghost use Rattle.kept_next.specs.Answers.{Answer, AreAnswers, PlaceQuestion, answers_by, answers_of, count, lines};
 ghost use Rattle.kept_next.specs.Place.{AreAround, IsPlaceBy, ListPlace, children_in, fits_at, name_at, number_at};
 ghost use Rattle.kept_next.specs.Words.{IsNameOf, IsWordBy, IsWordIn};
 
@@ -39,7 +39,18 @@ pub fn symbols_fit_as_their_names()
 pub fn places_have_answers()
     ensures answers { (v : ListPlace) (s : SchemaSet) (p : ℕ) (names : List ExpandedName) → IsPlaceBy v s p names →
         AreAnswers (record { set = s; particle = p; before = take v.place names; behind = drop v.place names })
-        (answers_of v (map (symbol_of s.names (symbols_of v.automaton)) names)) }
+        (answers_by v s names) }
+    ensures many { (v : ListPlace) (symbols : List ℕ) → length (answers_of v symbols) ≡ length v.symbols }
     ensures lines { (t : NameTable) (v : ListPlace) (symbols : List ℕ) → lines t (answers_of v symbols) ≡ lines_below t (name_at v) (fits_at v symbols) (length v.symbols) }
     ensures count { (v : ListPlace) (symbols : List ℕ) → count (answers_of v symbols) ≡ fits_below (fits_at v symbols) (length v.symbols) }
+{}
+
+/// Law of the definitions: the table of a schema set has what the symbols of a place stand for.
+pub fn places_are_named()
+    ensures { (v : ListPlace) (s : SchemaSet) (p : ℕ) (names : List ExpandedName) → IsPlaceBy v s p names → (n : ℕ) → n < length v.symbols → IsNamed s.names (name_at v n) }
+{}
+
+/// Law of the definitions (Structures 3.8.4): what is asked of a place has one list of answers.
+pub fn answers_are_one()
+    ensures only { (q : PlaceQuestion) (x y : List Answer) → AreAnswers q x → AreAnswers q y → x ≡ y }
 {}

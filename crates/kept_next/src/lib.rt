@@ -4,8 +4,11 @@
 mod asked;
 mod laws;
 mod place;
+mod writing;
 
 pub use laws::{
-    lists_have_their_children, places_have_answers, places_have_fits, symbols_fit_as_their_names,
+    answers_are_one, lists_have_their_children, places_are_named, places_have_answers,
+    places_have_fits, symbols_fit_as_their_names,
 };
-pub use place::AroundAt;
+pub use place::{AroundAt, ChildList};
+pub use writing::write_answers;

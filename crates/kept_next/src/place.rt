@@ -1,18 +1,34 @@
-ghost use Rattle.std.specs.Prelude.{◌≡◌};
-ghost use Rattle.kept_next.specs.Place.{IsPlace};
+ghost use Rattle.std.specs.Prelude.{◌≡◌, ◌<◌, ◌^◌, ℕ, ◌≤◌, List, length, IfOk};
+ghost use Rattle.content_automaton.specs.Terms.{ExpandedName};
+ghost use Rattle.assessment.specs.Attribution.{SchemaSet};
+ghost use Rattle.content_automaton.specs.Symbols.{AreNamesOf};
+ghost use Rattle.content_models.specs.Built.{symbols_of};
+ghost use Rattle.next_names.specs.Order.{IsOrderOf};
+ghost use Rattle.kept_next.specs.Place.{IsListBy, IsPlaceBy};
+ghost use Rattle.kept_next.specs.Spaces.{AreSpacesOf};
 
 use content_models::ContentAutomaton;
 use model_lists::{ModelList, ModelLists};
-use next_names::Symbol;
+use next_names::{Symbol, symbol_order};
+use std::alloc::{AllocError, Global};
 use std::marker::Model;
+use xs_lists::Listed;
+use xs_names::Names;
+
+/// The child elements of an element as a list, with the automaton of the content model of its type.
+#[derive(Clone, Copy)]
+pub struct ChildList<'a> {
+    pub lists: &'a ModelLists,
+    pub list: ModelList,
+    pub automaton: &'a ContentAutomaton,
+}
 
 /// A place of a list of child elements: which names may stand there is asked of it (`next_names`).
 #[derive(Drop)]
 pub struct AroundAt<'a> {
-    pub(crate) lists: &'a ModelLists,
-    pub(crate) list: ModelList,
-    pub(crate) automaton: &'a ContentAutomaton,
-    pub(crate) symbols: &'a [Symbol],
+    pub(crate) children: ChildList<'a>,
+    /// The symbols of the automaton in the order in which they are printed.
+    pub(crate) symbols: Listed<Symbol>,
     pub(crate) place: u32,
 }
 
@@ -29,23 +45,46 @@ impl<'a> Model for AroundAt<'a> {
 }
 
 impl<'a> AroundAt<'a> {
-    /// A place of a list, by the automaton of the list, whose symbols these are in the order in which they are printed.
+    /// A place of a list of child elements, by the names of their schema set.
+    ///
+    /// # Errors
+    ///
+    /// `AllocError` is want of memory.
     pub fn new(
-        lists: &'a ModelLists,
-        list: ModelList,
-        automaton: &'a ContentAutomaton,
-        symbols: &'a [Symbol],
+        alloc: Global,
+        names: &Names,
+        children: ChildList<'a>,
         place: u32,
-    ) -> AroundAt<'a>
-        requires { IsPlace (record { lists = lists.now; list = list; automaton = automaton.now; symbols = symbols.now; place = place }) }
-        ensures { result ≡ record { lists = lists.entry.now; list = list; automaton = automaton.entry.now; symbols = symbols.entry.now; place = place } }
+    ) -> Result<AroundAt<'a>, AllocError>
+        requires { (s : SchemaSet) × (p : ℕ) × (given : List ExpandedName) × IsListBy children.lists.now children.list children.automaton.now s p given × (s.names ≡ names.now) × (place ≤ length given) }
+        ensures lists { IfOk result (λ v. v.lists ≡ children.lists.now) }
+        ensures list { IfOk result (λ v. v.list ≡ children.list) }
+        ensures automaton { IfOk result (λ v. v.automaton ≡ children.automaton.now) }
+        ensures place { IfOk result (λ v. v.place ≡ place) }
+        ensures is { IfOk result (λ v. (s : SchemaSet) (p : ℕ) (given : List ExpandedName) → IsListBy children.lists.now children.list children.automaton.now s p given → s.names ≡ names.now → place ≤ length given →
+            IsPlaceBy v s p given) }
     {
-        AroundAt {
-            lists,
-            list,
-            automaton,
+        let symbols = ordered(alloc, names, children.automaton)?;
+        Ok(AroundAt {
+            children,
             symbols,
             place,
-        }
+        })
     }
+}
+
+// The symbols of an automaton in the order in which they are printed.
+fn ordered(
+    alloc: Global,
+    names: &Names,
+    automaton: &ContentAutomaton,
+) -> Result<Listed<Symbol>, AllocError>
+    requires names { AreNamesOf names.now (symbols_of automaton.now).names }
+    requires spaces { AreSpacesOf names.now (symbols_of automaton.now).spaces }
+    ensures ordered { IfOk result (IsOrderOf names.now (symbols_of automaton.now).names (symbols_of automaton.now).spaces) }
+    ensures few { IfOk result (λ symbols. length symbols < 2 ^ 32) }
+{
+    let symbols = automaton.symbols();
+    let _count = symbols.count();
+    symbol_order(alloc, names, symbols.names(), symbols.spaces())
 }

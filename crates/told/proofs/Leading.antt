@@ -5,7 +5,8 @@ use Rattle.assessment.specs.Attribution.{SchemaSet}
 use Rattle.assessment.specs.Assessment.{Entry}
 use Rattle.what_is_found.specs.IsFound.{IsFound}
 use Rattle.told.specs.Outcomes.{Question, SetOutcome, IsOutcomeOf}
-use Rattle.told.specs.Told.{Said, silent, joined, Told, over, says, asks, looks, Leads}
+use Rattle.kept_next.specs.Answers.{PlaceQuestion, Answer, AreAnswers}
+use Rattle.told.specs.Told.{Said, silent, joined, Told, over, says, asks, looks, tries, Leads}
 use Rattle.told.specs.declared.ending.Ending.{Ending}
 
 -- ---- texts one behind another
@@ -28,6 +29,7 @@ leads_here (over ending) = (refl, refl)
 leads_here (says first more) = inl (refl, refl)
 leads_here (asks question next) = inl (refl, refl)
 leads_here (looks set document next) = inl (refl, refl)
+leads_here (tries question next) = inl (refl, refl)
 
 pub leads_same : (t u : Told) → t ≡ u → Leads t silent u
 leads_same t u is = subst (Leads t silent) is (leads_here t)
@@ -48,6 +50,8 @@ module _ (y : Said) (v : Told) where
   leads_then (asks question next) x u (inr h) l = inr (h.0, h.1, leads_then (next h.0) x u h.2 l)
   leads_then (looks set document next) x u (inl h) l = from_here (looks set document next) x u h.0 h.1 l
   leads_then (looks set document next) x u (inr h) l = inr (h.0, h.1, leads_then (next h.0) x u h.2 l)
+  leads_then (tries question next) x u (inl h) l = from_here (tries question next) x u h.0 h.1 l
+  leads_then (tries question next) x u (inr h) l = inr (h.0, h.1, leads_then (next h.0) x u h.2 l)
 
 -- what schema documents come to is known
 pub leads_asked : (question : Question) (next : SetOutcome → Told) (o : SetOutcome) → IsOutcomeOf question o → Leads (asks question next) silent (next o)
@@ -58,6 +62,10 @@ pub leads_looked : (set : SchemaSet) (document : Document) (next : List Entry �
     → Leads (looks set document next) silent (next found)
 leads_looked set document next found is = inr (found, is, leads_here (next found))
 
+-- which names fit at the place is known
+pub leads_tried : (question : PlaceQuestion) (next : List Answer → Told) (answers : List Answer) → AreAnswers question answers → Leads (tries question next) silent (next answers)
+leads_tried question next answers are = inr (answers, are, leads_here (next answers))
+
 -- ---- to one output
 
 abbrev pub IsOver : Told → Type 0
@@ -65,9 +73,11 @@ IsOver (over ending) = Unit {0}
 IsOver (says first more) = ⊥
 IsOver (asks question next) = ⊥
 IsOver (looks set document next) = ⊥
+IsOver (tries question next) = ⊥
 
 module _ (found_is : (s : SchemaSet) (d : Document) (x y : List Entry) → IsFound s d x → IsFound s d y → x ≡ y)
-    (outcome_is : (question : Question) (x y : SetOutcome) → IsOutcomeOf question x → IsOutcomeOf question y → x ≡ y) where
+    (outcome_is : (question : Question) (x y : SetOutcome) → IsOutcomeOf question x → IsOutcomeOf question y → x ≡ y)
+    (answers_are : (question : PlaceQuestion) (x y : List Answer) → AreAnswers question x → AreAnswers question y → x ≡ y) where
   pub leads_to_one : (t : Told) (x y : Said) (a b : Option Ending) → Leads t x (over a) → Leads t y (over b) → (x ≡ y) × (a ≡ b)
   leads_to_one (over ending) x y a b h l =
       let same : over a ≡ over b = h.1 ∙ sym l.1 in
@@ -86,3 +96,7 @@ module _ (found_is : (s : SchemaSet) (d : Document) (x y : List Entry) → IsFou
   leads_to_one (looks set document next) x y a b (inr h) (inl l) = absurd (subst IsOver l.1 tt)
   leads_to_one (looks set document next) x y a b (inr h) (inr l) =
       leads_to_one (next h.0) x y a b h.2 (subst (λ (found : List Entry). Leads (next found) y (over b)) (found_is set document l.0 h.0 l.1 h.1) l.2)
+  leads_to_one (tries question next) x y a b (inl h) l = absurd (subst IsOver h.1 tt)
+  leads_to_one (tries question next) x y a b (inr h) (inl l) = absurd (subst IsOver l.1 tt)
+  leads_to_one (tries question next) x y a b (inr h) (inr l) =
+      leads_to_one (next h.0) x y a b h.2 (subst (λ (answers : List Answer). Leads (next answers) y (over b)) (answers_are question l.0 h.0 l.1 h.1) l.2)

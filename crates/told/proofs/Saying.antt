@@ -7,13 +7,14 @@ use Rattle.assessment.specs.Attribution.{SchemaSet}
 use Rattle.assessment.specs.Assessment.{Entry}
 use Rattle.what_is_found.specs.IsFound.{IsFound}
 use Rattle.told.specs.Outcomes.{Question, SetOutcome, IsOutcomeOf}
-use Rattle.told.specs.Told.{Said, free, silent, Told, over, says, asks, looks, Leads, CostsNow, CostsNext}
+use Rattle.kept_next.specs.Answers.{PlaceQuestion, Answer, AreAnswers}
+use Rattle.told.specs.Told.{Said, free, silent, Told, over, says, asks, looks, tries, Leads, CostsNow, CostsNext}
 use Rattle.told.specs.Going.{Trace, trace, Breaks, Answers, Ends}
 use Rattle.told.specs.Tells.{Wrote}
 use Rattle.told.specs.declared.break_off.BreakOff.{BreakOff}
 use Rattle.told.specs.declared.break_off.BreakOff.TheVariants.{Memory, WriteFault}
 use Rattle.told.specs.declared.ending.Ending.{Ending}
-use Rattle.told.proofs.Leading.{leads_here, leads_says, leads_asked, leads_looked}
+use Rattle.told.proofs.Leading.{leads_here, leads_says, leads_asked, leads_looked, leads_tried}
 use Rattle.told.proofs.Going.{answers_behind}
 
 within_next : (n m k : ℕ) → m ≤ n + k → m ≤ n + (0 + k)
@@ -109,12 +110,14 @@ costs_nothing_now (over ending) = refl
 costs_nothing_now (says said more) = none_below said.cost
 costs_nothing_now (asks question next) = refl
 costs_nothing_now (looks set document next) = refl
+costs_nothing_now (tries question next) = refl
 
 pub costs_nothing : (t : Told) → CostsNext t 0
 costs_nothing (over ending) = refl
 costs_nothing (says said more) = none_below said.cost
 costs_nothing (asks question next) = refl
 costs_nothing (looks set document next) = λ found is. costs_nothing_now (next found)
+costs_nothing (tries question next) = refl
 
 pub memory_breaks : (t : Told) (a : Trace) → Breaks t Memory a a
 memory_breaks t a = none_breaks t t a (leads_here t) (costs_nothing t)
@@ -154,3 +157,9 @@ pub asked_answers : {T : Type 0} (question : Question) (next : SetOutcome → To
     → IsOutcomeOf question o → Answers (next o) r a b after → Answers (asks question next) r a b after
 asked_answers question next o r a b after is h =
     answers_behind (asks question next) (next o) r a b after (leads_asked question next o is) h
+
+-- which names fit at the place was tried, and is known
+pub tried_answers : {T : Type 0} (question : PlaceQuestion) (next : List Answer → Told) (answers : List Answer) (r : Result T BreakOff) (a b : Trace) (after : T → Told)
+    → AreAnswers question answers → Answers (next answers) r a b after → Answers (tries question next) r a b after
+tried_answers question next answers r a b after are h =
+    answers_behind (tries question next) (next answers) r a b after (leads_tried question next answers are) h
