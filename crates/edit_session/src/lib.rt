@@ -1,9 +1,11 @@
 //! A session that keeps what it found, and finds anew what an edit changes.
 #![tactic(auto)]
 
+mod around;
 mod editing;
 mod opening;
 mod session;
 mod undoing;
 
+pub use around::AroundError;
 pub use session::EditSession;

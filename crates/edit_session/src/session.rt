@@ -1,5 +1,6 @@
 ghost use Rattle.std.specs.Prelude.{◌≡◌};
 
+use crate::around::{AroundError, find_place};
 use crate::editing::edit_kept;
 use crate::opening::open_document;
 use crate::undoing::change_kept;
@@ -8,6 +9,7 @@ use compiled_schema::Compiled;
 use doc_inverses::Change;
 use doc_tree::DocTree;
 use kept_inverses::kept_state::KeptState;
+use kept_next::AroundAt;
 use plain_tree::Tree;
 use report_text::Records;
 use session_model::{Session, SessionError, entries_are_named};
@@ -44,7 +46,10 @@ impl Model for EditSession {
 }
 
 impl EditSession {
-    ghost use Rattle.std.specs.Prelude.{true, false, IfOk};
+    ghost use Rattle.std.specs.Prelude.{◌≢◌, true, false, Err, IfOk, IfErr};
+    ghost use Rattle.kept_next.specs.Spaces.{HasSpacesNamed};
+    ghost use Rattle.edit_session.specs.Around.{IsAroundAt, asked_at};
+    ghost use Rattle.edit_session.specs.declared.around.AroundError.TheVariants.{Memory};
     ghost use Rattle.tree_edits.specs.Edits.{can_be_made};
     ghost use Rattle.tree_inverses.specs.Changes as law;
     ghost use Rattle.tree_inverses.specs.Edits.{change_of};
@@ -114,6 +119,22 @@ impl EditSession {
                 Err(SessionError::Memory)
             }
         }
+    }
+
+    /// The place before the child at an index of an element, by the content model of its governing type: which names may stand there
+    /// is asked of it.
+    ///
+    /// # Errors
+    ///
+    /// `UnknownNode`, `NotElement` and `BadIndex` as for an insertion, in this order; then `NoModel`, where the type of the element, if it
+    /// has one, has no content model; `Memory` for want of memory.
+    pub fn around(&self, node: u32, index: u32) -> Result<AroundAt<'_>, AroundError>
+        requires live { self.now.closed ≡ false }
+        requires spaced { HasSpacesNamed self.now.set }
+        ensures place { IfOk result (IsAroundAt self.now node index) }
+        ensures refused { IfErr result (λ e. e ≢ Memory → asked_at self.now node index ≡ Err e) }
+    {
+        find_place(&self.set, &self.doc, &self.kept, node, index)
     }
 
     /// Lets go of it.

@@ -1,6 +1,8 @@
 -- What a workspace keeps.
 use Rattle.std.specs.Prelude.{◌≡◌, ℕ, List, [], false}
 use Rattle.compiled_schema.specs.Usable.{IsUsable, set_of}
+use Rattle.compiled_schema.specs.declared.compiled.Compiled.{Compiled}
+use Rattle.kept_next.specs.Spaces.{HasSpacesNamed}
 use Rattle.schema_set.specs.declared.inputs.SchemaInput.{SchemaInput}
 use Rattle.session_model.specs.State.{State}
 use Rattle.undo_log.specs.History.{opened}
@@ -38,18 +40,25 @@ begun session documents most = record {
   log = log_of kept_trees [] [] Nothing;
 }
 
--- the log leads through the history of the document, with room for so many steps, and no step waits for an answer
+-- the log leads through the history of the document, with room for so many steps, and no step waits for an answer; and the table of the set
+-- has the namespaces that its wildcards name
 pub record IsLogged (document : OpenDocument) : Type 0 where
   pub depth : document.log.depth ≡ kept_trees
   pub logged : histories.IsLogged document.session.set.names document.session.document document.log
+  pub spaced : HasSpacesNamed document.session.set
 
 abbrev pub work_of : Held → WorkState
 work_of held.Empty = empty
 work_of (held.Ready basis) = ready (basis_of basis)
 work_of (held.Working document) = working (state_of document.value)
 
+-- documents may be assessed by a set, and its table has the namespaces that its wildcards name
+pub record IsReadySet (c : Compiled) : Type 0 where
+  pub usable : IsUsable c
+  pub spaced : HasSpacesNamed (set_of c)
+
 -- documents may be assessed by a set that is ready; and while a document is open, its log leads through its history
 abbrev pub IsKept : Held → Type 0
 IsKept held.Empty = Unit {0}
-IsKept (held.Ready basis) = IsUsable basis.set.value
+IsKept (held.Ready basis) = IsReadySet basis.set.value
 IsKept (held.Working document) = document.value.session.closed ≡ false → IsLogged document.value

@@ -1,10 +1,11 @@
 -- The replies to the lines of an edit script, and what is told of these lines.
-use Rattle.std.specs.Prelude.{ℕ, List, [], ◌∷◌, ◌++◌, Option, Some, None, Result, Ok, Err, codes}
+use Rattle.std.specs.Prelude.{ℕ, List, [], ◌∷◌, ◌++◌, length, Option, Some, None, Result, Ok, Err, codes}
 use Rattle.std.specs.Fmt.{decimal}
 use Rattle.tree_rows.specs.Forest.{Document}
 use Rattle.tree_rows.specs.Kinds.{kind_of}
 use Rattle.tree_rows.specs.declared.row.NodeKind.{NodeKind}
 use Rattle.tree_rows.specs.declared.row.NodeKind.TheVariants.{Element, Chars}
+use Rattle.tree_edits.specs.Edits.{width}
 use Rattle.tree_edits.specs.Refusals as refusals
 use Rattle.tree_edits.specs.Tests.{edited}
 use Rattle.tree_edits.specs.declared.edit.Edit.{Edit}
@@ -21,7 +22,11 @@ use Rattle.session_model.specs.State.{State, with_names, after_edit}
 use Rattle.tree_inverses.specs.Changes.{Change}
 use Rattle.edit_session.specs.Changed.{after_change}
 use Rattle.edit_session.specs.Costs.{edit_cost, change_cost}
-use Rattle.told.specs.Told.{Said, free, Told, says, looks}
+use Rattle.edit_session.specs.Around as around
+use Rattle.edit_session.specs.Around.{asked_at, children_at}
+use Rattle.edit_session.specs.declared.around.AroundError.{AroundError}
+use Rattle.kept_next.specs.Answers.{PlaceQuestion, Answer, reply, cost}
+use Rattle.told.specs.Told.{Said, free, Told, says, looks, tries}
 use Rattle.open_document.specs.State.{OpenState}
 use Rattle.open_document.specs.Steps.{Step, undo_of, redo_of, document_behind, with_edit, with_step}
 
@@ -93,6 +98,19 @@ step_told s (Some step) refused next =
     says (step_said s.session step.change (after_change s.session (document_behind s step) found)) (next (with_step s step found)))
 step_told s None refused next = says (free refused) (next s)
 
+-- which names may stand at a place among so many children: a line for each symbol that fits, and how many there are
+abbrev pub next_said : ℕ → PlaceQuestion → List Answer → Said
+next_said children question answers = record { text = reply question.set.names answers; cost = cost children (length answers) }
+
+-- Of a question for what may stand at a place among so many children: how names fit there is tried; or there is no such place. It changes nothing.
+abbrev pub next_told : OpenState → ℕ → Result PlaceQuestion AroundError → (OpenState → Told) → Told
+next_told s children (Ok question) next = tries question (λ answers. says (next_said children question answers) (next s))
+next_told s children (Err e) next = says (free (refusal (around.number_of e) (around.name_of e))) (next s)
+
+-- how many children an element has
+abbrev pub child_count : State → ℕ → ℕ
+child_count s node = width (children_at s.document node)
+
 -- of a line, and what is told behind it: a question, or a line that is no command, changes nothing
 abbrev pub line_told : OpenState → Result Command ScriptFault → (OpenState → Told) → Told
 line_told s (Ok (commands.Change edit)) next = edit_told s edit (edited s.session.document edit) next
@@ -102,4 +120,5 @@ line_told s (Ok commands.Report) next = says (free (report_reply None s.session)
 line_told s (Ok commands.Total) next = says (free (total_reply s.session)) (next s)
 line_told s (Ok commands.Undo) next = step_told s (undo_of s) no_past next
 line_told s (Ok commands.Redo) next = step_told s (redo_of s) no_future next
+line_told s (Ok (commands.Next parent place)) next = next_told s (child_count s.session parent) (asked_at s.session parent place) next
 line_told s (Err fault) next = says (free (refusal (faults.number_of fault) (faults.name_of fault))) (next s)

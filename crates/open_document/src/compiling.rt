@@ -4,15 +4,16 @@ ghost use Rattle.std.specs.Prelude.{◌≡◌, ◌<◌, List, All, length, IfOk,
 ghost use Rattle.tree_rows.specs.Whole.{IsTree};
 ghost use Rattle.schema_compile.specs.Outcomes.{IsOutcome};
 ghost use Rattle.schema_set.specs.declared.inputs.SchemaInput.{SchemaInput as SchemaInputData};
-ghost use Rattle.compiled_schema.specs.Usable.{IsUsable, set_of};
+ghost use Rattle.compiled_schema.specs.Usable.{set_of};
 ghost use Rattle.told.specs.Outcomes.{told_of};
 ghost use Rattle.open_document.specs.Answers as answers;
-ghost use Rattle.open_document.specs.Held.{work_of, IsKept};
+ghost use Rattle.open_document.specs.Held.{work_of, IsKept, IsReadySet};
 ghost use Rattle.open_document.specs.State.{ready, with_documents};
 
 use crate::SetVerdict;
 use crate::held::{Held, make_ready};
 use compiled_schema::Compiled;
+use outcome_laws::wildcards_name_spaces_of_their_table;
 use schema_compile::{Outcome, compile};
 use schema_set::SchemaInput;
 use std::alloc::{AllocError, Global};
@@ -33,7 +34,7 @@ fn accept(
     set: Compiled,
     documents: Vec<SchemaInput>,
 ) -> Result<SetVerdict, AllocError>
-    requires usable { IsUsable set }
+    requires ready { IsReadySet set }
     requires kept { IsKept held.old }
     ensures told { IfOk result (λ told. told ≡ SetVerdict.Accepted) }
     ensures ready { OnOk result (work_of held.new ≡ ready (with_documents documents.items (set_of set))) }
@@ -58,6 +59,7 @@ fn take(
     ensures work { OnOk result (work_of held.new ≡ answers.work_after (work_of held.old) documents.items (told_of outcome)) }
     ensures kept { IsKept held.new }
 {
+    wildcards_name_spaces_of_their_table();
     match outcome {
         Outcome::Accepted(set) => accept(held, alloc, set, documents),
         Outcome::Broken(fault) => Ok(SetVerdict::Broken(fault)),

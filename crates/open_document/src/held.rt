@@ -1,10 +1,11 @@
 //! What a workspace keeps.
 
 ghost use Rattle.std.specs.Prelude.{◌≡◌, false, IfOk, OnOk};
-ghost use Rattle.compiled_schema.specs.Usable.{IsUsable, set_of};
+ghost use Rattle.compiled_schema.specs.Usable.{set_of};
 ghost use Rattle.session_model.specs.Spending.{Counts};
 ghost use Rattle.open_document.specs.Answers as answers;
-ghost use Rattle.open_document.specs.Held.{basis_of, state_of, work_of, begun, IsKept, IsLogged};
+ghost use Rattle.kept_next.specs.Spaces.{HasSpacesNamed};
+ghost use Rattle.open_document.specs.Held.{basis_of, state_of, work_of, begun, IsKept, IsLogged, IsReadySet};
 ghost use Rattle.open_document.specs.State.{Basis, working, ready, with_documents, IsReady, IsOpen};
 
 use compiled_schema::Compiled;
@@ -110,7 +111,7 @@ pub(crate) fn make_ready(
     set: Compiled,
     documents: Vec<SchemaInput>,
 ) -> Result<(), AllocError>
-    requires usable { IsUsable set }
+    requires ready { IsReadySet set }
     requires kept { IsKept held.old }
     ensures ready { OnOk result (work_of held.new ≡ ready (with_documents documents.items (set_of set))) }
     ensures kept { IsKept held.new }
@@ -155,6 +156,7 @@ fn work_in(
     most: u32,
 ) -> Result<(), AllocError>
     requires kept { IsKept held.old }
+    requires spaced { HasSpacesNamed session.set }
     ensures working { OnOk result (work_of held.new ≡ working (begun session documents.items most)) }
     ensures kept { IsKept held.new }
 {
@@ -185,7 +187,7 @@ fn open_by<L: Ledger>(
     most: u32,
     steps: &mut Steps<L>,
 ) -> Result<(), AllocError>
-    requires usable { IsUsable basis.set.value }
+    requires ready { IsReadySet basis.set.value }
     requires kept { IsKept held.old }
     ensures opened { OnOk result (answers.IsOpenedBy most (basis_of basis) tree (work_of held.new)) }
     ensures open { OnOk result (IsOpen (work_of held.new)) }

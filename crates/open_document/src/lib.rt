@@ -6,6 +6,7 @@ mod changing;
 mod compiling;
 mod held;
 mod line;
+mod next;
 mod reply;
 mod verdict;
 mod working;

@@ -10,6 +10,7 @@ ghost use Rattle.open_document.specs.State.{OpenState};
 
 use crate::changing::{answer_change, answer_redo, answer_undo};
 use crate::held::OpenDocument;
+use crate::next::answer_next;
 use crate::reply::{answer_assess, answer_report, answer_total, write_refusal};
 use edit_script::{Command, ScriptFault};
 use told::BreakOff;
@@ -47,6 +48,9 @@ pub(crate) fn answer_read<W: Sink, L: Ledger>(
         Ok(Command::Total) => answer_total(&document.session, sink),
         Ok(Command::Undo) => answer_undo(document, sink, steps),
         Ok(Command::Redo) => answer_redo(document, sink, steps),
+        Ok(Command::Next { parent, index }) => {
+            answer_next(document, parent, index, sink, steps)
+        }
         Err(fault) => write_refusal(sink, fault.number(), fault.name()),
     }
 }

@@ -7,6 +7,7 @@ use Rattle.tree_rows.specs.Forest.{Document}
 use Rattle.assessment.specs.Attribution.{SchemaSet}
 use Rattle.assessment.specs.Assessment.{Entry}
 use Rattle.what_is_found.specs.IsFound.{IsFound}
+use Rattle.kept_next.specs.Answers.{PlaceQuestion, Answer, AreAnswers}
 use Rattle.session_model.specs.State.{with_names}
 use Rattle.schema_set.specs.declared.inputs.SchemaInput.{SchemaInput}
 use Rattle.schema_compile.specs.Outcomes.{IsOutcome}
@@ -51,10 +52,11 @@ one_outcome law question x y h l =
     h.told_is ∙ (same_told h.outcome l.outcome (law question.documents h.outcome l.outcome h.is_outcome l.is_outcome) ∙ sym l.told_is)
 
 module _ (found_is : (s : SchemaSet) (d : Document) (x y : List Entry) → IsFound s d x → IsFound s d y → x ≡ y)
-    (outcome_is : (question : Question) (x y : SetOutcome) → IsOutcomeOf question x → IsOutcomeOf question y → x ≡ y) where
+    (outcome_is : (question : Question) (x y : SetOutcome) → IsOutcomeOf question x → IsOutcomeOf question y → x ≡ y)
+    (answers_are : (question : PlaceQuestion) (x y : List Answer) → AreAnswers question x → AreAnswers question y → x ≡ y) where
   comes_to_one : (t : Told) (x y : Output) → ComesTo t x → ComesTo t y → x ≡ y
   comes_to_one t x y h l =
-      let one = leads_to_one found_is outcome_is t h.said l.said h.ending l.ending h.leads l.leads in
+      let one = leads_to_one found_is outcome_is answers_are t h.said l.said h.ending l.ending h.leads l.leads in
       h.output_is ∙ (ap (λ (s : Said). output_of s h.ending) one.0 ∙ (ap (output_of l.said) one.1 ∙ sym l.output_is))
 
   one_tried : (start items : ℕ) (x y : Output) → IsTrial start items x → IsTrial start items y → x ≡ y

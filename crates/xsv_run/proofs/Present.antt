@@ -9,11 +9,14 @@ use Rattle.edit_script.specs.declared.command.Command.{Command}
 use Rattle.edit_script.specs.declared.command.Command.TheVariants as commands
 use Rattle.edit_script.specs.declared.command.ScriptFault.{ScriptFault}
 use Rattle.told.specs.Told.{Said}
-use Rattle.stream_answers.specs.open_document.Replies.{no_past, no_future}
+use Rattle.stream_answers.specs.open_document.Replies.{no_past, no_future, child_count}
+use Rattle.stream_answers.specs.edit_session.Around.{asked_at}
+use Rattle.stream_answers.specs.edit_session.AroundError.{AroundError}
+use Rattle.kept_next.specs.Answers.{PlaceQuestion}
 use Rattle.stream_answers.specs.open_document.State.{OpenState}
 use Rattle.stream_answers.specs.open_document.Steps.{Step, undo_of, redo_of}
 use Rattle.stream_sections.specs.Spelled.{Order}
-use Rattle.xsv_run.specs.Complete.{IsEditReply, IsStepReply, IsReply, AreReplies, IsPresent}
+use Rattle.xsv_run.specs.Complete.{IsEditReply, IsStepReply, IsNextReply, IsReply, AreReplies, IsPresent}
 
 module _ (s : OpenState) (own : Said) (next : OpenState) (present : IsPresent s) where
   stays : {P : Type 0} → P × (next ≡ s) → IsPresent next
@@ -27,6 +30,10 @@ module _ (s : OpenState) (own : Said) (next : OpenState) (present : IsPresent s)
   step_present (Some step) refused h = subst IsPresent (sym h.3) refl
   step_present None refused h = stays h
 
+  next_present : (children : ℕ) (r : Result PlaceQuestion AroundError) → IsNextReply s children r own next → IsPresent next
+  next_present children (Ok question) h = subst IsPresent (sym h.3) present
+  next_present children (Err e) h = stays h
+
   reply_present : (r : Result Command ScriptFault) → IsReply s r own next → IsPresent next
   reply_present (Ok (commands.Change edit)) h = edit_present edit (edited s.session.document edit) h
   reply_present (Ok (commands.Assess node)) h = stays h
@@ -35,6 +42,7 @@ module _ (s : OpenState) (own : Said) (next : OpenState) (present : IsPresent s)
   reply_present (Ok commands.Total) h = stays h
   reply_present (Ok commands.Undo) h = step_present (undo_of s) no_past h
   reply_present (Ok commands.Redo) h = step_present (redo_of s) no_future h
+  reply_present (Ok (commands.Next parent place)) h = next_present (child_count s.session parent) (asked_at s.session parent place) h
   reply_present (Err fault) h = stays h
 
 pub replies_present : (s : OpenState) (orders : List Order) (all : Said) (last : OpenState) → AreReplies s orders all last → IsPresent s → IsPresent last

@@ -10,16 +10,19 @@ use Rattle.edit_script.specs.declared.command.Command.TheVariants as commands
 use Rattle.edit_script.specs.declared.command.ScriptFault.{ScriptFault}
 use Rattle.session_model.specs.State.{after_edit}
 use Rattle.stream_answers.specs.edit_session.Changed.{after_change}
+use Rattle.kept_next.specs.Answers.{PlaceQuestion, Answer, AreAnswers}
+use Rattle.stream_answers.specs.edit_session.Around.{asked_at}
+use Rattle.stream_answers.specs.edit_session.AroundError.{AroundError}
 use Rattle.told.specs.Told.{Said, free, silent, joined, Told, over, says, Leads}
 use Rattle.told.specs.declared.ending.Ending.{Ending}
 use Rattle.told.proofs.Leading.{IsOver, silent_first, silent_last, joined_assoc, leads_says}
 use Rattle.stream_answers.specs.open_document.Answers.{verdict}
-use Rattle.stream_answers.specs.open_document.Replies.{edit_told, step_told, line_told, no_past, no_future, made_said, step_said}
+use Rattle.stream_answers.specs.open_document.Replies.{edit_told, step_told, next_told, line_told, no_past, no_future, made_said, step_said, next_said, child_count}
 use Rattle.stream_answers.specs.open_document.State.{OpenState}
 use Rattle.stream_answers.specs.open_document.Steps.{Step, undo_of, redo_of, document_behind, with_edit, with_step}
 use Rattle.stream_sections.specs.Spelled.{given, Order}
 use Rattle.stream_answers.specs.Output.{ends, end_line, ending_of, commands_told}
-use Rattle.xsv_run.specs.Complete.{IsEditReply, IsStepReply, IsReply, AreReplies}
+use Rattle.xsv_run.specs.Complete.{IsEditReply, IsStepReply, IsNextReply, IsReply, AreReplies}
 
 -- ---- one text
 
@@ -66,6 +69,14 @@ module _ (s : OpenState) (k : OpenState → Told) (said : Said) (e : Option Endi
       (own, with_step s step h.0, one.0, (h.0, h.1, refl, refl), one.1, one.2)
   step_back None refused h = stays_back refused h
 
+  next_back : (children : ℕ) (r : Result PlaceQuestion AroundError) → Leads (next_told s children r k) said (over e) → IsRepliedTo (IsNextReply s children r)
+  next_back children (Ok question) (inl h) = absurd (subst IsOver h.1 tt)
+  next_back children (Ok question) (inr h) =
+      let own = next_said children question h.0 in
+      let one = says_back own (k s) said e h.2 in
+      (own, s, one.0, (h.0, h.1, refl, refl), one.1, one.2)
+  next_back children (Err why) h = stays_back _ h
+
   pub reply_back : (r : Result Command ScriptFault) → Leads (line_told s r k) said (over e) → IsRepliedTo (IsReply s r)
   reply_back (Ok (commands.Change edit)) h = edit_back edit (edited s.session.document edit) h
   reply_back (Ok (commands.Assess node)) h = stays_back _ h
@@ -74,6 +85,7 @@ module _ (s : OpenState) (k : OpenState → Told) (said : Said) (e : Option Endi
   reply_back (Ok commands.Total) h = stays_back _ h
   reply_back (Ok commands.Undo) h = step_back (undo_of s) no_past h
   reply_back (Ok commands.Redo) h = step_back (redo_of s) no_future h
+  reply_back (Ok (commands.Next parent place)) h = next_back (child_count s.session parent) (asked_at s.session parent place) h
   reply_back (Err fault) h = stays_back _ h
 
 module _ (s : OpenState) (k : OpenState → Told) (own : Said) (next : OpenState) (later : Said) (rest : Told) (behind : Leads (k next) later rest) where
@@ -104,6 +116,17 @@ module _ (s : OpenState) (k : OpenState → Told) (own : Said) (next : OpenState
       )
   step_on None refused h = stays_on refused h
 
+  next_on : (children : ℕ) (r : Result PlaceQuestion AroundError) → IsNextReply s children r own next → Leads (next_told s children r k) (joined own later) rest
+  next_on children (Ok question) h =
+      let said = next_said children question h.0 in
+      inr (
+        h.0,
+        h.1,
+        subst (λ (x : Said). Leads (says said (k s)) (joined x later) rest) (sym h.2)
+            (says_on said (k s) later rest (subst (λ (x : OpenState). Leads (k x) later rest) h.3 behind)),
+      )
+  next_on children (Err why) h = stays_on _ h
+
   pub reply_on : (r : Result Command ScriptFault) → IsReply s r own next → Leads (line_told s r k) (joined own later) rest
   reply_on (Ok (commands.Change edit)) h = edit_on edit (edited s.session.document edit) h
   reply_on (Ok (commands.Assess node)) h = stays_on _ h
@@ -112,6 +135,7 @@ module _ (s : OpenState) (k : OpenState → Told) (own : Said) (next : OpenState
   reply_on (Ok commands.Total) h = stays_on _ h
   reply_on (Ok commands.Undo) h = step_on (undo_of s) no_past h
   reply_on (Ok commands.Redo) h = step_on (redo_of s) no_future h
+  reply_on (Ok (commands.Next parent place)) h = next_on (child_count s.session parent) (asked_at s.session parent place) h
   reply_on (Err fault) h = stays_on _ h
 
 -- ---- all replies, and the last line

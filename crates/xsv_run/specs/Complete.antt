@@ -14,10 +14,14 @@ use Rattle.assessment.specs.Assessment.{Entry}
 use Rattle.what_is_found.specs.IsFound.{IsFound}
 use Rattle.session_model.specs.State.{with_names, after_edit}
 use Rattle.stream_answers.specs.edit_session.Changed.{after_change}
+use Rattle.stream_answers.specs.edit_session.Around as around
+use Rattle.stream_answers.specs.edit_session.Around.{asked_at}
+use Rattle.stream_answers.specs.edit_session.AroundError.{AroundError}
+use Rattle.kept_next.specs.Answers.{PlaceQuestion, Answer, AreAnswers}
 use Rattle.told.specs.Outcomes.{SetOutcome, accepted, broken, IsOutcomeOf}
 use Rattle.told.specs.Told.{Said, free, silent, joined}
 use Rattle.stream_answers.specs.open_document.Answers.{opened, opening_cost, verdict}
-use Rattle.stream_answers.specs.open_document.Replies.{refusal, no_past, no_future, assess_reply, report_reply, total_reply, made_said, step_said}
+use Rattle.stream_answers.specs.open_document.Replies.{refusal, no_past, no_future, assess_reply, report_reply, total_reply, made_said, step_said, next_said, child_count}
 use Rattle.stream_answers.specs.open_document.State.{OpenState, with_documents}
 use Rattle.stream_answers.specs.open_document.Steps.{Step, undo_of, redo_of, document_behind, with_edit, with_step}
 use Rattle.stream_sections.specs.Spelled.{Order}
@@ -51,6 +55,11 @@ IsStepReply s (Some step) refused own next =
     × (own ≡ step_said s.session step.change (after_change s.session (document_behind s step) found)) × (next ≡ with_step s step found)
 IsStepReply s None refused own next = (own ≡ free refused) × (next ≡ s)
 
+-- The reply to a question for what may stand at a place among so many children, by how names fit there; or where there is no such place, why.
+abbrev pub IsNextReply : OpenState → ℕ → Result PlaceQuestion AroundError → Said → OpenState → Type 0
+IsNextReply s children (Ok question) own next = (answers : List Answer) × AreAnswers question answers × (own ≡ next_said children question answers) × (next ≡ s)
+IsNextReply s children (Err e) own next = (own ≡ free (refusal (around.number_of e) (around.name_of e))) × (next ≡ s)
+
 -- the reply to a line, and the document behind it
 abbrev pub IsReply : OpenState → Result Command ScriptFault → Said → OpenState → Type 0
 IsReply s (Ok (commands.Change edit)) own next = IsEditReply s edit (edited s.session.document edit) own next
@@ -60,6 +69,7 @@ IsReply s (Ok commands.Report) own next = (own ≡ free (report_reply None s.ses
 IsReply s (Ok commands.Total) own next = (own ≡ free (total_reply s.session)) × (next ≡ s)
 IsReply s (Ok commands.Undo) own next = IsStepReply s (undo_of s) no_past own next
 IsReply s (Ok commands.Redo) own next = IsStepReply s (redo_of s) no_future own next
+IsReply s (Ok (commands.Next parent place)) own next = IsNextReply s (child_count s.session parent) (asked_at s.session parent place) own next
 IsReply s (Err fault) own next = (own ≡ free (refusal (faults.number_of fault) (faults.name_of fault))) × (next ≡ s)
 
 -- the replies to commands, one behind another, and the document behind them

@@ -13,6 +13,7 @@ ghost use Rattle.command_words.specs.declared.request.Request.{Request};
 ghost use Rattle.xsv_run.specs.Output.{Output, IsAnswer, IsOutput};
 ghost use Rattle.xsv_run.specs.Complete.{AreReplies, IsPresent, IsByOutcome, IsCheckOutput, IsStreamOutput};
 
+use kept_next::answers_are_one;
 use outcome_laws::outcomes_are_one;
 use stream_sections::streams_are_read;
 use what_is_found::what_is_found_is_the_only_one;
@@ -23,6 +24,7 @@ pub fn outputs_are_one()
 {
     what_is_found_is_the_only_one();
     outcomes_are_one();
+    answers_are_one();
 }
 
 /// Where no line of a stream is refused, its output goes by what its schema documents come to: a broken constraint is named; else `check` is answered Valid, and `assess` and
