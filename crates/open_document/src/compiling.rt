@@ -4,19 +4,22 @@ ghost use Rattle.std.specs.Prelude.{◌≡◌, ◌<◌, List, All, length, IfOk,
 ghost use Rattle.tree_rows.specs.Whole.{IsTree};
 ghost use Rattle.schema_compile.specs.Outcomes.{IsOutcome};
 ghost use Rattle.schema_set.specs.declared.inputs.SchemaInput.{SchemaInput as SchemaInputData};
-ghost use Rattle.compiled_schema.specs.Usable.{set_of};
+ghost use Rattle.xs_names.specs.Names.{IsSound};
+ghost use Rattle.compiled_schema.specs.Usable.{IsUsable, set_of};
+ghost use Rattle.kept_next.specs.Spaces.{HasSpacesNamed};
 ghost use Rattle.told.specs.Outcomes.{told_of};
 ghost use Rattle.open_document.specs.Answers as answers;
-ghost use Rattle.open_document.specs.Held.{work_of, IsKept, IsReadySet};
+ghost use Rattle.open_document.specs.Held.{work_of, IsKept};
 ghost use Rattle.open_document.specs.State.{ready, with_documents};
 
 use crate::SetVerdict;
 use crate::held::{Held, make_ready};
 use compiled_schema::Compiled;
-use outcome_laws::wildcards_name_spaces_of_their_table;
 use schema_compile::{Outcome, compile};
 use schema_set::SchemaInput;
 use std::alloc::{AllocError, Global};
+use wildcard_laws::wildcards_name_spaces_of_their_table;
+use xs_names::NsId;
 
 // The trees of schema documents are whole: a law.
 fn are_whole(documents: &[SchemaInput])
@@ -34,12 +37,15 @@ fn accept(
     set: Compiled,
     documents: Vec<SchemaInput>,
 ) -> Result<SetVerdict, AllocError>
-    requires ready { IsReadySet set }
+    requires usable { IsUsable set }
+    requires spaced { IsSound set.names → HasSpacesNamed (set_of set) }
     requires kept { IsKept held.old }
     ensures told { IfOk result (λ told. told ≡ SetVerdict.Accepted) }
     ensures ready { OnOk result (work_of held.new ≡ ready (with_documents documents.items (set_of set))) }
     ensures kept { IsKept held.new }
 {
+    // Who reads a table of names is told that it is sound.
+    let _sound = set.names.lookup(NsId::ABSENT, "");
     match make_ready(held, alloc, set, documents) {
         Ok(()) => Ok(SetVerdict::Accepted),
         Err(error) => Err(error),

@@ -1,0 +1,4 @@
+pub mod Forms
+pub mod Terms
+pub mod Filling
+pub mod Wildcards
