@@ -6,3 +6,4 @@ mod Fresh
 mod Making
 mod Applying
 pub mod Changing
+mod Placed

@@ -1,5 +1,5 @@
 -- What is asked of a place among the children of an element: which names may stand there.
-use Rattle.std.specs.Prelude.{◌≡◌, ◌≢◌, ◌≤◌, ℕ, zero, suc, List, [], ◌∷◌, ◌++◌, nat_lt, take, drop, Option, None, Some, Result, Ok, Err, codes, if◌then◌else◌}
+use Rattle.std.specs.Prelude.{◌≡◌, ◌≢◌, ◌≤◌, ℕ, zero, suc, List, [], ◌∷◌, ◌++◌, length, nat_lt, take, drop, Option, None, Some, Result, Ok, Err, codes, if◌then◌else◌}
 use Rattle.std.specs.Option.{option_and_then}
 use Rattle.xs_names.specs.Names.{NameTable}
 use Rattle.xs_components.specs.declared.common.TypeId.{TypeId}
@@ -8,6 +8,8 @@ use Rattle.tree_rows.specs.Kinds.{kind_of}
 use Rattle.tree_rows.specs.declared.row.NodeKind.{NodeKind}
 use Rattle.tree_rows.specs.declared.row.NodeKind.TheVariants as kinds
 use Rattle.tree_names.specs.Numbers.{name_in}
+use Rattle.doc_nodes.specs.Nodes.{Nodes, node as node_at, children_by as children_of_node}
+use Rattle.doc_changes.specs.Held.{kind_at}
 use Rattle.tree_edits.specs.Edits.{Found, found, width}
 use Rattle.content_automaton.specs.Terms.{ExpandedName, name_at}
 use Rattle.assessment.specs.Attribution.{content_particle}
@@ -18,6 +20,11 @@ use Rattle.kept_next.specs.Answers.{PlaceQuestion}
 use Rattle.kept_next.specs.Place.{ListPlace, IsPlaceBy, children_in}
 use Rattle.edit_session.specs.declared.around.AroundError.{AroundError}
 use Rattle.edit_session.specs.declared.around.AroundError.TheVariants as errors
+
+-- the node of the number is an element, and it has as many children
+pub record IsPlaced (ns : Nodes) (node place : ℕ) : Type 0 where
+  pub element : kind_at ns node ≡ Some kinds.Element
+  pub within : place ≤ length (children_of_node (node_at ns node))
 
 -- ---- refusals
 

@@ -1,18 +1,22 @@
 //! The place among the children of an element at which names may stand.
 
-ghost use Rattle.std.specs.Prelude.{◌≡◌, ◌≢◌, ℕ, Bool, Err, IfOk, IfErr};
+ghost use Rattle.std.specs.Prelude.{◌≡◌, ◌≢◌, ℕ, Bool, List, None, Some, Err, IfOk, OnOk, IfErr};
+ghost use Rattle.session_model.specs.State.{State};
+ghost use Rattle.doc_changes.specs.Stands.{StandsFor};
+ghost use Rattle.kept_records.specs.Fit.{IsListed, models_of};
+ghost use Rattle.kept_records.specs.Slots.{IsMade, kept_at, pair_at};
 ghost use Rattle.compiled_schema.specs.Usable.{set_of};
 ghost use Rattle.kept_next.specs.Spaces.{HasSpacesNamed};
 ghost use Rattle.edit_session.specs.Around as spec;
-ghost use Rattle.edit_session.specs.Around.{IsAroundAt, asked_at};
+ghost use Rattle.edit_session.specs.Around.{IsAroundAt, IsPlaced, asked_at};
 ghost use Rattle.edit_session.specs.Held.{IsPresent, state_by};
-ghost use Rattle.edit_session.specs.declared.around.AroundError.TheVariants.{Memory};
+ghost use Rattle.edit_session.specs.declared.around.AroundError.TheVariants.{Memory, NoModel};
 
 use compiled_schema::Compiled;
 use doc_tree::DocTree;
 use kept_next::{AroundAt, ChildList};
 use kept_records::model_of;
-use kept_state::KeptState;
+use kept_inverses::kept_state::KeptState;
 use tree_rows::NodeKind;
 
 /// Why there is no place among the children of an element of which may be asked what may stand there.
@@ -59,7 +63,10 @@ impl AroundError {
 }
 
 // What of the node of a number is asked for: an element with such a place.
-fn element_here(doc: &DocTree, node: u32, index: u32) -> Result<(), AroundError> {
+fn element_here(doc: &DocTree, node: u32, index: u32) -> Result<(), AroundError>
+    ensures here { OnOk result (IsPlaced doc.now node index) }
+    ensures refused { IfErr result (λ e. (s : State) → StandsFor s.set.names doc.now s.document → asked_at s node index ≡ Err e) }
+{
     match doc.live(node) {
         None => Err(AroundError::UnknownNode),
         Some(NodeKind::Chars) => Err(AroundError::NotElement),
@@ -73,7 +80,14 @@ fn list_of<'a>(
     set: &'a Compiled,
     kept: &'a KeptState,
     node: u32,
-) -> Result<ChildList<'a>, AroundError> {
+) -> Result<ChildList<'a>, AroundError>
+    requires made { IsMade kept.now.records.slots node }
+    requires listed { (symbols : List ℕ) × IsListed kept.now.lists (models_of set.now (pair_at kept.now.records.slots node).of) (kept_at kept.now.records.slots node).list symbols }
+    ensures lists { IfOk result (λ own. own.lists.now ≡ kept.now.lists) }
+    ensures list { IfOk result (λ own. (kept_at kept.now.records.slots node).list ≡ Some own.list) }
+    ensures automaton { IfOk result (λ own. models_of set.now (pair_at kept.now.records.slots node).of ≡ Some own.automaton.now) }
+    ensures none { IfErr result (λ e. (e ≡ NoModel) × (models_of set.now (pair_at kept.now.records.slots node).of ≡ None)) }
+{
     let own = kept.at(node);
     let Some(automaton) = model_of(set, own.found.governing.of) else {
         return Err(AroundError::NoModel);

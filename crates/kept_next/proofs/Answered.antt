@@ -18,6 +18,7 @@ use Rattle.kept_next.specs.Words.{IsWordBy, IsNameOf}
 use Rattle.kept_next.specs.Place.{ListPlace, IsPlaceBy, name_at, fits_at}
 use Rattle.kept_next.specs.Answers.{Answer, AreAnswers, answer_at, answers_of, lines, count}
 use Rattle.kept_next.proofs.Places.{symbol-table, names-fit}
+use Rattle.kept_next.proofs.Spaces.{all-named}
 
 module _ (names : NameTable) (name_of : ℕ → SymbolName) (fit_of : ℕ → Fit) where
   lines-push : (xs : List Answer) (a : Answer) → lines names (xs ++ a ∷ []) ≡ lines names xs ++ next_line names a.0 a.1
@@ -72,13 +73,17 @@ module _ (v : ListPlace) (s : SchemaSet) (p : ℕ) (names : List ExpandedName) (
       map-twice [] = refl
       map-twice (n ∷ ns) = ap (λ xs. name_at v n ∷ xs) (map-twice ns)
 
+  pub answers-many : length (answers_of v symbols) ≡ length v.symbols
+  answers-many = many
+
   pub are-answers : AreAnswers (record { set = s; particle = p; before = take v.place names; behind = drop v.place names }) (answers_of v symbols)
   are-answers = record {
     table = symbols_of v.automaton;
     table_is = symbol-table v s p names h;
-    sound = h.sound;
+    sound = h.listed.sound;
     symbols = v.symbols;
     ordered = h.ordered;
+    named = all-named v s p names h;
     symbols_are = symbols-same;
     fits = λ n l name of.
         let low : n < length v.symbols = omega (arith, l, many) in

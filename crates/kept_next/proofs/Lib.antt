@@ -2,4 +2,8 @@ pub mod Words
 pub mod Symbols
 pub mod Fits
 pub mod Places
+pub mod Spaces
 pub mod Answered
+pub mod Printed
+pub mod One
+pub mod Written

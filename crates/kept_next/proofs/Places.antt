@@ -32,7 +32,7 @@ use Rattle.kept_next.proofs.Fits.{symbol-fits, name-fits}
 as-many : {Shape Map : Type 0} (v : Lists Shape Map) (list : ℕ) (leaf : ℕ → Map) (ambivalent : ℕ → Bool) (symbols : List ℕ) → HasLeaves v list leaf ambivalent symbols →
     entries_in (get v list) ≡ length symbols
 as-many {Shape} {Map} v list leaf ambivalent symbols h =
-    ap entries_in h.list_is ∙ (sym (length-map h.entries (λ (e : Entry Map). e.act)) ∙ (ap length h.maps ∙ length-map symbols leaf))
+    ap entries_in h.listed.list_is ∙ (sym (length-map h.entries (λ (e : Entry Map). e.act)) ∙ (ap length h.maps ∙ length-map symbols leaf))
 
 rows-many : (lists : RowLists) (list : ℕ) (a : ContentAutomaton) (symbols : List ℕ) → IsRowList lists list a symbols → entries_in (get lists list) ≡ length symbols
 rows-many lists list (States a) symbols h = as-many lists list (leaf_of a) (is_ambivalent_symbol (States a)) symbols h.1
@@ -50,7 +50,7 @@ pub children-many : (v : ListsView) (h : ModelList) (a : ContentAutomaton) (symb
 children-many v h a symbols is = leaves-many v h.dead h.list a symbols is
 
 -- ---- the symbols of a place
-table-of : (s : SchemaSet) (p : ℕ) (a : ContentAutomaton) → IsBuilt s.names s.parts s.members s.classes p a → AreSymbolsOf (model_terms s.members s.parts s.classes p) (symbols_of a)
+pub table-of : (s : SchemaSet) (p : ℕ) (a : ContentAutomaton) → IsBuilt s.names s.parts s.members s.classes p a → AreSymbolsOf (model_terms s.members s.parts s.classes p) (symbols_of a)
 table-of s p (States a) h = h.2
 table-of s p (All a) h = h.1
 
@@ -62,21 +62,21 @@ module _ (v : ListPlace) (s : SchemaSet) (p : ℕ) (names : List ExpandedName) (
   symbols = map symbol names
 
   pub symbol-table : AreSymbolsOf (model_terms s.members s.parts s.classes p) (symbols_of v.automaton)
-  symbol-table = table-of s p v.automaton (kept-now s p v.automaton h.fits).built
+  symbol-table = table-of s p v.automaton (kept-now s p v.automaton h.listed.fits).built
 
   within : AreNamesOf s.names (symbols_of v.automaton).names
-  within = symbols-known s p v.automaton h.fits
+  within = symbols-known s p v.automaton h.listed.fits
 
   -- the n-th symbol is that of some name
   one-named : (n : ℕ) → n < length v.symbols → (name : ExpandedName) × (symbol name ≡ number_at v n)
   one-named n l =
-      named s.names (symbols_of v.automaton) within h.sound.names_once symbol-table.names_once symbol-table.spaces_once (number_at v n)
+      named s.names (symbols_of v.automaton) within h.listed.sound.names_once symbol-table.names_once symbol-table.spaces_once (number_at v n)
       (number-below s.names (symbols_of v.automaton) v.symbols h.ordered n (record { number = 0; name = Other }) l)
 
   pub one-symbol : (n : ℕ) → n < length v.symbols → AreSymbolsBy v.automaton (number_at v n ∷ [])
   one-symbol n l =
       let one = one-named n l in
-      subst (λ (k : ℕ). AreSymbolsBy v.automaton (k ∷ [])) one.1 (are-symbols s p v.automaton h.fits (one.0 ∷ []))
+      subst (λ (k : ℕ). AreSymbolsBy v.automaton (k ∷ [])) one.1 (are-symbols s p v.automaton h.listed.fits (one.0 ∷ []))
 
   pub place-within : v.place ≤ length symbols
   place-within = let many = length-map names symbol in omega (arith, h.within, many)
@@ -87,7 +87,7 @@ module _ (v : ListPlace) (s : SchemaSet) (p : ℕ) (names : List ExpandedName) (
       let one = one-named n l in
       let before = take-map symbol v.place names in
       let behind = drop-map symbol v.place names in
-      let fit = symbol-fits s p v.automaton h.fits (take v.place names) (drop v.place names) one.0 in
+      let fit = symbol-fits s p v.automaton h.listed.fits (take v.place names) (drop v.place names) one.0 in
       let first = subst (λ (k : ℕ). FitsAs (IsWordIn v.automaton) (map symbol (take v.place names)) (map symbol (drop v.place names)) k (fit_by v.automaton (map symbol (take v.place names) ++ k ∷ map symbol (drop v.place names)))) one.1 fit in
       let second = subst (λ (xs : List ℕ). FitsAs (IsWordIn v.automaton) xs (map symbol (drop v.place names)) (number_at v n) (fit_by v.automaton (xs ++ number_at v n ∷ map symbol (drop v.place names)))) (sym before) first in
       subst (λ (xs : List ℕ). FitsAs (IsWordIn v.automaton) (take v.place symbols) xs (number_at v n) (fit_by v.automaton (take v.place symbols ++ number_at v n ∷ xs))) (sym behind) second
@@ -100,10 +100,10 @@ module _ (v : ListPlace) (s : SchemaSet) (p : ℕ) (names : List ExpandedName) (
       FitsAs (IsWordBy s p) (take v.place names) (drop v.place names) name (fits_at v symbols n)
   names-fit n l name of =
       let is : symbol name ≡ number_at v n =
-      named-symbol s.names (symbols_of v.automaton) h.sound.names_once within symbol-table.names_once symbol-table.spaces_once v.symbols h.ordered n (record { number = 0; name = Other }) l name of in
+      named-symbol s.names (symbols_of v.automaton) h.listed.sound.names_once within symbol-table.names_once symbol-table.spaces_once v.symbols h.ordered n (record { number = 0; name = Other }) l name of in
       let before = subst (λ (xs : List ℕ). FitsAs (IsWordIn v.automaton) xs (drop v.place symbols) (number_at v n) (fits_at v symbols n)) (take-map symbol v.place names) (place-fits n l) in
       let behind = subst (λ (xs : List ℕ). FitsAs (IsWordIn v.automaton) (map symbol (take v.place names)) xs (number_at v n) (fits_at v symbols n)) (drop-map symbol v.place names) before in
-      name-fits s p v.automaton h.fits (take v.place names) (drop v.place names) name (fits_at v symbols n)
+      name-fits s p v.automaton h.listed.fits (take v.place names) (drop v.place names) name (fits_at v symbols n)
       (subst (λ (k : ℕ). FitsAs (IsWordIn v.automaton) (map symbol (take v.place names)) (map symbol (drop v.place names)) k (fits_at v symbols n)) (sym is) behind)
 
 -- how a place of which the states are known fits
@@ -112,7 +112,7 @@ pub verdict-fits : (v : ListPlace) (n : ℕ) (x : ChildState) (fit : Fit) → n 
     (before behind : List ℕ) → AreAround v before behind → FitsAs (IsWordIn v.automaton) before behind (number_at v n) fit
 verdict-fits v n x fit l leads tells before behind (s, p, names, h, e, f) =
     let symbols : List ℕ = map (symbol_of s.names (symbols_of v.automaton)) names in
-    let is = tells ((take v.place symbols ++ number_at v n ∷ []) ++ drop v.place symbols) (leads symbols h.list_is) in
+    let is = tells ((take v.place symbols ++ number_at v n ∷ []) ++ drop v.place symbols) (leads symbols h.listed.list_is) in
     let one = ap (fit_by v.automaton) (append_assoc (take v.place symbols) (number_at v n ∷ []) (drop v.place symbols)) in
     let fits = subst (FitsAs (IsWordIn v.automaton) (take v.place symbols) (drop v.place symbols) (number_at v n)) (sym (is ∙ one)) (place-fits v s p names h n l) in
     subst (λ (ys : List ℕ). FitsAs (IsWordIn v.automaton) before ys (number_at v n) fit) (sym f)
@@ -128,7 +128,7 @@ place-around v (s, p, names, h) =
     (take v.place symbols, drop v.place symbols, (s, p, names, h, refl, refl))
 
 pub place-listed : (v : ListPlace) → IsPlace v → (symbols : List ℕ) × IsListOf v.lists v.list v.automaton symbols × (v.place ≤ length symbols)
-place-listed v (s, p, names, h) = (map (symbol_of s.names (symbols_of v.automaton)) names, h.list_is, place-within v s p names h)
+place-listed v (s, p, names, h) = (map (symbol_of s.names (symbols_of v.automaton)) names, h.listed.list_is, place-within v s p names h)
 
 pub place-symbol : (v : ListPlace) → IsPlace v → (n : ℕ) → n < length v.symbols → AreSymbolsBy v.automaton (number_at v n ∷ [])
 place-symbol v (s, p, names, h) n l = one-symbol v s p names h n l
