@@ -1,7 +1,8 @@
 -- The table of a schema set has what the symbols of its content models stand for.
-use Rattle.std.proofs.Common.{◌≡◌, ℕ, ◌<◌, List, Option, None, Some, length, get_or, refl, sym, subst}
+use Rattle.std.proofs.Common.{◌≡◌, ℕ, ◌<◌, List, Option, None, Some, length, get_or, refl, sym, subst, arith}
 use Rattle.std.specs.Prelude.{All, Contains, slice_get}
-use Rattle.std.proofs.lemmas.List.Elements.{All-nil, All-contains, All-contains_itself}
+use Rattle.std.proofs.lemmas.List.Elements.{All-nil, All-contains, All-contains_itself, All-weaker}
+use Rattle.xs_names.specs.Names.{NameTable, Grown}
 use Rattle.xs_components.specs.declared.particle.Particle.{Particle}
 use Rattle.xs_components.specs.declared.particle.Term.{Term}
 use Rattle.xs_components.specs.declared.particle.Term.TheVariants as terms
@@ -39,6 +40,11 @@ module _ (s : SchemaSet) (spaced : HasSpacesNamed s) where
       All-contains (λ (n : ℕ). n < length s.names.spaces) (spaces_of (accepts_of s.members s.parts s.classes at.0)) space
       (part-named (slice_get s.parts.particles.parts at.0) (λ x e. spaced at.0 x e))
       (subst (λ b. Contains (spaces_of b) space) (sym at.2) has)
+
+-- a table that has grown from that of a set has them still
+pub spaces-grown : (s : SchemaSet) (u : NameTable) → Grown s.names u → HasSpacesNamed s → HasSpacesNamed (record s { names = u })
+spaces-grown s u grown spaced = λ n part at.
+    All-weaker (λ (m : ℕ). m < length s.names.spaces) (λ (m : ℕ). m < length u.spaces) (λ m l. let more = grown.more_spaces in omega (arith, l, more)) (named_spaces part.term) (spaced n part at)
 
 module _ (s : SchemaSet) (p : ℕ) (a : ContentAutomaton) (fits : IsAutomatonFor s p a) (spaced : HasSpacesNamed s) where
   -- the names and namespaces with symbols are those of the table
