@@ -50,6 +50,9 @@ module _ (name_of : ℕ → SymbolName) (fit_of : ℕ → Fit) where
       ∙ count-push (map (λ k. (name_of k, fit_of k)) (range_with_len 0 n)) (name_of n, fit_of n)
       ∙ ap (λ (k : ℕ). k + lines_of (fit_of n)) (counts-same n)
 
+pub answers-many : (v : ListPlace) (symbols : List ℕ) → length (answers_of v symbols) ≡ length v.symbols
+answers-many v symbols = length-map-range_with_len (λ n. (name_at v n, fits_at v symbols n)) 0 (length v.symbols)
+
 module _ (v : ListPlace) (s : SchemaSet) (p : ℕ) (names : List ExpandedName) (h : IsPlaceBy v s p names) where
   abbrev symbols : List ℕ
   symbols = map (symbol_of s.names (symbols_of v.automaton)) names
@@ -72,9 +75,6 @@ module _ (v : ListPlace) (s : SchemaSet) (p : ℕ) (names : List ExpandedName) (
       map-twice : (ns : List ℕ) → map (λ (a : Answer). a.0) (map one ns) ≡ map (name_at v) ns
       map-twice [] = refl
       map-twice (n ∷ ns) = ap (λ xs. name_at v n ∷ xs) (map-twice ns)
-
-  pub answers-many : length (answers_of v symbols) ≡ length v.symbols
-  answers-many = many
 
   pub are-answers : AreAnswers (record { set = s; particle = p; before = take v.place names; behind = drop v.place names }) (answers_of v symbols)
   are-answers = record {

@@ -6,4 +6,3 @@ pub mod Spaces
 pub mod Answered
 pub mod Printed
 pub mod One
-pub mod Written

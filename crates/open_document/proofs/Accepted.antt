@@ -2,6 +2,11 @@
 use Rattle.std.specs.Prelude.{◌≡◌, ℕ, List, [], Result, Ok, Err, IfOk, OnOk}
 use Rattle.std.proofs.Common.{arith, inl, inr, refl, sym, ap, ◌∙◌, subst}
 use Rattle.tree_rows.specs.Forest.{Document}
+use Rattle.tree_names.specs.Table.{document_table}
+use Rattle.tree_names.proofs.Tables.{grows}
+use Rattle.assessment.specs.Attribution.{SchemaSet}
+use Rattle.kept_next.specs.Spaces.{HasSpacesNamed}
+use Rattle.kept_next.proofs.Spaces.{spaces-grown}
 use Rattle.session_model.specs.State.{State, IsOpened}
 use Rattle.compiled_schema.specs.declared.compiled.Compiled.{Compiled}
 use Rattle.compiled_schema.specs.Usable.{IsUsable}
@@ -56,11 +61,17 @@ opened_by (Err e) most basis d w session is h = tt
 
 -- ---- a document that was just opened, whose log has no steps
 
-pub begun_logged : (x : OpenDocument) → x.log ≡ log_of kept_trees [] [] Nothing → IsLogged x
-begun_logged x is = record {
+pub begun_logged : (x : OpenDocument) → x.log ≡ log_of kept_trees [] [] Nothing → HasSpacesNamed x.session.set → IsLogged x
+begun_logged x is spaced = record {
   depth = ap (λ (l : Log Change). l.depth) is;
   logged = subst (histories.IsLogged x.session.set.names x.session.document) (sym is) (record { leads = record { past = tt; future = tt }; answered = refl });
+  spaced = spaced;
 }
+
+-- a session that was opened has the namespaces that the wildcards of its set name
+pub opened_spaced : (set : SchemaSet) (d : Document) (session : State) → IsOpened set d session → HasSpacesNamed set → HasSpacesNamed session.set
+opened_spaced set d session is spaced =
+    subst HasSpacesNamed (sym (ap (λ (s : State). s.set) is.new_is)) (spaces-grown set (document_table set.names d.forest) (grows set.names d.forest) spaced)
 
 state_begun : (x : OpenDocument) → x.log ≡ log_of kept_trees [] [] Nothing → state_of x ≡ begun x.session x.documents.items x.most
 state_begun x is = ap (λ (l : Log Change). state_of (record x { log = l })) is

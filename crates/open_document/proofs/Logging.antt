@@ -5,6 +5,7 @@ use Rattle.xs_names.specs.Names.{NameTable, Grown}
 use Rattle.tree_rows.specs.Forest.{Forest, Document}
 use Rattle.tree_edits.specs.Edits.{can_be_made}
 use Rattle.tree_edits.specs.declared.edit.Edit.{Edit}
+use Rattle.tree_names.specs.Table.{document_table}
 use Rattle.tree_names.proofs.Tables.{grows}
 use Rattle.tree_inverses.specs.Changes.{inverse_of}
 use Rattle.tree_inverses.specs.Changes as law
@@ -24,6 +25,8 @@ use Rattle.session_model.specs.Spending.{Counts}
 use Rattle.session_model.specs.State.{State, after_edit}
 use Rattle.session_model.specs.declared.session.SessionError.{SessionError}
 use Rattle.session_model.specs.declared.session.SessionError.TheVariants as errors
+use Rattle.kept_next.specs.Spaces.{HasSpacesNamed}
+use Rattle.kept_next.proofs.Spaces.{spaces-grown}
 use Rattle.edit_session.specs.Changed.{after_change, IsChanged, TakesWithin}
 use Rattle.edit_session.specs.Costs.{change_cost}
 use Rattle.open_document.specs.Held.{state_of, IsLogged}
@@ -45,10 +48,11 @@ module _ (x : OpenDocument) (session : State) (log : Log Change) where
     pub log_behind : (state_of moved).log ≡ l
     log_behind = ap (meant_log session.set.names) is ∙ r.log_is
 
-    pub logged_behind : noted_as.depth ≡ kept_trees → IsLogged moved
-    logged_behind deep = record {
+    pub logged_behind : noted_as.depth ≡ kept_trees → HasSpacesNamed session.set → IsLogged moved
+    logged_behind deep spaced = record {
       depth = ap (λ (k : Log Change). k.depth) is ∙ deep;
       logged = subst (histories.IsLogged session.set.names session.document) (sym is) r.logged;
+      spaced = spaced;
     }
 
   -- behind an edit
@@ -64,8 +68,11 @@ module _ (x : OpenDocument) (session : State) (log : Log Change) where
       log = log_behind _ _ (noted x.log back) is r i;
     }
 
-    pub edit_logged : IsLogged moved
-    edit_logged = logged_behind _ _ (noted x.log back) is r logged.depth
+    pub edit_logged : session ≡ after_edit x.session session.document session.found → IsLogged moved
+    edit_logged new_is =
+        logged_behind _ _ (noted x.log back) is r logged.depth
+        (subst HasSpacesNamed (sym (ap (λ (s : State). s.set) new_is))
+        (spaces-grown x.session.set (document_table x.session.set.names session.document.forest) (grows x.session.set.names session.document.forest) logged.spaced))
 
   -- an edit that was made is remembered
   pub edit_noted : (edit : Edit) (back : Change) → IsFound x.session.set x.session.document x.session.found → can_be_made edit ≡ true → IsLogged x → IsEdited x.session edit session
@@ -148,8 +155,10 @@ module _ (x : OpenDocument) (answered : Change → Log Change) (answered_by : la
         counts = counts;
       }
 
-      step_logged : (answered back).depth ≡ kept_trees → IsLogged (moved x session log)
-      step_logged deep = logged_behind x session log given.0 _ (answered back) noted_is step_remembered deep
+      step_logged : (answered back).depth ≡ kept_trees → HasSpacesNamed x.session.set → IsLogged (moved x session log)
+      step_logged deep spaced =
+          logged_behind x session log given.0 _ (answered back) noted_is step_remembered deep
+          (subst HasSpacesNamed (sym (ap (λ (s : State). s.set) session_is)) spaced)
 
     module _ (session : State) (log : Log Change) (back : Change) (noted_is : log ≡ answered back)
         (made : (c : law.Change) → Means x.session.set.names it c → law.Fits x.session.document c → IsChanged x.session c session)
@@ -160,8 +169,8 @@ module _ (x : OpenDocument) (answered : Change → Log Change) (answered_by : la
           subst (λ (g : Option Step). Makes {E = E} (state_of x) g (Ok true) (state_of (moved x session log)) n m) (sym gave_is)
           (stepped session log back noted_is (made given.1 given.4.means given.4.fits) (means given.1 given.4.means given.4.fits) n m (counts given.1 given.4.means given.4.fits))
 
-      pub logged_then : (answered back).depth ≡ kept_trees → IsLogged (moved x session log)
-      logged_then deep = step_logged session log back noted_is (made given.1 given.4.means given.4.fits) (means given.1 given.4.means given.4.fits) deep
+      pub logged_then : (answered back).depth ≡ kept_trees → HasSpacesNamed x.session.set → IsLogged (moved x session log)
+      logged_then deep spaced = step_logged session log back noted_is (made given.1 given.4.means given.4.fits) (means given.1 given.4.means given.4.fits) deep spaced
 
       pub open_then : session.closed ≡ false
       open_then = ap (λ (s : State). s.closed) (made given.1 given.4.means given.4.fits).new_is

@@ -15,7 +15,7 @@ returns-in-Ok-clause-logged g c = λ live.
     let y = c.apply_keeping.new.self in
     let log = c.did.new.self in
     edit_logged x y log c.args.edit.now c.in-Ok.back c.requires.logged c.did.ensures
-    (edit_noted x y log c.args.edit.now c.in-Ok.back c.is_found.ensures c.requires.made c.requires.logged c.in-Ok.ensures.applies c.in-Ok.ensures.inverse)
+    (edit_noted x y log c.args.edit.now c.in-Ok.back c.is_found.ensures c.requires.made c.requires.logged c.in-Ok.ensures.applies c.in-Ok.ensures.inverse) c.in-Ok.ensures.applies.new_is
 
 pub returns-in-Err-clause-logged : goal.returns-in-Err-clause-logged
 returns-in-Err-clause-logged g c =

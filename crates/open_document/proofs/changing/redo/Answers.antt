@@ -34,7 +34,7 @@ returns-in-Ok-clause-logged g c = λ live.
     logged_then x (with_redo_answered (with_redo_taken x.log)) (with_redo_answered (with_redo_taken (state_of x).log)) (slice_get x.log.future 0) (redone (state_of x).history) (slice_get (state_of x).log.future 0)
     (redo_remembered x.session.set.names x.log x.session.document c.is_found.ensures.tree c.requires.logged.logged) c.in-Some.step (sym c.take_redo.ensures.step ∙ c.in-Some.is) c.make.new.session c.redone.new.self c.in-Ok.back
     (c.redone.ensures ∙ ap (λ (l : Log Change). with_redo_answered l c.in-Ok.back) (c.in-Some.ensures.some refl))
-    c.in-Ok.ensures.changed c.in-Ok.ensures.inverse c.requires.logged.depth
+    c.in-Ok.ensures.changed c.in-Ok.ensures.inverse c.requires.logged.depth c.requires.logged.spaced
 
 pub returns-in-Ok-clause-open : goal.returns-in-Ok-clause-open
 returns-in-Ok-clause-open g c =

@@ -35,7 +35,7 @@ returns-in-Ok-clause-logged g c = λ live.
     logged_then x (with_undo_answered (with_undo_taken x.log)) (with_undo_answered (with_undo_taken (state_of x).log)) (last_item x.log.past) (undone (state_of x).history) (last_item (state_of x).log.past)
     (undo_remembered x.session.set.names x.log x.session.document c.is_found.ensures.tree c.requires.logged.logged) c.in-Some.step (sym c.take_undo.ensures.step ∙ c.in-Some.is) c.make.new.session c.undone.new.self c.in-Ok.back
     (c.undone.ensures ∙ ap (λ (l : Log Change). with_undo_answered l c.in-Ok.back) (c.in-Some.ensures.some refl))
-    c.in-Ok.ensures.changed c.in-Ok.ensures.inverse c.requires.logged.depth
+    c.in-Ok.ensures.changed c.in-Ok.ensures.inverse c.requires.logged.depth c.requires.logged.spaced
 
 pub returns-in-Ok-clause-open : goal.returns-in-Ok-clause-open
 returns-in-Ok-clause-open g c =

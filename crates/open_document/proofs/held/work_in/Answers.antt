@@ -6,7 +6,7 @@ use Rattle.open_document.proofs.held.work_in.Goals as goal
 pub work_on-requires-clause-logged : goal.work_on-requires-clause-logged
 work_on-requires-clause-logged c = λ lives.
     let x : OpenDocument = record { session = c.args.session; documents = c.args.documents; most = c.args.most; log = c.in-Ok.log } in
-    begun_logged x c.in-Ok.ensures
+    begun_logged x c.in-Ok.ensures c.requires.spaced
 
 pub returns-in-Ok-clause-working : goal.returns-in-Ok-clause-working
 returns-in-Ok-clause-working c =
