@@ -16,7 +16,7 @@ use Rattle.next_names.specs.declared.symbol.SymbolName.TheVariants.{Other}
 use Rattle.next_names.specs.declared.order.Symbol.{Symbol}
 use Rattle.kept_next.specs.Words.{IsWordBy, IsNameOf}
 use Rattle.kept_next.specs.Place.{ListPlace, IsPlaceBy, name_at, fits_at}
-use Rattle.kept_next.specs.Answers.{Answer, AreAnswers, answer_at, answers_of, lines, count}
+use Rattle.kept_next.specs.Answers.{Answer, AreAnswers, answer_at, answers_by, answers_of, lines, count}
 use Rattle.kept_next.proofs.Places.{symbol-table, names-fit}
 use Rattle.kept_next.proofs.Spaces.{all-named}
 
@@ -52,6 +52,9 @@ module _ (name_of : ℕ → SymbolName) (fit_of : ℕ → Fit) where
 
 pub answers-many : (v : ListPlace) (symbols : List ℕ) → length (answers_of v symbols) ≡ length v.symbols
 answers-many v symbols = length-map-range_with_len (λ n. (name_at v n, fits_at v symbols n)) 0 (length v.symbols)
+
+pub answers-by-many : (v : ListPlace) (s : SchemaSet) (names : List ExpandedName) → length (answers_by v s names) ≡ length v.symbols
+answers-by-many v s names = answers-many v (map (symbol_of s.names (symbols_of v.automaton)) names)
 
 module _ (v : ListPlace) (s : SchemaSet) (p : ℕ) (names : List ExpandedName) (h : IsPlaceBy v s p names) where
   abbrev symbols : List ℕ

@@ -6,3 +6,4 @@ pub mod Spaces
 pub mod Answered
 pub mod Printed
 pub mod One
+pub mod Written

@@ -5,3 +5,4 @@ pub mod Making
 pub mod Stepping
 pub mod Worked
 mod Entries
+mod Next

@@ -1,6 +1,6 @@
 //! Which names may stand at a place of a document that is open.
 
-ghost use Rattle.std.specs.Prelude.{◌≡◌, ◌≤◌, false};
+ghost use Rattle.std.specs.Prelude.{◌≡◌, ◌≤◌, ℕ, false};
 ghost use Rattle.xsv_io.specs.Causes.{KeepsCount};
 ghost use Rattle.told.specs.Going.{Answers, trace};
 ghost use Rattle.told.specs.Tells.{IsWriteFault};
@@ -13,7 +13,7 @@ ghost use Rattle.open_document.specs.State.{OpenState};
 use crate::held::OpenDocument;
 use crate::reply::write_refusal;
 use edit_session::AroundError;
-use kept_next::{AroundAt, places_have_answers, write_answers};
+use kept_next::{AroundAt, write_answers};
 use session_model::Session;
 use told::BreakOff;
 use xsv_io::Sink;
@@ -25,8 +25,15 @@ fn tell_names<W: Sink, L: Ledger>(
     place: &AroundAt<'_>,
     sink: &mut W,
     steps: &mut Steps<L>,
-) -> Result<(), BreakOff> {
-    places_have_answers();
+) -> Result<(), BreakOff>
+    requires live { document.now.session.closed ≡ false }
+    requires around { (node : ℕ) × (index : ℕ) × IsAroundAt document.now.session node index place.now }
+    ensures answers { (node index : ℕ) (next : OpenState → Told) → IsAroundAt document.now.session node index place.now →
+        Answers (next_told (state_of document.now) (child_count document.now.session node) (asked_at document.now.session node index) next)
+        result (trace (W.taken sink.old) steps.old) (trace (W.taken sink.new) steps.new) (λ done. next (state_of document.now)) }
+    ensures writes { KeepsCount W.faults W.fault_bound sink.old sink.new (IsWriteFault result) }
+    ensures later { steps.old ≤ steps.new }
+{
     match write_answers(sink, &document.session.compiled().names, place, steps) {
         Ok(()) => Ok(()),
         Err(_) => Err(BreakOff::WriteFault),
