@@ -70,8 +70,13 @@ fn element_here(doc: &DocTree, node: u32, index: u32) -> Result<(), AroundError>
     match doc.live(node) {
         None => Err(AroundError::UnknownNode),
         Some(NodeKind::Chars) => Err(AroundError::NotElement),
-        Some(NodeKind::Element) if index > doc.child_count(node) => Err(AroundError::BadIndex),
-        Some(NodeKind::Element) => Ok(()),
+        Some(NodeKind::Element) => {
+            if index > doc.child_count(node) {
+                Err(AroundError::BadIndex)
+            } else {
+                Ok(())
+            }
+        }
     }
 }
 
