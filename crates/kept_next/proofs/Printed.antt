@@ -11,7 +11,7 @@ use Rattle.std.proofs.lemmas.Bool.{true≢false, false≢true, cases_eq, eq-eqb,
 use Rattle.std.proofs.lemmas.List.Elements.{All-head, All-tail}
 use Rattle.std.proofs.lemmas.List.MinMax.{ranks_by}
 use Rattle.std.proofs.lemmas.List.Sorted.{sum_by-IsPermutation, sorted_far}
-use Rattle.std.proofs.lemmas.List.Sums.{sum_by-append}
+use Rattle.std.proofs.lemmas.List.Sums.{sum_by-cons}
 use Rattle.std.proofs.lemmas.Map.Lookups.{exact_bytes, exact_unsigned}
 use Rattle.std.proofs.lemmas.Option.{slice_get-get_or, get_or_from_slice_get}
 use Rattle.xs_names.specs.Names.{NameTable, IsSound, space_of, local_of}
@@ -23,6 +23,31 @@ use Rattle.next_names.specs.declared.order.Symbol.{Symbol}
 use Rattle.next_names.specs.declared.symbol.SymbolName.{SymbolName}
 use Rattle.next_names.specs.declared.symbol.SymbolName.TheVariants.{Name, Namespace, Other}
 use Rattle.next_names.proofs.Orders.{print-total}
+
+-- ---- sums
+
+nothing : 0 < 0 → ⊥
+nothing h = omega (arith, h)
+
+one-some : (m n : ℕ) → 0 < m + n → (0 < m) ⊎ (0 < n)
+one-some zero n h = inr h
+one-some (suc m) n h = inl (omega arith)
+
+module _ {X : Type 0} (f : X → ℕ) where
+  abbrev added : List X → ℕ
+  added [] = 0
+  added (x ∷ xs) = f x + added xs
+
+  added-sum : (xs : List X) → sum_by f xs ≡ added xs
+  added-sum [] = refl
+  added-sum (x ∷ xs) = sum_by-cons f x xs ∙ ap (λ (n : ℕ). f x + n) (added-sum xs)
+
+  added-append : (xs ys : List X) → added (xs ++ ys) ≡ added xs + added ys
+  added-append [] ys = refl
+  added-append (x ∷ xs) ys = let rest = added-append xs ys in omega (arith, rest)
+
+  moved : (xs ys : List X) → IsPermutation xs ys → added ys ≡ added xs
+  moved xs ys p = sym (added-sum ys) ∙ sum_by-IsPermutation f xs ys p ∙ added-sum xs
 
 -- ---- symbols that are not told apart by their texts are the same
 
@@ -36,7 +61,7 @@ neither-less Less s e a b = absurd (true≢false a)
 neither-less Equal s e a b = refl
 neither-less Greater Less e a b = absurd (true≢false b)
 neither-less Greater Equal e a b = e
-neither-less Greater Greater e a b = e
+neither-less Greater Greater e a b = let clash : Greater ≡ Less = e in absurd (cc clash)
 
 module _ (t : NameTable) (sound : IsSound t) where
   same-space : (x y : ℕ) → x < length t.spaces → y < length t.spaces → get_or t.spaces x [] ≡ get_or t.spaces y [] → x ≡ y
@@ -53,13 +78,13 @@ module _ (t : NameTable) (sound : IsSound t) where
 
   by-texts : (a b : SymbolName) → IsNamed t a → IsNamed t b → kind_of a ≡ kind_of b → space_name t a ≡ space_name t b → local_name t a ≡ local_name t b → a ≡ b
   by-texts (Name x) (Name y) l m kinds spaces locals = ap Name (same-name x y l m spaces locals)
-  by-texts (Name x) (Namespace y) l m kinds spaces locals = absurd (omega (arith, kinds))
-  by-texts (Name x) Other l m kinds spaces locals = absurd (omega (arith, kinds))
-  by-texts (Namespace x) (Name y) l m kinds spaces locals = absurd (omega (arith, kinds))
+  by-texts (Name x) (Namespace y) l m kinds spaces locals = let k : ◌≡◌ {A = ℕ} 0 1 = kinds in absurd (omega (arith, k))
+  by-texts (Name x) Other l m kinds spaces locals = let k : ◌≡◌ {A = ℕ} 0 2 = kinds in absurd (omega (arith, k))
+  by-texts (Namespace x) (Name y) l m kinds spaces locals = let k : ◌≡◌ {A = ℕ} 1 0 = kinds in absurd (omega (arith, k))
   by-texts (Namespace x) (Namespace y) l m kinds spaces locals = ap Namespace (same-space x y l m spaces)
-  by-texts (Namespace x) Other l m kinds spaces locals = absurd (omega (arith, kinds))
-  by-texts Other (Name y) l m kinds spaces locals = absurd (omega (arith, kinds))
-  by-texts Other (Namespace y) l m kinds spaces locals = absurd (omega (arith, kinds))
+  by-texts (Namespace x) Other l m kinds spaces locals = let k : ◌≡◌ {A = ℕ} 1 2 = kinds in absurd (omega (arith, k))
+  by-texts Other (Name y) l m kinds spaces locals = let k : ◌≡◌ {A = ℕ} 2 0 = kinds in absurd (omega (arith, k))
+  by-texts Other (Namespace y) l m kinds spaces locals = let k : ◌≡◌ {A = ℕ} 2 1 = kinds in absurd (omega (arith, k))
   by-texts Other Other l m kinds spaces locals = refl
 
   pub same-symbol : (a b : SymbolName) → IsNamed t a → IsNamed t b → is_lt (print_order t a b) ≡ false → is_lt (print_order t b a) ≡ false → a ≡ b
@@ -79,31 +104,31 @@ hit Other Other = 1
 hit _ _ = 0
 
 hit-self : (a : SymbolName) → hit a a ≡ 1
-hit-self (Name n) = ap (λ (b : Bool). if b then 1 else 0) (eq-eqb n n refl)
-hit-self (Namespace n) = ap (λ (b : Bool). if b then 1 else 0) (eq-eqb n n refl)
+hit-self (Name n) = ap {B = ℕ} (λ (b : Bool). if b then 1 else 0) (eq-eqb n n refl)
+hit-self (Namespace n) = ap {B = ℕ} (λ (b : Bool). if b then 1 else 0) (eq-eqb n n refl)
 hit-self Other = refl
 
 if-hit : (named : ℕ → SymbolName) (n m : ℕ) → 0 < (if m == n then 1 else 0) → named n ≡ named m
 if-hit named n m some = elim (cases_eq m n) [
   | inl e ↦ ap named (sym e)
-  | inr d ↦ absurd (let none : ◌≡◌ {A = ℕ} (if m == n then 1 else 0) 0 = ap (λ (b : Bool). if b then 1 else 0) (ne_eqb m n d) in omega (arith, some, none))
+  | inr d ↦ absurd (let none : ◌≡◌ {A = ℕ} (if m == n then 1 else 0) 0 = ap {B = ℕ} (λ (b : Bool). if b then 1 else 0) (ne_eqb m n d) in omega (arith, some, none))
 ]
 
 hit-same : (a b : SymbolName) → 0 < hit a b → a ≡ b
 hit-same (Name n) (Name m) some = if-hit Name n m some
-hit-same (Name n) (Namespace m) some = absurd (omega (arith, some))
-hit-same (Name n) Other some = absurd (omega (arith, some))
-hit-same (Namespace n) (Name m) some = absurd (omega (arith, some))
+hit-same (Name n) (Namespace m) some = absurd (nothing some)
+hit-same (Name n) Other some = absurd (nothing some)
+hit-same (Namespace n) (Name m) some = absurd (nothing some)
 hit-same (Namespace n) (Namespace m) some = if-hit Namespace n m some
-hit-same (Namespace n) Other some = absurd (omega (arith, some))
-hit-same Other (Name m) some = absurd (omega (arith, some))
-hit-same Other (Namespace m) some = absurd (omega (arith, some))
+hit-same (Namespace n) Other some = absurd (nothing some)
+hit-same Other (Name m) some = absurd (nothing some)
+hit-same Other (Namespace m) some = absurd (nothing some)
 hit-same Other Other some = refl
 
 -- ---- how often a number comes in a list in which none comes twice
 
 abbrev pub among : ℕ → List ℕ → ℕ
-among n xs = sum_by (λ m. if m == n then 1 else 0) xs
+among n xs = added (λ m. if m == n then 1 else 0) xs
 
 is-hit : (m n : ℕ) → m ≡ n → ◌≡◌ {A = ℕ} (if m == n then 1 else 0) 1
 is-hit m n e = ap {B = ℕ} (λ (b : Bool). if b then 1 else 0) (eq-eqb m n e)
@@ -153,28 +178,28 @@ module _ (xs ys : List ℕ) (xs_once : HasNoRepeats xs) (ys_once : HasNoRepeats 
     | inr none ↦ absent xs n none ∙ sym (absent ys n (λ c. none (back n c)))
   ]
 
-zeros : (xs : List ℕ) → sum_by (λ m. 0) xs ≡ 0
+zeros : (xs : List ℕ) → added (λ m. 0) xs ≡ 0
 zeros [] = refl
 zeros (x ∷ xs) = zeros xs
 
 -- ---- how often a symbol comes among those of a content model
 
 abbrev count : SymbolName → List Symbol → ℕ
-count a xs = sum_by (λ (x : Symbol). hit a x.name) xs
+count a xs = added (λ (x : Symbol). hit a x.name) xs
 
-numbered-count : (a : SymbolName) (named : ℕ → SymbolName) (k : ℕ) (xs : List ℕ) → count a (numbered named k xs) ≡ sum_by (λ n. hit a (named n)) xs
+numbered-count : (a : SymbolName) (named : ℕ → SymbolName) (k : ℕ) (xs : List ℕ) → count a (numbered named k xs) ≡ added (λ n. hit a (named n)) xs
 numbered-count a named k [] = refl
 numbered-count a named k (x ∷ xs) = ap (λ (n : ℕ). hit a (named x) + n) (numbered-count a named (suc k) xs)
 
-all-count : (a : SymbolName) (own spaces : List ℕ) → count a (symbols_of own spaces) ≡ sum_by (λ n. hit a (Name n)) own + (sum_by (λ n. hit a (Namespace n)) spaces + (hit a Other + 0))
+all-count : (a : SymbolName) (own spaces : List ℕ) → count a (symbols_of own spaces) ≡ added (λ n. hit a (Name n)) own + (added (λ n. hit a (Namespace n)) spaces + (hit a Other + 0))
 all-count a own spaces =
     let other : List Symbol = record { number = length own + length spaces; name = Other } ∷ [] in
-    sum_by-append (λ (x : Symbol). hit a x.name) (numbered Name 0 own) (numbered Namespace (length own) spaces ++ other)
-    ∙ (λ i. numbered-count a Name 0 own i + sum_by-append (λ (x : Symbol). hit a x.name) (numbered Namespace (length own) spaces) other i)
-    ∙ ap (λ (n : ℕ). sum_by (λ n. hit a (Name n)) own + (n + (hit a Other + 0))) (numbered-count a Namespace (length own) spaces)
+    added-append (λ (x : Symbol). hit a x.name) (numbered Name 0 own) (numbered Namespace (length own) spaces ++ other)
+    ∙ (λ i. numbered-count a Name 0 own i + added-append (λ (x : Symbol). hit a x.name) (numbered Namespace (length own) spaces) other i)
+    ∙ ap (λ (n : ℕ). added (λ n. hit a (Name n)) own + (n + (hit a Other + 0))) (numbered-count a Namespace (length own) spaces)
 
 module _ (own own2 spaces spaces2 : List ℕ) (names : (n : ℕ) → among n own ≡ among n own2) (nss : (n : ℕ) → among n spaces ≡ among n spaces2) where
-  parts-same : (a : SymbolName) → (sum_by (λ n. hit a (Name n)) own ≡ sum_by (λ n. hit a (Name n)) own2) × (sum_by (λ n. hit a (Namespace n)) spaces ≡ sum_by (λ n. hit a (Namespace n)) spaces2)
+  parts-same : (a : SymbolName) → (added (λ n. hit a (Name n)) own ≡ added (λ n. hit a (Name n)) own2) × (added (λ n. hit a (Namespace n)) spaces ≡ added (λ n. hit a (Namespace n)) spaces2)
   parts-same (Name n) = (names n, zeros spaces ∙ sym (zeros spaces2))
   parts-same (Namespace n) = (zeros own ∙ sym (zeros own2), nss n)
   parts-same Other = (zeros own ∙ sym (zeros own2), zeros spaces ∙ sym (zeros spaces2))
@@ -200,28 +225,20 @@ module _ (t : NameTable) (sound : IsSound t) where
   )
 
   among-all : (Q : SymbolName → Type 0) (a : SymbolName) (xs : List Symbol) → All (λ (x : Symbol). Q x.name) xs → 0 < count a xs → Q a
-  among-all Q a [] all some = absurd (omega (arith, some))
-  among-all Q a (x ∷ xs) all some = elim (some-of (hit a x.name) (count a xs) some) [
+  among-all Q a [] all some = absurd (nothing some)
+  among-all Q a (x ∷ xs) all some = elim (one-some (hit a x.name) (count a xs) some) [
     | inl first ↦ subst Q (sym (hit-same a x.name first)) (All-head (λ (y : Symbol). Q y.name) x xs all)
     | inr rest ↦ among-all Q a xs (All-tail (λ (y : Symbol). Q y.name) x xs all) rest
   ]
-    where
-      some-of : (m n : ℕ) → 0 < m + n → (0 < m) ⊎ (0 < n)
-      some-of zero n h = inr h
-      some-of (suc m) n h = inl (omega arith)
 
   -- the first of some is the first of the others, or not after it
   first-of : (x y : Symbol) (xs ys : List Symbol) → Rises (y ∷ ys) → count x.name (x ∷ xs) ≡ count x.name (y ∷ ys) → (x.name ≡ y.name) ⊎ (is_lt (print_order t x.name y.name) ≡ false)
   first-of x y xs ys up same =
       let own = hit-self x.name in
-      elim (either (hit x.name y.name) (count x.name ys) (omega (arith, own, same))) [
+      elim (one-some (hit x.name y.name) (count x.name ys) (omega (arith, own, same))) [
         | inl first ↦ inl (hit-same x.name y.name first)
         | inr rest ↦ inr (among-all (λ (a : SymbolName). is_lt (print_order t a y.name) ≡ false) x.name ys up.0 rest)
       ]
-    where
-      either : (m n : ℕ) → 0 < m + n → (0 < m) ⊎ (0 < n)
-      either zero n h = inr h
-      either (suc m) n h = inl (omega arith)
 
   names-same : (xs ys : List Symbol) → All (λ (x : Symbol). IsNamed t x.name) xs → All (λ (x : Symbol). IsNamed t x.name) ys → Rises xs → Rises ys
       → ((a : SymbolName) → count a xs ≡ count a ys) → map (λ (x : Symbol). x.name) xs ≡ map (λ (x : Symbol). x.name) ys
@@ -245,9 +262,9 @@ module _ (t : NameTable) (sound : IsSound t) where
         → map (λ (x : Symbol). x.name) xs ≡ map (λ (x : Symbol). x.name) ys
     order-same xs ys o p l m =
         names-same xs ys l m (rises xs o.rises) (rises ys p.rises)
-        (λ a. sum_by-IsPermutation (λ (x : Symbol). hit a x.name) (symbols_of own spaces) xs o.all
+        (λ a. moved (λ (x : Symbol). hit a x.name) (symbols_of own spaces) xs o.all
         ∙ all-same own own2 spaces spaces2 names nss a
-        ∙ sym (sum_by-IsPermutation (λ (x : Symbol). hit a x.name) (symbols_of own2 spaces2) ys p.all))
+        ∙ sym (moved (λ (x : Symbol). hit a x.name) (symbols_of own2 spaces2) ys p.all))
 
 -- two lists with the same numbers, none of which comes twice, have each as often
 pub as-often : (xs ys : List ℕ) → HasNoRepeats xs → HasNoRepeats ys → ((n : ℕ) → Contains xs n → Contains ys n) → ((n : ℕ) → Contains ys n → Contains xs n)
