@@ -47,7 +47,7 @@ use Rattle.kept_records.specs.Fit.{models_of, IsListed, model_at, symbols_at}
 use Rattle.kept_records.proofs.Made.{fit-at, made-elements}
 use Rattle.kept_records.proofs.Modelled.{type-fits}
 use Rattle.kept_records.proofs.Nodes.{has-element}
-use Rattle.kept_inverses.specs.kept_state.KeptState.{KeptState}
+use Rattle.kept_inverses.specs.from_kept_state.KeptState.{KeptState}
 use Rattle.kept_next.specs.Answers.{PlaceQuestion}
 use Rattle.kept_next.specs.Place.{ListPlace, IsListBy, IsPlaceBy, children_in}
 use Rattle.kept_next.specs.Spaces.{HasSpacesNamed}
