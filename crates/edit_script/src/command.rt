@@ -20,6 +20,12 @@ pub enum Command {
     Undo,
     /// `redo`: on to the tree that was left by the last undo.
     Redo,
+    /// `as A V EDIT`: a change of the tree by an author who had seen a revision.
+    Turn {
+        author: u32,
+        seen: u64,
+        edit: Edit,
+    },
 }
 
 /// Why a line is no command.
@@ -29,7 +35,7 @@ pub enum ScriptFault {
     UnknownCommand,
     /// There are too few fields, or too many.
     WrongFields,
-    /// A number is not decimal digits, or it is above 4,294,967,295.
+    /// A number is not decimal digits, or it is above 4,294,967,295, a revision above 18,446,744,073,709,551,615.
     BadNumber,
     /// A backslash in the text begins no escape.
     BadEscape,

@@ -7,6 +7,8 @@ mod compiling;
 mod held;
 mod line;
 mod reply;
+mod touches;
+mod turning;
 mod verdict;
 mod working;
 mod workspace;

@@ -58,6 +58,9 @@ pub(crate) fn answer<W: Sink, L: Ledger>(
     ensures writes { KeepsCount W.faults W.fault_bound sink.old sink.new (IsWriteFault result) }
     ensures later { steps.old ≤ steps.new }
 {
+    if document.turns.reserve().is_err() {
+        return Err(BreakOff::Memory);
+    }
     match read_command(alloc, line, block) {
         Ok(read) => answer_read(document, read, sink, steps),
         Err(_) => Err(BreakOff::Memory),
