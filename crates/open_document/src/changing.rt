@@ -1,8 +1,6 @@
 //! Edits, and steps along the history of a document that is open.
 
-ghost use Rattle.std.specs.Prelude.{◌≡◌, ◌≤◌, true, false, [], ◌∷◌, ◌++◌, IfOk, OnOk, OnErr};
-ghost use Rattle.author_turns.specs.Logged.{AreNoLater};
-ghost use Rattle.author_turns.specs.Turns.{turn};
+ghost use Rattle.std.specs.Prelude.{◌≡◌, ◌≤◌, true, false, IfOk, OnOk, OnErr};
 ghost use Rattle.xsv_io.specs.Causes.{KeepsCount};
 ghost use Rattle.tree_edits.specs.Edits.{can_be_made};
 ghost use Rattle.tree_edits.specs.Tests.{edited};
@@ -25,7 +23,7 @@ ghost use Rattle.open_document.specs.Steps.{undo_of, redo_of, with_edit};
 use crate::held::OpenDocument;
 use crate::reply::{answer_made, write_refusal};
 use crate::touches::{touched_by, touched_on};
-use author_turns::{Touched, Turn};
+use author_turns::Turn;
 use doc_inverses::Change;
 use edit_session::EditSession;
 use session_model::{Session, SessionError};
@@ -41,21 +39,6 @@ fn is_found(session: &EditSession)
     ensures { IsFound session.now.set session.now.document session.now.found }
 {
     let _set = session.compiled();
-}
-
-// Notes a turn that made the present revision.
-fn note(document: &mut OpenDocument, author: u32, keys: Touched)
-    requires room { 2 ≤ document.old.turns.spare }
-    requires later { AreNoLater document.old.turns.turns document.old.session.revision }
-    ensures turns { document.new.turns.turns ≡ document.old.turns.turns ++ turn document.old.session.revision author keys ∷ [] }
-    ensures alone { document.new ≡ record document.old { turns = document.new.turns } }
-{
-    let revision = document.session.revision();
-    document.turns.note(Turn {
-        revision,
-        author,
-        keys,
-    });
 }
 
 // Makes an edit, and notes the change that undoes it, and the turn.
@@ -80,7 +63,12 @@ fn change<L: Ledger>(
     match document.session.apply_keeping(edit, steps) {
         Ok(back) => {
             document.log.did(back);
-            note(document, author, keys);
+            let revision = document.session.revision();
+            document.turns.note(Turn {
+                revision,
+                author,
+                keys,
+            });
             Ok(())
         }
         Err(error) => Err(error),
@@ -159,7 +147,12 @@ fn undo<L: Ledger>(document: &mut OpenDocument, steps: &mut Steps<L>) -> Result<
             Ok(back) => {
                 let keys = touched_on(&document.session, &back);
                 document.log.undone(back);
-                note(document, 0, keys);
+                let revision = document.session.revision();
+                document.turns.note(Turn {
+                    revision,
+                    author: 0,
+                    keys,
+                });
                 Ok(true)
             }
             Err(error) => Err(error),
@@ -185,7 +178,12 @@ fn redo<L: Ledger>(document: &mut OpenDocument, steps: &mut Steps<L>) -> Result<
             match make(&mut document.session, step, steps) {
                 Ok(back) => {
                     document.log.redone(back);
-                    note(document, 0, keys);
+                    let revision = document.session.revision();
+                    document.turns.note(Turn {
+                        revision,
+                        author: 0,
+                        keys,
+                    });
                     Ok(true)
                 }
                 Err(error) => Err(error),

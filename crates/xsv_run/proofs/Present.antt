@@ -11,30 +11,36 @@ use Rattle.edit_script.specs.declared.command.ScriptFault.{ScriptFault}
 use Rattle.told.specs.Told.{Said}
 use Rattle.stream_answers.specs.open_document.Replies.{no_past, no_future}
 use Rattle.stream_answers.specs.open_document.State.{OpenState}
+use Rattle.stream_answers.specs.open_document.Touches.{TurnFault, turn_fault}
 use Rattle.stream_answers.specs.open_document.Steps.{Step, undo_of, redo_of}
 use Rattle.stream_sections.specs.Spelled.{Order}
-use Rattle.xsv_run.specs.Complete.{IsEditReply, IsStepReply, IsReply, AreReplies, IsPresent}
+use Rattle.xsv_run.specs.Complete.{IsEditReply, IsTurnReply, IsStepReply, IsReply, AreReplies, IsPresent}
 
 module _ (s : OpenState) (own : Said) (next : OpenState) (present : IsPresent s) where
   stays : {P : Type 0} → P × (next ≡ s) → IsPresent next
   stays h = subst IsPresent (sym h.1) present
 
-  edit_present : (edit : Edit) (r : Result Document EditError) → IsEditReply s edit r own next → IsPresent next
-  edit_present edit (Ok d) h = subst IsPresent (sym h.3) refl
-  edit_present edit (Err e) h = stays h
+  edit_present : (author : ℕ) (edit : Edit) (r : Result Document EditError) → IsEditReply s author edit r own next → IsPresent next
+  edit_present author edit (Ok d) h = subst IsPresent (sym h.3) refl
+  edit_present author edit (Err e) h = stays h
+
+  turn_present : (author : ℕ) (edit : Edit) (fault : Option TurnFault) → IsTurnReply s author edit fault own next → IsPresent next
+  turn_present author edit (Some fault) h = stays h
+  turn_present author edit None h = edit_present author edit (edited s.session.document edit) h
 
   step_present : (step : Option Step) (refused : List ℕ) → IsStepReply s step refused own next → IsPresent next
   step_present (Some step) refused h = subst IsPresent (sym h.3) refl
   step_present None refused h = stays h
 
   reply_present : (r : Result Command ScriptFault) → IsReply s r own next → IsPresent next
-  reply_present (Ok (commands.Change edit)) h = edit_present edit (edited s.session.document edit) h
+  reply_present (Ok (commands.Change edit)) h = edit_present 0 edit (edited s.session.document edit) h
   reply_present (Ok (commands.Assess node)) h = stays h
   reply_present (Ok commands.Errors) h = stays h
   reply_present (Ok commands.Report) h = stays h
   reply_present (Ok commands.Total) h = stays h
   reply_present (Ok commands.Undo) h = step_present (undo_of s) no_past h
   reply_present (Ok commands.Redo) h = step_present (redo_of s) no_future h
+  reply_present (Ok (commands.Turn author seen edit)) h = turn_present author edit (turn_fault s author seen edit) h
   reply_present (Err fault) h = stays h
 
 pub replies_present : (s : OpenState) (orders : List Order) (all : Said) (last : OpenState) → AreReplies s orders all last → IsPresent s → IsPresent last

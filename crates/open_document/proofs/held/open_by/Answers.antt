@@ -1,3 +1,5 @@
+use Rattle.std.proofs.Common.{ap}
+use Rattle.session_model.specs.State.{State}
 use Rattle.open_document.specs.Held.{basis_of, work_of}
 use Rattle.open_document.proofs.Accepted.{opened_open, opened_by}
 use Rattle.open_document.proofs.held.open_by.Goals as goal
@@ -10,3 +12,6 @@ pub returns-in-Ok-clause-open : goal.returns-in-Ok-clause-open
 returns-in-Ok-clause-open g c =
     opened_open c.work_in.result c.args.most (basis_of c.args.basis) c.args.tree (work_of c.work_in.new.held)
     (opened_by c.work_in.result c.args.most (basis_of c.args.basis) c.args.tree (work_of c.work_in.new.held) c.in-Ok.session c.in-Ok.ensures.opened c.work_in.ensures.working)
+
+pub work_in-requires-clause-first : goal.work_in-requires-clause-first
+work_in-requires-clause-first g c = ap (λ (s : State). s.revision) c.in-Ok.ensures.opened.new_is
