@@ -41,3 +41,17 @@ module _ (x : OpenDocument) (logged : IsLogged x) where
 
     pub within_behind : session.revision ≤ 2 ^ 64 - 1
     within_behind = subst (λ (n : ℕ). n ≤ 2 ^ 64 - 1) (sym next) (next_within x.session.revision)
+
+-- ---- room for a turn
+
+-- room is none of what contracts see of a document
+pub with_room : (x : OpenDocument) (turns : Logged) → turns.turns ≡ x.turns.turns → state_of (record x { turns = turns }) ≡ state_of x
+with_room x turns same = ap (λ (ts : List Turn). record (state_of x) { turns = ts }) same
+
+pub room_logged : (x : OpenDocument) (turns : Logged) → turns.turns ≡ x.turns.turns → IsLogged x → IsLogged (record x { turns = turns })
+room_logged x turns same logged = record {
+  depth = logged.depth;
+  logged = logged.logged;
+  later = subst (λ (ts : List Turn). AreNoLater ts x.session.revision) (sym same) logged.later;
+  within = logged.within;
+}
