@@ -1,2 +1,4 @@
 mod Latest
 mod Tables
+mod UpTo
+mod Walks

@@ -1,3 +1,4 @@
 pub mod Examples
+pub mod Logged
 pub mod Table
 pub mod Turns

@@ -3,10 +3,7 @@ use Rattle.std.specs.Prelude.{ℕ, Bool, false, cond, not, ◌&&◌, ◌||◌, �
 use Rattle.author_turns.specs.declared.touched.Touched.{Touched}
 
 -- an edit, undo or redo that was accepted: the revision that it made, its author, and what it touched
-pub record Turn : Type 0 where
-  pub revision : ℕ
-  pub author : ℕ
-  pub keys : Touched
+pub use Rattle.author_turns.specs.declared.turn.Turn.{Turn}
 
 abbrev pub turn : ℕ → ℕ → Touched → Turn
 turn revision author keys = record { revision = revision; author = author; keys = keys }

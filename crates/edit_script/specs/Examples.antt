@@ -4,7 +4,7 @@ use Rattle.std.proofs.Common.{refl}
 use Rattle.tree_edits.specs.declared.edit.Edit.TheVariants as edits
 use Rattle.edit_script.specs.Commands.{command}
 use Rattle.edit_script.specs.declared.command.Command.TheVariants as commands
-use Rattle.edit_script.specs.declared.command.ScriptFault.TheVariants.{UnknownCommand, WrongFields, BadNumber}
+use Rattle.edit_script.specs.declared.command.ScriptFault.TheVariants.{UnknownCommand, WrongFields, BadNumber, BadEscape}
 
 empty_text : command (codes "text 2 ") None ≡ Ok (commands.Change (edits.SetText 2 []))
 empty_text = refl
@@ -47,3 +47,24 @@ next_of_a_place = refl
 
 next_without_a_place : command (codes "next 1") None ≡ Err WrongFields
 next_without_a_place = refl
+
+turn_of_an_author : command (codes "as 2 7 remove 3") None ≡ Ok (commands.Turn 2 7 (edits.Remove 3))
+turn_of_an_author = refl
+
+turn_without_an_edit : command (codes "as 0 0") None ≡ Err WrongFields
+turn_without_an_edit = refl
+
+turn_of_an_empty_word : command (codes "as 0 0 ") None ≡ Err UnknownCommand
+turn_of_an_empty_word = refl
+
+turn_of_a_question : command (codes "as 0 0 total") None ≡ Err UnknownCommand
+turn_of_a_question = refl
+
+turn_with_few_fields : command (codes "as x 0 text 2") None ≡ Err WrongFields
+turn_with_few_fields = refl
+
+turn_with_a_bad_number : command (codes "as 0 18446744073709551616 text 2 \\q") None ≡ Err BadNumber
+turn_with_a_bad_number = refl
+
+turn_with_a_bad_escape : command (codes "as 0 18446744073709551615 text 2 \\q") None ≡ Err BadEscape
+turn_with_a_bad_escape = refl

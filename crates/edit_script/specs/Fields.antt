@@ -27,9 +27,16 @@ needed (Some x) = Ok x
 abbrev pub last : List ℕ → Result (List ℕ) ScriptFault
 last field = if list_any is_space field then Err WrongFields else Ok field
 
--- decimal digits, at least one, of a number up to 4,294,967,295
-abbrev pub is_number : List ℕ → Bool
-is_number field = nat_lt 0 (length field) && (list_all is_ascii_digit field && nat_le (digits_value 10 field) 4294967295)
+-- decimal digits, at least one, of a number up to this one
+abbrev pub is_number_to : ℕ → List ℕ → Bool
+is_number_to most field = nat_lt 0 (length field) && (list_all is_ascii_digit field && nat_le (digits_value 10 field) most)
 
+abbrev pub number_to : ℕ → List ℕ → Result ℕ ScriptFault
+number_to most field = if is_number_to most field then Ok (digits_value 10 field) else Err BadNumber
+
+-- a number of a node, a place or an author
 abbrev pub number : List ℕ → Result ℕ ScriptFault
-number field = if is_number field then Ok (digits_value 10 field) else Err BadNumber
+number field = number_to 4294967295 field
+
+abbrev pub revision : List ℕ → Result ℕ ScriptFault
+revision field = number_to 18446744073709551615 field

@@ -22,6 +22,12 @@ pub enum Command {
     Redo,
     /// `next P I`: a question for the names that may stand before the child at a place of an element.
     Next { parent: u32, index: u32 },
+    /// `as A V EDIT`: a change of the tree by an author who had seen a revision.
+    Turn {
+        author: u32,
+        seen: u64,
+        edit: Edit,
+    },
 }
 
 /// Why a line is no command.
@@ -31,7 +37,7 @@ pub enum ScriptFault {
     UnknownCommand,
     /// There are too few fields, or too many.
     WrongFields,
-    /// A number is not decimal digits, or it is above 4,294,967,295.
+    /// A number is not decimal digits, or it is above 4,294,967,295, a revision above 18,446,744,073,709,551,615.
     BadNumber,
     /// A backslash in the text begins no escape.
     BadEscape,

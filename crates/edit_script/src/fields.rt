@@ -38,3 +38,16 @@ pub fn number(field: &str) -> Result<u32, ScriptFault>
         Err(_) => Err(ScriptFault::BadNumber),
     }
 }
+
+/// The revision that decimal digits write.
+pub fn revision(field: &str) -> Result<u64, ScriptFault>
+    ensures { result ≡ fields.revision field.now }
+{
+    if !is_digits(field) {
+        return Err(ScriptFault::BadNumber);
+    }
+    match field.parse() {
+        Ok(number) => Ok(number),
+        Err(_) => Err(ScriptFault::BadNumber),
+    }
+}

@@ -1,4 +1,4 @@
-ghost use Rattle.std.specs.Prelude.{◌≡◌, true, IfOk};
+ghost use Rattle.std.specs.Prelude.{◌≡◌, true, Result, IfOk};
 ghost use Rattle.tree_building.specs.Blocks as building;
 ghost use Rattle.std.specs.Option.{option_copied};
 ghost use Rattle.item_listing.specs.Escapes.{unescaped};
@@ -6,8 +6,11 @@ ghost use Rattle.edit_script.specs.declared.script.ScriptError.TheVariants as er
 ghost use Rattle.edit_script.specs.Fields as fields;
 ghost use Rattle.edit_script.specs.Commands as script;
 ghost use Rattle.edit_script.specs.Faults.{Gives};
+ghost use Rattle.edit_script.specs.declared.command.ScriptFault.{ScriptFault as Fault};
+ghost use Rattle.tree_edits.specs.Edits.{can_be_made};
+ghost use Rattle.tree_edits.specs.declared.edit.Edit.{Edit as EditData};
 
-use crate::fields::{has_space, number, split};
+use crate::fields::{has_space, number, revision, split};
 use crate::next::read_next;
 use crate::{Command, ScriptFault};
 use item_listing::{Items, unescape};
@@ -87,9 +90,9 @@ fn read_insert(
     alloc: Global,
     rest: Option<&str>,
     block: Option<Items>,
-) -> Result<Command, ScriptError>
+) -> Result<Edit, ScriptError>
     ensures gives { Gives result (script.insert (option_copied rest.entry) block) }
-    ensures ready { IfOk result script.IsReady }
+    ensures ready { IfOk result (λ edit. can_be_made edit ≡ true) }
 {
     let Some(rest) = rest else {
         return Err(ScriptError::Refused(ScriptFault::WrongFields));
@@ -103,16 +106,16 @@ fn read_insert(
     let parent = number(parent)?;
     let index = number(index)?;
     let items = read_block(alloc, block)?;
-    Ok(Command::Change(Edit::Insert {
+    Ok(Edit::Insert {
         parent,
         index,
         items,
-    }))
+    })
 }
 
-fn read_add_text(alloc: Global, rest: Option<&str>) -> Result<Command, ScriptError>
+fn read_add_text(alloc: Global, rest: Option<&str>) -> Result<Edit, ScriptError>
     ensures gives { Gives result (script.add_text (option_copied rest.entry)) }
-    ensures ready { IfOk result script.IsReady }
+    ensures ready { IfOk result (λ edit. can_be_made edit ≡ true) }
 {
     let Some(rest) = rest else {
         return Err(ScriptError::Refused(ScriptFault::WrongFields));
@@ -126,16 +129,16 @@ fn read_add_text(alloc: Global, rest: Option<&str>) -> Result<Command, ScriptErr
     let parent = number(parent)?;
     let index = number(index)?;
     let text = read_text(alloc, text)?;
-    Ok(Command::Change(Edit::AddText {
+    Ok(Edit::AddText {
         parent,
         index,
         text,
-    }))
+    })
 }
 
-fn read_set_text(alloc: Global, rest: Option<&str>) -> Result<Command, ScriptError>
+fn read_set_text(alloc: Global, rest: Option<&str>) -> Result<Edit, ScriptError>
     ensures gives { Gives result (script.set_text (option_copied rest.entry)) }
-    ensures ready { IfOk result script.IsReady }
+    ensures ready { IfOk result (λ edit. can_be_made edit ≡ true) }
 {
     let Some(rest) = rest else {
         return Err(ScriptError::Refused(ScriptFault::WrongFields));
@@ -145,7 +148,7 @@ fn read_set_text(alloc: Global, rest: Option<&str>) -> Result<Command, ScriptErr
     };
     let node = number(field)?;
     let text = read_text(alloc, text)?;
-    Ok(Command::Change(Edit::SetText { node, text }))
+    Ok(Edit::SetText { node, text })
 }
 
 /// A number and a name behind it, which are the only fields.
@@ -166,17 +169,17 @@ fn number_and_name(alloc: Global, rest: Option<&str>) -> Result<NodeAndName, Scr
     Ok(NodeAndName { node, name })
 }
 
-fn read_rename(alloc: Global, rest: Option<&str>) -> Result<Command, ScriptError>
+fn read_rename(alloc: Global, rest: Option<&str>) -> Result<Edit, ScriptError>
     ensures gives { Gives result (script.rename (option_copied rest.entry)) }
-    ensures ready { IfOk result script.IsReady }
+    ensures ready { IfOk result (λ edit. can_be_made edit ≡ true) }
 {
     let NodeAndName { node, name } = number_and_name(alloc, rest)?;
-    Ok(Command::Change(Edit::Rename { node, name }))
+    Ok(Edit::Rename { node, name })
 }
 
-fn read_set(alloc: Global, rest: Option<&str>) -> Result<Command, ScriptError>
+fn read_set(alloc: Global, rest: Option<&str>) -> Result<Edit, ScriptError>
     ensures gives { Gives result (script.set (option_copied rest.entry)) }
-    ensures ready { IfOk result script.IsReady }
+    ensures ready { IfOk result (λ edit. can_be_made edit ≡ true) }
 {
     let Some(rest) = rest else {
         return Err(ScriptError::Refused(ScriptFault::WrongFields));
@@ -190,15 +193,15 @@ fn read_set(alloc: Global, rest: Option<&str>) -> Result<Command, ScriptError>
     let node = number(node)?;
     let value = read_text(alloc, value)?;
     let name = Text::new(alloc, name)?;
-    Ok(Command::Change(Edit::SetAttr { node, name, value }))
+    Ok(Edit::SetAttr { node, name, value })
 }
 
-fn read_unset(alloc: Global, rest: Option<&str>) -> Result<Command, ScriptError>
+fn read_unset(alloc: Global, rest: Option<&str>) -> Result<Edit, ScriptError>
     ensures gives { Gives result (script.unset (option_copied rest.entry)) }
-    ensures ready { IfOk result script.IsReady }
+    ensures ready { IfOk result (λ edit. can_be_made edit ≡ true) }
 {
     let NodeAndName { node, name } = number_and_name(alloc, rest)?;
-    Ok(Command::Change(Edit::UnsetAttr { node, name }))
+    Ok(Edit::UnsetAttr { node, name })
 }
 
 /// Whether nothing stands behind the word.
@@ -240,14 +243,28 @@ fn read_other(word: &str, rest: Option<&str>) -> Result<Command, ScriptFault>
     }
 }
 
-fn read_by_word(
+/// Whether a word is that of an edit.
+fn is_edit(word: &str) -> bool
+    ensures { result ≡ script.is_edit word.now }
+{
+    word == "insert"
+        || word == "addtext"
+        || word == "text"
+        || word == "remove"
+        || word == "rename"
+        || word == "set"
+        || word == "unset"
+}
+
+/// The edit of a word with its fields and its block.
+fn read_edit(
     alloc: Global,
     word: &str,
     rest: Option<&str>,
     block: Option<Items>,
-) -> Result<Command, ScriptError>
-    ensures gives { Gives result (script.by_word word.now (option_copied rest.entry) block) }
-    ensures ready { IfOk result script.IsReady }
+) -> Result<Edit, ScriptError>
+    ensures gives { Gives result (script.edit_of word.now (option_copied rest.entry) block) }
+    ensures ready { IfOk result (λ edit. can_be_made edit ≡ true) }
 {
     if word == "insert" {
         read_insert(alloc, rest, block)
@@ -257,13 +274,94 @@ fn read_by_word(
         read_set_text(alloc, rest)
     } else if word == "remove" {
         let node = only_number(rest)?;
-        Ok(Command::Change(Edit::Remove { node }))
+        Ok(Edit::Remove { node })
     } else if word == "rename" {
         read_rename(alloc, rest)
     } else if word == "set" {
         read_set(alloc, rest)
     } else if word == "unset" {
         read_unset(alloc, rest)
+    } else {
+        Err(ScriptError::Refused(ScriptFault::UnknownCommand))
+    }
+}
+
+/// The edit of a line with its block.
+fn read_edit_line(
+    alloc: Global,
+    line: &str,
+    block: Option<Items>,
+) -> Result<Edit, ScriptError>
+    ensures gives { Gives result (script.edit_on line.now block) }
+    ensures ready { IfOk result (λ edit. can_be_made edit ≡ true) }
+{
+    match split(line) {
+        Some((word, rest)) => read_edit(alloc, word, Some(rest), block),
+        None => read_edit(alloc, line, None, block),
+    }
+}
+
+/// An edit by an author, where the numbers in front of it are read; its own first faults come before theirs.
+fn turn_by(
+    author: Result<u32, ScriptFault>,
+    seen: Result<u64, ScriptFault>,
+    edit: Result<Edit, ScriptError>,
+) -> Result<Command, ScriptError>
+    ensures gives { (read : Result EditData Fault) → Gives edit read → Gives result (script.turn_by author seen read) }
+    ensures ready { IfOk edit (λ edit. can_be_made edit ≡ true) → IfOk result script.IsReady }
+{
+    match edit {
+        Err(ScriptError::Memory) => Err(ScriptError::Memory),
+        Err(ScriptError::Refused(ScriptFault::UnknownCommand)) => {
+            Err(ScriptError::Refused(ScriptFault::UnknownCommand))
+        }
+        Err(ScriptError::Refused(ScriptFault::WrongFields)) => {
+            Err(ScriptError::Refused(ScriptFault::WrongFields))
+        }
+        edit => {
+            let author = author?;
+            let seen = seen?;
+            let edit = edit?;
+            Ok(Command::Turn { author, seen, edit })
+        }
+    }
+}
+
+fn read_turn(
+    alloc: Global,
+    rest: Option<&str>,
+    block: Option<Items>,
+) -> Result<Command, ScriptError>
+    ensures gives { Gives result (script.turn (option_copied rest.entry) block) }
+    ensures ready { IfOk result script.IsReady }
+{
+    let Some(rest) = rest else {
+        return Err(ScriptError::Refused(ScriptFault::WrongFields));
+    };
+    let Some((author, rest)) = split(rest) else {
+        return Err(ScriptError::Refused(ScriptFault::WrongFields));
+    };
+    let Some((seen, rest)) = split(rest) else {
+        return Err(ScriptError::Refused(ScriptFault::WrongFields));
+    };
+    let edit = read_edit_line(alloc, rest, block);
+    turn_by(number(author), revision(seen), edit)
+}
+
+fn read_by_word(
+    alloc: Global,
+    word: &str,
+    rest: Option<&str>,
+    block: Option<Items>,
+) -> Result<Command, ScriptError>
+    ensures gives { Gives result (script.by_word word.now (option_copied rest.entry) block) }
+    ensures ready { IfOk result script.IsReady }
+{
+    if is_edit(word) {
+        let edit = read_edit(alloc, word, rest, block)?;
+        Ok(Command::Change(edit))
+    } else if word == "as" {
+        read_turn(alloc, rest, block)
     } else {
         Ok(read_other(word, rest)?)
     }
@@ -280,7 +378,7 @@ fn read_line(alloc: Global, line: &str, block: Option<Items>) -> Result<Command,
 }
 
 /// What a line of a script says, without its line feed, or its first fault. `block` has the items of the
-/// block that follows an `insert` line; other commands drop it. A change that is answered can be made,
+/// block that follows an `insert` line, by an author or not; other commands drop it. A change that is answered can be made,
 /// where the tree takes it.
 ///
 /// # Errors

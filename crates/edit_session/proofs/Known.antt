@@ -26,6 +26,7 @@ use Rattle.session_model.specs.State.{State}
 use Rattle.doc_nodes.specs.Nodes.{Nodes}
 use Rattle.doc_changes.specs.Stands.{StandsFor}
 use Rattle.doc_tree.specs.Following.{next_of}
+use Rattle.doc_tree.specs.Readers.{parent_of}
 use Rattle.kept_slots.specs.Slots.{at}
 use Rattle.kept_inverses.specs.from_kept_records.KeptElement.{KeptElement}
 use Rattle.kept_inverses.specs.from_kept_records.Slots.{KeptSlots, IsMade, kept_at}
@@ -94,6 +95,10 @@ module _ (P : Entry → Type 0) (node : ℕ) (e : Entry) where
 module _ (s : Inside) (v : State) (is : state_of s ≡ v) (held : IsHeld s) where
   pub live-now : (node : ℕ) (kind : Option NodeKind) → ((d : Document) → StandsFor s.set.value.names s.doc d → kind ≡ kind_of node d.forest) → kind ≡ kind_of node v.document.forest
   live-now node kind tree = tree (document_in s.set.value s.doc) (stands-now s.set.value s.doc held.stands) ∙ ap (λ (x : State). kind_of node x.document.forest) is
+
+  pub parent-now : (node : ℕ) (above : Option ℕ) → ((d : Document) → StandsFor s.set.value.names s.doc d → above ≡ parent_of node d.forest) → above ≡ parent_of node v.document.forest
+  parent-now node above tree =
+      tree (document_in s.set.value s.doc) (stands-now s.set.value s.doc held.stands) ∙ ap (λ (x : State). parent_of node x.document.forest) is
 
   pub live-next : (node : ℕ) (next : Option ℕ) → ((t : NameTable) (d : Document) → StandsFor t s.doc d → next ≡ next_of node d.forest) → next ≡ next_of node v.document.forest
   live-next node next tree =

@@ -58,6 +58,7 @@ impl EditSession {
     ghost use Rattle.session_model.specs.Spending.{Spends};
     ghost use Rattle.edit_session.specs.Costs.{edit_cost};
     ghost use Rattle.edit_session.specs.Changed.{forgotten, CanChange, Changes, SpendsOn};
+    ghost use Rattle.edit_session.specs.Parents.{parent_of};
 
     /// Makes an edit as `apply` does, and answers the change that undoes it.
     ///
@@ -135,6 +136,13 @@ impl EditSession {
         ensures refused { IfErr result (λ e. e ≢ Memory → asked_at self.now node index ≡ Err e) }
     {
         find_place(&self.set, &self.doc, &self.kept, node, index)
+    }
+
+    /// The parent of a node; `None` exactly for the root, and where the number is of no node. It is known of a closed session too.
+    pub fn parent_of(&self, node: u32) -> Option<u32>
+        ensures { result ≡ parent_of node self.now.document.forest }
+    {
+        self.doc.parent(node)
     }
 
     /// Lets go of it.

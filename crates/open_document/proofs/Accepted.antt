@@ -1,5 +1,5 @@
 -- What schema documents come to.
-use Rattle.std.specs.Prelude.{◌≡◌, ℕ, List, [], Result, Ok, Err, IfOk, OnOk}
+use Rattle.std.specs.Prelude.{◌≡◌, ◌≤◌, ℕ, List, [], Result, Ok, Err, IfOk, OnOk}
 use Rattle.std.proofs.Common.{arith, inl, inr, refl, sym, ap, ◌∙◌, subst}
 use Rattle.tree_rows.specs.Forest.{Document}
 use Rattle.tree_names.specs.Table.{document_table}
@@ -17,6 +17,9 @@ use Rattle.schema_compile.specs.declared.outcome.Outcome.TheVariants.{Accepted}
 use Rattle.told.specs.Outcomes.{told_of}
 use Rattle.open_document.specs.Answers.{IsCompiled, IsOpenedBy, verdict_of, work_after}
 use Rattle.doc_inverses.specs.declared.change.Change.{Change}
+use Rattle.std.proofs.lemmas.List.Elements.{All-nil}
+use Rattle.author_turns.specs.Logged.{AreNoLater}
+use Rattle.author_turns.specs.Turns.{Turn}
 use Rattle.undo_log.specs.Log.{Log, log_of}
 use Rattle.undo_log.specs.declared.log.Taken.TheVariants.{Nothing}
 use Rattle.undo_histories.specs.Through as histories
@@ -61,10 +64,12 @@ opened_by (Err e) most basis d w session is h = tt
 
 -- ---- a document that was just opened, whose log has no steps
 
-pub begun_logged : (x : OpenDocument) → x.log ≡ log_of kept_trees [] [] Nothing → HasSpacesNamed x.session.set → IsLogged x
-begun_logged x is spaced = record {
+pub begun_logged : (x : OpenDocument) → x.log ≡ log_of kept_trees [] [] Nothing → x.turns.turns ≡ [] → x.session.revision ≡ 0 → HasSpacesNamed x.session.set → IsLogged x
+begun_logged x is none first spaced = record {
   depth = ap (λ (l : Log Change). l.depth) is;
   logged = subst (histories.IsLogged x.session.set.names x.session.document) (sym is) (record { leads = record { past = tt; future = tt }; answered = refl });
+  later = subst (λ (ts : List Turn). AreNoLater ts x.session.revision) (sym none) (All-nil (λ (t : Turn). t.revision ≤ x.session.revision));
+  within = grind (arith, first);
   spaced = spaced;
 }
 
@@ -73,10 +78,17 @@ pub opened_spaced : (set : SchemaSet) (d : Document) (session : State) → IsOpe
 opened_spaced set d session is spaced =
     subst HasSpacesNamed (sym (ap (λ (s : State). s.set) is.new_is)) (spaces-grown set (document_table set.names d.forest) (grows set.names d.forest) spaced)
 
-state_begun : (x : OpenDocument) → x.log ≡ log_of kept_trees [] [] Nothing → state_of x ≡ begun x.session x.documents.items x.most
-state_begun x is = ap (λ (l : Log Change). state_of (record x { log = l })) is
+state_begun : (x : OpenDocument) → x.log ≡ log_of kept_trees [] [] Nothing → x.turns.turns ≡ [] → state_of x ≡ begun x.session x.documents.items x.most
+state_begun x is none = λ i. record {
+  session = x.session;
+  documents = x.documents.items;
+  most = x.most;
+  history = (ap (λ (l : Log Change). (state_of (record x { log = l })).history) is) i;
+  log = (ap (λ (l : Log Change). (state_of (record x { log = l })).log) is) i;
+  turns = none i;
+}
 
-pub worked_begun : {T E : Type 0} (r : Result T E) (w : WorkState) (x : OpenDocument) → x.log ≡ log_of kept_trees [] [] Nothing → OnOk r (w ≡ working (state_of x))
-    → OnOk r (w ≡ working (begun x.session x.documents.items x.most))
-worked_begun (Ok y) w x is h = h ∙ ap working (state_begun x is)
-worked_begun (Err e) w x is h = tt
+pub worked_begun : {T E : Type 0} (r : Result T E) (w : WorkState) (x : OpenDocument) → x.log ≡ log_of kept_trees [] [] Nothing → x.turns.turns ≡ []
+    → OnOk r (w ≡ working (state_of x)) → OnOk r (w ≡ working (begun x.session x.documents.items x.most))
+worked_begun (Ok y) w x is none h = h ∙ ap working (state_begun x is none)
+worked_begun (Err e) w x is none h = tt

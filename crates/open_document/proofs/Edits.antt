@@ -38,30 +38,30 @@ module _ (old : State) (edit : Edit) (new : State) (n m : ℕ) (x : SessionError
   pub memory_of : x ≡ errors.Memory → Spends edit_cost old edit (Err x) new n m → (n ≤ m) × BreaksWithin edit_cost old edit (edited old.document edit) n m
   memory_of is spends = subst (λ (e : SessionError). Spends edit_cost old edit (Err e) new n m) is spends
 
-module _ (s : OpenState) (edit : Edit) (next : OpenState → Told) where
+module _ (s : OpenState) (author : ℕ) (edit : Edit) (next : OpenState → Told) where
   abbrev pub told_by : Result Document EditError → Told
-  told_by r = edit_told s edit r next
+  told_by r = edit_told s author edit r next
 
   module _ (r : Result (Unit {0}) BreakOff) (taken taken' : Option (List ℕ)) (n m : ℕ) where
     made_at : (d : Document) (found : List Entry) → IsFound (with_names s.session.set d.forest) d found
         → Wrote r taken taken' (made_reply (after_edit s.session d found)) → Counts n m (edit_cost s.session edit (after_edit s.session d found))
-        → Answers (told_by (Ok d)) r (trace taken n) (trace taken' m) (λ done. next (with_edit s edit d found))
+        → Answers (told_by (Ok d)) r (trace taken n) (trace taken' m) (λ done. next (with_edit s author edit d found))
     made_at d found is w counts =
         looked_answers (with_names s.session.set d.forest) d
-        (λ (es : List Entry). says (made_said s.session edit (after_edit s.session d es)) (next (with_edit s edit d es))) found r (trace taken n) (trace taken' m)
-        (λ done. next (with_edit s edit d found)) is
-        (said_answers (made_said s.session edit (after_edit s.session d found)) (λ done. next (with_edit s edit d found)) (next (with_edit s edit d found)) r taken taken' n m
+        (λ (es : List Entry). says (made_said s.session edit (after_edit s.session d es)) (next (with_edit s author edit d es))) found r (trace taken n) (trace taken' m)
+        (λ done. next (with_edit s author edit d found)) is
+        (said_answers (made_said s.session edit (after_edit s.session d found)) (λ done. next (with_edit s author edit d found)) (next (with_edit s author edit d found)) r taken taken' n m
         (λ done. refl) w counts.later counts.few)
 
     -- an edit was made, and its reply was written, or broken off
-    pub made_answers : (new : OpenState) → IsEdited s.session edit new.session → new ≡ with_edit s edit new.session.document new.session.found
+    pub made_answers : (new : OpenState) → IsEdited s.session edit new.session → new ≡ with_edit s author edit new.session.document new.session.found
         → Wrote r taken taken' (made_reply new.session) → Counts n m (edit_cost s.session edit new.session)
         → Answers (told_by (edited s.session.document edit)) r (trace taken n) (trace taken' m) (λ done. next new)
     made_answers new e behind w counts =
         let d = new.session.document in
         let found = new.session.found in
         subst (λ (x : OpenState). Answers (told_by (edited s.session.document edit)) r (trace taken n) (trace taken' m) (λ done. next x)) (sym behind)
-        (subst (λ (x : Result Document EditError). Answers (told_by x) r (trace taken n) (trace taken' m) (λ done. next (with_edit s edit d found))) (sym e.document_is)
+        (subst (λ (x : Result Document EditError). Answers (told_by x) r (trace taken n) (trace taken' m) (λ done. next (with_edit s author edit d found))) (sym e.document_is)
         (made_at d found e.found_is
         (subst (λ (x : State). Wrote r taken taken' (made_reply x)) e.new_is w)
         (subst (λ (x : State). Counts n m (edit_cost s.session edit x)) e.new_is counts)))
@@ -81,7 +81,7 @@ module _ (s : OpenState) (edit : Edit) (next : OpenState → Told) where
       → Breaks (told_by r) Memory (trace taken n) (trace taken m)
   broken_by (Ok d) taken n m later h =
       looks_breaks (with_names s.session.set d.forest) d
-      (λ (es : List Entry). says (made_said s.session edit (after_edit s.session d es)) (next (with_edit s edit d es)))
+      (λ (es : List Entry). says (made_said s.session edit (after_edit s.session d es)) (next (with_edit s author edit d es)))
       (λ (es : List Entry). edit_cost s.session edit (after_edit s.session d es)) taken taken n m (λ es k within. within) refl later (λ es is. (h es is).few)
   broken_by (Err e) taken n m later h =
       subst (λ (k : ℕ). Breaks (told_by (Err e)) Memory (trace taken n) (trace taken k)) (sym h) (memory_breaks (told_by (Err e)) (trace taken n))

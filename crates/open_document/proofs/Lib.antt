@@ -1,6 +1,7 @@
 pub mod Accepted
 pub mod Edits
 pub mod Logging
+mod Noting
 pub mod Making
 pub mod Stepping
 pub mod Worked

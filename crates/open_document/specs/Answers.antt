@@ -48,7 +48,7 @@ pub record IsCompiled (documents : List SchemaInput) (old : WorkState) (told : S
 -- ---- an open document
 
 -- A document that was just opened by a schema set, whose table gets the names of the document, and of which this is found; its revision is 0, and
--- its history has no past and no future. So many record lines a question for those with a code is answered by at most.
+-- its history has no past and no future, and no author has taken a turn. So many record lines a question for those with a code is answered by at most.
 abbrev pub opened : ℕ → Basis → Document → List Entry → OpenState
 opened most basis d found = record {
   session = sessions.opened basis.set d found;
@@ -56,6 +56,7 @@ opened most basis d found = record {
   most = most;
   history = histories.opened d.forest;
   log = log_of kept_trees [] [] Nothing;
+  turns = [];
 }
 
 -- so many steps it takes to open a document, at most

@@ -1,10 +1,11 @@
 -- What a workspace keeps.
-use Rattle.std.specs.Prelude.{◌≡◌, ℕ, List, [], false}
+use Rattle.std.specs.Prelude.{◌≡◌, ◌≤◌, ◌-◌, ◌^◌, ℕ, List, [], false}
 use Rattle.compiled_schema.specs.Usable.{IsUsable, set_of}
 use Rattle.compiled_schema.specs.declared.compiled.Compiled.{Compiled}
 use Rattle.kept_next.specs.Spaces.{HasSpacesNamed}
 use Rattle.schema_set.specs.declared.inputs.SchemaInput.{SchemaInput}
 use Rattle.session_model.specs.State.{State}
+use Rattle.author_turns.specs.Logged.{AreNoLater}
 use Rattle.undo_log.specs.History.{opened}
 use Rattle.undo_log.specs.Log.{log_of}
 use Rattle.undo_log.specs.declared.log.Taken.TheVariants.{Nothing}
@@ -28,6 +29,7 @@ state_of document = record {
   most = document.most;
   history = history_through document.session.document (meant_log document.session.set.names document.log);
   log = meant_log document.session.set.names document.log;
+  turns = document.turns.turns;
 }
 
 -- a document that was just opened
@@ -38,13 +40,16 @@ begun session documents most = record {
   most = most;
   history = opened session.document.forest;
   log = log_of kept_trees [] [] Nothing;
+  turns = [];
 }
 
--- the log leads through the history of the document, with room for so many steps, and no step waits for an answer; and the table of the set
--- has the namespaces that its wildcards name
+-- the log leads through the history of the document, with room for so many steps, and no step waits for an answer; no turn made a later revision
+-- than the present one; and the table of the set has the namespaces that its wildcards name
 pub record IsLogged (document : OpenDocument) : Type 0 where
   pub depth : document.log.depth ≡ kept_trees
   pub logged : histories.IsLogged document.session.set.names document.session.document document.log
+  pub later : AreNoLater document.turns.turns document.session.revision
+  pub within : document.session.revision ≤ 2 ^ 64 - 1
   pub spaced : HasSpacesNamed document.session.set
 
 abbrev pub work_of : Held → WorkState

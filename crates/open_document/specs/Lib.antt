@@ -1,5 +1,6 @@
 pub mod State
 pub mod WorkCode
+pub mod Touches
 pub mod Steps
 pub mod Stepping
 pub mod Replies

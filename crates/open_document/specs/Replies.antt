@@ -28,6 +28,9 @@ use Rattle.edit_session.specs.declared.around.AroundError.{AroundError}
 use Rattle.kept_next.specs.Answers.{PlaceQuestion, Answer, reply, cost}
 use Rattle.told.specs.Told.{Said, free, Told, says, looks, tries}
 use Rattle.open_document.specs.State.{OpenState}
+use Rattle.open_document.specs.Touches.{turn_fault}
+use Rattle.open_document.specs.declared.touches.TurnFault.{TurnFault}
+use Rattle.open_document.specs.declared.touches.TurnFault.TheVariants.{BadRevision, Stale}
 use Rattle.open_document.specs.Steps.{Step, undo_of, redo_of, document_behind, with_edit, with_step}
 
 -- ---- what is written
@@ -73,18 +76,29 @@ no_past = refusal 30 (codes "NothingToUndo")
 abbrev pub no_future : List ℕ
 no_future = refusal 31 (codes "NothingToRedo")
 
+-- the revision that an author had seen is none yet, or another author has touched the same since
+abbrev pub turn_refusal : TurnFault → List ℕ
+turn_refusal BadRevision = refusal 35 (codes "BadRevision")
+turn_refusal (Stale revision) = refusal 36 (codes "Stale " ++ decimal revision)
+
 -- ---- what is told
 
 -- an edit that is made, behind which what is found is this: the reply, and what it costs
 abbrev pub made_said : State → Edit → State → Said
 made_said old edit new = record { text = made_reply new; cost = edit_cost old edit new }
 
--- Of an edit that gives this document, or is refused: what is found of the document is looked at, and the document stands with it then; a
--- refusal changes nothing and costs no step.
-abbrev pub edit_told : OpenState → Edit → Result Document EditError → (OpenState → Told) → Told
-edit_told s edit (Ok d) next =
-    looks (with_names s.session.set d.forest) d (λ found. says (made_said s.session edit (after_edit s.session d found)) (next (with_edit s edit d found)))
-edit_told s edit (Err e) next = says (free (refusal (refusals.number_of e) (refusals.name_of e))) (next s)
+-- Of an edit by an author that gives this document, or is refused: what is found of the document is looked at, and the document stands with it
+-- then; a refusal changes nothing and costs no step.
+abbrev pub edit_told : OpenState → ℕ → Edit → Result Document EditError → (OpenState → Told) → Told
+edit_told s author edit (Ok d) next =
+    looks (with_names s.session.set d.forest) d
+    (λ found. says (made_said s.session edit (after_edit s.session d found)) (next (with_edit s author edit d found)))
+edit_told s author edit (Err e) next = says (free (refusal (refusals.number_of e) (refusals.name_of e))) (next s)
+
+-- Of an edit by an author who had seen a revision: where it has a fault, this is said, and nothing changes; else it is an edit as others are.
+abbrev pub turn_told : OpenState → ℕ → Edit → Option TurnFault → (OpenState → Told) → Told
+turn_told s author edit (Some fault) next = says (free (turn_refusal fault)) (next s)
+turn_told s author edit None next = edit_told s author edit (edited s.session.document edit) next
 
 -- a step that is made: the reply, and what the change costs that it is
 abbrev pub step_said : State → Change → State → Said
@@ -111,9 +125,9 @@ next_told s children (Err e) next = says (free (refusal (around.number_of e) (ar
 abbrev pub child_count : State → ℕ → ℕ
 child_count s node = width (children_at s.document node)
 
--- of a line, and what is told behind it: a question, or a line that is no command, changes nothing
+-- of a line, and what is told behind it: a question, or a line that is no command, changes nothing; an edit without an author is one of author 0
 abbrev pub line_told : OpenState → Result Command ScriptFault → (OpenState → Told) → Told
-line_told s (Ok (commands.Change edit)) next = edit_told s edit (edited s.session.document edit) next
+line_told s (Ok (commands.Change edit)) next = edit_told s 0 edit (edited s.session.document edit) next
 line_told s (Ok (commands.Assess node)) next = says (free (assess_reply s.session node)) (next s)
 line_told s (Ok commands.Errors) next = says (free (report_reply (Some s.most) s.session)) (next s)
 line_told s (Ok commands.Report) next = says (free (report_reply None s.session)) (next s)
@@ -121,4 +135,5 @@ line_told s (Ok commands.Total) next = says (free (total_reply s.session)) (next
 line_told s (Ok commands.Undo) next = step_told s (undo_of s) no_past next
 line_told s (Ok commands.Redo) next = step_told s (redo_of s) no_future next
 line_told s (Ok (commands.Next parent place)) next = next_told s (child_count s.session parent) (asked_at s.session parent place) next
+line_told s (Ok (commands.Turn author seen edit)) next = turn_told s author edit (turn_fault s author seen edit) next
 line_told s (Err fault) next = says (free (refusal (faults.number_of fault) (faults.name_of fault))) (next s)

@@ -7,6 +7,7 @@ use Rattle.schema_set.specs.declared.inputs.SchemaInput.{SchemaInput}
 use Rattle.session_model.specs.State.{State}
 use Rattle.undo_log.specs.History.{History}
 use Rattle.undo_log.specs.Log.{Log}
+use Rattle.author_turns.specs.Turns.{Turn}
 
 -- what documents are assessed by: a schema set, and the schema documents of the stream, of which another set can be asked for
 pub record Basis : Type 0 where
@@ -18,14 +19,16 @@ abbrev pub with_documents : List SchemaInput → SchemaSet → Basis
 with_documents documents set = record { set = set; documents = documents }
 
 -- A session over a document, the schema documents of the stream, and how many record lines a question for those with a code is answered by at
--- most; the trees that were before the present one and those that were left by undoing; and the changes that lead from each to the next, by which
--- goes what going there costs. What else commands come to need, the number of the present set, a log of authors, has its field here.
+-- most; the trees that were before the present one and those that were left by undoing; the changes that lead from each to the next, by which
+-- goes what going there costs; and the turns of the authors, in order: each edit, undo and redo that was accepted, with the revision that it made. What
+-- else commands come to need, the number of the present set, has its field here.
 pub record OpenState : Type 0 where
   pub session : State
   pub documents : List SchemaInput
   pub most : ℕ
   pub history : History Forest
   pub log : Log Change
+  pub turns : List Turn
 
 -- so many trees that were before the present one are kept at most
 abbrev pub kept_trees : ℕ

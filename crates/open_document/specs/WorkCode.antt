@@ -12,6 +12,8 @@ use Rattle.undo_log.specs.History.{History}
 use Rattle.undo_log.specs.Log.{Log}
 use Rattle.undo_log.specs.declared.log.Taken.{Taken}
 use Rattle.undo_log.specs.contracts.log.Taken as taken
+use Rattle.author_turns.specs.Turns.{Turn}
+use Rattle.author_turns.specs.contracts.turn.Turn as turn_row
 use Rattle.assessment.specs.Attribution.{SchemaSet}
 use Rattle.schema_set.specs.declared.inputs.SchemaInput.{SchemaInput}
 use Rattle.session_model.specs.State.{State}
@@ -72,9 +74,10 @@ log_code =
 
 abbrev open_code : Coded OpenState
 open_code =
-    code_by (State × (List SchemaInput × (ℕ × (History Forest × Log Change)))) (coded× state_code (coded× (coded_list input_code) (coded× coded_ℕ (coded× history_code log_code))))
-    (λ s. (s.session, (s.documents, (s.most, (s.history, s.log)))))
-    (λ p. record { session = p.0; documents = p.1.0; most = p.1.1.0; history = p.1.1.1.0; log = p.1.1.1.1 }) (λ _. refl)
+    code_by (State × (List SchemaInput × (ℕ × (History Forest × (Log Change × List Turn)))))
+    (coded× state_code (coded× (coded_list input_code) (coded× coded_ℕ (coded× history_code (coded× log_code (coded_list turn_row.the_row.coded))))))
+    (λ s. (s.session, (s.documents, (s.most, (s.history, (s.log, s.turns))))))
+    (λ p. record { session = p.0; documents = p.1.0; most = p.1.1.0; history = p.1.1.1.0; log = p.1.1.1.1.0; turns = p.1.1.1.1.1 }) (λ _. refl)
 
 abbrev cases : WorkState → Bool ⊎ (Basis ⊎ OpenState)
 cases empty = inl true

@@ -22,6 +22,8 @@ ghost use Rattle.open_document.specs.Steps.{undo_of, redo_of, with_edit};
 
 use crate::held::OpenDocument;
 use crate::reply::{answer_made, write_refusal};
+use crate::touches::{touched_by, touched_on};
+use author_turns::Turn;
 use doc_inverses::Change;
 use edit_session::EditSession;
 use session_model::{Session, SessionError};
@@ -39,34 +41,44 @@ fn is_found(session: &EditSession)
     let _set = session.compiled();
 }
 
-// Makes an edit, and notes the change that undoes it.
+// Makes an edit, and notes the change that undoes it, and the turn.
 fn change<L: Ledger>(
     document: &mut OpenDocument,
+    author: u32,
     edit: &Edit,
     steps: &mut Steps<L>,
 ) -> Result<(), SessionError>
     requires made { can_be_made edit.now ≡ true }
     requires live { document.old.session.closed ≡ false }
     requires logged { IsLogged document.old }
+    requires room { 2 ≤ document.old.turns.spare }
     ensures applies { Applies document.old.session edit.now result document.new.session }
     ensures spends { Spends edit_cost document.old.session edit.now result document.new.session steps.old steps.new }
-    ensures behind { OnOk result (state_of document.new ≡ with_edit (state_of document.old) edit.now document.new.session.document document.new.session.found) }
+    ensures behind { OnOk result (state_of document.new ≡ with_edit (state_of document.old) author edit.now document.new.session.document document.new.session.found) }
     ensures alone { OnErr result (document.new ≡ record document.old { session = document.new.session }) }
     ensures logged { document.new.session.closed ≡ false → IsLogged document.new }
 {
     is_found(&document.session);
+    let keys = touched_by(&document.session, edit);
     match document.session.apply_keeping(edit, steps) {
         Ok(back) => {
             document.log.did(back);
+            let revision = document.session.revision();
+            document.turns.note(Turn {
+                revision,
+                author,
+                keys,
+            });
             Ok(())
         }
         Err(error) => Err(error),
     }
 }
 
-/// Makes an edit, and writes the reply.
+/// Makes an edit by an author, and writes the reply.
 pub(crate) fn answer_change<W: Sink, L: Ledger>(
     document: &mut OpenDocument,
+    author: u32,
     edit: &Edit,
     sink: &mut W,
     steps: &mut Steps<L>,
@@ -74,14 +86,15 @@ pub(crate) fn answer_change<W: Sink, L: Ledger>(
     requires made { can_be_made edit.now ≡ true }
     requires live { document.old.session.closed ≡ false }
     requires logged { IsLogged document.old }
-    ensures answers { (next : OpenState → Told) → Answers (edit_told (state_of document.old) edit.now (edited document.old.session.document edit.now) next)
+    requires room { 2 ≤ document.old.turns.spare }
+    ensures answers { (next : OpenState → Told) → Answers (edit_told (state_of document.old) author edit.now (edited document.old.session.document edit.now) next)
         result (trace (W.taken sink.old) steps.old) (trace (W.taken sink.new) steps.new) (λ done. next (state_of document.new)) }
     ensures open { OnOk result (document.new.session.closed ≡ false) }
     ensures logged { document.new.session.closed ≡ false → IsLogged document.new }
     ensures writes { KeepsCount W.faults W.fault_bound sink.old sink.new (IsWriteFault result) }
     ensures later { steps.old ≤ steps.new }
 {
-    match change(document, edit, steps) {
+    match change(document, author, edit, steps) {
         Ok(()) => answer_made(&document.session, sink),
         Err(SessionError::Refused(refused)) => write_refusal(
             sink,
@@ -121,6 +134,7 @@ fn make<L: Ledger>(
 fn undo<L: Ledger>(document: &mut OpenDocument, steps: &mut Steps<L>) -> Result<bool, AllocError>
     requires live { document.old.session.closed ≡ false }
     requires logged { IsLogged document.old }
+    requires room { 2 ≤ document.old.turns.spare }
     ensures makes { Makes (state_of document.old) (undo_of (state_of document.old)) result (state_of document.new) steps.old steps.new }
     ensures open { OnOk result (document.new.session.closed ≡ false) }
     ensures logged { document.new.session.closed ≡ false → IsLogged document.new }
@@ -131,7 +145,14 @@ fn undo<L: Ledger>(document: &mut OpenDocument, steps: &mut Steps<L>) -> Result<
         None => Ok(false),
         Some(step) => match make(&mut document.session, step, steps) {
             Ok(back) => {
+                let keys = touched_on(&document.session, &back);
                 document.log.undone(back);
+                let revision = document.session.revision();
+                document.turns.note(Turn {
+                    revision,
+                    author: 0,
+                    keys,
+                });
                 Ok(true)
             }
             Err(error) => Err(error),
@@ -143,6 +164,7 @@ fn undo<L: Ledger>(document: &mut OpenDocument, steps: &mut Steps<L>) -> Result<
 fn redo<L: Ledger>(document: &mut OpenDocument, steps: &mut Steps<L>) -> Result<bool, AllocError>
     requires live { document.old.session.closed ≡ false }
     requires logged { IsLogged document.old }
+    requires room { 2 ≤ document.old.turns.spare }
     ensures makes { Makes (state_of document.old) (redo_of (state_of document.old)) result (state_of document.new) steps.old steps.new }
     ensures open { OnOk result (document.new.session.closed ≡ false) }
     ensures logged { document.new.session.closed ≡ false → IsLogged document.new }
@@ -151,13 +173,22 @@ fn redo<L: Ledger>(document: &mut OpenDocument, steps: &mut Steps<L>) -> Result<
     is_found(&document.session);
     match document.log.take_redo() {
         None => Ok(false),
-        Some(step) => match make(&mut document.session, step, steps) {
-            Ok(back) => {
-                document.log.redone(back);
-                Ok(true)
+        Some(step) => {
+            let keys = touched_on(&document.session, &step);
+            match make(&mut document.session, step, steps) {
+                Ok(back) => {
+                    document.log.redone(back);
+                    let revision = document.session.revision();
+                    document.turns.note(Turn {
+                        revision,
+                        author: 0,
+                        keys,
+                    });
+                    Ok(true)
+                }
+                Err(error) => Err(error),
             }
-            Err(error) => Err(error),
-        },
+        }
     }
 }
 
@@ -169,6 +200,7 @@ pub(crate) fn answer_undo<W: Sink, L: Ledger>(
 ) -> Result<(), BreakOff>
     requires live { document.old.session.closed ≡ false }
     requires logged { IsLogged document.old }
+    requires room { 2 ≤ document.old.turns.spare }
     ensures answers { (next : OpenState → Told) → Answers (step_told (state_of document.old) (undo_of (state_of document.old)) no_past next)
         result (trace (W.taken sink.old) steps.old) (trace (W.taken sink.new) steps.new) (λ done. next (state_of document.new)) }
     ensures open { OnOk result (document.new.session.closed ≡ false) }
@@ -191,6 +223,7 @@ pub(crate) fn answer_redo<W: Sink, L: Ledger>(
 ) -> Result<(), BreakOff>
     requires live { document.old.session.closed ≡ false }
     requires logged { IsLogged document.old }
+    requires room { 2 ≤ document.old.turns.spare }
     ensures answers { (next : OpenState → Told) → Answers (step_told (state_of document.old) (redo_of (state_of document.old)) no_future next)
         result (trace (W.taken sink.old) steps.old) (trace (W.taken sink.new) steps.new) (λ done. next (state_of document.new)) }
     ensures open { OnOk result (document.new.session.closed ≡ false) }

@@ -1,13 +1,16 @@
 //! What a workspace keeps.
 
-ghost use Rattle.std.specs.Prelude.{◌≡◌, false, IfOk, OnOk};
+ghost use Rattle.std.specs.Prelude.{◌≡◌, false, [], IfOk, OnOk};
 ghost use Rattle.compiled_schema.specs.Usable.{set_of};
 ghost use Rattle.session_model.specs.Spending.{Counts};
-ghost use Rattle.open_document.specs.Answers as answers;
 ghost use Rattle.kept_next.specs.Spaces.{HasSpacesNamed};
+ghost use Rattle.open_document.specs.Answers as answers;
 ghost use Rattle.open_document.specs.Held.{basis_of, state_of, work_of, begun, IsKept, IsLogged, IsReadySet};
-ghost use Rattle.open_document.specs.State.{Basis, working, ready, with_documents, IsReady, IsOpen};
+ghost use Rattle.open_document.specs.State.{Basis, working, ready, with_documents, kept_trees, IsReady, IsOpen};
+ghost use Rattle.undo_log.specs.Log.{log_of};
+ghost use Rattle.undo_log.specs.declared.log.Taken.TheVariants.{Nothing};
 
+use author_turns::TurnLog;
 use compiled_schema::Compiled;
 use doc_inverses::Change;
 use edit_session::EditSession;
@@ -49,6 +52,8 @@ pub(crate) struct OpenDocument {
     pub most: u32,
     /// The changes that lead back to the trees before, and on to those that were left by undoing.
     pub log: UndoLog<Change>,
+    /// The edits, undos and redos that were accepted, by their authors.
+    pub turns: TurnLog,
 }
 
 impl OpenDocument {
@@ -58,11 +63,13 @@ impl OpenDocument {
             session,
             documents,
             log,
+            turns,
             ..
         } = self;
         session.close();
         drop(documents);
         drop(log);
+        drop(turns);
     }
 }
 
@@ -147,6 +154,23 @@ fn work_on(held: &mut Held, alloc: Global, document: OpenDocument) -> Result<(),
     }
 }
 
+// What an open document keeps of the steps and turns that led to it.
+#[derive(Drop)]
+struct Past {
+    log: UndoLog<Change>,
+    turns: TurnLog,
+}
+
+// No steps and no turns.
+fn no_past(alloc: Global) -> Result<Past, AllocError>
+    ensures log { IfOk result (λ past. past.log ≡ log_of kept_trees [] [] Nothing) }
+    ensures turns { IfOk result (λ past. past.turns.turns ≡ []) }
+{
+    let log = UndoLog::new(alloc, KEPT_TREES)?;
+    let turns = TurnLog::new(alloc)?;
+    Ok(Past { log, turns })
+}
+
 // Keeps a session that was just opened over a document.
 fn work_in(
     held: &mut Held,
@@ -157,16 +181,18 @@ fn work_in(
 ) -> Result<(), AllocError>
     requires kept { IsKept held.old }
     requires spaced { HasSpacesNamed session.set }
+    requires first { session.revision ≡ 0 }
     ensures working { OnOk result (work_of held.new ≡ working (begun session documents.items most)) }
     ensures kept { IsKept held.new }
 {
-    match UndoLog::new(alloc, KEPT_TREES) {
-        Ok(log) => {
+    match no_past(alloc) {
+        Ok(Past { log, turns }) => {
             let document = OpenDocument {
                 session,
                 documents,
                 most,
                 log,
+                turns,
             };
             work_on(held, alloc, document)
         }

@@ -8,6 +8,8 @@ mod held;
 mod line;
 mod next;
 mod reply;
+mod touches;
+mod turning;
 mod verdict;
 mod working;
 mod workspace;

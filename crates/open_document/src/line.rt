@@ -12,6 +12,7 @@ use crate::changing::{answer_change, answer_redo, answer_undo};
 use crate::held::OpenDocument;
 use crate::next::answer_next;
 use crate::reply::{answer_assess, answer_report, answer_total, write_refusal};
+use crate::turning::answer_turn;
 use edit_script::{Command, ScriptFault};
 use told::BreakOff;
 use xsv_io::Sink;
@@ -31,6 +32,7 @@ pub(crate) fn answer_read<W: Sink, L: Ledger>(
 ) -> Result<(), BreakOff>
     requires live { document.old.session.closed ≡ false }
     requires logged { IsLogged document.old }
+    requires room { 2 ≤ document.old.turns.spare }
     requires ready { script.IsReadyOr read }
     // What is told of the line was written, whatever is told behind it; or the answer was broken off on the way.
     ensures answers { (next : OpenState → Told) → Answers (line_told (state_of document.old) read next)
@@ -41,7 +43,7 @@ pub(crate) fn answer_read<W: Sink, L: Ledger>(
     ensures later { steps.old ≤ steps.new }
 {
     match read {
-        Ok(Command::Change(edit)) => answer_change(document, &edit, sink, steps),
+        Ok(Command::Change(edit)) => answer_change(document, 0, &edit, sink, steps),
         Ok(Command::Assess(node)) => answer_assess(&document.session, node, sink),
         Ok(Command::Errors) => answer_report(&document.session, Some(document.most), sink),
         Ok(Command::Report) => answer_report(&document.session, None, sink),
@@ -50,6 +52,9 @@ pub(crate) fn answer_read<W: Sink, L: Ledger>(
         Ok(Command::Redo) => answer_redo(document, sink, steps),
         Ok(Command::Next { parent, index }) => {
             answer_next(document, parent, index, sink, steps)
+        }
+        Ok(Command::Turn { author, seen, edit }) => {
+            answer_turn(document, author, seen, &edit, sink, steps)
         }
         Err(fault) => write_refusal(sink, fault.number(), fault.name()),
     }

@@ -40,7 +40,32 @@ pub(crate) fn tell_first<W: Sink>(document: &OpenDocument, sink: &mut W) -> Resu
     answer_made(&document.session, sink)
 }
 
-/// Answers a command, with the items of its block where it begins one.
+// Answers a command, where there is room for a turn.
+fn answer_line<W: Sink, L: Ledger>(
+    alloc: Global,
+    document: &mut OpenDocument,
+    line: &Text,
+    block: Option<Items>,
+    sink: &mut W,
+    steps: &mut Steps<L>,
+) -> Result<(), BreakOff>
+    requires live { document.old.session.closed ≡ false }
+    requires logged { IsLogged document.old }
+    requires room { 2 ≤ document.old.turns.spare }
+    ensures answers { (next : OpenState → Told) → Answers (answers.command_told (state_of document.old) line.now block next)
+        result (trace (W.taken sink.old) steps.old) (trace (W.taken sink.new) steps.new) (λ done. next (state_of document.new)) }
+    ensures open { OnOk result (document.new.session.closed ≡ false) }
+    ensures logged { document.new.session.closed ≡ false → IsLogged document.new }
+    ensures writes { KeepsCount W.faults W.fault_bound sink.old sink.new (IsWriteFault result) }
+    ensures later { steps.old ≤ steps.new }
+{
+    match read_command(alloc, line, block) {
+        Ok(read) => answer_read(document, read, sink, steps),
+        Err(_) => Err(BreakOff::Memory),
+    }
+}
+
+/// Answers a command, with the items of its block where it begins one. There is room for a turn before it is made.
 pub(crate) fn answer<W: Sink, L: Ledger>(
     alloc: Global,
     document: &mut OpenDocument,
@@ -58,8 +83,8 @@ pub(crate) fn answer<W: Sink, L: Ledger>(
     ensures writes { KeepsCount W.faults W.fault_bound sink.old sink.new (IsWriteFault result) }
     ensures later { steps.old ≤ steps.new }
 {
-    match read_command(alloc, line, block) {
-        Ok(read) => answer_read(document, read, sink, steps),
+    match document.turns.reserve() {
+        Ok(()) => answer_line(alloc, document, line, block, sink, steps),
         Err(_) => Err(BreakOff::Memory),
     }
 }

@@ -1,6 +1,6 @@
 -- What the item of a line is for the sections of a stream.
-use Rattle.std.specs.Prelude.{ℕ, List, Bool, true, false, ◌==◌, codes}
-use Rattle.std.specs.List.{before_first}
+use Rattle.std.specs.Prelude.{ℕ, List, Bool, true, false, ◌==◌, ◌&&◌, ◌||◌, codes}
+use Rattle.std.specs.List.{before_first, after_first}
 use Rattle.std.specs.Str.{bytes_eq}
 use Rattle.item_listing.specs.declared.item.Item.{Item}
 use Rattle.item_listing.specs.declared.item.Item.TheVariants as items
@@ -36,6 +36,18 @@ may_edit Check = false
 may_edit Assess = false
 may_edit Session = true
 
--- a block follows the command: its first word is insert
+abbrev pub is_space : ℕ → Bool
+is_space b = b == 32
+
+-- the first word of a text, and what is behind its space, nothing where it has none
+abbrev pub first_word : List ℕ → List ℕ
+first_word text = before_first is_space text
+
+abbrev pub behind_word : List ℕ → List ℕ
+behind_word text = after_first is_space text
+
+-- a block follows the command: its first word is insert, or its first is as and its fourth is insert
 abbrev pub opens_block : List ℕ → Bool
-opens_block line = bytes_eq (before_first (λ b. b == 32) line) (codes "insert")
+opens_block line =
+    bytes_eq (first_word line) (codes "insert")
+    || (bytes_eq (first_word line) (codes "as") && bytes_eq (first_word (behind_word (behind_word (behind_word line)))) (codes "insert"))

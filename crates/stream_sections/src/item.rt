@@ -24,12 +24,34 @@ pub fn ends_schemas(asked: Asked, item: &Item) -> bool
     }
 }
 
-/// Whether a block follows a command: its first word is `insert`.
+/// The first word of a text.
+fn first_word(text: &str) -> &str
+    ensures { result.now ≡ lines.first_word text.now }
+{
+    match text.split_once(' ') {
+        Some((word, _)) => word,
+        None => text,
+    }
+}
+
+/// What is behind the first word of a text and its space; nothing where it has no space.
+fn behind_word(text: &str) -> &str
+    ensures { result.now ≡ lines.behind_word text.now }
+{
+    match text.split_once(' ') {
+        Some((_, rest)) => rest,
+        None => "",
+    }
+}
+
+/// Whether a block follows a command: its first word is `insert`, or its first is `as` and its fourth is `insert`.
 pub fn opens_block(line: &str) -> bool
     ensures { result ≡ lines.opens_block line.now }
 {
-    match line.split_once(' ') {
-        Some((word, _)) => word == "insert",
-        None => line == "insert",
+    let word = first_word(line);
+    if word == "insert" {
+        return true;
     }
+    let edit = behind_word(behind_word(behind_word(line)));
+    word == "as" && first_word(edit) == "insert"
 }

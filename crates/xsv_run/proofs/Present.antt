@@ -14,17 +14,22 @@ use Rattle.stream_answers.specs.from_edit_session.Around.{asked_at}
 use Rattle.stream_answers.specs.from_edit_session.AroundError.{AroundError}
 use Rattle.kept_next.specs.Answers.{PlaceQuestion}
 use Rattle.stream_answers.specs.from_open_document.State.{OpenState}
+use Rattle.stream_answers.specs.from_open_document.Touches.{TurnFault, turn_fault}
 use Rattle.stream_answers.specs.from_open_document.Steps.{Step, undo_of, redo_of}
 use Rattle.stream_sections.specs.Spelled.{Order}
-use Rattle.xsv_run.specs.Complete.{IsEditReply, IsStepReply, IsNextReply, IsReply, AreReplies, IsPresent}
+use Rattle.xsv_run.specs.Complete.{IsEditReply, IsTurnReply, IsStepReply, IsNextReply, IsReply, AreReplies, IsPresent}
 
 module _ (s : OpenState) (own : Said) (next : OpenState) (present : IsPresent s) where
   stays : {P : Type 0} → P × (next ≡ s) → IsPresent next
   stays h = subst IsPresent (sym h.1) present
 
-  edit_present : (edit : Edit) (r : Result Document EditError) → IsEditReply s edit r own next → IsPresent next
-  edit_present edit (Ok d) h = subst IsPresent (sym h.3) refl
-  edit_present edit (Err e) h = stays h
+  edit_present : (author : ℕ) (edit : Edit) (r : Result Document EditError) → IsEditReply s author edit r own next → IsPresent next
+  edit_present author edit (Ok d) h = subst IsPresent (sym h.3) refl
+  edit_present author edit (Err e) h = stays h
+
+  turn_present : (author : ℕ) (edit : Edit) (fault : Option TurnFault) → IsTurnReply s author edit fault own next → IsPresent next
+  turn_present author edit (Some fault) h = stays h
+  turn_present author edit None h = edit_present author edit (edited s.session.document edit) h
 
   step_present : (step : Option Step) (refused : List ℕ) → IsStepReply s step refused own next → IsPresent next
   step_present (Some step) refused h = subst IsPresent (sym h.3) refl
@@ -35,7 +40,7 @@ module _ (s : OpenState) (own : Said) (next : OpenState) (present : IsPresent s)
   next_present children (Err e) h = stays h
 
   reply_present : (r : Result Command ScriptFault) → IsReply s r own next → IsPresent next
-  reply_present (Ok (commands.Change edit)) h = edit_present edit (edited s.session.document edit) h
+  reply_present (Ok (commands.Change edit)) h = edit_present 0 edit (edited s.session.document edit) h
   reply_present (Ok (commands.Assess node)) h = stays h
   reply_present (Ok commands.Errors) h = stays h
   reply_present (Ok commands.Report) h = stays h
@@ -43,6 +48,7 @@ module _ (s : OpenState) (own : Said) (next : OpenState) (present : IsPresent s)
   reply_present (Ok commands.Undo) h = step_present (undo_of s) no_past h
   reply_present (Ok commands.Redo) h = step_present (redo_of s) no_future h
   reply_present (Ok (commands.Next parent place)) h = next_present (child_count s.session parent) (asked_at s.session parent place) h
+  reply_present (Ok (commands.Turn author seen edit)) h = turn_present author edit (turn_fault s author seen edit) h
   reply_present (Err fault) h = stays h
 
 pub replies_present : (s : OpenState) (orders : List Order) (all : Said) (last : OpenState) → AreReplies s orders all last → IsPresent s → IsPresent last

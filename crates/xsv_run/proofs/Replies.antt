@@ -17,12 +17,13 @@ use Rattle.told.specs.Told.{Said, free, silent, joined, Told, over, says, Leads}
 use Rattle.told.specs.declared.ending.Ending.{Ending}
 use Rattle.told.proofs.Leading.{IsOver, silent_first, silent_last, joined_assoc, leads_says}
 use Rattle.stream_answers.specs.from_open_document.Answers.{verdict}
-use Rattle.stream_answers.specs.from_open_document.Replies.{edit_told, step_told, next_told, line_told, no_past, no_future, made_said, step_said, next_said, child_count}
+use Rattle.stream_answers.specs.from_open_document.Replies.{edit_told, turn_told, step_told, next_told, line_told, no_past, no_future, made_said, step_said, next_said, child_count}
 use Rattle.stream_answers.specs.from_open_document.State.{OpenState}
+use Rattle.stream_answers.specs.from_open_document.Touches.{TurnFault, turn_fault}
 use Rattle.stream_answers.specs.from_open_document.Steps.{Step, undo_of, redo_of, document_behind, with_edit, with_step}
 use Rattle.stream_sections.specs.Spelled.{given, Order}
 use Rattle.stream_answers.specs.Output.{ends, end_line, ending_of, commands_told}
-use Rattle.xsv_run.specs.Complete.{IsEditReply, IsStepReply, IsNextReply, IsReply, AreReplies}
+use Rattle.xsv_run.specs.Complete.{IsEditReply, IsTurnReply, IsStepReply, IsNextReply, IsReply, AreReplies}
 
 -- ---- one text
 
@@ -53,13 +54,19 @@ module _ (s : OpenState) (k : OpenState → Told) (said : Said) (e : Option Endi
       let one = says_back (free text) (k s) said e h in
       (free text, s, one.0, (refl, refl), one.1, one.2)
 
-  edit_back : (edit : Edit) (r : Result Document EditError) → Leads (edit_told s edit r k) said (over e) → IsRepliedTo (IsEditReply s edit r)
-  edit_back edit (Ok d) (inl h) = absurd (subst IsOver h.1 tt)
-  edit_back edit (Ok d) (inr h) =
+  edit_back : (author : ℕ) (edit : Edit) (r : Result Document EditError) → Leads (edit_told s author edit r k) said (over e)
+      → IsRepliedTo (IsEditReply s author edit r)
+  edit_back author edit (Ok d) (inl h) = absurd (subst IsOver h.1 tt)
+  edit_back author edit (Ok d) (inr h) =
       let new = after_edit s.session d h.0 in
-      let one = says_back (made_said s.session edit new) (k (with_edit s edit d h.0)) said e h.2 in
-      (made_said s.session edit new, with_edit s edit d h.0, one.0, (h.0, h.1, refl, refl), one.1, one.2)
-  edit_back edit (Err why) h = stays_back _ h
+      let one = says_back (made_said s.session edit new) (k (with_edit s author edit d h.0)) said e h.2 in
+      (made_said s.session edit new, with_edit s author edit d h.0, one.0, (h.0, h.1, refl, refl), one.1, one.2)
+  edit_back author edit (Err why) h = stays_back _ h
+
+  turn_back : (author : ℕ) (edit : Edit) (fault : Option TurnFault) → Leads (turn_told s author edit fault k) said (over e)
+      → IsRepliedTo (IsTurnReply s author edit fault)
+  turn_back author edit (Some fault) h = stays_back _ h
+  turn_back author edit None h = edit_back author edit (edited s.session.document edit) h
 
   step_back : (step : Option Step) (refused : List ℕ) → Leads (step_told s step refused k) said (over e) → IsRepliedTo (IsStepReply s step refused)
   step_back (Some step) refused (inl h) = absurd (subst IsOver h.1 tt)
@@ -78,7 +85,7 @@ module _ (s : OpenState) (k : OpenState → Told) (said : Said) (e : Option Endi
   next_back children (Err why) h = stays_back _ h
 
   pub reply_back : (r : Result Command ScriptFault) → Leads (line_told s r k) said (over e) → IsRepliedTo (IsReply s r)
-  reply_back (Ok (commands.Change edit)) h = edit_back edit (edited s.session.document edit) h
+  reply_back (Ok (commands.Change edit)) h = edit_back 0 edit (edited s.session.document edit) h
   reply_back (Ok (commands.Assess node)) h = stays_back _ h
   reply_back (Ok commands.Errors) h = stays_back _ h
   reply_back (Ok commands.Report) h = stays_back _ h
@@ -86,6 +93,7 @@ module _ (s : OpenState) (k : OpenState → Told) (said : Said) (e : Option Endi
   reply_back (Ok commands.Undo) h = step_back (undo_of s) no_past h
   reply_back (Ok commands.Redo) h = step_back (redo_of s) no_future h
   reply_back (Ok (commands.Next parent place)) h = next_back (child_count s.session parent) (asked_at s.session parent place) h
+  reply_back (Ok (commands.Turn author seen edit)) h = turn_back author edit (turn_fault s author seen edit) h
   reply_back (Err fault) h = stays_back _ h
 
 module _ (s : OpenState) (k : OpenState → Told) (own : Said) (next : OpenState) (later : Said) (rest : Told) (behind : Leads (k next) later rest) where
@@ -94,16 +102,22 @@ module _ (s : OpenState) (k : OpenState → Told) (own : Said) (next : OpenState
       subst (λ (x : Said). Leads (says (free text) (k s)) (joined x later) rest) (sym h.0)
       (says_on (free text) (k s) later rest (subst (λ (x : OpenState). Leads (k x) later rest) h.1 behind))
 
-  edit_on : (edit : Edit) (r : Result Document EditError) → IsEditReply s edit r own next → Leads (edit_told s edit r k) (joined own later) rest
-  edit_on edit (Ok d) h =
+  edit_on : (author : ℕ) (edit : Edit) (r : Result Document EditError) → IsEditReply s author edit r own next
+      → Leads (edit_told s author edit r k) (joined own later) rest
+  edit_on author edit (Ok d) h =
       let new = after_edit s.session d h.0 in
       inr (
         h.0,
         h.1,
-        subst (λ (x : Said). Leads (says (made_said s.session edit new) (k (with_edit s edit d h.0))) (joined x later) rest) (sym h.2)
-            (says_on (made_said s.session edit new) (k (with_edit s edit d h.0)) later rest (subst (λ (x : OpenState). Leads (k x) later rest) h.3 behind)),
+        subst (λ (x : Said). Leads (says (made_said s.session edit new) (k (with_edit s author edit d h.0))) (joined x later) rest) (sym h.2)
+            (says_on (made_said s.session edit new) (k (with_edit s author edit d h.0)) later rest (subst (λ (x : OpenState). Leads (k x) later rest) h.3 behind)),
       )
-  edit_on edit (Err why) h = stays_on _ h
+  edit_on author edit (Err why) h = stays_on _ h
+
+  turn_on : (author : ℕ) (edit : Edit) (fault : Option TurnFault) → IsTurnReply s author edit fault own next
+      → Leads (turn_told s author edit fault k) (joined own later) rest
+  turn_on author edit (Some fault) h = stays_on _ h
+  turn_on author edit None h = edit_on author edit (edited s.session.document edit) h
 
   step_on : (step : Option Step) (refused : List ℕ) → IsStepReply s step refused own next → Leads (step_told s step refused k) (joined own later) rest
   step_on (Some step) refused h =
@@ -128,7 +142,7 @@ module _ (s : OpenState) (k : OpenState → Told) (own : Said) (next : OpenState
   next_on children (Err why) h = stays_on _ h
 
   pub reply_on : (r : Result Command ScriptFault) → IsReply s r own next → Leads (line_told s r k) (joined own later) rest
-  reply_on (Ok (commands.Change edit)) h = edit_on edit (edited s.session.document edit) h
+  reply_on (Ok (commands.Change edit)) h = edit_on 0 edit (edited s.session.document edit) h
   reply_on (Ok (commands.Assess node)) h = stays_on _ h
   reply_on (Ok commands.Errors) h = stays_on _ h
   reply_on (Ok commands.Report) h = stays_on _ h
@@ -136,6 +150,7 @@ module _ (s : OpenState) (k : OpenState → Told) (own : Said) (next : OpenState
   reply_on (Ok commands.Undo) h = step_on (undo_of s) no_past h
   reply_on (Ok commands.Redo) h = step_on (redo_of s) no_future h
   reply_on (Ok (commands.Next parent place)) h = next_on (child_count s.session parent) (asked_at s.session parent place) h
+  reply_on (Ok (commands.Turn author seen edit)) h = turn_on author edit (turn_fault s author seen edit) h
   reply_on (Err fault) h = stays_on _ h
 
 -- ---- all replies, and the last line

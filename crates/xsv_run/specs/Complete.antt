@@ -21,8 +21,9 @@ use Rattle.kept_next.specs.Answers.{PlaceQuestion, Answer, AreAnswers}
 use Rattle.told.specs.Outcomes.{SetOutcome, accepted, broken, IsOutcomeOf}
 use Rattle.told.specs.Told.{Said, free, silent, joined}
 use Rattle.stream_answers.specs.from_open_document.Answers.{opened, opening_cost, verdict}
-use Rattle.stream_answers.specs.from_open_document.Replies.{refusal, no_past, no_future, assess_reply, report_reply, total_reply, made_said, step_said, next_said, child_count}
+use Rattle.stream_answers.specs.from_open_document.Replies.{refusal, turn_refusal, no_past, no_future, assess_reply, report_reply, total_reply, made_said, step_said, next_said, child_count}
 use Rattle.stream_answers.specs.from_open_document.State.{OpenState, with_documents}
+use Rattle.stream_answers.specs.from_open_document.Touches.{TurnFault, turn_fault}
 use Rattle.stream_answers.specs.from_open_document.Steps.{Step, undo_of, redo_of, document_behind, with_edit, with_step}
 use Rattle.stream_sections.specs.Spelled.{Order}
 use Rattle.stream_sections.specs.declared.asked.Asked.{Asked}
@@ -41,12 +42,17 @@ answer text cost status = record { text = text; cost = cost; status = Some statu
 
 -- ---- the replies to commands
 
--- The reply to an edit that gives this document, and the document behind it with what is found of it; or to one that is refused.
-abbrev pub IsEditReply : OpenState → Edit → Result Document EditError → Said → OpenState → Type 0
-IsEditReply s edit (Ok d) own next =
+-- The reply to an edit by an author that gives this document, and the document behind it with what is found of it; or to one that is refused.
+abbrev pub IsEditReply : OpenState → ℕ → Edit → Result Document EditError → Said → OpenState → Type 0
+IsEditReply s author edit (Ok d) own next =
     (found : List Entry) × IsFound (with_names s.session.set d.forest) d found
-    × (own ≡ made_said s.session edit (after_edit s.session d found)) × (next ≡ with_edit s edit d found)
-IsEditReply s edit (Err e) own next = (own ≡ free (refusal (refusals.number_of e) (refusals.name_of e))) × (next ≡ s)
+    × (own ≡ made_said s.session edit (after_edit s.session d found)) × (next ≡ with_edit s author edit d found)
+IsEditReply s author edit (Err e) own next = (own ≡ free (refusal (refusals.number_of e) (refusals.name_of e))) × (next ≡ s)
+
+-- The reply to an edit by an author who had seen a revision, where it has this fault; or it is an edit as others are.
+abbrev pub IsTurnReply : OpenState → ℕ → Edit → Option TurnFault → Said → OpenState → Type 0
+IsTurnReply s author edit (Some fault) own next = (own ≡ free (turn_refusal fault)) × (next ≡ s)
+IsTurnReply s author edit None own next = IsEditReply s author edit (edited s.session.document edit) own next
 
 -- The reply to a step along the history, and the document behind it with what is found of it; or where there is no such step, this reply.
 abbrev pub IsStepReply : OpenState → Option Step → List ℕ → Said → OpenState → Type 0
@@ -62,7 +68,7 @@ IsNextReply s children (Err e) own next = (own ≡ free (refusal (around.number_
 
 -- the reply to a line, and the document behind it
 abbrev pub IsReply : OpenState → Result Command ScriptFault → Said → OpenState → Type 0
-IsReply s (Ok (commands.Change edit)) own next = IsEditReply s edit (edited s.session.document edit) own next
+IsReply s (Ok (commands.Change edit)) own next = IsEditReply s 0 edit (edited s.session.document edit) own next
 IsReply s (Ok (commands.Assess node)) own next = (own ≡ free (assess_reply s.session node)) × (next ≡ s)
 IsReply s (Ok commands.Errors) own next = (own ≡ free (report_reply (Some s.most) s.session)) × (next ≡ s)
 IsReply s (Ok commands.Report) own next = (own ≡ free (report_reply None s.session)) × (next ≡ s)
@@ -70,6 +76,7 @@ IsReply s (Ok commands.Total) own next = (own ≡ free (total_reply s.session)) 
 IsReply s (Ok commands.Undo) own next = IsStepReply s (undo_of s) no_past own next
 IsReply s (Ok commands.Redo) own next = IsStepReply s (redo_of s) no_future own next
 IsReply s (Ok (commands.Next parent place)) own next = IsNextReply s (child_count s.session parent) (asked_at s.session parent place) own next
+IsReply s (Ok (commands.Turn author seen edit)) own next = IsTurnReply s author edit (turn_fault s author seen edit) own next
 IsReply s (Err fault) own next = (own ≡ free (refusal (faults.number_of fault) (faults.name_of fault))) × (next ≡ s)
 
 -- the replies to commands, one behind another, and the document behind them

@@ -1,3 +1,5 @@
+use Rattle.std.proofs.Common.{ap}
+use Rattle.session_model.specs.State.{State}
 use Rattle.open_document.specs.Held.{basis_of, work_of}
 use Rattle.open_document.proofs.Accepted.{opened_open, opened_by, opened_spaced}
 use Rattle.open_document.proofs.held.open_by.Goals as goal
@@ -13,3 +15,6 @@ returns-in-Ok-clause-open g c =
 
 pub work_in-requires-clause-spaced : goal.work_in-requires-clause-spaced
 work_in-requires-clause-spaced g c = opened_spaced (basis_of c.args.basis).set c.args.tree c.in-Ok.session c.in-Ok.ensures.opened c.requires.ready.spaced
+
+pub work_in-requires-clause-first : goal.work_in-requires-clause-first
+work_in-requires-clause-first g c = ap (λ (s : State). s.revision) c.in-Ok.ensures.opened.new_is
