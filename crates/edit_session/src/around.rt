@@ -14,9 +14,9 @@ ghost use Rattle.edit_session.specs.declared.around.AroundError.TheVariants.{Mem
 
 use compiled_schema::Compiled;
 use doc_tree::DocTree;
+use kept_inverses::kept_state::KeptState;
 use kept_next::{AroundAt, ChildList};
 use kept_records::model_of;
-use kept_inverses::kept_state::KeptState;
 use tree_rows::NodeKind;
 
 /// Why there is no place among the children of an element of which may be asked what may stand there.

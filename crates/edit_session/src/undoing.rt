@@ -10,8 +10,8 @@ use compiled_schema::Compiled;
 use doc_inverses::Change;
 use doc_tree::DocTree;
 use kept_inverses::keep_inverse;
-use kept_keys::settle_keys;
 use kept_inverses::kept_state::KeptState;
+use kept_keys::settle_keys;
 use std::alloc::AllocError;
 use xsv_steps::{Ledger, Steps};
 

@@ -50,9 +50,7 @@ pub(crate) fn answer_read<W: Sink, L: Ledger>(
         Ok(Command::Total) => answer_total(&document.session, sink),
         Ok(Command::Undo) => answer_undo(document, sink, steps),
         Ok(Command::Redo) => answer_redo(document, sink, steps),
-        Ok(Command::Next { parent, index }) => {
-            answer_next(document, parent, index, sink, steps)
-        }
+        Ok(Command::Next { parent, index }) => { answer_next(document, parent, index, sink, steps) }
         Ok(Command::Turn { author, seen, edit }) => {
             answer_turn(document, author, seen, &edit, sink, steps)
         }
