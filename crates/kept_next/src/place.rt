@@ -26,7 +26,9 @@ pub struct ChildList<'a> {
 /// A place of a list of child elements: which names may stand there is asked of it (`next_names`).
 #[derive(Drop)]
 pub struct AroundAt<'a> {
-    pub(crate) children: ChildList<'a>,
+    pub(crate) lists: &'a ModelLists,
+    pub(crate) list: ModelList,
+    pub(crate) automaton: &'a ContentAutomaton,
     /// The symbols of the automaton in the order in which they are printed.
     pub(crate) symbols: Listed<Symbol>,
     pub(crate) place: u32,
@@ -66,7 +68,9 @@ impl<'a> AroundAt<'a> {
     {
         let symbols = ordered(alloc, names, children.automaton)?;
         Ok(AroundAt {
-            children,
+            lists: children.lists,
+            list: children.list,
+            automaton: children.automaton,
             symbols,
             place,
         })
