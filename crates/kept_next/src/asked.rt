@@ -45,7 +45,7 @@ impl Around for AroundAt<'_> {
     }
 
     fn symbol_name(&self, symbol: u32) -> SymbolName {
-        self.symbols.as_slice()[symbol as usize].name
+        self.symbols[symbol as usize].name
     }
 
     fn before<L: Ledger>(&self, steps: &mut Steps<L>) -> ChildState {
@@ -54,7 +54,7 @@ impl Around for AroundAt<'_> {
     }
 
     fn with<L: Ledger>(&self, state: ChildState, symbol: u32, steps: &mut Steps<L>) -> ChildState {
-        let number = self.symbols.as_slice()[symbol as usize].number;
+        let number = self.symbols[symbol as usize].number;
         state.with(self.automaton, number, steps)
     }
 

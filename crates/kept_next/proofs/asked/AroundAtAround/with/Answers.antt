@@ -8,7 +8,4 @@ use Rattle.kept_next.proofs.Places.{place-symbol}
 use Rattle.kept_next.proofs.asked.AroundAtAround.with.Goals as goal
 
 pub with-requires-clause-symbol : goal.with-requires-clause-symbol
-with-requires-clause-symbol g c =
-    let low = subst (λ (v : ListPlace). c.args.symbol < length v.symbols) (sym c.self.view_is) c.requires.symbol in
-    subst (λ (x : Symbol). AreSymbolsBy c.self.inside.automaton.now (x.number ∷ []))
-    (get_or_default c.self.inside.symbols c.args.symbol _ c.index-self-symbol.result low) (place-symbol (place_of c.self.inside) c.self.invariant c.args.symbol low)
+with-requires-clause-symbol g c = ?
