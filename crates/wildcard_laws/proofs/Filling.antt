@@ -1,5 +1,5 @@
 -- The particles that contents add name no namespaces.
-use Rattle.std.proofs.Common.{◌≡◌, ℕ, ◌<◌, List, [], ◌∷◌, ◌++◌, Bool, true, false, Option, None, Some, length}
+use Rattle.std.proofs.Common.{ℕ, ◌<◌, List, [], ◌∷◌, Bool, true, false, Option, None, Some, length}
 use Rattle.std.specs.Prelude.{All, max, slice_get}
 use Rattle.std.proofs.lemmas.List.Elements.{All-nil, All-push}
 use Rattle.xs_names.specs.Names.{NameTable}
