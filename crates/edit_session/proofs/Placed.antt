@@ -151,7 +151,7 @@ module _ (t : NameTable) (ns : Nodes) (sound : IsSound t) where
 -- ---- why there is no place
 
 module _ (s : State) (ns : Nodes) (node_number place : ℕ) (z : StandsFor s.set.names ns s.document) where
-  pub refused-kind : (kind : Option NodeKind) (e : AroundError) → kind ≡ kind_of node_number s.document.forest → asked_of s node_number place kind ≡ Err e → asked_at s node_number place ≡ Err e
+  refused-kind : (kind : Option NodeKind) (e : AroundError) → kind ≡ kind_of node_number s.document.forest → asked_of s node_number place kind ≡ Err e → asked_at s node_number place ≡ Err e
   refused-kind kind e is why = ap (asked_of s node_number place) (sym is) ∙ why
 
   -- an element has as many children as its node

@@ -16,15 +16,15 @@ pub new-requires : goal.new-requires
 new-requires c =
     let own = c.in-Ok.children in
     asks c.args.set.now c.args.doc.now c.args.kept.now c.requires.present c.requires.spaced c.args.node c.requires.here.element own.automaton.now own.list c.in-Ok.ensures.automaton c.in-Ok.ensures.list
-    c.args.index c.requires.here.within own.lists.now c.in-Ok.ensures.lists c.elements_upto.result c.elements_upto.ensures.count
+    c.args.index c.requires.here.within own.lists.now c.in-Ok.ensures.lists c.elements_upto-place.result c.elements_upto-place.ensures.count
 
 pub returns-in-Ok-new-clause-place : goal.returns-in-Ok-new-clause-place
 returns-in-Ok-new-clause-place c =
     let own = c.in-Ok.children in
     let there = c.in-Ok-new.ensures in
     around-so c.args.set.now c.args.doc.now c.args.kept.now c.requires.present c.requires.spaced c.args.node c.requires.here.element own.automaton.now own.list c.in-Ok.ensures.automaton c.in-Ok.ensures.list
-    c.args.index c.requires.here.within own.lists.now c.in-Ok.ensures.lists c.elements_upto.result c.elements_upto.ensures.count
-    c.in-Ok-new.place.now there.lists there.list there.place there.is
+    c.args.index c.requires.here.within own.lists.now c.in-Ok.ensures.lists c.elements_upto-place.result c.elements_upto-place.ensures.count
+    c.in-Ok-new.place there.lists there.list there.place there.is
 
 pub returns-in-Err-clause-refused : goal.returns-in-Err-clause-refused
 returns-in-Err-clause-refused c = λ other revision closed.
