@@ -28,7 +28,7 @@ use Rattle.assessment.specs.Local.{HasElement}
 use Rattle.compiled_schema.specs.Usable.{set_of}
 use Rattle.compiled_schema.specs.declared.compiled.Compiled.{Compiled}
 use Rattle.tree_assess.specs.Entries.{entry_of}
-use Rattle.model_lists.specs.Lists.{IsListOf}
+use Rattle.model_lists.specs.Lists.{ListsView, IsListOf}
 use Rattle.model_lists.specs.declared.handle.ModelList.{ModelList}
 use Rattle.session_model.specs.Asking as asking
 use Rattle.session_model.specs.State.{State}
@@ -39,6 +39,7 @@ use Rattle.doc_changes.specs.Stands.{firsts, IsText, IsElement, StandFor, Stands
 use Rattle.doc_changes.proofs.Holding.{IsElementOf, element_of, holds_element}
 use Rattle.doc_documents.specs.Readers as readers
 use Rattle.doc_documents.proofs.Named.{name_back}
+use Rattle.doc_tree.proofs.Answering.{kind_is}
 use Rattle.doc_edits.proofs.Placing.{width_firsts}
 use Rattle.kept_slots.specs.Slots.{at}
 use Rattle.kept_records.specs.declared.element.KeptElement.{KeptElement}
@@ -56,14 +57,10 @@ use Rattle.edit_session.specs.Around.{IsPlaced, IsAroundAt, asked_at, asked_by, 
 use Rattle.edit_session.specs.Held.{document_in, found_by, IsPresent, state_by}
 use Rattle.edit_session.specs.declared.around.AroundError.{AroundError}
 use Rattle.edit_session.specs.declared.around.AroundError.TheVariants as errors
-use Rattle.edit_session.proofs.Known.{entry-now}
+use Rattle.kept_records.proofs.Kept.{entry-is}
 use Rattle.edit_session.proofs.Standing.{stands-now, settled}
 
 -- ---- the names of child elements
-
-map-twice : {A B C : Type 0} (f : B → C) (g : A → B) (xs : List A) → map (λ x. f (g x)) xs ≡ map f (map g xs)
-map-twice f g [] = refl
-map-twice f g (x ∷ xs) = ap (λ ys. f (g x) ∷ ys) (map-twice f g xs)
 
 fewer : (p : ℕ → Bool) (i : ℕ) (xs : List ℕ) → length (filter p (take i xs)) ≤ length (filter p xs)
 fewer p i [] = omega arith
@@ -154,7 +151,7 @@ module _ (t : NameTable) (ns : Nodes) (sound : IsSound t) where
 -- ---- why there is no place
 
 module _ (s : State) (ns : Nodes) (node_number place : ℕ) (z : StandsFor s.set.names ns s.document) where
-  pub refused-kind : (kind : Option NodeKind) (e : AroundError) → kind ≡ kind_of node_number s.document.forest → asked_of s node_number place kind ≡ Err e → asked_at s node_number place ≡ Err e
+  refused-kind : (kind : Option NodeKind) (e : AroundError) → kind ≡ kind_of node_number s.document.forest → asked_of s node_number place kind ≡ Err e → asked_at s node_number place ≡ Err e
   refused-kind kind e is why = ap (asked_of s node_number place) (sym is) ∙ why
 
   -- an element has as many children as its node
@@ -188,12 +185,15 @@ module _ (s : State) (ns : Nodes) (node_number place : ℕ) (z : StandsFor s.set
 
 -- ---- the place of an element
 
-module _ (c : Compiled) (ns : Nodes) (k : KeptState) (present : IsPresent c ns k) (spaced : HasSpacesNamed (set_of c)) (n : ℕ) (element : kind_at ns n ≡ Some kinds.Element) where
+module _ (c : Compiled) (ns : Nodes) (k : KeptState) (present : IsPresent c ns k) (spaced : HasSpacesNamed (set_of c)) (n : ℕ) (kind : kind_at ns n ≡ Some kinds.Element) where
   stands : StandsFor c.names ns (document_in c ns)
   stands = (settled c ns k present.whole).over.stands
 
+  known : Some kinds.Element ≡ kind_of n (document_in c ns).forest
+  known = sym kind ∙ kind_is c.names ns (document_in c ns) stands n (node ns n) refl
+
   is-element : is_element_at ns n ≡ true
-  is-element = let held_one = holds_element ns n element in ap is_element_by held_one.is ∙ ap is_element held_one.holds
+  is-element = let held_one = holds_element ns n kind in ap is_element_by held_one.is ∙ ap is_element held_one.holds
 
   pub made : IsMade k.records.slots n
   made = made-elements c ns k.records.slots k.lists k.root_ids (document_in c ns) (settled c ns k present.whole) n (has-element c.names ns (document_in c ns) stands n is-element)
@@ -207,10 +207,10 @@ module _ (c : Compiled) (ns : Nodes) (k : KeptState) (present : IsPresent c ns k
 
   type-is : (revision : ℕ) (closed : Bool) → type_at (state_by c ns k revision closed) n ≡ (pair_at k.records.slots n).of
   type-is revision closed =
-      ap (option_and_then (λ (e : Entry). e.governing.of)) (sym (entry-now c ns k present n) ∙ ap (option_map (λ (x : KeptElement). entry_of x.found)) made.1)
+      ap (option_and_then (λ (e : Entry). e.governing.of)) (entry-is c ns k.records.slots k.lists k.root_ids (document_in c ns) (settled c ns k present.whole) n ∙ ap (option_map (λ (x : KeptElement). entry_of x.found)) made.1)
       ∙ sym (ap (λ (o : Option KeptElement). (unwrap_or o blank).found.governing.of) made.1)
 
-  module _ (place : ℕ) (within : place ≤ length (children_by (node ns n))) (revision : ℕ) (closed : Bool) (known : Some kinds.Element ≡ kind_of n (document_in c ns).forest) where
+  module _ (place : ℕ) (within : place ≤ length (children_by (node ns n))) (revision : ℕ) (closed : Bool) where
     abbrev s : State
     s = state_by c ns k revision closed
 
@@ -218,7 +218,7 @@ module _ (c : Compiled) (ns : Nodes) (k : KeptState) (present : IsPresent c ns k
     pub no-model : models_of c (pair_at k.records.slots n).of ≡ None → asked_at s n place ≡ Err errors.NoModel
     no-model gone =
         let fits = type-fits c (settled c ns k present.whole).over.usable.first (settled c ns k present.whole).over.usable.models_are (pair_at k.records.slots n).of in
-        asked-element s ns n place stands element known within None
+        asked-element s ns n place stands kind known within None
         (ap (content_particle c.parts) (type-is revision closed) ∙ none-fits (content_particle c.parts (pair_at k.records.slots n).of) (subst (Fits (set_of c) (content_particle c.parts (pair_at k.records.slots n).of)) gone fits))
       where
         none-fits : (p : Option ℕ) → Fits (set_of c) p None → p ≡ None
@@ -260,17 +260,17 @@ module _ (c : Compiled) (ns : Nodes) (k : KeptState) (present : IsPresent c ns k
           omega (arith, few, many)
 
       -- it is asked about there
-      pub around : (revision : ℕ) (closed : Bool) (v : ListPlace) → Some kinds.Element ≡ kind_of n (document_in c ns).forest → v.lists ≡ k.lists → v.list ≡ h → v.place ≡ before
+      around : (revision : ℕ) (closed : Bool) (v : ListPlace) → v.lists ≡ k.lists → v.list ≡ h → v.place ≡ before
           → IsPlaceBy v (set_of c) particle.0 names → IsAroundAt (state_by c ns k revision closed) n place v
-      around revision closed v known lists_are list_now place_is is =
+      around revision closed v lists_are list_now place_is is =
           let st = state_by c ns k revision closed in
-          let below = children-of st ns n place stands element in
-          let asked = asked-element st ns n place stands element known within (Some particle.0) (ap (content_particle c.parts) (type-is revision closed) ∙ particle.1) in
+          let below = children-of st ns n place stands kind in
+          let asked = asked-element st ns n place stands kind known within (Some particle.0) (ap (content_particle c.parts) (type-is revision closed) ∙ particle.1) in
           let many = children-many k.lists h a (map (symbol_of c.names (symbols_of a)) names) list-is in
           let all = length-map names (symbol_of c.names (symbols_of a)) in
           let own = length-map (filter (is_element_at ns) (children_by (node ns n))) (name_of c.names ns stands.table) in
           let few = filtered-few (is_element_at ns) (children_by (node ns n)) in
-          let wide = width-is st ns n place stands element in
+          let wide = width-is st ns n place stands kind in
           let same : children_in v.lists v.list ≡ children_in k.lists h = λ i. children_in (lists_are i) (list_now i) in
           record {
             question = record { set = set_of c; particle = particle.0; before = names_before c.names place (children_at (document_in c ns) n); behind = names_behind c.names place (children_at (document_in c ns) n) };
@@ -284,3 +284,15 @@ module _ (c : Compiled) (ns : Nodes) (k : KeptState) (present : IsPresent c ns k
                 ap (names_behind c.names place) below.3 ∙ sym (behind-named c.names ns stands.table place below.0 below.1) ∙ (λ i. drop (length (filter (is_element_at ns) (take place (sym below.2 i)))) (map (name_of c.names ns stands.table) (filter (is_element_at ns) (sym below.2 i)))) ∙ sym (λ i. drop (place_is i) names);
             few = omega (arith, same, many, all, own, few, wide);
           }
+
+      -- so a call that makes the place is asked, and so it answers
+      module _ (lists : ListsView) (lists_are : lists ≡ k.lists) (counted : ℕ) (counted_is : counted ≡ before) where
+        pub asks : (s : SchemaSet) × (p : ℕ) × (given : List ExpandedName) × IsListBy lists h a s p given × (s.names ≡ c.names) × (counted ≤ length given)
+        asks = (set_of c, particle.0, names, subst (λ (l : ListsView). IsListBy l h a (set_of c) particle.0 names) (sym lists_are) list-by, refl, subst (λ (m : ℕ). m ≤ length names) (sym counted_is) place-within)
+
+        pub around-so : (v : ListPlace) → v.lists ≡ lists → v.list ≡ h → v.place ≡ counted
+            → ((s : SchemaSet) (p : ℕ) (given : List ExpandedName) → IsListBy lists h a s p given → s.names ≡ c.names → counted ≤ length given → IsPlaceBy v s p given)
+            → (revision : ℕ) (closed : Bool) → IsAroundAt (state_by c ns k revision closed) n place v
+        around-so v lists_now list_now place_is is revision closed =
+            around revision closed v (lists_now ∙ lists_are) list_now (place_is ∙ counted_is)
+            (is (set_of c) particle.0 names (subst (λ (l : ListsView). IsListBy l h a (set_of c) particle.0 names) (sym lists_are) list-by) refl (subst (λ (m : ℕ). m ≤ length names) (sym counted_is) place-within))

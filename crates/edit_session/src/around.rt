@@ -105,6 +105,30 @@ fn list_of<'a>(
     })
 }
 
+// The place before the child at an index of an element that has as many children, by the content model of its type.
+fn place_in<'a>(
+    set: &'a Compiled,
+    doc: &DocTree,
+    kept: &'a KeptState,
+    node: u32,
+    index: u32,
+) -> Result<AroundAt<'a>, AroundError>
+    requires present { IsPresent set.now doc.now kept.now }
+    requires spaced { HasSpacesNamed (set_of set.now) }
+    requires here { IsPlaced doc.now node index }
+    ensures place { IfOk result (λ v. (revision : ℕ) (closed : Bool) → IsAroundAt (state_by set.now doc.now kept.now revision closed) node index v) }
+    ensures refused { IfErr result (λ e. e ≢ Memory → (revision : ℕ) (closed : Bool) → asked_at (state_by set.now doc.now kept.now revision closed) node index ≡ Err e) }
+{
+    let place = doc.elements_upto(node, index);
+    match list_of(set, kept, node) {
+        Ok(children) => match AroundAt::new(kept.alloc, &set.names, children, place) {
+            Ok(place) => Ok(place),
+            Err(_) => Err(AroundError::Memory),
+        },
+        Err(error) => Err(error),
+    }
+}
+
 /// The place before the child at an index of an element, by the content model of its type.
 ///
 /// # Errors
@@ -122,11 +146,8 @@ pub(crate) fn find_place<'a>(
     ensures place { IfOk result (λ v. (revision : ℕ) (closed : Bool) → IsAroundAt (state_by set.now doc.now kept.now revision closed) node index v) }
     ensures refused { IfErr result (λ e. e ≢ Memory → (revision : ℕ) (closed : Bool) → asked_at (state_by set.now doc.now kept.now revision closed) node index ≡ Err e) }
 {
-    element_here(doc, node, index)?;
-    let children = list_of(set, kept, node)?;
-    let place = doc.elements_upto(node, index);
-    match AroundAt::new(kept.alloc, &set.names, children, place) {
-        Ok(place) => Ok(place),
-        Err(_) => Err(AroundError::Memory),
+    match element_here(doc, node, index) {
+        Ok(()) => place_in(set, doc, kept, node, index),
+        Err(error) => Err(error),
     }
 }

@@ -58,7 +58,7 @@ module _ (t : NameTable) (s : SymbolTable) where
   unfolding fresh
   none-fresh space n c e =
       let k = shorter t s.names n c in
-      let l = length-replicate (suc (lengths t s.names)) 0 in
+      let l = length-replicate {A = ℕ} (suc (lengths t s.names)) 0 in
       let m = ap (λ (x : ExpandedName). length x.1) e in
       omega (arith, k, l, m)
 

@@ -32,7 +32,7 @@ use Rattle.kept_next.proofs.Fits.{symbol-fits, name-fits}
 as-many : {Shape Map : Type 0} (v : Lists Shape Map) (list : ℕ) (leaf : ℕ → Map) (ambivalent : ℕ → Bool) (symbols : List ℕ) → HasLeaves v list leaf ambivalent symbols →
     entries_in (get v list) ≡ length symbols
 as-many {Shape} {Map} v list leaf ambivalent symbols h =
-    ap entries_in h.listed.list_is ∙ (sym (length-map h.entries (λ (e : Entry Map). e.act)) ∙ (ap length h.maps ∙ length-map symbols leaf))
+    ap entries_in h.list_is ∙ (sym (length-map h.entries (λ (e : Entry Map). e.act)) ∙ (ap length h.maps ∙ length-map symbols leaf))
 
 rows-many : (lists : RowLists) (list : ℕ) (a : ContentAutomaton) (symbols : List ℕ) → IsRowList lists list a symbols → entries_in (get lists list) ≡ length symbols
 rows-many lists list (States a) symbols h = as-many lists list (leaf_of a) (is_ambivalent_symbol (States a)) symbols h.1

@@ -30,7 +30,7 @@ nothing : 0 < 0 → ⊥
 nothing h = omega (arith, h)
 
 one-some : (m n : ℕ) → 0 < m + n → (0 < m) ⊎ (0 < n)
-one-some zero n h = inr h
+one-some zero n h = inr (omega (arith, h))
 one-some (suc m) n h = inl (omega arith)
 
 module _ {X : Type 0} (f : X → ℕ) where
@@ -43,7 +43,7 @@ module _ {X : Type 0} (f : X → ℕ) where
   added-sum (x ∷ xs) = sum_by-cons f x xs ∙ ap (λ (n : ℕ). f x + n) (added-sum xs)
 
   added-append : (xs ys : List X) → added (xs ++ ys) ≡ added xs + added ys
-  added-append [] ys = refl
+  added-append [] ys = omega arith
   added-append (x ∷ xs) ys = let rest = added-append xs ys in omega (arith, rest)
 
   moved : (xs ys : List X) → IsPermutation xs ys → added ys ≡ added xs
@@ -180,7 +180,7 @@ module _ (xs ys : List ℕ) (xs_once : HasNoRepeats xs) (ys_once : HasNoRepeats 
 
 zeros : (xs : List ℕ) → added (λ m. 0) xs ≡ 0
 zeros [] = refl
-zeros (x ∷ xs) = zeros xs
+zeros (x ∷ xs) = let rest = zeros xs in omega (arith, rest)
 
 -- ---- how often a symbol comes among those of a content model
 
@@ -191,12 +191,12 @@ numbered-count : (a : SymbolName) (named : ℕ → SymbolName) (k : ℕ) (xs : L
 numbered-count a named k [] = refl
 numbered-count a named k (x ∷ xs) = ap (λ (n : ℕ). hit a (named x) + n) (numbered-count a named (suc k) xs)
 
-all-count : (a : SymbolName) (own spaces : List ℕ) → count a (symbols_of own spaces) ≡ added (λ n. hit a (Name n)) own + (added (λ n. hit a (Namespace n)) spaces + (hit a Other + 0))
+all-count : (a : SymbolName) (own spaces : List ℕ) → count a (symbols_of own spaces) ≡ (added (λ n. hit a (Name n)) own + added (λ n. hit a (Namespace n)) spaces) + (hit a Other + 0)
 all-count a own spaces =
     let other : List Symbol = record { number = length own + length spaces; name = Other } ∷ [] in
-    added-append (λ (x : Symbol). hit a x.name) (numbered Name 0 own) (numbered Namespace (length own) spaces ++ other)
-    ∙ (λ i. numbered-count a Name 0 own i + added-append (λ (x : Symbol). hit a x.name) (numbered Namespace (length own) spaces) other i)
-    ∙ ap (λ (n : ℕ). added (λ n. hit a (Name n)) own + (n + (hit a Other + 0))) (numbered-count a Namespace (length own) spaces)
+    added-append (λ (x : Symbol). hit a x.name) (numbered Name 0 own ++ numbered Namespace (length own) spaces) other
+    ∙ ap (λ (n : ℕ). n + (hit a Other + 0)) (added-append (λ (x : Symbol). hit a x.name) (numbered Name 0 own) (numbered Namespace (length own) spaces))
+    ∙ (λ i. (numbered-count a Name 0 own i + numbered-count a Namespace (length own) spaces i) + (hit a Other + 0))
 
 module _ (own own2 spaces spaces2 : List ℕ) (names : (n : ℕ) → among n own ≡ among n own2) (nss : (n : ℕ) → among n spaces ≡ among n spaces2) where
   parts-same : (a : SymbolName) → (added (λ n. hit a (Name n)) own ≡ added (λ n. hit a (Name n)) own2) × (added (λ n. hit a (Namespace n)) spaces ≡ added (λ n. hit a (Namespace n)) spaces2)
@@ -207,7 +207,7 @@ module _ (own own2 spaces spaces2 : List ℕ) (names : (n : ℕ) → among n own
   all-same : (a : SymbolName) → count a (symbols_of own spaces) ≡ count a (symbols_of own2 spaces2)
   all-same a =
       let same = parts-same a in
-      all-count a own spaces ∙ (λ i. same.0 i + (same.1 i + (hit a Other + 0))) ∙ sym (all-count a own2 spaces2)
+      all-count a own spaces ∙ (λ i. (same.0 i + same.1 i) + (hit a Other + 0)) ∙ sym (all-count a own2 spaces2)
 
 -- ---- sorted symbols of which each comes as often are the same
 
@@ -221,7 +221,9 @@ module _ (t : NameTable) (sound : IsSound t) where
   rises [] up = tt
   rises (x ∷ xs) up = (
     (λ n d l. sorted_far (is_before t) (ranks_by (print-total t) (λ (y : Symbol). y.name)) (x ∷ xs) up 0 (suc n) d (omega arith) (omega (arith, l))),
-    rises xs (λ k d low high. up (suc k) d (omega arith) (omega (arith, high))),
+    rises xs (λ k d low high.
+    let next : suc k + 1 ≡ suc (k + 1) = omega arith in
+    subst (λ (n : ℕ). is_before t (get_or (x ∷ xs) n d) (get_or xs k d) ≡ false) next (up (suc k) d (omega arith) (omega (arith, high)))),
   )
 
   among-all : (Q : SymbolName → Type 0) (a : SymbolName) (xs : List Symbol) → All (λ (x : Symbol). Q x.name) xs → 0 < count a xs → Q a

@@ -45,28 +45,25 @@ impl Around for AroundAt<'_> {
     }
 
     fn symbol_name(&self, symbol: u32) -> SymbolName {
-        self.symbols.as_slice()[symbol as usize].name
+        self.symbols[symbol as usize].name
     }
 
     fn before<L: Ledger>(&self, steps: &mut Steps<L>) -> ChildState {
-        let children = &self.children;
-        children
-            .lists
-            .upto(children.list, children.automaton, self.place, steps)
+        self.lists
+            .upto(self.list, self.automaton, self.place, steps)
     }
 
     fn with<L: Ledger>(&self, state: ChildState, symbol: u32, steps: &mut Steps<L>) -> ChildState {
-        let number = self.symbols.as_slice()[symbol as usize].number;
-        state.with(self.children.automaton, number, steps)
+        let number = self.symbols[symbol as usize].number;
+        state.with(self.automaton, number, steps)
     }
 
     fn after<L: Ledger>(&self, state: ChildState, steps: &mut Steps<L>) -> ChildState {
-        let children = &self.children;
-        children.lists.from(children.list, self.place, state, steps)
+        self.lists.from(self.list, self.place, state, steps)
     }
 
     fn verdict(&self, state: ChildState) -> Fit {
-        fit_of(self.children.automaton, state)
+        fit_of(self.automaton, state)
     }
 }
 

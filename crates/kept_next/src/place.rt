@@ -12,7 +12,6 @@ use model_lists::{ModelList, ModelLists};
 use next_names::{Symbol, symbol_order};
 use std::alloc::{AllocError, Global};
 use std::marker::Model;
-use xs_lists::Listed;
 use xs_names::Names;
 
 /// The child elements of an element as a list, with the automaton of the content model of its type.
@@ -26,9 +25,11 @@ pub struct ChildList<'a> {
 /// A place of a list of child elements: which names may stand there is asked of it (`next_names`).
 #[derive(Drop)]
 pub struct AroundAt<'a> {
-    pub(crate) children: ChildList<'a>,
+    pub(crate) lists: &'a ModelLists,
+    pub(crate) list: ModelList,
+    pub(crate) automaton: &'a ContentAutomaton,
     /// The symbols of the automaton in the order in which they are printed.
-    pub(crate) symbols: Listed<Symbol>,
+    pub(crate) symbols: Vec<Symbol>,
     pub(crate) place: u32,
 }
 
@@ -57,16 +58,18 @@ impl<'a> AroundAt<'a> {
         place: u32,
     ) -> Result<AroundAt<'a>, AllocError>
         requires { (s : SchemaSet) × (p : ℕ) × (given : List ExpandedName) × IsListBy children.lists.now children.list children.automaton.now s p given × (s.names ≡ names.now) × (place ≤ length given) }
-        ensures lists { IfOk result (λ v. v.lists ≡ children.lists.now) }
-        ensures list { IfOk result (λ v. v.list ≡ children.list) }
-        ensures automaton { IfOk result (λ v. v.automaton ≡ children.automaton.now) }
+        ensures lists { IfOk result (λ v. v.lists ≡ children.entry.lists.now) }
+        ensures list { IfOk result (λ v. v.list ≡ children.entry.list) }
+        ensures automaton { IfOk result (λ v. v.automaton ≡ children.entry.automaton.now) }
         ensures place { IfOk result (λ v. v.place ≡ place) }
-        ensures is { IfOk result (λ v. (s : SchemaSet) (p : ℕ) (given : List ExpandedName) → IsListBy children.lists.now children.list children.automaton.now s p given → s.names ≡ names.now → place ≤ length given →
+        ensures is { IfOk result (λ v. (s : SchemaSet) (p : ℕ) (given : List ExpandedName) → IsListBy children.entry.lists.now children.entry.list children.entry.automaton.now s p given → s.names ≡ names.now → place ≤ length given →
             IsPlaceBy v s p given) }
     {
         let symbols = ordered(alloc, names, children.automaton)?;
         Ok(AroundAt {
-            children,
+            lists: children.lists,
+            list: children.list,
+            automaton: children.automaton,
             symbols,
             place,
         })
@@ -78,13 +81,16 @@ fn ordered(
     alloc: Global,
     names: &Names,
     automaton: &ContentAutomaton,
-) -> Result<Listed<Symbol>, AllocError>
+) -> Result<Vec<Symbol>, AllocError>
     requires names { AreNamesOf names.now (symbols_of automaton.now).names }
     requires spaces { AreSpacesOf names.now (symbols_of automaton.now).spaces }
-    ensures ordered { IfOk result (IsOrderOf names.now (symbols_of automaton.now).names (symbols_of automaton.now).spaces) }
-    ensures few { IfOk result (λ symbols. length symbols < 2 ^ 32) }
+    ensures ordered { IfOk result (λ symbols. IsOrderOf names.now (symbols_of automaton.now).names (symbols_of automaton.now).spaces symbols.items) }
+    ensures few { IfOk result (λ symbols. length symbols.items < 2 ^ 32) }
 {
     let symbols = automaton.symbols();
     let _count = symbols.count();
-    symbol_order(alloc, names, symbols.names(), symbols.spaces())
+    match symbol_order(alloc, names, symbols.names(), symbols.spaces()) {
+        Ok(ordered) => Ok(ordered.into_vec()),
+        Err(error) => Err(error),
+    }
 }

@@ -1,5 +1,6 @@
 -- Which names may stand at a place is told.
 use Rattle.std.proofs.Common.{◌≡◌, ℕ, ◌+◌, ◌≤◌, List, Option, Result, Ok, Err, length, map, take, drop, refl, sym, ap, subst, ◌∙◌, arith}
+use Rattle.assessment.specs.Attribution.{SchemaSet}
 use Rattle.edit_session.specs.Around.{IsAroundAt, asked_at}
 use Rattle.edit_session.specs.declared.around.AroundError.{AroundError}
 use Rattle.kept_next.specs.Answers.{Answer, AreAnswers, PlaceQuestion, answers_by, cost, reply}
@@ -33,6 +34,10 @@ module _ (s : OpenState) (node place : ℕ) (v : ListPlace) (h : IsAroundAt s.se
       let many : length answers ≡ length v.symbols = answers-by-many v h.question.set h.names in
       let same = ap (cost (child_count s.session node)) many in
       omega (arith, few, more, same)
+
+  -- the names are those of the table of the session
+  pub names-are : (set : SchemaSet) → set ≡ s.session.set → h.question.set.names ≡ set.names
+  names-are set is = ap (λ (x : SchemaSet). x.names) (h.set_is ∙ sym is)
 
   pub next_answered : (r : Result (Unit {0}) BreakOff) (old new : Option (List ℕ)) (n m : ℕ) (next : OpenState → Told)
       → Wrote r old new (reply h.question.set.names (answers_by v h.question.set h.names)) → n ≤ m → m ≤ n + cost (children_in v.lists v.list) (length v.symbols)

@@ -1,6 +1,6 @@
 -- The particles that contents add name no namespaces.
-use Rattle.std.proofs.Common.{◌≡◌, ℕ, ◌<◌, List, [], ◌∷◌, ◌++◌, Bool, true, false, Option, None, Some, length}
-use Rattle.std.specs.Prelude.{All, slice_get}
+use Rattle.std.proofs.Common.{ℕ, ◌<◌, List, [], ◌∷◌, Bool, true, false, Option, None, Some, length}
+use Rattle.std.specs.Prelude.{All, max, slice_get}
 use Rattle.std.proofs.lemmas.List.Elements.{All-nil, All-push}
 use Rattle.xs_names.specs.Names.{NameTable}
 use Rattle.xs_components.specs.Tables.{Tables}
@@ -9,9 +9,10 @@ use Rattle.xs_components.specs.declared.common.TypeId.{TypeId}
 use Rattle.xs_components.specs.declared.common.TypeId.TheVariants.{AnyType, Builtin, Simple, Complex}
 use Rattle.xs_components.specs.declared.complex.ComplexType.{ComplexType}
 use Rattle.xs_components.specs.declared.particle.Particle.{Particle}
+use Rattle.xs_components.specs.declared.particle.Term.TheVariants.{Sequence}
 use Rattle.component_references.specs.References.{effective_of}
-use Rattle.type_derivation.specs.Particles.{any_elements, goes_on}
-use Rattle.type_derivation.specs.Filled.{Content, with_particle, with_alone, with_sequence, base_filled, extended_filled, derived_filled, part_filled, with_content, number_filled, type_filled, all_filled}
+use Rattle.type_derivation.specs.Particles.{any_elements, goes_on, once}
+use Rattle.type_derivation.specs.Filled.{above, with_particle, with_alone, base_filled, extended_filled, derived_filled, part_filled, with_content, number_filled, type_filled, all_filled}
 use Rattle.wildcard_laws.proofs.Terms.{IsPartSpaced}
 
 module _ (t : NameTable) where
@@ -26,7 +27,10 @@ module _ (t : NameTable) where
   more-spaced parts part rank own h = All-push (IsPartSpaced t) parts.particles.parts part h own
 
   alone-spaced : (parts : Tables) (at : Place) → AllSpaced parts → AllSpaced (with_alone parts at (any_elements at))
-  alone-spaced parts at h = more-spaced (with_particle parts (any_elements at) 0) _ _ none-named (more-spaced parts (any_elements at) 0 none-named h)
+  alone-spaced parts at h =
+      let first = with_particle parts (any_elements at) 0 in
+      let any = length parts.particles.parts in
+      more-spaced first (once at (Sequence (any ∷ []))) (above first any) none-named (more-spaced parts (any_elements at) 0 none-named h)
 
   base-spaced : (parts : Tables) (at : Place) (of : TypeId) → AllSpaced parts → AllSpaced (base_filled parts at of).tables
   base-spaced parts at AnyType h = alone-spaced parts at h
@@ -37,7 +41,8 @@ module _ (t : NameTable) where
   extended-spaced : (parts : Tables) (at : Place) (base effective : Option ℕ) → AllSpaced parts → AllSpaced (extended_filled parts at base effective).tables
   extended-spaced parts at None effective h = h
   extended-spaced parts at (Some base) None h = h
-  extended-spaced parts at (Some base) (Some effective) h = more-spaced parts _ _ none-named h
+  extended-spaced parts at (Some base) (Some effective) h =
+      more-spaced parts (once at (Sequence (base ∷ effective ∷ []))) (max (above parts base) (above parts effective)) none-named h
 
   derived-spaced : (parts : Tables) (on : Bool) (at : Place) (base : TypeId) (effective : Option ℕ) → AllSpaced parts → AllSpaced (derived_filled parts on at base effective).tables
   derived-spaced parts false at base effective h = h

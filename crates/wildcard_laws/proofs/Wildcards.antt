@@ -1,26 +1,22 @@
 -- The table of a compiled set has the namespaces that its wildcards name.
-use Rattle.std.proofs.Common.{◌≡◌, ℕ, ◌<◌, List, [], ◌∷◌, Option, None, Some, Ok, length, refl, sym, ap, subst, ◌∙◌, arith, inl, inr}
-use Rattle.std.specs.Prelude.{All, ◌⊎◌}
-use Rattle.xs_codes.specs.declared.fault.Fault.{Fault}
-use Rattle.xs_names.specs.Names.{NameTable, IsSound, no_names, space_of, local_of, with_name}
+use Rattle.std.proofs.Common.{◌≡◌, ℕ, ◌<◌, List, [], ◌∷◌, Option, None, Some, length, refl, sym, ap, subst, ◌∙◌, arith, inl, inr}
+use Rattle.xs_names.specs.Names.{NameTable, IsSound, no_names}
 use Rattle.xs_names.proofs.GrownLaws.{two_spaces}
 use Rattle.xs_components.specs.Tables.{Tables}
-use Rattle.component_references.specs.Circles.{Ranks, with_all_ranks}
+use Rattle.component_references.specs.Circles.{with_all_ranks}
 use Rattle.schema_set.specs.declared.documents.SetDocument.{SetDocument}
 use Rattle.schema_set.specs.declared.inputs.SchemaInput.{SchemaInput}
 use Rattle.representations.specs.declared.parts.Representation.{Representation}
-use Rattle.representations.specs.declared.source.Source.{Source}
 use Rattle.set_representations.specs.Documents.{representations, set_table}
 use Rattle.redefine_names.specs.declared.declared.Declared.{Declared}
 use Rattle.redefine_names.specs.Components.{declared_at}
-use Rattle.redefine_names.specs.VersionNames.{version_local, with_name_of, with_version, with_versions}
+use Rattle.redefine_names.specs.VersionNames.{with_name_of, with_version, with_versions}
 use Rattle.build_components.specs.Built as built
 use Rattle.build_components.proofs.ListLaws.{all-at}
 use Rattle.schema_check.specs.Components.{all_names}
-use Rattle.schema_check.specs.SetPhases.{names, AreParts, IsCompiled, IsSetCompiled}
+use Rattle.schema_check.specs.SetPhases.{names, AreParts, IsCompiled}
 use Rattle.schema_check.specs.declared.documents.CompiledSet.{CompiledSet}
-use Rattle.schema_compile.specs.Outcomes.{IsOutcome, IsSetOutcome}
-use Rattle.schema_compile.specs.declared.outcome.Outcome.{Outcome}
+use Rattle.schema_compile.specs.Outcomes.{IsOutcome}
 use Rattle.schema_compile.specs.declared.outcome.Outcome.TheVariants.{Accepted, Broken}
 use Rattle.compiled_schema.specs.Usable.{set_of}
 use Rattle.compiled_schema.specs.declared.compiled.Compiled.{Compiled}
