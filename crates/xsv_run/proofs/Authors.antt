@@ -8,10 +8,10 @@ use Rattle.edit_script.specs.declared.command.Command.{Command}
 use Rattle.edit_script.specs.declared.command.Command.TheVariants as commands
 use Rattle.edit_script.specs.declared.command.ScriptFault.{ScriptFault}
 use Rattle.told.specs.Told.{Said, free}
-use Rattle.stream_answers.specs.open_document.Replies.{turn_refusal, no_past, no_future}
-use Rattle.stream_answers.specs.open_document.State.{OpenState, Turn}
-use Rattle.stream_answers.specs.open_document.Steps.{Step, undo_of, redo_of, with_turn}
-use Rattle.stream_answers.specs.open_document.Touches.{TurnFault, turn_fault, touched}
+use Rattle.stream_answers.specs.from_open_document.Replies.{turn_refusal, no_past, no_future}
+use Rattle.stream_answers.specs.from_open_document.State.{OpenState, Turn}
+use Rattle.stream_answers.specs.from_open_document.Steps.{Step, undo_of, redo_of, with_turn}
+use Rattle.stream_answers.specs.from_open_document.Touches.{TurnFault, turn_fault, touched}
 use Rattle.xsv_run.specs.Complete.{IsEditReply, IsStepReply, IsTurnReply, IsReply}
 use Rattle.xsv_run.specs.Authors.{Read, without_author, fault_of, IsAlike, AreAnswers, IsPlainBy, ArePlain}
 

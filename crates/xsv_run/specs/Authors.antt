@@ -4,9 +4,9 @@ use Rattle.edit_script.specs.declared.command.Command.{Command}
 use Rattle.edit_script.specs.declared.command.Command.TheVariants as commands
 use Rattle.edit_script.specs.declared.command.ScriptFault.{ScriptFault}
 use Rattle.told.specs.Told.{Said, free}
-use Rattle.stream_answers.specs.open_document.Replies.{turn_refusal}
-use Rattle.stream_answers.specs.open_document.State.{OpenState, Turn}
-use Rattle.stream_answers.specs.open_document.Touches.{TurnFault, turn_fault}
+use Rattle.stream_answers.specs.from_open_document.Replies.{turn_refusal}
+use Rattle.stream_answers.specs.from_open_document.State.{OpenState, Turn}
+use Rattle.stream_answers.specs.from_open_document.Touches.{TurnFault, turn_fault}
 use Rattle.xsv_run.specs.Complete.{IsReply}
 
 -- what a line was read as
