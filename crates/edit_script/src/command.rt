@@ -21,11 +21,7 @@ pub enum Command {
     /// `redo`: on to the tree that was left by the last undo.
     Redo,
     /// `as A V EDIT`: a change of the tree by an author who had seen a revision.
-    Turn {
-        author: u32,
-        seen: u64,
-        edit: Edit,
-    },
+    Turn { author: u32, seen: u64, edit: Edit },
 }
 
 /// Why a line is no command.

@@ -10,8 +10,8 @@ ghost use Rattle.open_document.specs.State.{OpenState};
 
 use crate::changing::{answer_change, answer_redo, answer_undo};
 use crate::held::OpenDocument;
-use crate::turning::answer_turn;
 use crate::reply::{answer_assess, answer_report, answer_total, write_refusal};
+use crate::turning::answer_turn;
 use edit_script::{Command, ScriptFault};
 use told::BreakOff;
 use xsv_io::Sink;

@@ -12,7 +12,6 @@ ghost use Rattle.stream_sections.specs.declared.schemas.SchemaSection.{SchemaSec
 ghost use Rattle.command_words.specs.declared.request.Request.{Request};
 ghost use Rattle.xsv_run.specs.Output.{Output, IsAnswer, IsOutput};
 ghost use Rattle.xsv_run.specs.Complete.{AreReplies, IsPresent, IsByOutcome, IsCheckOutput, IsStreamOutput};
-
 ghost use Rattle.xsv_run.specs.Authors.{Read, IsAlike, AreAnswers, ArePlain};
 
 use outcome_laws::outcomes_are_one;
