@@ -23,11 +23,7 @@ pub enum Command {
     /// `next P I`: a question for the names that may stand before the child at a place of an element.
     Next { parent: u32, index: u32 },
     /// `as A V EDIT`: a change of the tree by an author who had seen a revision.
-    Turn {
-        author: u32,
-        seen: u64,
-        edit: Edit,
-    },
+    Turn { author: u32, seen: u64, edit: Edit },
 }
 
 /// Why a line is no command.

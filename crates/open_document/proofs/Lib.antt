@@ -7,3 +7,4 @@ pub mod Stepping
 pub mod Worked
 mod Entries
 mod Next
+mod Touching

@@ -2,7 +2,8 @@
 use Rattle.std.proofs.Common.{◌≡◌, ◌≤◌, ◌^◌, ◌-◌, ℕ, List, [], ◌∷◌, ◌++◌, refl, sym, ap, ◌∙◌, subst, arith}
 use Rattle.std.proofs.lemmas.List.Elements.{All-push}
 use Rattle.author_turns.specs.Logged.{Logged, AreNoLater}
-use Rattle.author_turns.specs.Turns.{Turn, turn}
+use Rattle.author_turns.specs.Turns.{turn}
+use Rattle.author_turns.specs.declared.turn.Turn.{Turn}
 use Rattle.author_turns.specs.declared.touched.Touched.{Touched}
 use Rattle.session_model.specs.State.{State, next_revision}
 use Rattle.open_document.specs.Held.{state_of, IsLogged}

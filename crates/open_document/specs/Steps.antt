@@ -10,7 +10,8 @@ use Rattle.session_model.specs.State.{after_edit, next_revision}
 use Rattle.edit_session.specs.Changed.{after_change}
 use Rattle.undo_log.specs.History.{History, edited, undone, redone}
 use Rattle.undo_log.specs.Log.{Log, noted, with_undo_taken, with_undo_answered, with_redo_taken, with_redo_answered}
-use Rattle.author_turns.specs.Turns.{Turn, turn}
+use Rattle.author_turns.specs.Turns.{turn}
+use Rattle.author_turns.specs.declared.turn.Turn.{Turn}
 use Rattle.author_turns.specs.declared.touched.Touched.{Touched}
 use Rattle.open_document.specs.State.{OpenState, kept_trees}
 use Rattle.open_document.specs.Touches.{touched, touches}

@@ -14,7 +14,8 @@ use Rattle.stream_answers.specs.from_edit_session.Around.{asked_at}
 use Rattle.stream_answers.specs.from_edit_session.AroundError.{AroundError}
 use Rattle.kept_next.specs.Answers.{PlaceQuestion}
 use Rattle.stream_answers.specs.from_open_document.State.{OpenState}
-use Rattle.stream_answers.specs.from_open_document.Touches.{TurnFault, turn_fault}
+use Rattle.stream_answers.specs.from_open_document.Touches.{turn_fault}
+use Rattle.stream_answers.specs.from_open_document.TurnFault.{TurnFault}
 use Rattle.stream_answers.specs.from_open_document.Steps.{Step, undo_of, redo_of}
 use Rattle.stream_sections.specs.Spelled.{Order}
 use Rattle.xsv_run.specs.Complete.{IsEditReply, IsTurnReply, IsStepReply, IsNextReply, IsReply, AreReplies, IsPresent}
