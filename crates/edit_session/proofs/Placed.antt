@@ -63,7 +63,8 @@ use Rattle.edit_session.proofs.Standing.{stands-now, settled}
 -- ---- the names of child elements
 
 fewer : (p : ℕ → Bool) (i : ℕ) (xs : List ℕ) → length (filter p (take i xs)) ≤ length (filter p xs)
-fewer p i [] = omega arith
+fewer p zero [] = omega arith
+fewer p (suc i) [] = omega arith
 fewer p zero (x ∷ xs) = omega arith
 fewer p (suc i) (x ∷ xs) = elim (p x) as (λ b. length (cond b (x ∷ filter p (take i xs)) (filter p (take i xs))) ≤ length (cond b (x ∷ filter p xs) (filter p xs))) [
   | true ↦ (let r = fewer p i xs in omega (arith, r))
@@ -79,10 +80,10 @@ filtered-few p (x ∷ xs) = elim (p x) as (λ b. length (cond b (x ∷ filter p 
 
 module _ (t : NameTable) (ns : Nodes) (sound : IsSound t) where
   -- the name of an element by its number
-  abbrev name_of : ℕ → ExpandedName
+  abbrev pub name_of : ℕ → ExpandedName
   name_of n = name_at t (readers.name_at ns n)
 
-  abbrev names_among : List ℕ → List ExpandedName
+  abbrev pub names_among : List ℕ → List ExpandedName
   names_among numbers = map name_of (filter (is_element_at ns) numbers)
 
   text-is : (number : ℕ) (chars : List ℕ) → IsText ns number chars → is_element_at ns number ≡ false
@@ -113,13 +114,13 @@ module _ (t : NameTable) (ns : Nodes) (sound : IsSound t) where
       ∙ (λ i. named number name bindings attributes children s.0 i ∷ all-named next s.2 i)
 
   -- so many elements there are before a place
-  abbrev upto : ℕ → List ℕ → ℕ
+  abbrev pub upto : ℕ → List ℕ → ℕ
   upto place numbers = length (filter (is_element_at ns) (take place numbers))
 
   before-named : (place : ℕ) (f : Forest) → StandFor t ns f → take (upto place (firsts f)) (names_among (firsts f)) ≡ names_before t place f
   before-named place none s = take-none (upto place [])
     where
-      take-none : (n : ℕ) → take n [] ≡ []
+      take-none : (n : ℕ) → take {A = ExpandedName} n [] ≡ []
       take-none zero = refl
       take-none (suc n) = refl
   before-named zero (text number chars next) s = refl
@@ -135,7 +136,7 @@ module _ (t : NameTable) (ns : Nodes) (sound : IsSound t) where
   behind-named : (place : ℕ) (f : Forest) → StandFor t ns f → drop (upto place (firsts f)) (names_among (firsts f)) ≡ names_behind t place f
   behind-named place none s = drop-none (upto place [])
     where
-      drop-none : (n : ℕ) → drop n [] ≡ []
+      drop-none : (n : ℕ) → drop {A = ExpandedName} n [] ≡ []
       drop-none zero = refl
       drop-none (suc n) = refl
   behind-named zero (text number chars next) s = all-named (text number chars next) s
@@ -186,7 +187,7 @@ module _ (s : State) (ns : Nodes) (node_number place : ℕ) (z : StandsFor s.set
 -- ---- the place of an element
 
 module _ (c : Compiled) (ns : Nodes) (k : KeptState) (present : IsPresent c ns k) (spaced : HasSpacesNamed (set_of c)) (n : ℕ) (kind : kind_at ns n ≡ Some kinds.Element) where
-  stands : StandsFor c.names ns (document_in c ns)
+  pub stands : StandsFor c.names ns (document_in c ns)
   stands = (settled c ns k present.whole).over.stands
 
   known : Some kinds.Element ≡ kind_of n (document_in c ns).forest
@@ -202,7 +203,7 @@ module _ (c : Compiled) (ns : Nodes) (k : KeptState) (present : IsPresent c ns k
   listed = (fit-at c ns k.records.slots k.lists k.root_ids (document_in c ns) (settled c ns k present.whole) n made).gathered.list_is
 
   -- the names of its child elements
-  abbrev names : List ExpandedName
+  abbrev pub names : List ExpandedName
   names = names_among c.names ns stands.table (children_by (node ns n))
 
   type-is : (revision : ℕ) (closed : Bool) → type_at (state_by c ns k revision closed) n ≡ (pair_at k.records.slots n).of
@@ -226,7 +227,7 @@ module _ (c : Compiled) (ns : Nodes) (k : KeptState) (present : IsPresent c ns k
         none-fits (Some p) f = absurd f
 
   module _ (a : ContentAutomaton) (h : ModelList) (model : models_of c (pair_at k.records.slots n).of ≡ Some a) (list : (kept_at k.records.slots n).list ≡ Some h) where
-    particle : (p : ℕ) × (content_particle c.parts (pair_at k.records.slots n).of ≡ Some p) × IsAutomatonFor (set_of c) p a
+    pub particle : (p : ℕ) × (content_particle c.parts (pair_at k.records.slots n).of ≡ Some p) × IsAutomatonFor (set_of c) p a
     particle =
         by (content_particle c.parts (pair_at k.records.slots n).of) refl
         (subst (Fits (set_of c) (content_particle c.parts (pair_at k.records.slots n).of)) model (type-fits c (settled c ns k present.whole).over.usable.first (settled c ns k present.whole).over.usable.models_are (pair_at k.records.slots n).of))
@@ -250,7 +251,7 @@ module _ (c : Compiled) (ns : Nodes) (k : KeptState) (present : IsPresent c ns k
     list-by = record { fits = particle.2; sound = stands.table; spaced = spaced; list_is = list-is }
 
     module _ (place : ℕ) (within : place ≤ length (children_by (node ns n))) where
-      abbrev before : ℕ
+      abbrev pub before : ℕ
       before = upto c.names ns stands.table place (children_by (node ns n))
 
       pub place-within : before ≤ length names

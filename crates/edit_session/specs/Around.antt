@@ -83,11 +83,11 @@ children_by (Some it) = children_below it.node
 abbrev pub children_at : Document → ℕ → Forest
 children_at d node = children_by (found node 1 d.forest)
 
-module _ (s : State) (node place : ℕ) where
-  -- the governing type of the element of the number, if it has one
-  abbrev pub type_at : Option TypeId
-  type_at = option_and_then (λ (e : Entry). e.governing.of) (entry_at node s.found)
+-- the governing type of the element of a number, if it has one
+abbrev pub type_at : State → ℕ → Option TypeId
+type_at s node = option_and_then (λ (e : Entry). e.governing.of) (entry_at node s.found)
 
+module _ (s : State) (node place : ℕ) where
   -- by the content model of its type; simple and empty content has none, nor has the content of anyType (Structures 3.4.1, 3.4.7)
   abbrev pub asked_by : Option ℕ → Result PlaceQuestion AroundError
   asked_by None = Err errors.NoModel
@@ -101,7 +101,7 @@ module _ (s : State) (node place : ℕ) where
   abbrev pub asked_of : Option NodeKind → Result PlaceQuestion AroundError
   asked_of None = Err errors.UnknownNode
   asked_of (Some kinds.Chars) = Err errors.NotElement
-  asked_of (Some kinds.Element) = if nat_lt (width (children_at s.document node)) place then Err errors.BadIndex else asked_by (content_particle s.set.parts type_at)
+  asked_of (Some kinds.Element) = if nat_lt (width (children_at s.document node)) place then Err errors.BadIndex else asked_by (content_particle s.set.parts (type_at s node))
 
   -- which names may stand before the child at a place of the element of a number, by the content model of its governing type; or why there
   -- is no such place, as for an insertion, or no content model
