@@ -29,9 +29,7 @@ fn refuse_turn<W: Sink>(sink: &mut W, fault: TurnFault) -> Result<(), BreakOff>
         TurnFault::Stale(revision) => write_answer(
             sink,
             &[
-                Part::Text("no "),
-                Part::Number(36),
-                Part::Text(" Stale "),
+                Part::Text("no 36 Stale "),
                 Part::Number(revision),
                 Part::Text("\n"),
             ],
