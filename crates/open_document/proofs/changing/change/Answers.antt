@@ -1,7 +1,5 @@
-use Rattle.std.proofs.Common.{◌≡◌, ap, ◌∙◌}
+use Rattle.std.proofs.Common.{ap, ◌∙◌}
 use Rattle.session_model.specs.State.{State}
-use Rattle.open_document.specs.Held.{state_of}
-use Rattle.open_document.specs.Steps.{with_turn}
 use Rattle.open_document.specs.Touches.{touched}
 use Rattle.open_document.proofs.Logging.{edit_behind, edit_logged, edit_noted, left_logged}
 use Rattle.open_document.proofs.Noting.{noted_as, turns_before}
