@@ -17,7 +17,7 @@ next_within : (n : ℕ) → next_revision n ≤ 2 ^ 64 - 1
 next_within n = grind arith
 
 still_later : (ts : List Turn) (n m : ℕ) → n ≤ m → AreNoLater ts n → AreNoLater ts m
-still_later ts n m le h k t at = let first : t.revision ≤ n = h k t at in omega arith
+still_later ts n m le h k t at = let first = h k t at in omega (arith, first, le)
 
 module _ (x : OpenDocument) (logged : IsLogged x) where
   -- the turns so far made no later revision than the next

@@ -1,4 +1,4 @@
-use Rattle.std.proofs.Common.{Option, Some, None, refl, sym, ap, ◌∙◌, subst}
+use Rattle.std.proofs.Common.{Option, refl, sym, ◌∙◌, subst}
 use Rattle.told.proofs.Saying.{free_answers}
 use Rattle.told.specs.Going.{Answers, trace}
 use Rattle.open_document.specs.Held.{state_of}
