@@ -6,5 +6,5 @@ pub mod Making
 pub mod Stepping
 pub mod Worked
 mod Entries
-mod Next
+mod Placed
 mod Touching

@@ -55,4 +55,5 @@ room_logged x turns same logged = record {
   logged = logged.logged;
   later = subst (λ (ts : List Turn). AreNoLater ts x.session.revision) (sym same) logged.later;
   within = logged.within;
+  spaced = logged.spaced;
 }

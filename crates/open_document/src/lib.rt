@@ -18,5 +18,6 @@ mod workspace;
 pub use held::boxed;
 pub use laws::edits_touch_what_their_changes_do;
 pub use reply::{write_answer, write_made, write_total};
+pub use touches::TurnFault;
 pub use verdict::{SetVerdict, Verdict};
 pub use workspace::Workspace;

@@ -95,7 +95,7 @@ fn stale(document: &OpenDocument, author: u32, seen: u64, edit: &Edit) -> Option
 
 /// Why an edit by an author is not looked at.
 #[derive(Clone, Copy)]
-pub(crate) enum TurnFault {
+pub enum TurnFault {
     /// The author cannot have seen a revision that is none yet.
     BadRevision,
     /// Another author made this revision after the one that was seen, and touched the same.
