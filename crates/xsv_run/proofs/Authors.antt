@@ -8,12 +8,15 @@ use Rattle.edit_script.specs.declared.command.Command.{Command}
 use Rattle.edit_script.specs.declared.command.Command.TheVariants as commands
 use Rattle.edit_script.specs.declared.command.ScriptFault.{ScriptFault}
 use Rattle.told.specs.Told.{Said, free}
-use Rattle.stream_answers.specs.from_open_document.Replies.{turn_refusal, no_past, no_future}
+use Rattle.stream_answers.specs.from_open_document.Replies.{turn_refusal, no_past, no_future, child_count}
+use Rattle.stream_answers.specs.from_edit_session.Around.{asked_at}
+use Rattle.stream_answers.specs.from_edit_session.AroundError.{AroundError}
+use Rattle.kept_next.specs.Answers.{PlaceQuestion}
 use Rattle.stream_answers.specs.from_open_document.State.{OpenState}
 use Rattle.stream_answers.specs.from_open_document.Steps.{Step, undo_of, redo_of, with_edit, with_step}
 use Rattle.stream_answers.specs.from_open_document.Touches.{turn_fault}
 use Rattle.stream_answers.specs.from_open_document.TurnFault.{TurnFault}
-use Rattle.xsv_run.specs.Complete.{IsEditReply, IsStepReply, IsTurnReply, IsReply}
+use Rattle.xsv_run.specs.Complete.{IsEditReply, IsStepReply, IsNextReply, IsTurnReply, IsReply}
 use Rattle.xsv_run.specs.Authors.{Read, without_author, fault_of, IsAlike, AreAnswers, IsPlainBy, ArePlain}
 
 -- a document with the turns of another
@@ -36,6 +39,11 @@ module _ (s t : OpenState) (own : Said) (next : OpenState) where
   step_so (Some step) refused h = let later = with_step (turned t s) step h.0 in (later, (h.0, h.1, h.2, ap (turned later) h.3))
   step_so None refused h = stays_so h
 
+  next_so : (children : ℕ) (r : Result PlaceQuestion AroundError) → IsNextReply s children r own next
+      → (later : OpenState) × IsNextReply (turned t s) children r own (turned later next)
+  next_so children (Ok question) h = (t, (h.0, h.1, h.2, ap (turned t) h.3))
+  next_so children (Err e) h = stays_so h
+
   turn_so : (author : ℕ) (edit : Edit) (fault : Option TurnFault) → fault ≡ None → IsTurnReply s author edit fault own next
       → (later : OpenState) × IsEditReply (turned t s) 0 edit (edited s.session.document edit) own (turned later next)
   turn_so author edit fault none h =
@@ -50,6 +58,7 @@ module _ (s t : OpenState) (own : Said) (next : OpenState) where
   reply_so (Ok commands.Total) none h = stays_so h
   reply_so (Ok commands.Undo) none h = step_so (undo_of s) no_past h
   reply_so (Ok commands.Redo) none h = step_so (redo_of s) no_future h
+  reply_so (Ok (commands.Next parent place)) none h = next_so (child_count s.session parent) (asked_at s.session parent place) h
   reply_so (Ok (commands.Turn author seen edit)) none h = turn_so author edit (turn_fault s author seen edit) none h
   reply_so (Err fault) none h = stays_so h
 
@@ -68,6 +77,7 @@ refused_so s (Ok commands.Report) own next fault is h = cc
 refused_so s (Ok commands.Total) own next fault is h = cc
 refused_so s (Ok commands.Undo) own next fault is h = cc
 refused_so s (Ok commands.Redo) own next fault is h = cc
+refused_so s (Ok (commands.Next parent place)) own next fault is h = cc
 refused_so s (Err e) own next fault is h = cc
 
 -- what there is for lines
