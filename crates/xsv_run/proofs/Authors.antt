@@ -1,5 +1,6 @@
 -- Commands of several authors are answered as the accepted ones without their authors.
 use Rattle.std.proofs.Common.{◌≡◌, ℕ, List, [], ◌∷◌, Option, Some, None, Result, Ok, Err, refl, sym, ap, ◌∙◌, subst}
+use Rattle.std.proofs.lemmas.Option.{none-some}
 use Rattle.tree_rows.specs.Forest.{Document}
 use Rattle.tree_edits.specs.Tests.{edited}
 use Rattle.tree_edits.specs.declared.edit.Edit.{Edit}
@@ -70,15 +71,15 @@ refused_turn s author edit own next fault found is h = subst (λ (f : Option Tur
 refused_so : (s : OpenState) (read : Read) (own : Said) (next : OpenState) (fault : TurnFault) → fault_of s read ≡ Some fault → IsReply s read own next
     → (own ≡ free (turn_refusal fault)) × (next ≡ s)
 refused_so s (Ok (commands.Turn author seen edit)) own next fault is h = refused_turn s author edit own next fault (turn_fault s author seen edit) is h
-refused_so s (Ok (commands.Change edit)) own next fault is h = cc
-refused_so s (Ok (commands.Assess node)) own next fault is h = cc
-refused_so s (Ok commands.Errors) own next fault is h = cc
-refused_so s (Ok commands.Report) own next fault is h = cc
-refused_so s (Ok commands.Total) own next fault is h = cc
-refused_so s (Ok commands.Undo) own next fault is h = cc
-refused_so s (Ok commands.Redo) own next fault is h = cc
-refused_so s (Ok (commands.Next parent place)) own next fault is h = cc
-refused_so s (Err e) own next fault is h = cc
+refused_so s (Ok (commands.Change edit)) own next fault is h = absurd (none-some fault is)
+refused_so s (Ok (commands.Assess node)) own next fault is h = absurd (none-some fault is)
+refused_so s (Ok commands.Errors) own next fault is h = absurd (none-some fault is)
+refused_so s (Ok commands.Report) own next fault is h = absurd (none-some fault is)
+refused_so s (Ok commands.Total) own next fault is h = absurd (none-some fault is)
+refused_so s (Ok commands.Undo) own next fault is h = absurd (none-some fault is)
+refused_so s (Ok commands.Redo) own next fault is h = absurd (none-some fault is)
+refused_so s (Ok (commands.Next parent place)) own next fault is h = absurd (none-some fault is)
+refused_so s (Err e) own next fault is h = absurd (none-some fault is)
 
 -- what there is for lines
 abbrev Plainly : OpenState → OpenState → List Read → List Said → OpenState → Type 0
