@@ -112,7 +112,7 @@ fn answer<P: Session + Drop, Q: Session + Drop, A: Abort>(
         Ok(Command::Change(edit)) => {
             let _made = apply(rt, pair, &edit)?;
         }
-        Ok(_) => {}
+        Ok(_other) => {}
         Err(_) => panic!(rt; "no command"),
     }
     Ok(())
