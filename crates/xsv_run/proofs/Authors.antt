@@ -25,25 +25,22 @@ abbrev turned : OpenState → OpenState → OpenState
 turned t s = record s { turns = t.turns }
 
 module _ (s t : OpenState) (own : Said) (next : OpenState) where
-  stays_so : {P : Type 0} → P × (next ≡ s) → (later : OpenState) × P × (turned later next ≡ turned t s)
-  stays_so h = (t, h.0, ap (turned t) h.1)
-
   edit_so : (author : ℕ) (edit : Edit) (r : Result Document EditError) → IsEditReply s author edit r own next
       → (later : OpenState) × IsEditReply (turned t s) 0 edit r own (turned later next)
   edit_so author edit (Ok d) h =
       let later = with_edit (turned t s) 0 edit d h.0 in
       (later, (h.0, h.1, h.2, ap (turned later) h.3))
-  edit_so author edit (Err e) h = stays_so h
+  edit_so author edit (Err e) h = (t, (h.0, ap (turned t) h.1))
 
   step_so : (step : Option Step) (refused : List ℕ) → IsStepReply s step refused own next
       → (later : OpenState) × IsStepReply (turned t s) step refused own (turned later next)
   step_so (Some step) refused h = let later = with_step (turned t s) step h.0 in (later, (h.0, h.1, h.2, ap (turned later) h.3))
-  step_so None refused h = stays_so h
+  step_so None refused h = (t, (h.0, ap (turned t) h.1))
 
   next_so : (children : ℕ) (r : Result PlaceQuestion AroundError) → IsNextReply s children r own next
       → (later : OpenState) × IsNextReply (turned t s) children r own (turned later next)
   next_so children (Ok question) h = (t, (h.0, h.1, h.2, ap (turned t) h.3))
-  next_so children (Err e) h = stays_so h
+  next_so children (Err e) h = (t, (h.0, ap (turned t) h.1))
 
   turn_so : (author : ℕ) (edit : Edit) (fault : Option TurnFault) → fault ≡ None → IsTurnReply s author edit fault own next
       → (later : OpenState) × IsEditReply (turned t s) 0 edit (edited s.session.document edit) own (turned later next)
@@ -53,15 +50,15 @@ module _ (s t : OpenState) (own : Said) (next : OpenState) where
   -- an answer that is no refusal of a turn is that to the line without its author
   reply_so : (read : Read) → fault_of s read ≡ None → IsReply s read own next → (later : OpenState) × IsReply (turned t s) (without_author read) own (turned later next)
   reply_so (Ok (commands.Change edit)) none h = edit_so 0 edit (edited s.session.document edit) h
-  reply_so (Ok (commands.Assess node)) none h = stays_so h
-  reply_so (Ok commands.Errors) none h = stays_so h
-  reply_so (Ok commands.Report) none h = stays_so h
-  reply_so (Ok commands.Total) none h = stays_so h
+  reply_so (Ok (commands.Assess node)) none h = (t, (h.0, ap (turned t) h.1))
+  reply_so (Ok commands.Errors) none h = (t, (h.0, ap (turned t) h.1))
+  reply_so (Ok commands.Report) none h = (t, (h.0, ap (turned t) h.1))
+  reply_so (Ok commands.Total) none h = (t, (h.0, ap (turned t) h.1))
   reply_so (Ok commands.Undo) none h = step_so (undo_of s) no_past h
   reply_so (Ok commands.Redo) none h = step_so (redo_of s) no_future h
   reply_so (Ok (commands.Next parent place)) none h = next_so (child_count s.session parent) (asked_at s.session parent place) h
   reply_so (Ok (commands.Turn author seen edit)) none h = turn_so author edit (turn_fault s author seen edit) none h
-  reply_so (Err fault) none h = stays_so h
+  reply_so (Err fault) none h = (t, (h.0, ap (turned t) h.1))
 
 -- a turn that is not taken is refused, and changes nothing
 refused_turn : (s : OpenState) (author : ℕ) (edit : Edit) (own : Said) (next : OpenState) (fault : TurnFault) (found : Option TurnFault) → found ≡ Some fault
