@@ -79,6 +79,13 @@ impl CountedKeys {
         }
     }
 
+    /// Whether an element is a target of some constraint.
+    pub fn is_target(&self, number: u32) -> bool
+        ensures { result ≡ false → targets_of self.now number ≡ [] }
+    {
+        self.targets.get(number).is_some()
+    }
+
     /// Keeps another parent of an element. Where an element comes or goes that shows nothing, the counts stay right
     /// (`counts_stay_as_links_change`).
     ///

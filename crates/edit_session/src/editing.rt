@@ -19,13 +19,14 @@ ghost use Rattle.doc_edits.specs.Changes.{IsPrepared};
 ghost use Rattle.doc_inverses.specs.Changes.{Means};
 ghost use Rattle.xs_names.specs.Names.{NameTable};
 
+use crate::turning::turn_of;
 use compiled_schema::Compiled;
 use doc_edits::{Change, prepare};
 use doc_inverses::Change as Inverse;
 use doc_tree::DocTree;
 use edit_inverses::inverse_of;
 use kept_inverses::kept_changes::{keep_change, records_stay_right_as_names_are_added};
-use kept_keys::settle_keys;
+use kept_keys::{TargetKeys, settle_keys};
 use kept_inverses::kept_state::KeptState;
 use std::alloc::AllocError;
 use tree_edits::{Edit, EditError};
@@ -53,6 +54,7 @@ fn make<L: Ledger>(
     doc: &mut DocTree,
     set: &mut Compiled,
     kept: &mut KeptState,
+    keys: &mut TargetKeys,
     change: Change,
     steps: &mut Steps<L>,
 ) -> Result<(), AllocError>
@@ -65,8 +67,9 @@ fn make<L: Ledger>(
     ensures reach { (d : Document) → StandsFor set.old.names doc.old d → ((doc.new ≡ doc.old) × (steps.new ≡ steps.old)) ⊎
         (StandsFor set.old.names doc.new (changed set.old.names d change) × Takes set.old doc.old doc.new kept.old change steps.old steps.new) }
 {
+    let turn = turn_of(kept.alloc, doc, spot_of(doc, &change))?;
     keep_change(doc, set, kept, change, steps)?;
-    settle_keys(doc, set, kept)
+    settle_keys(doc, set, kept, keys, &turn)
 }
 
 // Makes a change that nothing refuses, as `make` does, and answers the change that undoes it, which is read before.
@@ -74,6 +77,7 @@ fn make_undoable<L: Ledger>(
     doc: &mut DocTree,
     set: &mut Compiled,
     kept: &mut KeptState,
+    keys: &mut TargetKeys,
     change: Change,
     steps: &mut Steps<L>,
 ) -> Result<Inverse, AllocError>
@@ -89,7 +93,7 @@ fn make_undoable<L: Ledger>(
         (StandsFor set.old.names doc.new (changed set.old.names d change) × Takes set.old doc.old doc.new kept.old change steps.old steps.new) }
 {
     let back = inverse_of(kept.alloc, doc, &change)?;
-    make(doc, set, kept, change, steps)?;
+    make(doc, set, kept, keys, change, steps)?;
     Ok(back)
 }
 
@@ -104,6 +108,7 @@ pub(crate) fn edit_kept<L: Ledger>(
     doc: &mut DocTree,
     set: &mut Compiled,
     kept: &mut KeptState,
+    keys: &mut TargetKeys,
     edit: &Edit,
     steps: &mut Steps<L>,
 ) -> Result<Inverse, EditError>
@@ -120,7 +125,7 @@ pub(crate) fn edit_kept<L: Ledger>(
         Ok(change) => change,
         Err(error) => return Err(error),
     };
-    match make_undoable(doc, set, kept, change, steps) {
+    match make_undoable(doc, set, kept, keys, change, steps) {
         Ok(back) => Ok(back),
         Err(_) => Err(EditError::Memory),
     }

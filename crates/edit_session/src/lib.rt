@@ -4,6 +4,7 @@
 mod editing;
 mod opening;
 mod session;
+mod turning;
 mod undoing;
 
 pub use session::EditSession;

@@ -12,7 +12,7 @@ ghost use Rattle.edit_session.specs.Held.{Stands, IsPresent};
 use compiled_schema::{Compiled, usable_with_more_names};
 use doc_tree::DocTree;
 use kept_below::open_records;
-use kept_keys::settle_keys;
+use kept_keys::{TargetKeys, Turn, settle_keys};
 use kept_inverses::kept_state::KeptState;
 use plain_tree::Tree;
 use std::alloc::{AllocError, Global};
@@ -25,6 +25,7 @@ use xsv_steps::{Ledger, Steps};
 pub(crate) struct Opened {
     pub doc: DocTree,
     pub kept: KeptState,
+    pub keys: TargetKeys,
 }
 
 // The nodes of a tree, whose names are put into the table of the set.
@@ -47,6 +48,7 @@ fn fill<L: Ledger>(
     doc: &DocTree,
     set: &mut Compiled,
     kept: &mut KeptState,
+    keys: &mut TargetKeys,
     steps: &mut Steps<L>,
 ) -> Result<(), AllocError>
     requires beside { IsBeside set.old doc.now kept.old }
@@ -57,7 +59,7 @@ fn fill<L: Ledger>(
     ensures few { (d : Document) → StandsFor set.old.names doc.now d → steps.new ≤ steps.old + 3 * count d.forest }
 {
     open_records(doc, set, kept, steps)?;
-    settle_keys(doc, set, kept)
+    settle_keys(doc, set, kept, keys, &Turn::Listed(1))
 }
 
 // Keeps all elements of a document.
@@ -65,6 +67,7 @@ fn keep_all<L: Ledger>(
     alloc: Global,
     doc: &DocTree,
     set: &mut Compiled,
+    keys: &mut TargetKeys,
     steps: &mut Steps<L>,
 ) -> Result<KeptState, AllocError>
     requires usable { IsUsable set.old }
@@ -75,7 +78,7 @@ fn keep_all<L: Ledger>(
     ensures few { (d : Document) → StandsFor set.old.names doc.now d → steps.new ≤ steps.old + 3 * count d.forest }
 {
     let mut kept = KeptState::new(alloc)?;
-    fill(doc, set, &mut kept, steps)?;
+    fill(doc, set, &mut kept, keys, steps)?;
     Ok(kept)
 }
 
@@ -98,6 +101,7 @@ pub(crate) fn open_document<L: Ledger>(
     ensures few { steps.new ≤ steps.old + 8 * count tree.now.forest }
 {
     let doc = nodes_of(alloc, set, tree)?;
-    let kept = keep_all(alloc, &doc, set, steps)?;
-    Ok(Opened { doc, kept })
+    let mut keys = TargetKeys::new(alloc, set)?;
+    let kept = keep_all(alloc, &doc, set, &mut keys, steps)?;
+    Ok(Opened { doc, kept, keys })
 }

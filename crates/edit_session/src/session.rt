@@ -24,6 +24,7 @@ pub struct EditSession {
     set: Box<Compiled>,
     doc: DocTree,
     kept: KeptState,
+    keys: TargetKeys,
     revision: u64,
     closed: bool,
 }
@@ -72,7 +73,7 @@ impl EditSession {
         if self.closed {
             return Err(SessionError::Closed);
         }
-        match edit_kept(&mut self.doc, &mut self.set, &mut self.kept, edit, steps) {
+        match edit_kept(&mut self.doc, &mut self.set, &mut self.kept, &mut self.keys, edit, steps) {
             Ok(back) => {
                 self.revision = self.revision.saturating_add(1);
                 Ok(back)
@@ -104,7 +105,7 @@ impl EditSession {
         if self.closed {
             return Err(SessionError::Closed);
         }
-        match change_kept(&mut self.doc, &mut self.set, &mut self.kept, change, steps) {
+        match change_kept(&mut self.doc, &mut self.set, &mut self.kept, &mut self.keys, change, steps) {
             Ok(back) => {
                 self.revision = self.revision.saturating_add(1);
                 Ok(back)
@@ -118,10 +119,11 @@ impl EditSession {
 
     /// Lets go of it.
     pub fn close(self) {
-        let EditSession { set, doc, kept, .. } = self;
+        let EditSession { set, doc, kept, keys, .. } = self;
         drop(set);
         drop(doc);
         drop(kept);
+        drop(keys);
     }
 }
 
@@ -157,6 +159,7 @@ impl Session for EditSession {
                 set,
                 doc: opened.doc,
                 kept: opened.kept,
+                keys: opened.keys,
                 revision: 0,
                 closed: false,
             }),

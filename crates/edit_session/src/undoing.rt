@@ -6,11 +6,12 @@ ghost use Rattle.doc_inverses.specs.Changes.{Means};
 ghost use Rattle.edit_session.specs.Held.{IsPresent, Stands, document_in, state_by};
 ghost use Rattle.edit_session.specs.Changed.{IsReached, TakesWithin};
 
+use crate::turning::turn_of;
 use compiled_schema::Compiled;
 use doc_inverses::Change;
 use doc_tree::DocTree;
-use kept_inverses::keep_inverse;
-use kept_keys::settle_keys;
+use kept_inverses::{keep_inverse, spot_of};
+use kept_keys::{TargetKeys, settle_keys};
 use kept_inverses::kept_state::KeptState;
 use std::alloc::AllocError;
 use xsv_steps::{Ledger, Steps};
@@ -24,6 +25,7 @@ pub(crate) fn change_kept<L: Ledger>(
     doc: &mut DocTree,
     set: &mut Compiled,
     kept: &mut KeptState,
+    keys: &mut TargetKeys,
     change: Change,
     steps: &mut Steps<L>,
 ) -> Result<Change, AllocError>
@@ -38,7 +40,8 @@ pub(crate) fn change_kept<L: Ledger>(
     ensures few { (revision : ℕ) (closed : Bool) (c : law.Change) → Means set.old.names change c → law.Fits (document_in set.old doc.old) c
         → TakesWithin (state_by set.old doc.old kept.old revision closed) c steps.old steps.new }
 {
+    let turn = turn_of(kept.alloc, doc, spot_of(doc, &change))?;
     let back = keep_inverse(doc, set, kept, change, steps)?;
-    settle_keys(doc, set, kept)?;
+    settle_keys(doc, set, kept, keys, &turn)?;
     Ok(back)
 }

@@ -75,8 +75,8 @@ pub fn removal(doc: &DocTree, node: u32) -> Spot
     }
 }
 
-// Which element a change begins at.
-fn spot_of(doc: &DocTree, change: &Change) -> Spot
+/// Which element a change begins at.
+pub fn spot_of(doc: &DocTree, change: &Change) -> Spot
     requires { (t : NameTable) × (d : Document) × StandsFor t doc.now d × CanMake t doc.now d change.now }
     ensures { IsSpot doc.now change.now result }
 {

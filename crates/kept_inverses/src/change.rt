@@ -35,8 +35,8 @@ fn returned(part: &Part, parent: u32) -> Spot
     }
 }
 
-// Which element a change begins at.
-fn spot_of(doc: &DocTree, change: &Change) -> Spot
+/// Which element a change begins at.
+pub fn spot_of(doc: &DocTree, change: &Change) -> Spot
     requires { (t : NameTable) × (d : Document) × (c : law.Change) × StandsFor t doc.now d × Means t change.now c × law.Fits d c }
     ensures { IsSpotOf doc.now change.now result }
 {

@@ -12,7 +12,7 @@ ghost use Rattle.kept_above.specs.kept_records.Found.{IsOver, SaysFound, found_i
 ghost use Rattle.kept_above.specs.kept_state.Kept.{FitBut, IsBeside};
 ghost use Rattle.kept_keys.specs.Keys.{IsCoded, IsWhole, KeepsCodes, KeepsElements, codes_at};
 
-use crate::codes::{NumberedCodes, codes_of};
+use crate::codes::codes_of;
 use assess_records::Codes;
 use compiled_schema::Compiled;
 use doc_tree::DocTree;
@@ -73,9 +73,14 @@ fn settle_scope(
     judge_upwards(doc, set, kept, node)
 }
 
-// Finds the codes of the identity constraints of all elements, where the set has any, and makes the records right, the last in document
-// order first.
-fn settle_scopes(doc: &DocTree, set: &mut Compiled, kept: &mut KeptState) -> Result<(), AllocError>
+// Finds the codes anew of the elements whose identity constraints can have others, and makes the records right.
+fn settle_scopes(
+    doc: &DocTree,
+    set: &mut Compiled,
+    kept: &mut KeptState,
+    keys: &mut TargetKeys,
+    turn: &Turn,
+) -> Result<(), AllocError>
     requires { IsWhole set.old doc.now kept.old }
     ensures whole { OnOk result (IsWhole set.old doc.now kept.new) }
     ensures elements { OnOk result (KeepsElements kept.old kept.new) }
@@ -86,15 +91,10 @@ fn settle_scopes(doc: &DocTree, set: &mut Compiled, kept: &mut KeptState) -> Res
     if set.identities.is_empty() {
         return Ok(());
     }
-    let NumberedCodes {
-        mut numbers,
-        mut codes,
-    } = codes_of(doc, set, kept)?;
-    'left: while let Some(own) = codes.pop() {
-        let Some(node) = numbers.pop() else {
-            unreachable!()
-        };
-        settle_scope(doc, set, kept, node, own)?;
+    let scopes = retarget(set, doc, kept, keys, turn)?;
+    for node in scopes.as_slice() {
+        let codes = codes_of(set, kept, keys, *node)?;
+        settle_scope(doc, set, kept, *node, codes)?;
     }
     Ok(())
 }
@@ -128,12 +128,14 @@ pub fn settle_keys(
     doc: &DocTree,
     set: &mut Compiled,
     kept: &mut KeptState,
+    keys: &mut TargetKeys,
+    turn: &Turn,
 ) -> Result<(), AllocError>
     requires { IsWhole set.old doc.now kept.old }
     ensures whole { OnOk result (IsWhole set.old doc.now kept.new) }
     ensures says { OnOk result ((d : Document) → IsOver set.old doc.now kept.new.records.slots d → SaysFound set.old doc.now kept.new.records.slots kept.new.root_ids d) }
     ensures same { set.new ≡ set.old }
 {
-    settle_scopes(doc, set, kept)?;
+    settle_scopes(doc, set, kept, keys, turn)?;
     settle_ids(doc, set, kept)
 }

@@ -6,7 +6,7 @@ use Rattle.identity_constraints.specs.Targets.{constraints_of}
 use Rattle.identity_constraints.specs.Satisfied.{codes_by}
 use Rattle.path_walk.specs.Sight.{seen}
 use Rattle.forest_keys.specs.inside.Records.{AreFilledAt}
-use Rattle.forest_keys.proofs.reading.codes_of.Given as goal
+use Rattle.forest_keys.proofs.reading.element_codes.Given as goal
 
 abbrev pub invariant-constraints : goal.invariant-constraints
 invariant-constraints l = (below : KeyForest) → AreFilledAt l.by.set.names.now l.by.set.parts.now l.by.set.identities.now l.by.tree l.records l.place (seen l.own) below

@@ -1,7 +1,7 @@
 use Rattle.path_walk.specs.Sight.{seen}
 use Rattle.forest_keys.proofs.KeyrefLaws.{nothing-left, shorter}
 use Rattle.forest_keys.proofs.Codes.{codes-begun, codes-next, codes-end}
-use Rattle.forest_keys.proofs.reading.codes_of.Goals as goal
+use Rattle.forest_keys.proofs.reading.element_codes.Goals as goal
 
 pub constraints-init : goal.constraints-init
 constraints-init c = λ below filled.

@@ -7,7 +7,7 @@ use Rattle.doc_nodes.specs.Nodes.{Nodes, element_children}
 use Rattle.kept_slots.specs.Slots.{at}
 use Rattle.kept_above.specs.kept_records.KeptElement.{KeptElement}
 use Rattle.kept_above.specs.kept_records.Slots.{KeptSlots, IsKept}
-use Rattle.kept_keys.specs.declared.siblings.KeptSiblings.{KeptSiblings}
+use Rattle.kept_targets.specs.declared.siblings.KeptSiblings.{KeptSiblings}
 
 -- the child elements of an element; without one, the root
 abbrev pub elements_under : Nodes → Option ℕ → List ℕ

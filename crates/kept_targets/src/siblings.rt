@@ -8,7 +8,7 @@ ghost use Rattle.identity_assessment.specs.Identity.{seen_element};
 ghost use Rattle.xs_names.specs.Names.{NameTable};
 ghost use Rattle.path_walk.specs.Sight as sight;
 ghost use Rattle.tree_assess.specs.Entries.{entry_of};
-ghost use Rattle.kept_keys.specs.Seen.{elements_under, seen_to, siblings_of, IsFirstKept};
+ghost use Rattle.kept_targets.specs.Seen.{elements_under, seen_to, siblings_of, IsFirstKept};
 
 use doc_tree::DocTree;
 use kept_above::kept_records::{KeptElement, KeptRecords};
@@ -16,7 +16,7 @@ use path_walk::{KeySiblings, KeySight};
 
 /// Child elements of an element from a place on, each with all below it, as far as something is kept of them.
 #[derive(Clone, Copy)]
-pub(crate) struct KeptSiblings<'a> {
+pub struct KeptSiblings<'a> {
     pub doc: &'a DocTree,
     pub records: &'a KeptRecords,
     /// Their parent, none where they are the root.
@@ -44,6 +44,17 @@ impl<'a> KeptSiblings<'a> {
             records,
             parent: None,
             place: 0,
+            levels: doc.node_count(),
+        }
+    }
+
+    /// An element of which something is kept, with all elements below it, and the child elements of its parent behind it.
+    pub(crate) fn from(doc: &'a DocTree, records: &'a KeptRecords, node: u32) -> Self {
+        KeptSiblings {
+            doc,
+            records,
+            parent: doc.parent(node),
+            place: doc.element_place(node).unwrap_or(0),
             levels: doc.node_count(),
         }
     }
@@ -79,8 +90,8 @@ impl<'a> KeptSiblings<'a> {
     }
 }
 
-// What identity constraints see of an element.
-fn sight_of<'a>(own: &'a KeptElement) -> KeySight<'a>
+/// What identity constraints see of an element.
+pub fn sight_of<'a>(own: &'a KeptElement) -> KeySight<'a>
     ensures { sight.seen result ≡ seen_element (entry_of own.now.found) }
 {
     let entry = &own.found;
@@ -96,7 +107,7 @@ fn sight_of<'a>(own: &'a KeptElement) -> KeySight<'a>
 }
 
 impl<'a> KeySiblings for KeptSiblings<'a> {
-    ghost use Rattle.kept_keys.specs.Seen.{siblings_of};
+    ghost use Rattle.kept_targets.specs.Seen.{siblings_of};
 
     ghost forest = { siblings_of };
 

@@ -1,0 +1,89 @@
+//! Targets found anew where a document is another than before.
+
+use crate::above::{Touched, add_touching, targetings_at};
+use crate::keys::{TargetKeys, sign_of};
+use crate::moved::{Kept, add_marked, add_moved};
+use crate::turn::Turn;
+use compiled_schema::Compiled;
+use doc_tree::DocTree;
+use kept_state::KeptState;
+use std::alloc::AllocError;
+
+// The elements whose signs are others than before.
+fn moved_by(by: &Kept<'_>, keys: &TargetKeys, turn: &Turn) -> Result<Vec<u32>, AllocError> {
+    let mut moved = Vec::new(by.state.alloc);
+    match turn {
+        Turn::Own(node) => add_moved(by, keys, *node, &mut moved)?,
+        Turn::Listed(node) => {
+            add_moved(by, keys, *node, &mut moved)?;
+            if let Some(parent) = by.doc.parent(*node) {
+                add_marked(by, keys, parent, Some(*node), &mut moved)?;
+            }
+        }
+        Turn::Gone { parent, .. } => add_marked(by, keys, *parent, None, &mut moved)?,
+    }
+    Ok(moved)
+}
+
+// Takes elements that are gone out.
+fn forget(keys: &mut TargetKeys, gone: &[u32]) -> Result<(), AllocError> {
+    for node in gone {
+        keys.counted.take_targets(*node)?;
+    }
+    for node in gone {
+        keys.counted.set_parent(*node, None)?;
+        keys.signs.take(*node);
+    }
+    Ok(())
+}
+
+// Keeps the parents and the signs of elements.
+fn adopt(by: &Kept<'_>, keys: &mut TargetKeys, moved: &[u32]) -> Result<(), AllocError> {
+    for node in moved {
+        keys.counted.set_parent(*node, by.doc.parent(*node))?;
+        keys.set_sign(*node, sign_of(by.state.at(*node)))?;
+    }
+    Ok(())
+}
+
+// Finds the targets anew that elements are.
+fn find_again(by: &Kept<'_>, keys: &mut TargetKeys, nodes: &[u32]) -> Result<(), AllocError> {
+    for node in nodes {
+        keys.counted.take_targets(*node)?;
+        let found = targetings_at(by, *node)?;
+        keys.counted.put_targets(*node, found)?;
+    }
+    Ok(())
+}
+
+/// Finds anew which targets elements are, as far as it can be otherwise than before: of the elements whose names or governing are others
+/// and of those that have come, and of all above them and above the element where the document is another. Answers the elements
+/// whose codes can be others.
+///
+/// # Errors
+///
+/// `AllocError` is want of memory, or so much would be counted more than 4,294,967,295 times.
+pub fn retarget(
+    set: &Compiled,
+    doc: &DocTree,
+    state: &KeptState,
+    keys: &mut TargetKeys,
+    turn: &Turn,
+) -> Result<Vec<u32>, AllocError> {
+    let by = Kept { set, doc, state };
+    let moved = moved_by(&by, keys, turn)?;
+    let mut touched = Touched {
+        targets: Vec::new(state.alloc),
+        scopes: Vec::new(state.alloc),
+    };
+    add_touching(&by, keys, turn.lowest(), &mut touched)?;
+    forget(keys, turn.gone())?;
+    adopt(&by, keys, moved.as_slice())?;
+    find_again(&by, keys, moved.as_slice())?;
+    find_again(&by, keys, touched.targets.as_slice())?;
+    let mut scopes = touched.scopes;
+    for node in moved.as_slice() {
+        scopes.push(*node)?;
+    }
+    Ok(scopes)
+}
