@@ -23,13 +23,13 @@ module _ (t : Tables) (old new : Kin) (touched steady : ℕ → Bool) (leaves : 
       let behind = same-below ns next next2 (λ c h. off c (inr h)) before.1.1 after.1.1 in
       λ i. element (mine i) (under i) (behind i)
 
-  abbrev AreSameScopes : List KeyElement → List KeyElement → Type 0
+  abbrev pub AreSameScopes : List KeyElement → List KeyElement → Type 0
   AreSameScopes [] [] = Unit {0}
   AreSameScopes [] (b ∷ other) = ⊥
   AreSameScopes (a ∷ one) [] = ⊥
   AreSameScopes (a ∷ one) (b ∷ other) = IsSameScope t a b × AreSameScopes one other
 
-  same-above : (o : Option ℕ) (one other : List KeyElement) → ((p : ℕ) → o ≡ Some p → steady p ≡ true) → AreAbove old o one → AreAbove new o other → AreSameScopes other one
+  pub same-above : (o : Option ℕ) (one other : List KeyElement) → ((p : ℕ) → o ≡ Some p → steady p ≡ true) → AreAbove old o one → AreAbove new o other → AreSameScopes other one
   same-above None [] [] stands before after = tt
   same-above None [] (b ∷ other) stands before after = absurd after
   same-above None (a ∷ one) other stands before after = absurd before
