@@ -25,7 +25,7 @@ use doc_edits::{Change, prepare};
 use doc_inverses::Change as Inverse;
 use doc_tree::DocTree;
 use edit_inverses::inverse_of;
-use kept_inverses::kept_changes::{keep_change, records_stay_right_as_names_are_added};
+use kept_inverses::kept_changes::{keep_change, spot_of, records_stay_right_as_names_are_added};
 use kept_keys::{TargetKeys, settle_keys};
 use kept_inverses::kept_state::KeptState;
 use std::alloc::AllocError;

@@ -8,6 +8,7 @@ use compiled_schema::Compiled;
 use doc_inverses::Change;
 use doc_tree::DocTree;
 use kept_inverses::kept_state::KeptState;
+use kept_keys::TargetKeys;
 use plain_tree::Tree;
 use report_text::Records;
 use session_model::{Session, SessionError, entries_are_named};

@@ -1,7 +1,7 @@
 //! Where a change makes a document another.
 
 use doc_tree::DocTree;
-use kept_changes::{Spot, owner_of};
+use kept_inverses::kept_changes::{Spot, owner_of};
 use kept_keys::{Turn, add_below};
 use std::alloc::{AllocError, Global};
 

@@ -4,7 +4,7 @@ use assess_records::Codes;
 use compiled_schema::Compiled;
 use forest_keys::{Counting, element_codes};
 use key_records::KeyTree;
-use kept_state::KeptState;
+use kept_above::kept_state::KeptState;
 use kept_targets::{TargetKeys, sight_of};
 use path_walk::KeySet;
 use std::alloc::AllocError;

@@ -19,6 +19,7 @@ use doc_tree::DocTree;
 use kept_above::settle_above;
 use kept_above::kept_judging::judge;
 use kept_above::kept_state::{Governed, KeptState};
+use kept_targets::{TargetKeys, Turn, retarget};
 use std::alloc::AllocError;
 
 // Judges an element again whose codes of identity constraints, or of IDs, are others, and makes the records above it right.
