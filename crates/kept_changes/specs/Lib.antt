@@ -7,3 +7,4 @@ pub mod kept_children
 pub mod kept_judging
 pub mod kept_records
 pub mod kept_state
+pub mod kept_forgetting

@@ -28,3 +28,7 @@ IsSpotOf ns (changes.Take key) spot = IsRemoval ns key spot
 IsSpotOf ns (changes.Name key name) spot = spot ≡ Renamed key
 IsSpotOf ns (changes.Attr key name place value) spot = spot ≡ Attributed key
 IsSpotOf ns (changes.Chars key chars) spot = (n : ℕ) × (parent_at ns key ≡ Some n) × (spot ≡ Retexted n)
+
+-- a change of these nodes takes the element away
+abbrev pub IsTakenOut : Nodes → Change → ℕ → Type 0
+IsTakenOut ns change n = (m : ℕ) × IsSpotOf ns change (Pruned m) × IsWithin ns m n

@@ -1,5 +1,6 @@
 use Rattle.std.proofs.Common.{inl, inr, refl, sym, subst}
 use Rattle.std.specs.Prelude.{OnOk}
+use Rattle.std.proofs.lemmas.Result.{on_ok_weaker}
 use Rattle.compiled_schema.specs.declared.compiled.Compiled.{Compiled}
 use Rattle.doc_edits.specs.Changes.{CanMake, changed}
 use Rattle.doc_edits.specs.declared.change.Change.{Change}
@@ -71,3 +72,9 @@ returns-in_ok-make-in_default-clause-reach g c = λ d z.
 
 pub returns-in_err-make-in_default-clause-reach : goal.returns-in_err-make-in_default-clause-reach
 returns-in_err-make-in_default-clause-reach g c = λ d z. inl (c.in_err-make-in_default.ensures.err, refl)
+
+pub returns-in-Pruned-clause-identity : goal.returns-in-Pruned-clause-identity
+returns-in-Pruned-clause-identity g c = on_ok_weaker c.prune.result (λ same n out. same n (λ within. out (c.in-Pruned.node, c.in-Pruned.ensures, within))) c.prune.ensures.identity
+
+pub returns-in_ok-make-in_default-clause-identity : goal.returns-in_ok-make-in_default-clause-identity
+returns-in_ok-make-in_default-clause-identity g c = on_ok_weaker c.follow.result (λ same n out. same n) c.follow.ensures.identity

@@ -1,4 +1,7 @@
-use Rattle.std.proofs.Common.{◌≡◌, ◌+◌, ℕ, true, Some, sym, ap, ◌∙◌, subst}
+use Rattle.std.proofs.Common.{◌≡◌, ◌+◌, ℕ, true, Option, Some, sym, ap, ◌∙◌, subst}
+use Rattle.std.specs.Prelude.{unwrap_or}
+use Rattle.kept_children.specs.kept_records.KeptElement.{KeptElement}
+use Rattle.kept_children.specs.kept_records.Slots.{blank}
 use Rattle.std.proofs.lemmas.Option.{same_Some}
 use Rattle.tree_rows.specs.Forest.{Forest}
 use Rattle.tree_edits.specs.Tests.{made}
@@ -10,6 +13,7 @@ use Rattle.kept_children.specs.kept_state.Kept.{outcome_at}
 use Rattle.kept_children.specs.kept_forgetting.Forgotten.{Forgets}
 use Rattle.kept_children.specs.Steps.{width}
 use Rattle.kept_changes.specs.Steps.{TakesBelow}
+use Rattle.std.proofs.lemmas.Result.{on_ok_weaker}
 use Rattle.kept_changes.proofs.Reread.{right-made}
 use Rattle.kept_changes.proofs.Gone.{gone-beside, gone-pruned, gone-takes}
 use Rattle.kept_changes.proofs.change.prune.Goals as goal
@@ -65,3 +69,7 @@ returns-clause-steps g c = λ parent up.
     c.args.steps.now c.take_child.new.steps c.take_child.ensures.steps in
     subst (λ (p : ℕ). TakesBelow set c.remove.new.self c.args.kept.now p (width c.remove.new.self p + 1) c.args.steps.now c.take_child.new.steps)
     (same_Some c.in-Some.at.parent parent (sym (subst (λ (n : ℕ). parent_at old n ≡ Some c.in-Some.at.parent) same c.in-Some.ensures.1.parent_is) ∙ up)) takes
+
+pub returns-clause-identity : goal.returns-clause-identity
+returns-clause-identity g c =
+    on_ok_weaker c.take_child.result (λ same n out. same n ∙ ap (λ (o : Option KeptElement). (unwrap_or o blank).identity) (c.forget_below.ensures.forgets.rest.slots n out)) c.take_child.ensures.identity

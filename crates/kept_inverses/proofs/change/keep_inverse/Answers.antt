@@ -103,3 +103,9 @@ returns-in_err-follow-in_default-clause-reach g c = λ d own z means fits.
 
 pub returns-in_err-back-in_default-clause-reach : goal.returns-in_err-back-in_default-clause-reach
 returns-in_err-back-in_default-clause-reach g c = λ d own z means fits. inl (c.in_err-back-in_default.ensures.err, refl)
+
+pub returns-in-Pruned-clause-identity : goal.returns-in-Pruned-clause-identity
+returns-in-Pruned-clause-identity g c = on_ok_weaker c.take.result (λ same n out. same n (λ within. out (c.in-Pruned.node, c.in-Pruned.ensures, within))) c.take.ensures.identity
+
+pub returns-in_ok-follow-in_default-clause-identity : goal.returns-in_ok-follow-in_default-clause-identity
+returns-in_ok-follow-in_default-clause-identity g c = λ n out. c.in_ok-follow-in_default.ensures.identity n
