@@ -1,6 +1,6 @@
 //! An edit of a document with all that is kept of its elements.
 
-ghost use Rattle.std.specs.Prelude.{◌≡◌, ◌≤◌, ◌⊎◌, ℕ, Bool, true, IfOk, OnOk, IfErr};
+ghost use Rattle.std.specs.Prelude.{◌≡◌, ◌≢◌, ◌≤◌, ◌⊎◌, ℕ, Bool, true, IfOk, OnOk, IfErr};
 ghost use Rattle.tree_rows.specs.Forest.{Document};
 ghost use Rattle.tree_edits.specs.Edits.{can_be_made};
 ghost use Rattle.tree_edits.specs.Tests.{edited};
@@ -9,6 +9,8 @@ ghost use Rattle.doc_changes.specs.Stands.{StandsFor};
 ghost use Rattle.doc_edits.specs.Changes.{CanMake, changed};
 ghost use Rattle.kept_inverses.specs.kept_children.Edited.{IsRightFor};
 ghost use Rattle.kept_inverses.specs.kept_changes.Steps.{Takes};
+ghost use Rattle.kept_keys.specs.Keys.{AreTargetsBy};
+ghost use Rattle.tree_edits.specs.declared.edit.EditError.TheVariants.{Memory};
 ghost use Rattle.edit_session.specs.Costs.{edit_cost};
 ghost use Rattle.edit_session.specs.Edited.{IsDone, IsLeft, IsReady, IsRefused};
 ghost use Rattle.edit_session.specs.Held.{IsPresent, Stands, document_in, state_by};
@@ -59,10 +61,12 @@ fn make<L: Ledger>(
     steps: &mut Steps<L>,
 ) -> Result<(), AllocError>
     requires right { IsRightFor set.old doc.old kept.old }
+    requires targets { AreTargetsBy set.old doc.old kept.old.records.slots keys.old }
     requires can { (d : Document) × StandsFor set.old.names doc.old d × CanMake set.old.names doc.old d change }
     ensures made { OnOk result ((d : Document) → StandsFor set.old.names doc.old d → StandsFor set.old.names doc.new (changed set.old.names d change)) }
     ensures present { OnOk result (IsPresent set.old doc.new kept.new) }
     ensures same { set.new ≡ set.old }
+    ensures targets { OnOk result (AreTargetsBy set.old doc.new kept.new.records.slots keys.new) }
     ensures least { steps.old ≤ steps.new }
     ensures reach { (d : Document) → StandsFor set.old.names doc.old d → ((doc.new ≡ doc.old) × (steps.new ≡ steps.old)) ⊎
         (StandsFor set.old.names doc.new (changed set.old.names d change) × Takes set.old doc.old doc.new kept.old change steps.old steps.new) }
@@ -82,12 +86,14 @@ fn make_undoable<L: Ledger>(
     steps: &mut Steps<L>,
 ) -> Result<Inverse, AllocError>
     requires right { IsRightFor set.old doc.old kept.old }
+    requires targets { AreTargetsBy set.old doc.old kept.old.records.slots keys.old }
     requires can { (d : Document) × StandsFor set.old.names doc.old d × CanMake set.old.names doc.old d change }
     ensures made { OnOk result ((d : Document) → StandsFor set.old.names doc.old d → StandsFor set.old.names doc.new (changed set.old.names d change)) }
     ensures inverse { IfOk result (λ back. (t : NameTable) (d : Document) (edit : EditData) → StandsFor set.old.names doc.old d → can_be_made edit ≡ true
         → IsPrepared t set.old.names doc.old d edit change → Means set.old.names back (inverse_of d (change_of d edit))) }
     ensures present { OnOk result (IsPresent set.old doc.new kept.new) }
     ensures same { set.new ≡ set.old }
+    ensures targets { OnOk result (AreTargetsBy set.old doc.new kept.new.records.slots keys.new) }
     ensures least { steps.old ≤ steps.new }
     ensures reach { (d : Document) → StandsFor set.old.names doc.old d → ((doc.new ≡ doc.old) × (steps.new ≡ steps.old)) ⊎
         (StandsFor set.old.names doc.new (changed set.old.names d change) × Takes set.old doc.old doc.new kept.old change steps.old steps.new) }
@@ -113,11 +119,14 @@ pub(crate) fn edit_kept<L: Ledger>(
     steps: &mut Steps<L>,
 ) -> Result<Inverse, EditError>
     requires block { can_be_made edit.now ≡ true }
+    requires targets { AreTargetsBy set.old doc.old kept.old.records.slots keys.old }
     requires present { IsPresent set.old doc.old kept.old }
     ensures stands { Stands set.new doc.new }
     ensures done { OnOk result (IsDone set.old set.new doc.old doc.new kept.new edit.now) }
     ensures inverse { IfOk result (λ back. Means set.new.names back (inverse_of (document_in set.old doc.old) (change_of (document_in set.old doc.old) edit.now))) }
     ensures refused { IfErr result (λ e. IsLeft set.old set.new doc.old doc.new kept.old kept.new edit.now e) }
+    ensures targets { OnOk result (AreTargetsBy set.new doc.new kept.new.records.slots keys.new) }
+    ensures kept_targets { IfErr result (λ e. e ≢ Memory → keys.new ≡ keys.old) }
     ensures least { steps.old ≤ steps.new }
     ensures few { (revision : ℕ) (closed : Bool) → BreaksWithin edit_cost (state_by set.old doc.old kept.old revision closed) edit.now (edited (document_in set.old doc.old) edit.now) steps.old steps.new }
 {

@@ -3,6 +3,7 @@
 ghost use Rattle.std.specs.Prelude.{◌≡◌, ◌≤◌, ℕ, Bool, IfOk, OnOk};
 ghost use Rattle.tree_inverses.specs.Changes as law;
 ghost use Rattle.doc_inverses.specs.Changes.{Means};
+ghost use Rattle.kept_keys.specs.Keys.{AreTargetsBy};
 ghost use Rattle.edit_session.specs.Held.{IsPresent, Stands, document_in, state_by};
 ghost use Rattle.edit_session.specs.Changed.{IsReached, TakesWithin};
 
@@ -30,12 +31,14 @@ pub(crate) fn change_kept<L: Ledger>(
     steps: &mut Steps<L>,
 ) -> Result<Change, AllocError>
     requires present { IsPresent set.old doc.old kept.old }
+    requires targets { AreTargetsBy set.old doc.old kept.old.records.slots keys.old }
     requires can { (c : law.Change) × Means set.old.names change c × law.Fits (document_in set.old doc.old) c }
     ensures stands { Stands set.new doc.new }
     ensures done { OnOk result ((c : law.Change) → Means set.old.names change c → law.Fits (document_in set.old doc.old) c → IsReached set.old doc.old doc.new kept.new c) }
     ensures inverse { IfOk result (λ back. (c : law.Change) → Means set.old.names change c → law.Fits (document_in set.old doc.old) c
         → Means set.old.names back (law.inverse_of (document_in set.old doc.old) c)) }
     ensures same { set.new ≡ set.old }
+    ensures targets { OnOk result (AreTargetsBy set.old doc.new kept.new.records.slots keys.new) }
     ensures least { steps.old ≤ steps.new }
     ensures few { (revision : ℕ) (closed : Bool) (c : law.Change) → Means set.old.names change c → law.Fits (document_in set.old doc.old) c
         → TakesWithin (state_by set.old doc.old kept.old revision closed) c steps.old steps.new }

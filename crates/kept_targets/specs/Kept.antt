@@ -1,7 +1,6 @@
 -- What is kept of the elements of a document as targets of identity constraints: Structures 3.11.4.
 use Rattle.std.specs.Prelude.{◌≡◌, ◌≢◌, ℕ, ¬◌, List, [], Option, None}
 use Rattle.std.specs.Option.{option_map}
-use Rattle.identity_counts.specs.Counting.{Links}
 use Rattle.identity_constraints.specs.Seen.{KeyElement, KeyForest}
 use Rattle.identity_assessment.specs.Identity.{seen_element}
 use Rattle.scope_targets.specs.Kin.{Kin, AreAbove, AreSeen}
@@ -26,23 +25,27 @@ kin_of ns ks = record { seen = λ n. seen_element (entry_at ks n); parent = pare
 abbrev pub sign_of : KeptElement → ElementSign
 sign_of k = record { name = k.found.element.name; pair = k.found.governing }
 
--- an element is kept as the targets that it is
-abbrev pub IsTargetOf : Compiled → Nodes → KeptSlots → TargetKeys → ℕ → Type 0
-IsTargetOf c ns ks keys n =
-    (above : List KeyElement) (below : KeyForest) → AreAbove (kin_of ns ks) (parent_at ns n) above → AreSeen (kin_of ns ks) (element_children ns n) below
-    → targets_of keys.counted n ≡ targetings_of c.names c.parts c.identities.items above (seen_element (entry_at ks n)) below
+abbrev pub sign_at : KeptSlots → ℕ → Option ElementSign
+sign_at ks n = option_map sign_of (at ks n)
 
--- All that is counted is right for what is kept: each element has its parent, its sign and the targets that it is, and no other number has
--- anything; and what is counted is what these targets come to.
-pub record AreTargets (c : Compiled) (ns : Nodes) (ks : KeptSlots) (keys : TargetKeys) : Type 0 where
-  pub references : AreReferencesOf c.parts.constraints.parts keys.counted.references
-  pub kept : AreKept (links_by keys.counted.parents.items) keys.counted
-  pub parents : (n : ℕ) → IsMade ks n → parent_of keys.counted n ≡ parent_at ns n
-  pub alone : (n : ℕ) → ¬ IsMade ks n → parent_of keys.counted n ≡ None
-  pub targets : (n : ℕ) → IsMade ks n → IsTargetOf c ns ks keys n
-  pub none : (n : ℕ) → ¬ IsMade ks n → targets_of keys.counted n ≡ []
-  pub signs : (n : ℕ) → at keys.signs n ≡ option_map sign_of (at ks n)
+module _ (c : Compiled) (ns : Nodes) (ks : KeptSlots) (keys : TargetKeys) where
+  -- an element is kept as the targets that it is
+  abbrev pub IsTargetOf : ℕ → Type 0
+  IsTargetOf n =
+      (above : List KeyElement) (below : KeyForest) → AreAbove (kin_of ns ks) (parent_at ns n) above → AreSeen (kin_of ns ks) (element_children ns n) below
+      → targets_of keys.counted n ≡ targetings_of c.names c.parts c.identities.items above (seen_element (entry_at ks n)) below
 
--- without identity constraints nothing is counted
-abbrev pub AreTargetsBy : Compiled → Nodes → KeptSlots → TargetKeys → Type 0
-AreTargetsBy c ns ks keys = c.identities.items ≢ [] → AreTargets c ns ks keys
+  -- All that is counted is right: each element has its parent, its sign and the targets that it is, and no other number has any; and what
+  -- is counted is what these targets come to.
+  pub record AreTargets : Type 0 where
+    pub references : AreReferencesOf c.parts.constraints.parts keys.counted.references
+    pub kept : AreKept (links_by keys.counted.parents.items) keys.counted
+    pub parents : (n : ℕ) → IsMade ks n → parent_of keys.counted n ≡ parent_at ns n
+    pub alone : (n : ℕ) → ¬ IsMade ks n → parent_of keys.counted n ≡ None
+    pub targets : (n : ℕ) → IsMade ks n → IsTargetOf n
+    pub none : (n : ℕ) → ¬ IsMade ks n → targets_of keys.counted n ≡ []
+    pub signs : (n : ℕ) → at keys.signs n ≡ sign_at ks n
+
+  -- without identity constraints nothing is counted
+  abbrev pub AreTargetsBy : Type 0
+  AreTargetsBy = c.identities.items ≢ [] → AreTargets

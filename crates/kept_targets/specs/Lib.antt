@@ -1,1 +1,6 @@
 pub mod Seen
+pub mod Whole
+pub mod Kept
+pub mod Moved
+pub mod Touched
+pub mod Turned

@@ -1,5 +1,16 @@
 //! Targets found anew where a document is another than before.
 
+ghost use Rattle.std.specs.Prelude.{◌≡◌, ◌≢◌, ℕ, [], true, IfOk, OnOk};
+ghost use Rattle.tree_rows.specs.Forest.{Document};
+ghost use Rattle.identity_assessment.specs.Identity.{seen};
+ghost use Rattle.identity_constraints.specs.Satisfied.{identity_at};
+ghost use Rattle.doc_nodes.specs.Nodes.{Has, Lacks, is_element_at};
+ghost use Rattle.kept_records.specs.Slots.{IsMade, kept_at};
+ghost use Rattle.kept_records.specs.Found.{IsOver, found_in};
+ghost use Rattle.kept_targets.specs.Kept.{AreTargets};
+ghost use Rattle.kept_targets.specs.Turned.{WereTargets};
+ghost use Rattle.kept_targets.specs.Whole.{IsWhole};
+
 use crate::above::{Touched, add_touching, targetings_at};
 use crate::keys::{TargetKeys, sign_of};
 use crate::moved::{Kept, add_marked, add_moved};
@@ -69,7 +80,14 @@ pub fn retarget(
     state: &KeptState,
     keys: &mut TargetKeys,
     turn: &Turn,
-) -> Result<Vec<u32>, AllocError> {
+) -> Result<Vec<u32>, AllocError>
+    requires whole { IsWhole set.now doc.now state.now }
+    requires before { WereTargets set.now doc.now state.now keys.old turn.now }
+    ensures targets { OnOk result (AreTargets set.now doc.now state.now.records.slots keys.new) }
+    ensures scopes { IfOk result (λ scopes. (n : ℕ) → Has n scopes.items → is_element_at doc.now n ≡ true) }
+    ensures rest { IfOk result (λ scopes. (d : Document) → IsOver set.now doc.now state.now.records.slots d → (n : ℕ) → IsMade state.now.records.slots n → Lacks n scopes.items
+        → (kept_at state.now.records.slots n).identity ≡ identity_at set.now.names set.now.parts set.now.identities.items n (seen (found_in doc.now state.now.records.slots d.forest))) }
+{
     let by = Kept { set, doc, state };
     let moved = moved_by(&by, keys, turn)?;
     let mut touched = Touched {

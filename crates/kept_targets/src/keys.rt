@@ -1,5 +1,10 @@
 //! What is counted of the elements of a document as targets, with what they were when it was found.
 
+ghost use Rattle.std.specs.Prelude.{◌≡◌, [], Some, IfOk, OnOk};
+ghost use Rattle.doc_nodes.specs.Nodes.{Nodes};
+ghost use Rattle.kept_slots.specs.Slots.{Writes};
+ghost use Rattle.kept_targets.specs.Kept as spec;
+
 use compiled_schema::Compiled;
 use counted_keys::CountedKeys;
 use elem_governing::Governing;
@@ -25,7 +30,9 @@ pub struct TargetKeys {
 }
 
 /// The sign of an element, by what is kept of it.
-pub(crate) fn sign_of(kept: &KeptElement) -> ElementSign {
+pub(crate) fn sign_of(kept: &KeptElement) -> ElementSign
+    ensures { result ≡ spec.sign_of kept.now }
+{
     ElementSign {
         name: kept.found.element.name,
         pair: kept.found.governing,
@@ -38,7 +45,9 @@ impl TargetKeys {
     /// # Errors
     ///
     /// `AllocError` is want of memory, or there are more than 2,147,483,648 constraints.
-    pub fn new(alloc: Global, set: &Compiled) -> Result<Self, AllocError> {
+    pub fn new(alloc: Global, set: &Compiled) -> Result<Self, AllocError>
+        ensures { IfOk result (λ keys. (ns : Nodes) → spec.AreTargets set.now ns [] keys) }
+    {
         let references = references_of(alloc, &set.parts)?;
         let counted = CountedKeys::new(alloc, references)?;
         Ok(TargetKeys {
@@ -49,7 +58,10 @@ impl TargetKeys {
     }
 
     /// Keeps the sign of an element.
-    pub(crate) fn set_sign(&mut self, node: u32, sign: ElementSign) -> Result<(), AllocError> {
+    pub(crate) fn set_sign(&mut self, node: u32, sign: ElementSign) -> Result<(), AllocError>
+        ensures signs { OnOk result (Writes self.old.signs self.new.signs node (Some sign)) }
+        ensures counted { self.new.counted ≡ self.old.counted }
+    {
         if let Some(mut was) = self.signs.take(node) {
             *was = sign;
             self.signs.put(node, was);

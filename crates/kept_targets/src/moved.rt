@@ -1,5 +1,16 @@
 //! The elements that are new, have another name, or are governed otherwise than before.
 
+ghost use Rattle.std.specs.Prelude.{◌≡◌, ℕ, Option, Some, true, IfSome, OnOk};
+ghost use Rattle.xs_names.specs.Names.{NameTable};
+ghost use Rattle.tree_rows.specs.Forest.{Document};
+ghost use Rattle.doc_nodes.specs.Nodes.{Has, element_children, is_element_at};
+ghost use Rattle.doc_changes.specs.Stands.{StandsFor};
+ghost use Rattle.kept_forgetting.specs.Below.{IsWithin};
+ghost use Rattle.kept_slots.specs.Slots.{at};
+ghost use Rattle.kept_targets.specs.Kept as spec;
+ghost use Rattle.kept_targets.specs.Moved as law;
+ghost use Rattle.kept_targets.specs.Whole.{IsWhole};
+
 use crate::keys::{ElementSign, TargetKeys, sign_of};
 use compiled_schema::Compiled;
 use doc_tree::DocTree;
@@ -17,7 +28,9 @@ pub(crate) struct Kept<'a> {
 }
 
 // The identity constraints of an element with this declaration.
-fn declared(parts: &Components, declaration: Option<ElementId>) -> &[ConstraintId] {
+fn declared(parts: &Components, declaration: Option<ElementId>) -> &[ConstraintId]
+    ensures { result.now ≡ law.constraints_by parts.now declaration }
+{
     match declaration {
         None => &[],
         Some(id) => match parts.elements().get(id.number() as usize) {
@@ -28,7 +41,9 @@ fn declared(parts: &Components, declaration: Option<ElementId>) -> &[ConstraintI
 }
 
 // Whether an element with these signs has the same name, and the same identity constraints or none, before and after.
-fn is_steady(parts: &Components, old: &ElementSign, new: &ElementSign) -> bool {
+fn is_steady(parts: &Components, old: &ElementSign, new: &ElementSign) -> bool
+    ensures { result ≡ true → law.IsSteady parts.now old.now new.now }
+{
     old.name == new.name
         && (old.pair.declaration == new.pair.declaration
             || declared(parts, old.pair.declaration).is_empty()
@@ -36,15 +51,26 @@ fn is_steady(parts: &Components, old: &ElementSign, new: &ElementSign) -> bool {
 }
 
 // The sign of an element, if something is kept of it.
-fn sign_at(records: &KeptRecords, node: u32) -> Option<ElementSign> {
+fn sign_at(records: &KeptRecords, node: u32) -> Option<ElementSign>
+    ensures { result ≡ spec.sign_at records.now.slots node }
+{
     match records.get(node) {
         None => None,
         Some(kept) => Some(sign_of(kept)),
     }
 }
 
-/// Puts an element and all below it behind others.
-pub fn add_below(doc: &DocTree, node: u32, numbers: &mut Vec<u32>) -> Result<(), AllocError> {
+/// Puts an element and all elements below it behind others.
+///
+/// # Errors
+///
+/// `AllocError` is want of memory.
+pub fn add_below(doc: &DocTree, node: u32, numbers: &mut Vec<u32>) -> Result<(), AllocError>
+    requires stands { (t : NameTable) × (d : Document) × StandsFor t doc.now d }
+    requires element { is_element_at doc.now node ≡ true }
+    ensures all { OnOk result ((m : ℕ) → is_element_at doc.now m ≡ true → IsWithin doc.now node m → Has m numbers.new.items) }
+    ensures within { OnOk result (law.AddsWithin doc.now numbers.old.items numbers.new.items node) }
+{
     numbers.push(node)?;
     for place in 0..doc.child_count(node) {
         let Some(child) = doc.element_at(node, place) else {
@@ -62,7 +88,12 @@ pub(crate) fn add_moved(
     keys: &TargetKeys,
     node: u32,
     moved: &mut Vec<u32>,
-) -> Result<(), AllocError> {
+) -> Result<(), AllocError>
+    requires whole { IsWhole by.now.set.now by.now.doc.now by.now.state.now }
+    requires element { is_element_at by.now.doc.now node ≡ true }
+    ensures looked { OnOk result (law.IsLookedAt by.now.set.now.parts by.now.doc.now by.now.state.now.records.slots (at keys.now.signs) moved.new.items node) }
+    ensures within { OnOk result (law.AddsWithin by.now.doc.now moved.old.items moved.new.items node) }
+{
     let now = sign_at(&by.state.records, node);
     let was = keys.signs.get(node).copied();
     if was == now {
@@ -83,7 +114,12 @@ fn add_children(
     keys: &TargetKeys,
     parent: u32,
     moved: &mut Vec<u32>,
-) -> Result<(), AllocError> {
+) -> Result<(), AllocError>
+    requires whole { IsWhole by.now.set.now by.now.doc.now by.now.state.now }
+    requires element { is_element_at by.now.doc.now parent ≡ true }
+    ensures looked { OnOk result ((c : ℕ) → Has c (element_children by.now.doc.now parent) → law.IsLookedAt by.now.set.now.parts by.now.doc.now by.now.state.now.records.slots (at keys.now.signs) moved.new.items c) }
+    ensures within { OnOk result (law.AddsWithin by.now.doc.now moved.old.items moved.new.items parent) }
+{
     for place in 0..by.doc.child_count(parent) {
         let Some(child) = by.doc.element_at(parent, place) else {
             return Ok(());
@@ -100,8 +136,13 @@ pub(crate) fn add_marked(
     parent: u32,
     but: Option<u32>,
     moved: &mut Vec<u32>,
-) -> Result<(), AllocError> {
-    let Some(list) = by.state.at(parent).list else {
+) -> Result<(), AllocError>
+    requires whole { IsWhole by.now.set.now by.now.doc.now by.now.state.now }
+    requires element { is_element_at by.now.doc.now parent ≡ true }
+    ensures looked { OnOk result ((c : ℕ) → law.IsMarked by.now.set.now by.now.doc.now by.now.state.now parent c → (but ≡ Some c → ⊥) → law.IsLookedAt by.now.set.now.parts by.now.doc.now by.now.state.now.records.slots (at keys.now.signs) moved.new.items c) }
+    ensures within { OnOk result (law.AddsWithin by.now.doc.now moved.old.items moved.new.items parent) }
+{
+    let Some(list) = by.state.children(parent).list else {
         return Ok(());
     };
     for number in 0..by.doc.child_count(parent) {

@@ -1,5 +1,8 @@
 //! Where a document is another than before.
 
+ghost use Rattle.std.specs.Prelude.{◌≡◌};
+ghost use Rattle.kept_targets.specs.Turned.{gone_of, lowest_of};
+
 /// Where a document is another than before, as identity constraints see it.
 #[derive(Drop)]
 pub enum Turn {
@@ -13,7 +16,9 @@ pub enum Turn {
 
 impl Turn {
     /// The element from which on upwards something is seen otherwise.
-    pub(crate) fn lowest(&self) -> u32 {
+    pub(crate) fn lowest(&self) -> u32
+        ensures { result ≡ lowest_of self.now }
+    {
         match self {
             Turn::Own(node) | Turn::Listed(node) => *node,
             Turn::Gone { parent, .. } => *parent,
@@ -21,7 +26,9 @@ impl Turn {
     }
 
     /// The elements that are gone.
-    pub(crate) fn gone(&self) -> &[u32] {
+    pub(crate) fn gone(&self) -> &[u32]
+        ensures { result.now ≡ gone_of self.now }
+    {
         match self {
             Turn::Own(_) | Turn::Listed(_) => &[],
             Turn::Gone { numbers, .. } => numbers.as_slice(),
