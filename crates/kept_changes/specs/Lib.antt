@@ -1,5 +1,6 @@
 pub mod Own
 pub mod Spots
+pub mod Turned
 pub mod Steps
 pub mod child_lists
 pub mod kept_below

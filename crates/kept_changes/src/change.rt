@@ -16,6 +16,7 @@ ghost use Rattle.kept_children.specs.kept_forgetting.Below.{IsWithin};
 ghost use Rattle.kept_children.specs.Edited.{IsRightFor};
 ghost use Rattle.kept_children.specs.Steps.{width};
 ghost use Rattle.kept_changes.specs.Spots.{HasChangedAt, HasCome, IsRemoval, IsSpot, IsTakenBy, KeepsIdentityBut, TakesSpot};
+ghost use Rattle.kept_changes.specs.Turned.{AreTurnedBy, Goes};
 ghost use Rattle.kept_changes.specs.Steps.{Takes, TakesBelow};
 
 use crate::own::{reattribute, rename, retext};
@@ -120,6 +121,7 @@ pub fn prune<L: Ledger>(
     requires below { parent_at doc.old node ≢ None }
     ensures tree { (t : NameTable) (d : Document) → StandsFor t doc.old d → StandsFor t doc.new (made d (edits.Remove node)) }
     ensures right { OnOk result (IsRightFor set.old doc.new kept.new) }
+    ensures turned { Goes set.old.names doc.old doc.new node }
     ensures identity { OnOk result (KeepsIdentityBut (λ n. IsWithin doc.old node n) kept.old kept.new) }
     ensures same { set.new ≡ set.old }
     ensures least { steps.old ≤ steps.new }
@@ -204,6 +206,7 @@ pub fn keep_change<L: Ledger>(
     requires can { (d : Document) × StandsFor set.old.names doc.old d × CanMake set.old.names doc.old d change }
     ensures made { OnOk result ((d : Document) → StandsFor set.old.names doc.old d → StandsFor set.old.names doc.new (changed set.old.names d change)) }
     ensures right { OnOk result (IsRightFor set.old doc.new kept.new) }
+    ensures turned { OnOk result (AreTurnedBy set.old.names doc.old doc.new change) }
     ensures identity { OnOk result (KeepsIdentityBut (IsTakenBy doc.old change) kept.old kept.new) }
     ensures same { set.new ≡ set.old }
     ensures least { steps.old ≤ steps.new }
