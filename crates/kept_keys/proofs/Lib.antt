@@ -1,8 +1,5 @@
 mod Lists
-mod Firsts
-mod Seeing
 mod Coding
-mod Staying
 mod Found
 mod Numbers
 mod Numbered

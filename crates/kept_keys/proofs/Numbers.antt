@@ -3,7 +3,7 @@ use Rattle.std.proofs.Common.{◌≡◌, ℕ, ◌+◌, List, [], ◌∷◌, ◌+
 use Rattle.identity_constraints.specs.Seen.{KeyElement, KeyForest, none, element}
 use Rattle.path_walk.specs.Sight.{IsFirst, below_first, behind_first}
 use Rattle.path_walk.specs.inside.Walk.{size}
-use Rattle.kept_keys.specs.Seen.{numbers_in}
+use Rattle.kept_targets.specs.Seen.{numbers_in}
 
 pub size-first : (f : KeyForest) (first : KeyElement) → IsFirst f first → size f ≡ 1 + size (below_first f) + size (behind_first f)
 size-first none first is = absurd is

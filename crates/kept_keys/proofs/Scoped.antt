@@ -12,7 +12,7 @@ use Rattle.kept_above.specs.kept_records.Slots.{IsMade, kept_at}
 use Rattle.kept_above.specs.kept_records.Found.{IsOver, found_in}
 use Rattle.kept_above.specs.kept_state.KeptState.{KeptState}
 use Rattle.kept_keys.specs.Keys.{IsWhole, IsCoded, KeepsElements, codes_at}
-use Rattle.kept_keys.specs.Seen.{numbers_in}
+use Rattle.kept_targets.specs.Seen.{numbers_in}
 use Rattle.kept_keys.proofs.Lists.{lacks-last}
 use Rattle.kept_keys.proofs.Numbered.{none-lacks}
 use Rattle.kept_keys.proofs.Plain.{none-coded}

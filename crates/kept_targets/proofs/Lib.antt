@@ -1,0 +1,3 @@
+pub mod Firsts
+pub mod Seeing
+pub mod Staying

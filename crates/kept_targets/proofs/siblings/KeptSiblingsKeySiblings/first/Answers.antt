@@ -1,9 +1,9 @@
 use Rattle.std.proofs.Common.{sym, subst}
 use Rattle.identity_constraints.specs.Seen.{KeyForest}
 use Rattle.path_walk.specs.Sight.{IsFirst, seen}
-use Rattle.kept_keys.specs.Seen.{elements_under}
-use Rattle.kept_keys.proofs.Firsts.{first-is}
-use Rattle.kept_keys.proofs.siblings.KeptSiblingsKeySiblings.first.Goals as goal
+use Rattle.kept_targets.specs.Seen.{elements_under}
+use Rattle.kept_targets.proofs.Firsts.{first-is}
+use Rattle.kept_targets.proofs.siblings.KeptSiblingsKeySiblings.first.Goals as goal
 
 pub returns-in-Some : goal.returns-in-Some
 returns-in-Some c =

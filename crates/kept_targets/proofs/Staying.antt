@@ -5,7 +5,8 @@ use Rattle.std.proofs.lemmas.Bool.{ne_eqb}
 use Rattle.xs_names.specs.Names.{IsSound}
 use Rattle.xs_codes.specs.declared.fault.Found.{Found}
 use Rattle.assess_records.specs.Counts.{with_child, counts_of}
-use Rattle.assess_records.specs.Numbered.{shape_of}
+use Rattle.assess_records.specs.Numbered.{Head, shape_of}
+use Rattle.assess_records.specs.declared.shape.NamedText.{NamedText}
 use Rattle.assess_records.specs.declared.counts.ChildCounts.{ChildCounts}
 use Rattle.assess_records.specs.declared.outcome.Attempted.{Attempted}
 use Rattle.assess_records.specs.declared.outcome.Attempted.TheVariants.{Full, Partial, Untried}
@@ -30,8 +31,8 @@ use Rattle.model_lists.specs.Lists.{ListsView}
 use Rattle.doc_nodes.specs.Nodes.{Nodes, element_children}
 use Rattle.doc_documents.specs.Readers.{name_at, own_chars}
 use Rattle.doc_heads.specs.Heads.{texts_named}
-use Rattle.kept_above.specs.kept_records.Slots.{KeptSlots, kept_at, entry_at, pair_at, record_at}
-use Rattle.kept_above.specs.kept_records.Fit.{Models, root_codes, head_at, shape_at, IsFit}
+use Rattle.kept_records.specs.Slots.{KeptSlots, kept_at, entry_at, pair_at, record_at}
+use Rattle.kept_records.specs.Fit.{Models, root_codes, head_at, shape_at, IsFit}
 
 -- ---- there are child elements, by how many there are of each validity
 
@@ -118,3 +119,28 @@ module _ (s : SchemaSet) (one : HasOneOutcomeEach s.parts) (sound : IsSound s.na
         judged-alike (shape_at s ns ks codes n) (kept_at new n).counts (kept_at new n).identity (root_codes others n) there (entry_at ks n) (entry_at new n)
         (is.gathered.number_is ∙ sym was.gathered.number_is) pairs was.known
         (subst (λ (stuck : Option ℕ). AreJudged s (shape_of (head_at s ns n) (texts_named ns n) (own_chars ns n) stuck (kept_at new n).counts (kept_at new n).identity (root_codes others n)) (entry_at new n)) stuck-stays is.known)
+
+  -- in two documents, where what it is judged by is the same in both
+  module _ (models : Models) (ns ms : Nodes) (ks new : KeptSlots) (v w : ListsView) (codes others : List Found) (n : ℕ) (pairs : pair_at new n ≡ pair_at ks n) (was : IsFit s models ns ks v codes n)
+      (is : IsFit s models ms new w others n) (head : head_at s ms n ≡ head_at s ns n) (texts : texts_named ms n ≡ texts_named ns n) (chars : own_chars ms n ≡ own_chars ns n)
+      (children : element_children ms n ≡ element_children ns n) (names : map (name_at ms) (element_children ms n) ≡ map (name_at ns) (element_children ns n)) where
+    stuck-turned : (kept_at new n).stuck ≡ (kept_at ks n).stuck
+    stuck-turned =
+        is.gathered.stuck_is
+        ∙ (λ i. stuck_in (models (pairs i).of) (child_symbols s.names (models (pairs i).of) (names i)))
+        ∙ sym was.gathered.stuck_is
+
+    pub turned-seen : IsSeenAlike (entry_at ks n) (entry_at new n)
+    turned-seen =
+        let counts = (kept_at new n).counts in
+        let identity = (kept_at new n).identity in
+        let ids = root_codes others n in
+        let there =
+        ap has_children is.gathered.counts_are ∙ as-there (record_at new) (record_at ks) (element_children ms n) ∙ ap (λ (xs : List ℕ). has_children (counts_of (map (record_at ks) xs))) children
+        ∙ sym (ap has_children was.gathered.counts_are) in
+        judged-alike (shape_at s ns ks codes n) counts identity ids there (entry_at ks n) (entry_at new n)
+        (is.gathered.number_is ∙ sym was.gathered.number_is) pairs was.known
+        (subst (λ (stuck : Option ℕ). AreJudged s (shape_of (head_at s ns n) (texts_named ns n) (own_chars ns n) stuck counts identity ids) (entry_at new n)) stuck-turned
+        (subst (λ (own : List ℕ). AreJudged s (shape_of (head_at s ns n) (texts_named ns n) own (kept_at new n).stuck counts identity ids) (entry_at new n)) chars
+        (subst (λ (own : List NamedText). AreJudged s (shape_of (head_at s ns n) own (own_chars ms n) (kept_at new n).stuck counts identity ids) (entry_at new n)) texts
+        (subst (λ (own : Head). AreJudged s (shape_of own (texts_named ms n) (own_chars ms n) (kept_at new n).stuck counts identity ids) (entry_at new n)) head is.known))))

@@ -1,7 +1,7 @@
 use Rattle.std.proofs.Common.{sym}
-use Rattle.kept_keys.specs.Seen.{elements_under}
-use Rattle.kept_keys.proofs.Firsts.{no-first, not-kept}
-use Rattle.kept_keys.proofs.siblings.KeptSiblings.first_kept.Goals as goal
+use Rattle.kept_targets.specs.Seen.{elements_under}
+use Rattle.kept_targets.proofs.Firsts.{no-first, not-kept}
+use Rattle.kept_targets.proofs.siblings.KeptSiblings.first_kept.Goals as goal
 
 pub returns-in_default : goal.returns-in_default
 returns-in_default c =

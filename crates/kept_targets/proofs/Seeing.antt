@@ -11,11 +11,11 @@ use Rattle.tree_assess.specs.Entries.{entry_of}
 use Rattle.doc_nodes.specs.Nodes.{Nodes, element_children}
 use Rattle.doc_heads.specs.Heads.{readers_of}
 use Rattle.kept_slots.specs.Slots.{at}
-use Rattle.kept_above.specs.kept_records.KeptElement.{KeptElement}
-use Rattle.kept_above.specs.kept_records.Slots.{KeptSlots, IsMade, blank, entry_at}
-use Rattle.kept_above.specs.kept_records.Found.{found_in}
-use Rattle.kept_keys.specs.Seen.{first_seen, along, seen_to}
-use Rattle.kept_keys.proofs.Firsts.{none-to}
+use Rattle.kept_records.specs.declared.element.KeptElement.{KeptElement}
+use Rattle.kept_records.specs.Slots.{KeptSlots, IsMade, blank, entry_at}
+use Rattle.kept_records.specs.Found.{found_in}
+use Rattle.kept_targets.specs.Seen.{first_seen, along, seen_to}
+use Rattle.kept_targets.proofs.Firsts.{none-to}
 
 module _ (t : NameTable) (ns : Nodes) (ks : KeptSlots) where
   own-seen : (n : ℕ) → IsMade ks n → (below next : KeyForest) → first_seen (at ks n) below next ≡ keys.element (seen_element (entry_at ks n)) below next

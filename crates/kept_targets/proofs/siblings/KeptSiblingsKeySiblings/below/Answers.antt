@@ -1,8 +1,8 @@
 use Rattle.std.proofs.Common.{sym, ap}
 use Rattle.path_walk.specs.Sight.{below_first}
-use Rattle.kept_keys.specs.Seen.{elements_under}
-use Rattle.kept_keys.proofs.Firsts.{first-is}
-use Rattle.kept_keys.proofs.siblings.KeptSiblingsKeySiblings.below.Goals as goal
+use Rattle.kept_targets.specs.Seen.{elements_under}
+use Rattle.kept_targets.proofs.Firsts.{first-is}
+use Rattle.kept_targets.proofs.siblings.KeptSiblingsKeySiblings.below.Goals as goal
 
 pub returns-in-Some : goal.returns-in-Some
 returns-in-Some c =

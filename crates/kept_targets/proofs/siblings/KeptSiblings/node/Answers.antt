@@ -1,8 +1,8 @@
 use Rattle.std.proofs.Common.{◌≡◌, ℕ, Option, None, sym, subst, arith}
 use Rattle.std.specs.Prelude.{slice_get}
-use Rattle.kept_keys.specs.Seen.{elements_under}
-use Rattle.kept_keys.proofs.Firsts.{past-children}
-use Rattle.kept_keys.proofs.siblings.KeptSiblings.node.Goals as goal
+use Rattle.kept_targets.specs.Seen.{elements_under}
+use Rattle.kept_targets.proofs.Firsts.{past-children}
+use Rattle.kept_targets.proofs.siblings.KeptSiblings.node.Goals as goal
 
 pub returns-in_default-2-clause-node : goal.returns-in_default-2-clause-node
 returns-in_default-2-clause-node c =
