@@ -1,3 +1,5 @@
+pub mod Links
 pub mod Firsts
 pub mod Seeing
 pub mod Staying
+pub mod Looking

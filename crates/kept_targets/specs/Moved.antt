@@ -5,14 +5,13 @@ use Rattle.xs_components.specs.Tables.{Tables}
 use Rattle.identity_constraints.specs.Targets.{declared_constraints}
 use Rattle.doc_nodes.specs.Nodes.{Nodes, Has, is_element_at, element_children}
 use Rattle.doc_changes.specs.Held.{parent_at}
-use Rattle.content_models.specs.declared.automaton.ContentAutomaton.{ContentAutomaton}
 use Rattle.compiled_schema.specs.Usable.{set_of}
 use Rattle.compiled_schema.specs.declared.compiled.Compiled.{Compiled}
-use Rattle.model_lists.specs.Lists.{ambivalent_places}
-use Rattle.kept_forgetting.specs.Below.{IsWithin}
-use Rattle.kept_records.specs.Slots.{KeptSlots}
-use Rattle.kept_records.specs.Fit.{models_of, model_at, symbols_at}
-use Rattle.kept_state.specs.declared.state.KeptState.{KeptState}
+use Rattle.child_lists.specs.Family.{marked_places}
+use Rattle.child_lists.specs.kept_forgetting.Below.{IsWithin}
+use Rattle.child_lists.specs.kept_records.Slots.{KeptSlots}
+use Rattle.child_lists.specs.kept_records.Fit.{models_of, model_at, symbols_at}
+use Rattle.child_lists.specs.kept_state.KeptState.{KeptState}
 use Rattle.kept_targets.specs.Kept.{sign_at}
 use Rattle.kept_targets.specs.declared.keys.ElementSign.{ElementSign}
 
@@ -40,8 +39,6 @@ pub record AddsWithin (ns : Nodes) (old new : List ℕ) (n : ℕ) : Type 0 where
 
 -- a child element of an element whose name is ambivalent in the content model of its parent
 pub record IsMarked (c : Compiled) (ns : Nodes) (k : KeptState) (n child : ℕ) : Type 0 where
-  pub model : ContentAutomaton
-  pub is : model_at (models_of c) k.records.slots n ≡ Some model
   pub place : ℕ
   pub there : slice_get (element_children ns n) place ≡ Some child
-  pub marked : Has place (ambivalent_places model (symbols_at (set_of c) (models_of c) ns k.records.slots n))
+  pub marked : Has place (marked_places (model_at (models_of c) k.records.slots n) (symbols_at (set_of c) (models_of c) ns k.records.slots n))

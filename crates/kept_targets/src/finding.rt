@@ -5,8 +5,8 @@ ghost use Rattle.tree_rows.specs.Forest.{Document};
 ghost use Rattle.identity_assessment.specs.Identity.{seen};
 ghost use Rattle.identity_constraints.specs.Satisfied.{identity_at};
 ghost use Rattle.doc_nodes.specs.Nodes.{Has, Lacks, is_element_at};
-ghost use Rattle.kept_records.specs.Slots.{IsMade, kept_at};
-ghost use Rattle.kept_records.specs.Found.{IsOver, found_in};
+ghost use Rattle.child_lists.specs.kept_records.Slots.{IsMade, kept_at};
+ghost use Rattle.child_lists.specs.kept_records.Found.{IsOver, found_in};
 ghost use Rattle.kept_targets.specs.Kept.{AreTargets};
 ghost use Rattle.kept_targets.specs.Turned.{WereTargets};
 ghost use Rattle.kept_targets.specs.Whole.{IsWhole};
@@ -17,7 +17,7 @@ use crate::moved::{Kept, add_marked, add_moved};
 use crate::turn::Turn;
 use compiled_schema::Compiled;
 use doc_tree::DocTree;
-use kept_state::KeptState;
+use child_lists::kept_state::KeptState;
 use std::alloc::AllocError;
 
 // The elements whose signs are others than before.

@@ -9,7 +9,7 @@ use compiled_schema::Compiled;
 use counted_keys::CountedKeys;
 use elem_governing::Governing;
 use forest_keys::references_of;
-use kept_records::KeptElement;
+use child_lists::kept_judging::kept_records::KeptElement;
 use kept_slots::Slots;
 use std::alloc::{AllocError, Global};
 use xs_names::NameId;

@@ -11,7 +11,7 @@ ghost use Rattle.tree_assess.specs.Entries.{entry_of};
 ghost use Rattle.kept_targets.specs.Seen.{elements_under, seen_to, siblings_of, IsFirstKept};
 
 use doc_tree::DocTree;
-use kept_records::{KeptElement, KeptRecords};
+use child_lists::kept_judging::kept_records::{KeptElement, KeptRecords};
 use path_walk::{KeySiblings, KeySight};
 
 /// Child elements of an element from a place on, each with all below it, as far as something is kept of them.
