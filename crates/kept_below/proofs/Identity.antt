@@ -6,14 +6,14 @@ use Rattle.compiled_schema.specs.declared.compiled.Compiled.{Compiled}
 use Rattle.doc_nodes.specs.Nodes.{Nodes}
 use Rattle.elem_governing.specs.declared.pairs.Governing.{Governing}
 use Rattle.kept_slots.specs.Slots.{Writes}
-use Rattle.child_listing.specs.kept_records.Books.{KeptView}
-use Rattle.child_listing.specs.kept_records.KeptElement.{KeptElement}
-use Rattle.child_listing.specs.kept_records.Slots.{IsKept, blank, kept_at}
-use Rattle.child_listing.specs.kept_state.Kept.{Rewrites}
-use Rattle.child_listing.specs.kept_state.KeptChildren.{KeptChildren}
-use Rattle.child_listing.specs.kept_state.Governed.{Governed}
-use Rattle.child_listing.specs.kept_state.KeptState.{KeptState}
-use Rattle.child_listing.specs.kept_judging.Judged.{IsJudgedAnew}
+use Rattle.child_listing.specs.from_kept_records.Books.{KeptView}
+use Rattle.child_listing.specs.from_kept_records.KeptElement.{KeptElement}
+use Rattle.child_listing.specs.from_kept_records.Slots.{IsKept, blank, kept_at}
+use Rattle.child_listing.specs.from_kept_state.Kept.{Rewrites}
+use Rattle.child_listing.specs.from_kept_state.KeptChildren.{KeptChildren}
+use Rattle.child_listing.specs.from_kept_state.Governed.{Governed}
+use Rattle.child_listing.specs.from_kept_state.KeptState.{KeptState}
+use Rattle.child_listing.specs.from_kept_judging.Judged.{IsJudgedAnew}
 use Rattle.kept_below.specs.Below.{IsMadeAnew, KeepsIdentity}
 
 pub identity-then : (old mid new : KeptState) → KeepsIdentity old mid → KeepsIdentity mid new → KeepsIdentity old new

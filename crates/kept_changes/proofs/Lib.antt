@@ -9,5 +9,5 @@ pub mod Turned
 pub mod RootNamed
 pub mod Grown
 pub mod Under
-pub mod kept_forgetting
-pub mod kept_records
+pub mod from_kept_forgetting
+pub mod from_kept_records

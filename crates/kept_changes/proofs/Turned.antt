@@ -20,7 +20,7 @@ use Rattle.doc_planting.proofs.Placing.{IsParent, parent_of}
 use Rattle.doc_edits.specs.Changes.{CanMake, IsMade}
 use Rattle.doc_edits.specs.declared.change.Change.{Change}
 use Rattle.doc_edits.specs.declared.change.Change.TheVariants as changes
-use Rattle.kept_children.proofs.kept_forgetting.Placed.{parent-has}
+use Rattle.kept_children.proofs.from_kept_forgetting.Placed.{parent-has}
 use Rattle.kept_children.specs.Edited.{ComesAt}
 use Rattle.kept_changes.specs.Own.{Retexts, Reattributes, Renames}
 use Rattle.kept_changes.specs.Spots.{IsRemoval, IsSpot}

@@ -9,7 +9,7 @@ use Rattle.doc_inverses.specs.declared.change.Change.{Change}
 use Rattle.doc_inverses.specs.declared.change.Change.TheVariants as changes
 use Rattle.doc_inverses.specs.declared.part.PartRow.{PartRow}
 use Rattle.kept_changes.specs.Spots.{IsRemoval}
-use Rattle.kept_changes.specs.kept_forgetting.Below.{IsWithin}
+use Rattle.kept_changes.specs.from_kept_forgetting.Below.{IsWithin}
 use Rattle.kept_changes.specs.Turned.{TurnsAt}
 use Rattle.kept_changes.specs.declared.change.Spot.{Spot}
 use Rattle.kept_changes.specs.declared.change.Spot.TheVariants.{Planted, Pruned, Retexted, Attributed, Renamed}

@@ -4,8 +4,8 @@ use Rattle.xs_codes.specs.declared.fault.Found.{Found}
 use Rattle.identity_constraints.specs.Seen.{KeyForest}
 use Rattle.identity_constraints.specs.Satisfied.{identity_at}
 use Rattle.compiled_schema.specs.declared.compiled.Compiled.{Compiled}
-use Rattle.kept_above.specs.kept_records.Slots.{IsMade, kept_at, pair_at}
-use Rattle.kept_above.specs.kept_state.KeptState.{KeptState}
+use Rattle.kept_above.specs.from_kept_records.Slots.{IsMade, kept_at, pair_at}
+use Rattle.kept_above.specs.from_kept_state.KeptState.{KeptState}
 
 -- what crates above name of `kept_targets`, passed on
 pub use Rattle.kept_targets.specs.Whole.{IsWhole}

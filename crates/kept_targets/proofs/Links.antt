@@ -4,7 +4,7 @@ use Rattle.std.specs.Prelude.{filter}
 use Rattle.std.specs.Option.{option_and_then}
 use Rattle.doc_nodes.specs.Nodes.{Node, Nodes, IsSound, IsNode, Has, node, depth_by, children_by, is_element_at, element_children}
 use Rattle.doc_changes.specs.Held.{parent_at}
-use Rattle.child_lists.proofs.kept_forgetting.Placed.{parent-has}
+use Rattle.child_lists.proofs.from_kept_forgetting.Placed.{parent-has}
 
 filter-parts : (f : ℕ → Bool) (x : ℕ) (xs : List ℕ) → Has x (filter f xs) → Has x xs × (f x ≡ true)
 filter-parts f x [] h = absurd h

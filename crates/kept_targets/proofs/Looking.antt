@@ -23,19 +23,19 @@ use Rattle.doc_nodes.specs.declared.content.NameAttribute.{NameAttribute}
 use Rattle.doc_heads.specs.Heads.{text_named, texts_named}
 use Rattle.kept_slots.specs.Slots.{at}
 use Rattle.child_lists.specs.Family.{marked_places}
-use Rattle.child_lists.specs.kept_forgetting.Below.{IsWithin, upwards}
+use Rattle.child_lists.specs.from_kept_forgetting.Below.{IsWithin, upwards}
 use Rattle.child_lists.proofs.Edits.{get-map}
 use Rattle.child_lists.proofs.Terms.{terms-same}
-use Rattle.child_lists.proofs.kept_forgetting.Walks.{below-within, child-below}
-use Rattle.child_lists.proofs.kept_forgetting.Placed.{has-at, child-place, children-differ, one-place, parent-element, root-alone}
-use Rattle.child_lists.proofs.kept_judging.Heads.{root-element}
-use Rattle.child_lists.proofs.kept_records.Frames.{map-same}
-use Rattle.child_lists.proofs.kept_records.Made.{made-elements}
-use Rattle.child_lists.proofs.kept_records.Nodes.{has-element}
-use Rattle.child_lists.specs.kept_records.KeptElement.{KeptElement}
-use Rattle.child_lists.specs.kept_records.Slots.{IsMade, blank, kept_at, pair_at}
-use Rattle.child_lists.specs.kept_records.Fit.{models_of, model_at, symbols_at, head_at, IsFit}
-use Rattle.child_lists.specs.kept_state.KeptState.{KeptState}
+use Rattle.child_lists.proofs.from_kept_forgetting.Walks.{below-within, child-below}
+use Rattle.child_lists.proofs.from_kept_forgetting.Placed.{has-at, child-place, children-differ, one-place, parent-element, root-alone}
+use Rattle.child_lists.proofs.from_kept_judging.Heads.{root-element}
+use Rattle.child_lists.proofs.from_kept_records.Frames.{map-same}
+use Rattle.child_lists.proofs.from_kept_records.Made.{made-elements}
+use Rattle.child_lists.proofs.from_kept_records.Nodes.{has-element}
+use Rattle.child_lists.specs.from_kept_records.KeptElement.{KeptElement}
+use Rattle.child_lists.specs.from_kept_records.Slots.{IsMade, blank, kept_at, pair_at}
+use Rattle.child_lists.specs.from_kept_records.Fit.{models_of, model_at, symbols_at, head_at, IsFit}
+use Rattle.child_lists.specs.from_kept_state.KeptState.{KeptState}
 use Rattle.kept_targets.specs.Kept.{sign_at, sign_of}
 use Rattle.kept_targets.specs.Moved.{IsLookedAt, IsMarked, IsSteady}
 use Rattle.kept_targets.specs.Turned.{Stays, Turns, own_of, listed_of, list_of}

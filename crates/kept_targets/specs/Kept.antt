@@ -12,8 +12,8 @@ use Rattle.compiled_schema.specs.declared.compiled.Compiled.{Compiled}
 use Rattle.doc_nodes.specs.Nodes.{Nodes, element_children}
 use Rattle.doc_changes.specs.Held.{parent_at}
 use Rattle.kept_slots.specs.Slots.{at}
-use Rattle.child_lists.specs.kept_records.KeptElement.{KeptElement}
-use Rattle.child_lists.specs.kept_records.Slots.{KeptSlots, IsMade, entry_at}
+use Rattle.child_lists.specs.from_kept_records.KeptElement.{KeptElement}
+use Rattle.child_lists.specs.from_kept_records.Slots.{KeptSlots, IsMade, entry_at}
 use Rattle.kept_targets.specs.declared.keys.ElementSign.{ElementSign}
 use Rattle.kept_targets.specs.declared.keys.TargetKeys.{TargetKeys}
 

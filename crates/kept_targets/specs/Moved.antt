@@ -8,10 +8,10 @@ use Rattle.doc_changes.specs.Held.{parent_at}
 use Rattle.compiled_schema.specs.Usable.{set_of}
 use Rattle.compiled_schema.specs.declared.compiled.Compiled.{Compiled}
 use Rattle.child_lists.specs.Family.{marked_places}
-use Rattle.child_lists.specs.kept_forgetting.Below.{IsWithin}
-use Rattle.child_lists.specs.kept_records.Slots.{KeptSlots}
-use Rattle.child_lists.specs.kept_records.Fit.{models_of, model_at, symbols_at}
-use Rattle.child_lists.specs.kept_state.KeptState.{KeptState}
+use Rattle.child_lists.specs.from_kept_forgetting.Below.{IsWithin}
+use Rattle.child_lists.specs.from_kept_records.Slots.{KeptSlots}
+use Rattle.child_lists.specs.from_kept_records.Fit.{models_of, model_at, symbols_at}
+use Rattle.child_lists.specs.from_kept_state.KeptState.{KeptState}
 use Rattle.kept_targets.specs.Kept.{sign_at}
 use Rattle.kept_targets.specs.declared.keys.ElementSign.{ElementSign}
 

@@ -5,8 +5,8 @@ use Rattle.identity_assessment.specs.Identity.{seen_element}
 use Rattle.compiled_schema.specs.declared.compiled.Compiled.{Compiled}
 use Rattle.counted_keys.specs.Kept.{targets_of}
 use Rattle.doc_nodes.specs.Nodes.{Nodes, Has, is_element_at}
-use Rattle.child_lists.specs.kept_forgetting.Below.{IsWithin}
-use Rattle.child_lists.specs.kept_records.Slots.{KeptSlots, entry_at}
+use Rattle.child_lists.specs.from_kept_forgetting.Below.{IsWithin}
+use Rattle.child_lists.specs.from_kept_records.Slots.{KeptSlots, entry_at}
 use Rattle.kept_targets.specs.declared.above.Touched.{Touched}
 use Rattle.kept_targets.specs.declared.keys.TargetKeys.{TargetKeys}
 

@@ -4,11 +4,11 @@ use Rattle.compiled_schema.specs.declared.compiled.Compiled.{Compiled}
 use Rattle.doc_nodes.specs.Nodes.{Nodes, Has, is_element_at, element_children}
 use Rattle.doc_changes.specs.Held.{parent_at, attributes_at}
 use Rattle.doc_documents.specs.Readers.{name_at, own_chars, scope_at}
-use Rattle.child_lists.specs.kept_records.Slots.{kept_at}
-use Rattle.child_lists.specs.kept_records.Found.{IsOver, SaysFound}
-use Rattle.child_lists.specs.kept_forgetting.Below.{IsWithin}
+use Rattle.child_lists.specs.from_kept_records.Slots.{kept_at}
+use Rattle.child_lists.specs.from_kept_records.Found.{IsOver, SaysFound}
+use Rattle.child_lists.specs.from_kept_forgetting.Below.{IsWithin}
 use Rattle.tree_rows.specs.Forest.{Document}
-use Rattle.child_lists.specs.kept_state.KeptState.{KeptState}
+use Rattle.child_lists.specs.from_kept_state.KeptState.{KeptState}
 use Rattle.kept_targets.specs.Kept.{AreTargets}
 use Rattle.kept_targets.specs.Whole.{IsWhole}
 use Rattle.kept_targets.specs.declared.keys.TargetKeys.{TargetKeys}

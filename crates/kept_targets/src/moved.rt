@@ -5,7 +5,7 @@ ghost use Rattle.xs_names.specs.Names.{NameTable};
 ghost use Rattle.tree_rows.specs.Forest.{Document};
 ghost use Rattle.doc_nodes.specs.Nodes.{Has, element_children, is_element_at};
 ghost use Rattle.doc_changes.specs.Stands.{StandsFor};
-ghost use Rattle.child_lists.specs.kept_forgetting.Below.{IsWithin};
+ghost use Rattle.child_lists.specs.from_kept_forgetting.Below.{IsWithin};
 ghost use Rattle.kept_slots.specs.Slots.{at};
 ghost use Rattle.kept_targets.specs.Kept as spec;
 ghost use Rattle.kept_targets.specs.Moved as law;

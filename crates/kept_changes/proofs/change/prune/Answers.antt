@@ -1,7 +1,7 @@
 use Rattle.std.proofs.Common.{◌≡◌, ◌+◌, ℕ, true, Option, Some, sym, ap, ◌∙◌, subst}
 use Rattle.std.specs.Prelude.{unwrap_or}
-use Rattle.kept_children.specs.kept_records.KeptElement.{KeptElement}
-use Rattle.kept_children.specs.kept_records.Slots.{blank}
+use Rattle.kept_children.specs.from_kept_records.KeptElement.{KeptElement}
+use Rattle.kept_children.specs.from_kept_records.Slots.{blank}
 use Rattle.std.proofs.lemmas.Option.{same_Some}
 use Rattle.tree_rows.specs.Forest.{Forest}
 use Rattle.tree_edits.specs.Tests.{made}
@@ -9,8 +9,8 @@ use Rattle.tree_edits.specs.declared.edit.Edit.TheVariants as edits
 use Rattle.doc_nodes.specs.Nodes.{IsChildAt, is_element_at}
 use Rattle.doc_changes.specs.Held.{parent_at}
 use Rattle.doc_changes.specs.Parts.{IsOver, Prunes}
-use Rattle.kept_children.specs.kept_state.Kept.{outcome_at}
-use Rattle.kept_children.specs.kept_forgetting.Forgotten.{Forgets}
+use Rattle.kept_children.specs.from_kept_state.Kept.{outcome_at}
+use Rattle.kept_children.specs.from_kept_forgetting.Forgotten.{Forgets}
 use Rattle.kept_children.specs.Steps.{width}
 use Rattle.kept_changes.specs.Steps.{TakesBelow}
 use Rattle.std.proofs.lemmas.Result.{on_ok_weaker}
