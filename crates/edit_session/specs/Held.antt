@@ -8,15 +8,9 @@ use Rattle.session_model.specs.State.{State}
 use Rattle.doc_nodes.specs.Nodes.{Nodes}
 use Rattle.doc_changes.specs.Stands.{StandsFor}
 use Rattle.doc_documents.specs.Documents.{document_of}
-<<<<<<< HEAD
 use Rattle.kept_inverses.specs.from_kept_records.Found.{SaysFound, found_in}
 use Rattle.kept_inverses.specs.from_kept_state.KeptState.{KeptState}
 use Rattle.kept_keys.specs.Keys.{AreTargetsBy, IsWhole}
-=======
-use Rattle.kept_inverses.specs.from_kept_records.Found.{SaysFound, found_in}
-use Rattle.kept_inverses.specs.from_kept_state.KeptState.{KeptState}
-use Rattle.kept_keys.specs.Keys.{IsWhole}
->>>>>>> af796a671a5937b2109526eb5c3b351d58d54230
 use Rattle.edit_session.specs.declared.session.EditSession.TheInside.{Inside}
 
 module _ (c : Compiled) (ns : Nodes) where

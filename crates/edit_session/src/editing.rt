@@ -7,15 +7,10 @@ ghost use Rattle.tree_edits.specs.Tests.{edited};
 ghost use Rattle.session_model.specs.Spending.{BreaksWithin};
 ghost use Rattle.doc_changes.specs.Stands.{StandsFor};
 ghost use Rattle.doc_edits.specs.Changes.{CanMake, changed};
-<<<<<<< HEAD
 ghost use Rattle.kept_inverses.specs.from_kept_children.Edited.{IsRightFor};
 ghost use Rattle.kept_inverses.specs.from_kept_changes.Steps.{Takes};
 ghost use Rattle.kept_keys.specs.Keys.{AreTargetsBy};
 ghost use Rattle.tree_edits.specs.declared.edit.EditError.TheVariants.{Memory};
-=======
-ghost use Rattle.kept_inverses.specs.from_kept_children.Edited.{IsRightFor};
-ghost use Rattle.kept_inverses.specs.from_kept_changes.Steps.{Takes};
->>>>>>> af796a671a5937b2109526eb5c3b351d58d54230
 ghost use Rattle.edit_session.specs.Costs.{edit_cost};
 ghost use Rattle.edit_session.specs.Edited.{IsDone, IsLeft, IsReady, IsRefused};
 ghost use Rattle.edit_session.specs.Held.{IsPresent, Stands, document_in, state_by};

@@ -6,13 +6,9 @@ ghost use Rattle.compiled_schema.specs.Usable.{IsUsable, set_of};
 ghost use Rattle.session_model.specs.State.{with_names};
 ghost use Rattle.doc_changes.specs.Stands.{StandsFor};
 ghost use Rattle.kept_slots.specs.Slots.{at};
-<<<<<<< HEAD
 ghost use Rattle.kept_inverses.specs.from_kept_state.Kept.{IsBeside};
 ghost use Rattle.doc_nodes.specs.Nodes.{Nodes};
 ghost use Rattle.kept_keys.specs.Keys.{AreTargets, AreTargetsBy};
-=======
-ghost use Rattle.kept_inverses.specs.from_kept_state.Kept.{IsBeside};
->>>>>>> af796a671a5937b2109526eb5c3b351d58d54230
 ghost use Rattle.edit_session.specs.Held.{Stands, IsPresent};
 
 use compiled_schema::{Compiled, usable_with_more_names};

@@ -30,16 +30,10 @@ use Rattle.kept_children.specs.from_kept_below.Moved.{moved}
 use Rattle.kept_children.proofs.from_kept_below.Moving.{moved-alike}
 use Rattle.kept_children.specs.Edited.{IsRightFor, IsPruned}
 use Rattle.kept_children.specs.Steps.{digits, marked_count, width}
-<<<<<<< HEAD
 use Rattle.kept_children.specs.from_child_lists.Family.{marked_places}
 use Rattle.kept_children.specs.from_child_lists.Places.{IsPlaceOf}
 use Rattle.kept_children.specs.from_child_lists.ChildPlace.{ChildPlace}
 use Rattle.kept_changes.specs.Turned.{Goes}
-=======
-use Rattle.kept_children.specs.from_child_lists.Family.{marked_places}
-use Rattle.kept_children.specs.from_child_lists.Places.{IsPlaceOf}
-use Rattle.kept_children.specs.from_child_lists.ChildPlace.{ChildPlace}
->>>>>>> af796a671a5937b2109526eb5c3b351d58d54230
 use Rattle.kept_changes.specs.Steps.{TakesBelow}
 
 -- what has a node of these numbers as a child's descendant is below its parent

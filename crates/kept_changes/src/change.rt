@@ -10,13 +10,9 @@ ghost use Rattle.doc_nodes.specs.Nodes.{is_element_at};
 ghost use Rattle.doc_changes.specs.Held.{parent_at};
 ghost use Rattle.doc_changes.specs.Stands.{StandsFor};
 ghost use Rattle.doc_edits.specs.Changes.{CanMake, IsMade, changed};
-<<<<<<< HEAD
 ghost use Rattle.kept_children.specs.from_kept_state.Kept.{IsBeside};
 ghost use Rattle.kept_children.specs.from_kept_below.Below.{KeepsIdentity};
 ghost use Rattle.kept_children.specs.from_kept_forgetting.Below.{IsWithin};
-=======
-ghost use Rattle.kept_children.specs.from_kept_state.Kept.{IsBeside};
->>>>>>> af796a671a5937b2109526eb5c3b351d58d54230
 ghost use Rattle.kept_children.specs.Edited.{IsRightFor};
 ghost use Rattle.kept_children.specs.Steps.{width};
 ghost use Rattle.kept_changes.specs.Spots.{HasChangedAt, HasCome, IsRemoval, IsSpot, IsTakenBy, KeepsIdentityBut, TakesSpot};

@@ -16,16 +16,11 @@ use Rattle.tree_inverses.specs.Sites.{first_number}
 use Rattle.tree_inverses.proofs.Twice.{absent, own_one}
 use Rattle.doc_inverses.specs.Parts.{IsPart, Grafts}
 use Rattle.doc_inverses.specs.declared.part.PartRow.{PartRow}
-<<<<<<< HEAD
 use Rattle.kept_changes.specs.Own.{Retexts}
 use Rattle.kept_changes.specs.Turned.{TurnsAt}
 use Rattle.kept_changes.proofs.Turned.{comes-there}
 use Rattle.kept_changes.specs.from_kept_state.KeptState.{KeptState}
 use Rattle.kept_changes.specs.from_kept_children.Edited.{IsRightFor, ComesAt}
-=======
-use Rattle.kept_changes.specs.from_kept_state.KeptState.{KeptState}
-use Rattle.kept_changes.specs.from_kept_children.Edited.{IsRightFor, ComesAt}
->>>>>>> af796a671a5937b2109526eb5c3b351d58d54230
 use Rattle.kept_changes.specs.Spots.{HasChangedAt, TakesSpot}
 use Rattle.kept_changes.specs.declared.change.Spot.{Spot}
 use Rattle.kept_changes.specs.declared.change.Spot.TheVariants.{Retexted}

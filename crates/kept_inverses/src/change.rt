@@ -8,16 +8,11 @@ ghost use Rattle.doc_nodes.specs.Nodes.{is_element_at};
 ghost use Rattle.doc_changes.specs.Held.{parent_at};
 ghost use Rattle.doc_changes.specs.Stands.{StandsFor};
 ghost use Rattle.doc_inverses.specs.Changes.{Means};
-<<<<<<< HEAD
 ghost use Rattle.kept_changes.specs.from_kept_children.Edited.{IsRightFor};
 ghost use Rattle.kept_inverses.specs.Spots.{AreTurnedOver, IsSpotOf, IsReturn, IsTakenOut};
 ghost use Rattle.kept_changes.specs.Turned.{Goes};
 ghost use Rattle.kept_changes.specs.from_kept_forgetting.Below.{IsWithin};
 ghost use Rattle.kept_changes.specs.Spots.{KeepsIdentityBut};
-=======
-ghost use Rattle.kept_changes.specs.from_kept_children.Edited.{IsRightFor};
-ghost use Rattle.kept_inverses.specs.Spots.{IsSpotOf, IsReturn};
->>>>>>> af796a671a5937b2109526eb5c3b351d58d54230
 ghost use Rattle.kept_inverses.specs.Steps.{TakesInverse};
 ghost use Rattle.kept_changes.specs.Steps.{TakesBelow};
 ghost use Rattle.kept_changes.specs.from_kept_children.Steps.{width};

@@ -9,15 +9,9 @@ use Rattle.assessment.specs.Local.{HasElement}
 use Rattle.identity_constraints.specs.Seen as keys
 use Rattle.identity_assessment.specs.Identity.{seen}
 use Rattle.doc_nodes.specs.Nodes.{Nodes}
-<<<<<<< HEAD
 use Rattle.kept_above.specs.from_kept_records.Slots.{KeptSlots, entry_at}
 use Rattle.kept_above.specs.from_kept_records.Found.{found_in}
 use Rattle.kept_targets.proofs.Staying.{IsSeenAlike}
-=======
-use Rattle.kept_above.specs.from_kept_records.Slots.{KeptSlots, entry_at}
-use Rattle.kept_above.specs.from_kept_records.Found.{found_in}
-use Rattle.kept_keys.proofs.Staying.{IsSeenAlike}
->>>>>>> af796a671a5937b2109526eb5c3b351d58d54230
 
 module _ (ns : Nodes) (old new : KeptSlots) where
   abbrev AreSeenAlike : Forest → Type 0

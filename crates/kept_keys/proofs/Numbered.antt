@@ -6,15 +6,9 @@ use Rattle.tree_rows.specs.Whole.{times}
 use Rattle.assessment.specs.Local.{HasElement}
 use Rattle.identity_assessment.specs.Identity.{seen}
 use Rattle.doc_nodes.specs.Nodes.{Nodes, Lacks}
-<<<<<<< HEAD
 use Rattle.kept_above.specs.from_kept_records.Slots.{KeptSlots, entry_at}
 use Rattle.kept_above.specs.from_kept_records.Found.{found_in}
 use Rattle.kept_targets.specs.Seen.{numbers_in}
-=======
-use Rattle.kept_above.specs.from_kept_records.Slots.{KeptSlots, entry_at}
-use Rattle.kept_above.specs.from_kept_records.Found.{found_in}
-use Rattle.kept_keys.specs.Seen.{numbers_in}
->>>>>>> af796a671a5937b2109526eb5c3b351d58d54230
 use Rattle.kept_keys.proofs.Coding.{seen_times, weight}
 use Rattle.kept_keys.proofs.Lists.{lacks-left, lacks-right}
 

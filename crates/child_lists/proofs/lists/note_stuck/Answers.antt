@@ -1,15 +1,8 @@
 use Rattle.std.proofs.Common.{ap, ◌∙◌}
-<<<<<<< HEAD
 use Rattle.child_listing.specs.from_kept_records.KeptElement.{KeptElement}
 use Rattle.child_listing.specs.from_kept_state.KeptChildren.{KeptChildren}
 use Rattle.child_listing.proofs.from_kept_state.Beside.{kept-there}
 use Rattle.child_lists.proofs.Written.{midway-written, stuck-written, given-written, counted-written, identity-stays, pair-stays}
-=======
-use Rattle.child_listing.specs.from_kept_records.KeptElement.{KeptElement}
-use Rattle.child_listing.specs.from_kept_state.KeptChildren.{KeptChildren}
-use Rattle.child_listing.proofs.from_kept_state.Beside.{kept-there}
-use Rattle.child_lists.proofs.Written.{midway-written, stuck-written, given-written, counted-written, pair-stays}
->>>>>>> af796a671a5937b2109526eb5c3b351d58d54230
 use Rattle.child_lists.proofs.lists.note_stuck.Goals as goal
 
 pub children-children-requires : goal.children-children-requires

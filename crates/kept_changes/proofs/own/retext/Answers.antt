@@ -2,7 +2,6 @@ use Rattle.std.proofs.Common.{[], refl, sym, ap, ◌∙◌, subst}
 use Rattle.std.specs.Prelude.{OnOk}
 use Rattle.elem_governing.specs.declared.pairs.Governing.{Governing}
 use Rattle.compiled_schema.specs.declared.compiled.Compiled.{Compiled}
-<<<<<<< HEAD
 use Rattle.kept_children.specs.from_kept_records.KeptElement.{KeptElement}
 use Rattle.kept_children.specs.from_kept_state.Kept.{CanGovern, FitBut, IsBeside, children_at}
 use Rattle.kept_children.specs.from_kept_state.KeptState.{KeptState}
@@ -12,14 +11,6 @@ use Rattle.kept_children.specs.from_kept_above.Climbing.{IsClimbing}
 use Rattle.std.proofs.lemmas.Result.{on_ok_weaker}
 use Rattle.kept_children.proofs.Climbed.{climbed}
 use Rattle.kept_children.proofs.from_kept_below.Identity.{identity-judged, identity-put, identity-then}
-=======
-use Rattle.kept_children.specs.from_kept_records.KeptElement.{KeptElement}
-use Rattle.kept_children.specs.from_kept_state.Kept.{CanGovern, FitBut, IsBeside, children_at}
-use Rattle.kept_children.specs.from_kept_state.KeptState.{KeptState}
-use Rattle.kept_children.proofs.from_kept_state.Beside.{kept-there}
-use Rattle.kept_children.specs.from_kept_judging.Judged.{IsJudgedAnew}
-use Rattle.kept_children.specs.from_kept_above.Climbing.{IsClimbing}
->>>>>>> af796a671a5937b2109526eb5c3b351d58d54230
 use Rattle.kept_changes.proofs.Reread.{all-ok}
 use Rattle.kept_changes.proofs.Retexted.{made-own, texts-written, texts-beside, retext-climbs, retext-right}
 use Rattle.kept_changes.proofs.own.retext.Goals as goal

@@ -1,16 +1,10 @@
 use Rattle.std.proofs.Common.{[], sym, subst, ◌∙◌}
 use Rattle.std.proofs.lemmas.Result.{on_ok_weaker}
 use Rattle.compiled_schema.specs.declared.compiled.Compiled.{Compiled}
-<<<<<<< HEAD
 use Rattle.child_lists.specs.from_kept_records.Slots.{pair_at}
 use Rattle.child_lists.specs.from_kept_state.Kept.{FitBut, IsBeside, children_at}
 use Rattle.child_lists.specs.from_kept_state.Outcome.{Outcome}
 use Rattle.child_lists.proofs.from_kept_judging.Keeping.{both-ok}
-=======
-use Rattle.child_lists.specs.from_kept_state.Kept.{FitBut, IsBeside}
-use Rattle.child_lists.specs.from_kept_state.Outcome.{Outcome}
-use Rattle.child_lists.proofs.from_kept_judging.Keeping.{both-ok}
->>>>>>> af796a671a5937b2109526eb5c3b351d58d54230
 use Rattle.kept_above.specs.Climbing.{IsClimbing}
 use Rattle.kept_children.specs.Edited.{IsRightFor}
 use Rattle.kept_below.proofs.Identity.{identity-judged, identity-then}

@@ -2,14 +2,9 @@ use Rattle.std.proofs.Common.{◌≡◌, ℕ, ◌+◌, ◌*◌, ◌≤◌, [], d
 use Rattle.tree_rows.specs.Forest.{Forest}
 use Rattle.elem_governing.specs.declared.pairs.Governing.{Governing}
 use Rattle.doc_nodes.specs.Nodes.{element_children}
-<<<<<<< HEAD
 use Rattle.child_lists.specs.from_kept_records.Slots.{pair_at}
 use Rattle.child_lists.specs.from_kept_state.KeptChildren.{KeptChildren}
 use Rattle.kept_below.specs.Below.{KeepsIdentity}
-=======
-use Rattle.child_lists.specs.from_kept_records.Slots.{pair_at}
-use Rattle.child_lists.specs.from_kept_state.KeptChildren.{KeptChildren}
->>>>>>> af796a671a5937b2109526eb5c3b351d58d54230
 use Rattle.kept_below.specs.Moved.{moved}
 use Rattle.child_lists.specs.Family.{AreCounted, AreGivenBut, IsAttributed, IsMidway}
 use Rattle.kept_children.specs.Steps.{GovernsBelow, digits, marked_count, places_of, width}
