@@ -3,3 +3,4 @@ pub mod Firsts
 pub mod Seeing
 pub mod Staying
 pub mod Looking
+pub mod Down

@@ -49,10 +49,10 @@ use Rattle.kept_targets.specs.Moved.IsLookedAt as looked
 -- ---- one document
 
 module _ (c : Compiled) (ns : Nodes) (k : KeptState) (whole : IsWhole c ns k) where
-  abbrev doc : Document
+  abbrev pub doc : Document
   doc = whole.beside.over.0
 
-  sound : IsSound ns
+  pub sound : IsSound ns
   sound = whole.beside.over.1.stands.links
 
   pub fit-of : (n : ℕ) → IsMade k.records.slots n → IsFit (set_of c) (models_of c) ns k.records.slots k.lists k.root_ids n

@@ -1,7 +1,7 @@
 -- What is kept of the elements of a document as targets of identity constraints: Structures 3.11.4.
 use Rattle.std.specs.Prelude.{◌≡◌, ◌≢◌, ℕ, ¬◌, List, [], Option, None}
 use Rattle.std.specs.Option.{option_map}
-use Rattle.identity_constraints.specs.Seen.{KeyElement, KeyForest}
+use Rattle.identity_constraints.specs.Seen.{KeyElement, KeyForest, element}
 use Rattle.identity_assessment.specs.Identity.{seen_element}
 use Rattle.scope_targets.specs.Kin.{Kin, AreAbove, AreSeen}
 use Rattle.scope_targets.specs.Targetings.{targetings_of}
@@ -27,6 +27,13 @@ sign_of k = record { name = k.found.element.name; pair = k.found.governing }
 
 abbrev pub sign_at : KeptSlots → ℕ → Option ElementSign
 sign_at ks n = option_map sign_of (at ks n)
+
+-- the first of some siblings is this element, with all that is below it
+pub record IsFrom (ns : Nodes) (ks : KeptSlots) (n : ℕ) (f : KeyForest) : Type 0 where
+  pub below : KeyForest
+  pub next : KeyForest
+  pub is : f ≡ element (seen_element (entry_at ks n)) below next
+  pub seen : AreSeen (kin_of ns ks) (element_children ns n) below
 
 module _ (c : Compiled) (ns : Nodes) (ks : KeptSlots) (keys : TargetKeys) where
   -- an element is kept as the targets that it is

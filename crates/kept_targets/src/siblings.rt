@@ -1,6 +1,6 @@
 //! The elements of a document as identity constraints see them.
 
-ghost use Rattle.std.specs.Prelude.{◌≡◌, ◌+◌, ◌<◌, ◌^◌, [], ◌∷◌, slice_get, Some, IfSome, MatchOption};
+ghost use Rattle.std.specs.Prelude.{◌≡◌, ◌+◌, ◌<◌, ◌^◌, true, [], ◌∷◌, slice_get, Some, IfSome, MatchOption};
 ghost use Rattle.tree_rows.specs.Forest.{Document, count};
 ghost use Rattle.doc_changes.specs.Stands.{StandsFor};
 ghost use Rattle.identity_constraints.specs.Seen.{none};
@@ -8,11 +8,17 @@ ghost use Rattle.identity_assessment.specs.Identity.{seen_element};
 ghost use Rattle.xs_names.specs.Names.{NameTable};
 ghost use Rattle.path_walk.specs.Sight as sight;
 ghost use Rattle.tree_assess.specs.Entries.{entry_of};
+ghost use Rattle.compiled_schema.specs.declared.compiled.Compiled.{Compiled as CompiledData};
+ghost use Rattle.doc_nodes.specs.Nodes.{is_element_at};
+ghost use Rattle.child_lists.specs.from_kept_state.KeptState.{KeptState as KeptData};
+ghost use Rattle.kept_targets.specs.Kept.{IsFrom};
 ghost use Rattle.kept_targets.specs.Seen.{elements_under, seen_to, siblings_of, IsFirstKept};
+ghost use Rattle.kept_targets.specs.Whole.{IsWhole};
 
 use doc_tree::DocTree;
 use child_lists::kept_judging::kept_records::{KeptElement, KeptRecords};
 use path_walk::{KeySiblings, KeySight};
+use tree_rows::MAX_DEPTH;
 
 /// Child elements of an element from a place on, each with all below it, as far as something is kept of them.
 #[derive(Clone, Copy)]
@@ -49,13 +55,15 @@ impl<'a> KeptSiblings<'a> {
     }
 
     /// An element of which something is kept, with all elements below it, and the child elements of its parent behind it.
-    pub(crate) fn from(doc: &'a DocTree, records: &'a KeptRecords, node: u32) -> Self {
+    pub(crate) fn from(doc: &'a DocTree, records: &'a KeptRecords, node: u32) -> Self
+        ensures { (c : CompiledData) (k : KeptData) → IsWhole c doc.now k → k.records ≡ records.now → is_element_at doc.now node ≡ true → IsFrom doc.now records.now.slots node (siblings_of result) }
+    {
         KeptSiblings {
             doc,
             records,
             parent: doc.parent(node),
             place: doc.element_place(node).unwrap_or(0),
-            levels: doc.node_count(),
+            levels: MAX_DEPTH,
         }
     }
 
