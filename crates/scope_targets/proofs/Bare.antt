@@ -59,11 +59,11 @@ module _ (names : NameTable) (t : Tables) (identities : List IdentityPaths) (own
       ((λ i. targetings_for names t identities (same.0.number i) (same.0.constraints i) (reached way new_own new_below)) ∙ mine)
       (subst (λ (name : ℕ). targetings_up names t identities (name ∷ way) new_own new_below other ≡ []) (sym same.0.name) more)
 
-module _ (names : NameTable) (t : Tables) (identities : List IdentityPaths) (old new : Kin) (touched steady : ℕ → Bool) (leaves : Leaves t old new touched steady) where
+module _ (names : NameTable) (t : Tables) (identities : List IdentityPaths) (old new : Kin) (free steady : ℕ → Type 0) (leaves : Leaves t old new free steady) where
   -- a steady element that is a target of nothing still is
-  pub bare-stays : (n : ℕ) → steady n ≡ true → (below new_below : KeyForest) (above new_above : List KeyElement) → AreAround old new n below new_below above new_above
+  pub bare-stays : (n : ℕ) → steady n → (below new_below : KeyForest) (above new_above : List KeyElement) → AreAround old new n below new_below above new_above
       → targetings_of names t identities above (old.seen n) below ≡ [] → targetings_of names t identities new_above (new.seen n) new_below ≡ []
   bare-stays n is below new_below above new_above around bare =
-      let scopes = same-above t old new touched steady leaves (old.parent n) above new_above (λ p e. leaves.steady_above n p is e) around.above_are
+      let scopes = same-above t old new free steady leaves (old.parent n) above new_above (λ p e. leaves.steady_above n p is e) around.above_are
           (subst (λ q. AreAbove new q new_above) (leaves.steady_parent n is) around.new_above_are) in
       up-none names t identities (old.seen n) (new.seen n) below new_below [] (old.seen n ∷ above) (new.seen n ∷ new_above) (leaves.same n is, scopes) bare
