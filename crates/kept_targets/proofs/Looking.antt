@@ -59,7 +59,7 @@ module _ (c : Compiled) (ns : Nodes) (k : KeptState) (whole : IsWhole c ns k) wh
   fit-of n made = whole.fit n made tt
 
   -- the name in its record is its own
-  record-name : (n : ℕ) → IsMade k.records.slots n → (kept_at k.records.slots n).found.element.name ≡ name_at ns n
+  pub record-name : (n : ℕ) → IsMade k.records.slots n → (kept_at k.records.slots n).found.element.name ≡ name_at ns n
   record-name n made = ap (λ r. r.name) (fit-of n made).known.known.record_is
 
   pub sign-is : (n : ℕ) → IsMade k.records.slots n → sign_at k.records.slots n ≡ Some (record { name = name_at ns n; pair = pair_at k.records.slots n })
@@ -92,7 +92,7 @@ has-or-lacks n [] = inr tt
 has-or-lacks n (x ∷ xs) =
     elim (cases_eq x n) [ inl e ↦ inl (inl e) | inr off ↦ elim (has-or-lacks n xs) [ inl later ↦ inl (inr later) | inr none ↦ inr (off, none) ] ]
 
-listed-own : (turn : Turn) (n : ℕ) → listed_of turn ≡ Some n → own_of turn ≡ Some n
+pub listed-own : (turn : Turn) (n : ℕ) → listed_of turn ≡ Some n → own_of turn ≡ Some n
 listed-own (turns.Own m) n e = absurd (none-some n e)
 listed-own (turns.Listed m) n e = e
 listed-own (turns.Gone p numbers) n e = absurd (none-some n e)
@@ -145,10 +145,10 @@ module _ (c : Compiled) (ns ms : Nodes) (k l : KeptState) (turn : Turn) (old : I
           record { stays = record { before = element-of c ns k old n made; after = is }; name = ap (λ (x : ElementSign). x.name) same; pair = ap (λ (x : ElementSign). x.pair) same }
 
   -- what is above an element that stays has stayed as well
-  stays-above : (n p : ℕ) → Stays ns ms n → parent_at ms n ≡ Some p → Stays ns ms p
+  pub stays-above : (n p : ℕ) → Stays ns ms n → parent_at ms n ≡ Some p → Stays ns ms p
   stays-above n p stays up = record { before = above-there c ns k old n p (sym (turned.parents n stays) ∙ up); after = above-there c ms l new n p up }
 
-  within-stays : (levels n r : ℕ) → Stays ns ms n → upwards ms levels n ≡ Some r → Stays ns ms r
+  pub within-stays : (levels n r : ℕ) → Stays ns ms n → upwards ms levels n ≡ Some r → Stays ns ms r
   within-stays zero n r stays e = subst (Stays ns ms) (same_Some n r e) stays
   within-stays (suc levels) n r stays e = by (parent_at ms n) refl
     where
@@ -157,7 +157,7 @@ module _ (c : Compiled) (ns ms : Nodes) (k l : KeptState) (turn : Turn) (old : I
       by (Some p) up = within-stays levels p r (stays-above n p stays up) (sym (ap (option_and_then (upwards ms levels)) up) ∙ e)
 
   -- below one that stays, what is not the own one of the turn stays
-  child-stays : (q n : ℕ) → Stays ns ms q → parent_at ms n ≡ Some q → is_element_at ms n ≡ true → own_of turn ≢ Some n → Stays ns ms n
+  pub child-stays : (q n : ℕ) → Stays ns ms q → parent_at ms n ≡ Some q → is_element_at ms n ≡ true → own_of turn ≢ Some n → Stays ns ms n
   child-stays q n stays up is off = by (is_element_at ns n) refl
     where
       came : is_element_at ns n ≡ false → ⊥
@@ -173,6 +173,21 @@ module _ (c : Compiled) (ns ms : Nodes) (k l : KeptState) (turn : Turn) (old : I
       by : (b : Bool) → is_element_at ns n ≡ b → Stays ns ms n
       by true e = record { before = e; after = is }
       by false e = absurd (came e)
+
+  -- ---- where the child elements are those that were there, each has its name
+
+  module _ (q : ℕ) (there : Stays ns ms q) (other : list_of ms turn ≢ Some q) where
+    pub children-stay : element_children ms q ≡ element_children ns q
+    children-stay = turned.children q there other
+
+    name-stays : (i x : ℕ) → slice_get (element_children ms q) i ≡ Some x → name_at ms x ≡ name_at ns x
+    name-stays i x e =
+        let below = child-up ms (sound c ms l new) q x (has-at (element_children ms q) i x e) in
+        let before = child-up ns (sound c ns k old) q x (subst (Has x) children-stay (has-at (element_children ms q) i x e)) in
+        turned.names x (record { before = before.1; after = below.1 }) (λ listed. other (listed-below ms turn x q listed below.0))
+
+    pub names-stay : map (name_at ms) (element_children ms q) ≡ map (name_at ns) (element_children ns q)
+    names-stay = map-same (name_at ms) (name_at ns) (element_children ms q) name-stays ∙ ap (map (name_at ns)) children-stay
 
   -- ---- governing
 
@@ -205,24 +220,13 @@ module _ (c : Compiled) (ns ms : Nodes) (k l : KeptState) (turn : Turn) (old : I
         (get-name (element_children ns q) was.0 (name_at ns) was.1 ∙ ap Some (sym name)) lacks
         ∙ ap (λ (g : Governing). term_in (models_of c g.of) (child_symbols s.names (models_of c g.of) (map (name_at ns) (element_children ns q))) was.0) as.pair)
 
-    -- where the child elements are those that were there, each has its place and its name
+    -- where the child elements are those that were there, it has its place
     module _ (other : list_of ms turn ≢ Some q) where
-      children : element_children ms q ≡ element_children ns q
-      children = turned.children q as.stays other
-
-      name-stays : (i x : ℕ) → slice_get (element_children ms q) i ≡ Some x → name_at ms x ≡ name_at ns x
-      name-stays i x e =
-          let below = child-up ms (sound c ms l new) q x (has-at (element_children ms q) i x e) in
-          let before = child-up ns (sound c ns k old) q x (subst (Has x) children (has-at (element_children ms q) i x e)) in
-          turned.names x (record { before = before.1; after = below.1 }) (λ listed. other (listed-below ms turn x q listed below.0))
-
-      names : map (name_at ms) (element_children ms q) ≡ map (name_at ns) (element_children ns q)
-      names = map-same (name_at ms) (name_at ns) (element_children ms q) name-stays ∙ ap (map (name_at ns)) children
-
       in-place : pair_at l.records.slots n ≡ pair_at k.records.slots n
       in-place =
           let same-place : place.0 ≡ was.0 =
-          one-place (element_children ns q) place.0 was.0 n (children-differ ns (sound c ns k old) q) (ap (λ xs. slice_get xs place.0) (sym children) ∙ place.1) was.1 in
+          one-place (element_children ns q) place.0 was.0 n (children-differ ns (sound c ns k old) q) (ap (λ xs. slice_get xs place.0) (sym (children-stay q as.stays other)) ∙ place.1) was.1 in
+          let names = names-stay q as.stays other in
           by-term (λ i. term_in (models_of c (as.pair i).of) (child_symbols s.names (models_of c (as.pair i).of) (names i)) (same-place i))
 
   -- ---- all elements are looked at

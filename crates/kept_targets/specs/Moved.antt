@@ -32,10 +32,10 @@ pub data IsLookedAt (t : Tables) (ns : Nodes) (ks : KeptSlots) (was : ℕ → Op
       → IsLookedAt t ns ks was moved n
   whole : (n : ℕ) → ((m : ℕ) → is_element_at ns m ≡ true → IsWithin ns n m → Has m moved) → IsLookedAt t ns ks was moved n
 
--- some were put behind these, all of them elements at or below one
-pub record AddsWithin (ns : Nodes) (old new : List ℕ) (n : ℕ) : Type 0 where
+-- some were put behind these, all of them elements, and each of them one of the roots, or below another that is there
+pub record Adds (ns : Nodes) (old new : List ℕ) (roots : ℕ → Type 0) : Type 0 where
   pub still : (m : ℕ) → Has m old → Has m new
-  pub only : (m : ℕ) → Has m new → Has m old ⊎ ((is_element_at ns m ≡ true) × IsWithin ns n m)
+  pub only : (m : ℕ) → Has m new → Has m old ⊎ ((is_element_at ns m ≡ true) × (roots m ⊎ ((p : ℕ) × (parent_at ns m ≡ Some p) × Has p new)))
 
 -- a child element of an element whose name is ambivalent in the content model of its parent
 pub record IsMarked (c : Compiled) (ns : Nodes) (k : KeptState) (n child : ℕ) : Type 0 where

@@ -69,7 +69,7 @@ pub fn add_below(doc: &DocTree, node: u32, numbers: &mut Vec<u32>) -> Result<(),
     requires stands { (t : NameTable) × (d : Document) × StandsFor t doc.now d }
     requires element { is_element_at doc.now node ≡ true }
     ensures all { OnOk result ((m : ℕ) → is_element_at doc.now m ≡ true → IsWithin doc.now node m → Has m numbers.new.items) }
-    ensures within { OnOk result (law.AddsWithin doc.now numbers.old.items numbers.new.items node) }
+    ensures adds { OnOk result (law.Adds doc.now numbers.old.items numbers.new.items (λ m. m ≡ node)) }
 {
     numbers.push(node)?;
     for place in 0..doc.child_count(node) {
@@ -92,7 +92,7 @@ pub(crate) fn add_moved(
     requires whole { IsWhole by.now.set.now by.now.doc.now by.now.state.now }
     requires element { is_element_at by.now.doc.now node ≡ true }
     ensures looked { OnOk result (law.IsLookedAt by.now.set.now.parts by.now.doc.now by.now.state.now.records.slots (at keys.now.signs) moved.new.items node) }
-    ensures within { OnOk result (law.AddsWithin by.now.doc.now moved.old.items moved.new.items node) }
+    ensures adds { OnOk result (law.Adds by.now.doc.now moved.old.items moved.new.items (λ m. m ≡ node)) }
 {
     let now = sign_at(&by.state.records, node);
     let was = keys.signs.get(node).copied();
@@ -118,7 +118,7 @@ fn add_children(
     requires whole { IsWhole by.now.set.now by.now.doc.now by.now.state.now }
     requires element { is_element_at by.now.doc.now parent ≡ true }
     ensures looked { OnOk result ((c : ℕ) → Has c (element_children by.now.doc.now parent) → law.IsLookedAt by.now.set.now.parts by.now.doc.now by.now.state.now.records.slots (at keys.now.signs) moved.new.items c) }
-    ensures within { OnOk result (law.AddsWithin by.now.doc.now moved.old.items moved.new.items parent) }
+    ensures adds { OnOk result (law.Adds by.now.doc.now moved.old.items moved.new.items (λ m. Has m (element_children by.now.doc.now parent))) }
 {
     for place in 0..by.doc.child_count(parent) {
         let Some(child) = by.doc.element_at(parent, place) else {
@@ -140,7 +140,7 @@ pub(crate) fn add_marked(
     requires whole { IsWhole by.now.set.now by.now.doc.now by.now.state.now }
     requires element { is_element_at by.now.doc.now parent ≡ true }
     ensures looked { OnOk result ((c : ℕ) → law.IsMarked by.now.set.now by.now.doc.now by.now.state.now parent c → (but ≡ Some c → ⊥) → law.IsLookedAt by.now.set.now.parts by.now.doc.now by.now.state.now.records.slots (at keys.now.signs) moved.new.items c) }
-    ensures within { OnOk result (law.AddsWithin by.now.doc.now moved.old.items moved.new.items parent) }
+    ensures adds { OnOk result (law.Adds by.now.doc.now moved.old.items moved.new.items (λ m. Has m (element_children by.now.doc.now parent))) }
 {
     let Some(list) = by.state.children(parent).list else {
         return Ok(());
