@@ -91,7 +91,7 @@ module _ (c : Compiled) (ns ms : Nodes) (k l : KeptState) (turn : Turn) (old : I
   free-own n free =
       let as = free-before n free in
       let off = not-own n free in
-      (turned-seen (set_of c) (one-outcome c.parts) old.beside.over.1.stands.names old.beside.over.1.usable.named.attributes (models_of c) ns ms k.records.slots l.records.slots k.lists l.lists k.root_ids l.root_ids n as.pair
+      (turned-seen (set_of c) (one-outcome c.parts) old.beside.over.1.stands.table old.beside.over.1.usable.named.attributes (models_of c) ns ms k.records.slots l.records.slots k.lists l.lists k.root_ids l.root_ids n as.pair
       (fit-of c ns k old n (made-of c ns k old n free.stays.before)) (fit-of c ms l new n (made-of c ms l new n free.stays.after)) (head-stays c ns ms k l turn old new turned n free.stays off)
       (texts-stay c ns ms k l turn old new turned n free.stays off) (turned.texts n free.stays off) (children-stay c ns ms k l turn old new turned n free.stays (not-list n free))
       (names-stay c ns ms k l turn old new turned n free.stays (not-list n free))).sight
