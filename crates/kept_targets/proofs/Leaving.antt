@@ -1,7 +1,8 @@
 -- Which elements a turn of a document leaves free.
-use Rattle.std.proofs.Common.{◌≡◌, ◌≢◌, ◌⊎◌, ℕ, zero, suc, List, [], ◌∷◌, Option, None, Some, inl, inr, refl, sym, ap, ◌∙◌, subst, true}
+use Rattle.std.proofs.Common.{◌≡◌, ◌≢◌, ◌⊎◌, ◌≤◌, ℕ, zero, suc, List, [], ◌∷◌, Option, None, Some, inl, inr, refl, sym, ap, ◌∙◌, subst, true, arith}
 use Rattle.std.specs.Prelude.{¬◌, unwrap_or}
 use Rattle.std.specs.Option.{option_and_then}
+use Rattle.std.proofs.lemmas.Bool.{cases_eq}
 use Rattle.std.proofs.lemmas.Option.{none-some, same_Some}
 use Rattle.simple_types.proofs.Valid.{one-outcome}
 use Rattle.elem_governing.specs.declared.pairs.Governing.{Governing}
@@ -11,7 +12,7 @@ use Rattle.identity_assessment.specs.Identity.{seen_element}
 use Rattle.scope_targets.specs.Kin.{IsSameScope, Leaves}
 use Rattle.compiled_schema.specs.Usable.{set_of}
 use Rattle.compiled_schema.specs.declared.compiled.Compiled.{Compiled}
-use Rattle.doc_nodes.specs.Nodes.{Nodes, Has, is_element_at, element_children}
+use Rattle.doc_nodes.specs.Nodes.{Nodes, IsSound, Has, node, depth_by, is_element_at, element_children}
 use Rattle.doc_changes.specs.Held.{parent_at}
 use Rattle.doc_documents.specs.Readers.{name_at}
 use Rattle.kept_slots.specs.Slots.{at}
@@ -29,7 +30,7 @@ use Rattle.kept_targets.specs.Whole.{IsWhole}
 use Rattle.kept_targets.specs.declared.keys.ElementSign.{ElementSign}
 use Rattle.kept_targets.specs.declared.turn.Turn.{Turn}
 use Rattle.kept_targets.specs.declared.turn.Turn.TheVariants as turns
-use Rattle.kept_targets.proofs.Links.{child-up}
+use Rattle.kept_targets.proofs.Links.{child-up, parent-lower}
 use Rattle.kept_targets.proofs.Looking.{IsAsBefore, all-looked, as-before, child-stays, children-stay, fit-of, head-stays, made-of, names-stay, record-name, sign-is, sound, texts-stay, within-stays}
 use Rattle.kept_targets.proofs.Staying.{turned-seen}
 
@@ -48,6 +49,36 @@ list-above : (ns : Nodes) (turn : Turn) (n : ℕ) → list_of ns turn ≡ Some n
 list-above ns (turns.Own m) n e = absurd (none-some n e)
 list-above ns (turns.Listed m) n e = up-more ns m n n e (self-within ns n)
 list-above ns (turns.Gone p numbers) n e = subst (IsWithin ns n) (sym (same_Some p n e)) (self-within ns n)
+
+has-or-not : (n : ℕ) (xs : List ℕ) → Has n xs ⊎ (¬ Has n xs)
+has-or-not n [] = inr (λ h. h)
+has-or-not n (x ∷ xs) =
+    elim (cases_eq x n) [
+      | inl e ↦ inl (inl e)
+      | inr off ↦ elim (has-or-not n xs) [ inl later ↦ inl (inr later) | inr none ↦ inr (λ h. elim h [ inl e ↦ off e | inr later ↦ none later ]) ]
+    ]
+
+-- a number is another or above it, or is not
+within-or-not : (ns : Nodes) → IsSound ns → (n levels m : ℕ) → depth_by (node ns m) ≤ levels → IsWithin ns n m ⊎ (¬ IsWithin ns n m)
+within-or-not ns sound n levels m few = elim (cases_eq m n) [ inl e ↦ inl (0, ap Some e) | inr off ↦ by (parent_at ns m) refl off levels few ]
+  where
+    below : (p : ℕ) → parent_at ns m ≡ Some p → m ≢ n → ¬ IsWithin ns n p → (up : ℕ) → upwards ns up m ≡ Some n → ⊥
+    below p up off none zero e = off (same_Some m n e)
+    below p up off none (suc more) e = none (more, sym (ap (option_and_then (upwards ns more)) up) ∙ e)
+
+    alone : parent_at ns m ≡ None → m ≢ n → (up : ℕ) → upwards ns up m ≡ Some n → ⊥
+    alone none off zero e = off (same_Some m n e)
+    alone none off (suc more) e = none-some n (sym (ap (option_and_then (upwards ns more)) none) ∙ e)
+
+    by : (o : Option ℕ) → parent_at ns m ≡ o → m ≢ n → (most : ℕ) → depth_by (node ns m) ≤ most → IsWithin ns n m ⊎ (¬ IsWithin ns n m)
+    by None none off most enough = inr (λ w. alone none off w.0 w.1)
+    by (Some p) up off zero enough = let deeper = parent-lower ns sound m p up in absurd (omega (arith, deeper, enough))
+    by (Some p) up off (suc most) enough =
+        let deeper = parent-lower ns sound m p up in
+        elim (within-or-not ns sound n most p (omega (arith, deeper, enough))) [
+          | inl w ↦ inl (up-more ns m p n up w)
+          | inr none ↦ inr (λ w. below p up off none w.0 w.1)
+        ]
 
 module _ (c : Compiled) (ns ms : Nodes) (k l : KeptState) (turn : Turn) (old : IsWhole c ns k) (new : IsWhole c ms l) (turned : Turns ns ms turn)
     (was : ℕ → Option ElementSign) (signs : (n : ℕ) → was n ≡ sign_at k.records.slots n) (moved : List ℕ)
@@ -117,12 +148,9 @@ module _ (c : Compiled) (ns ms : Nodes) (k l : KeptState) (turn : Turn) (old : I
       up-through : (x n m : ℕ) → parent_at ms x ≡ Some n → IsWithin ms x m → IsWithin ms n m
       up-through x n m up within = below-within ms n m (child-below ms x n m up within)
 
-  -- above a free element all are the same scopes
-  free-above : (n p : ℕ) → IsFree n → parent_at ns n ≡ Some p → IsSteadyUp p
-  free-above n p free up m within =
-      let above = up-more ms n p m (turned.parents n free.stays ∙ up) within in
-      let stays = within-stays c ns ms k l turn old new turned above.0 n m free.stays above.1 in
-      by m stays above (looks m stays.after)
+  -- at and above an element that is not among the moved all are the same scopes
+  pub unmoved-steady : (n : ℕ) → Stays ns ms n → ¬ Has n moved → IsSteadyUp n
+  unmoved-steady n here out m within = let stays = within-stays c ns ms k l turn old new turned within.0 n m here within.1 in by m stays within (looks m stays.after)
     where
       by : (m : ℕ) → Stays ns ms m → IsWithin ms m n → IsLookedAt c.parts ms l.records.slots was moved m → IsSame m
       by m stays above (looked.same x e) =
@@ -136,7 +164,31 @@ module _ (c : Compiled) (ns ms : Nodes) (k l : KeptState) (turn : Turn) (old : I
             name = ap (λ (x : ElementSign). x.name) now ∙ steady.name ∙ sym (ap (λ (x : ElementSign). x.name) then);
             constraints = ap (λ (x : ElementSign). constraints_by c.parts x.pair.declaration) now ∙ steady.constraints ∙ sym (ap (λ (x : ElementSign). constraints_by c.parts x.pair.declaration) then);
           }
-      by m stays above (looked.whole x all) = absurd (free.unmoved (all n free.stays.after above))
+      by m stays above (looked.whole x all) = absurd (out (all n here.after above))
+
+  free-above : (n p : ℕ) → IsFree n → parent_at ns n ≡ Some p → IsSteadyUp p
+  free-above n p free up m within = unmoved-steady n free.stays free.unmoved m (up-more ms n p m (turned.parents n free.stays ∙ up) within)
+
+  -- ---- which elements there are
+
+  -- one that is not among the moved was there
+  pub unmoved-stays : (n : ℕ) → is_element_at ms n ≡ true → ¬ Has n moved → Stays ns ms n
+  unmoved-stays n is out = by n is out (looks n is)
+    where
+      by : (m : ℕ) → is_element_at ms m ≡ true → ¬ Has m moved → IsLookedAt c.parts ms l.records.slots was moved m → Stays ns ms m
+      by m is out (looked.same x e) = (as-before c ns ms k l turn old new turned m is (sym (signs m) ∙ e)).stays
+      by m is out (looked.steady x a b has before after steady below) = absurd (out has)
+      by m is out (looked.whole x all) = absurd (out (all m is (self-within ms m)))
+
+  -- an element is among the moved, or it is the lowest of the turn or above it, or it is free
+  pub one-of : (n : ℕ) → is_element_at ms n ≡ true → Has n moved ⊎ (((¬ Has n moved) × IsWithin ms n (lowest_of turn)) ⊎ IsFree n)
+  one-of n is = elim (has-or-not n moved) [
+    | inl has ↦ inl has
+    | inr out ↦ inr (elim (within-or-not ms (sound c ms l new) n (depth_by (node ms (lowest_of turn))) (lowest_of turn) (omega arith)) [
+      | inl within ↦ inl (out, within)
+      | inr apart ↦ inr (record { stays = unmoved-stays n is out; unmoved = out; apart = apart })
+    ])
+  ]
 
   same-scope : (n : ℕ) → IsSteadyUp n → IsSameScope c.parts (seen_element (entry_at l.records.slots n)) (seen_element (entry_at k.records.slots n))
   same-scope n steady =
