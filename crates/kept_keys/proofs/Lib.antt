@@ -1,6 +1,7 @@
 mod Lists
 mod Coding
 mod Found
+mod Counted
 mod Numbers
 mod Numbered
 mod Whole

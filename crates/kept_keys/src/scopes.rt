@@ -12,14 +12,14 @@ ghost use Rattle.kept_above.specs.from_kept_records.Found.{IsOver, SaysFound, fo
 ghost use Rattle.kept_above.specs.from_kept_state.Kept.{FitBut, IsBeside};
 ghost use Rattle.kept_keys.specs.Keys.{AreTargetsBy, IsCoded, IsWhole, KeepsCodes, KeepsElements, WereTargets, codes_at};
 
-use crate::codes::codes_of;
+use crate::codes::{NumberedCodes, codes_of};
 use assess_records::Codes;
 use compiled_schema::Compiled;
 use doc_tree::DocTree;
 use kept_above::settle_above;
 use kept_above::kept_judging::judge;
 use kept_above::kept_state::{Governed, KeptState};
-use kept_targets::{TargetKeys, Turn, retarget};
+use kept_targets::{TargetKeys, Turn};
 use std::alloc::AllocError;
 
 // Judges an element again whose codes of identity constraints, or of IDs, are others, and makes the records above it right.
@@ -94,10 +94,15 @@ fn settle_scopes(
     if set.identities.is_empty() {
         return Ok(());
     }
-    let scopes = retarget(set, doc, kept, keys, turn)?;
-    for node in scopes.as_slice() {
-        let codes = codes_of(set, kept, keys, *node)?;
-        settle_scope(doc, set, kept, *node, codes)?;
+    let NumberedCodes {
+        mut numbers,
+        mut codes,
+    } = codes_of(doc, set, kept, keys, turn)?;
+    'left: while let Some(own) = codes.pop() {
+        let Some(node) = numbers.pop() else {
+            unreachable!()
+        };
+        settle_scope(doc, set, kept, node, own)?;
     }
     Ok(())
 }
