@@ -2,10 +2,8 @@ mod Lists
 mod Coding
 mod Found
 mod Counted
-mod Numbers
 mod Numbered
 mod Whole
-mod Named
 mod Plain
 mod Deciding
 mod Again

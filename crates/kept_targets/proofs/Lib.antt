@@ -5,3 +5,4 @@ pub mod Staying
 pub mod Looking
 pub mod Leaving
 pub mod Down
+mod Named
