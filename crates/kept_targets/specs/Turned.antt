@@ -54,6 +54,7 @@ module _ (old new : Nodes) where
   -- texts; each but one its name; and each but one its child elements. Those that have come are at or below one that has; those that
   -- are gone are listed.
   pub record Turns (turn : Turn) : Type 0 where
+    pub lowest : is_element_at new (lowest_of turn) ≡ true
     pub parents : (n : ℕ) → Stays n → parent_at new n ≡ parent_at old n
     pub scopes : (n : ℕ) → Stays n → scope_at new n ≡ scope_at old n
     pub attributes : (n : ℕ) → Stays n → own_of turn ≢ Some n → attributes_at new n ≡ attributes_at old n
