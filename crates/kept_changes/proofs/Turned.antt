@@ -20,7 +20,7 @@ use Rattle.doc_planting.proofs.Placing.{IsParent, parent_of}
 use Rattle.doc_edits.specs.Changes.{CanMake, IsMade}
 use Rattle.doc_edits.specs.declared.change.Change.{Change}
 use Rattle.doc_edits.specs.declared.change.Change.TheVariants as changes
-use Rattle.kept_children.proofs.from_kept_forgetting.Placed.{parent-has}
+use Rattle.kept_children.proofs.from_kept_forgetting.Placed.{parent-element, parent-has}
 use Rattle.kept_children.specs.Edited.{ComesAt}
 use Rattle.kept_changes.specs.Own.{Retexts, Reattributes, Renames}
 use Rattle.kept_changes.specs.Spots.{IsRemoval, IsSpot}
@@ -46,22 +46,25 @@ comes-there t old new d z sound parent place n below is comes =
     }
 
 module _ (t : NameTable) (old new : Nodes) (d : Document) (z : StandsFor t old d) (sound : IsSound new) where
-  rewritten : (key p : ℕ) (chars : List ℕ) → parent_at old key ≡ Some p → CanMake t old d (changes.SetText key chars) → IsMade t old new (changes.SetText key chars) → Retexts old new p
+  rewritten : (key p : ℕ) (chars : List ℕ) → parent_at old key ≡ Some p → CanMake t old d (changes.SetText key chars) → IsMade t old new (changes.SetText key chars) → (is_element_at old p ≡ true) × Retexts old new p
   rewritten key p chars up can made =
       let h : HoldsChars old key = holds_chars old key can in
-      text-held t old new d z key h.it h.is (contents.Chars chars) made p chars h.chars refl h.holds up
+      (parent-element t old d z key p up, text-held t old new d z key h.it h.is (contents.Chars chars) made p chars h.chars refl h.holds up)
 
-  added : (parent place : ℕ) (chars : List ℕ) → CanMake t old d (changes.AddText parent place chars) → IsMade t old new (changes.AddText parent place chars) → Retexts old new parent
+  added : (parent place : ℕ) (chars : List ℕ) → CanMake t old d (changes.AddText parent place chars) → IsMade t old new (changes.AddText parent place chars) → (is_element_at old parent ≡ true) × Retexts old new parent
   added parent place chars can made =
       let own : IsParent t old d parent = parent_of t old d parent z can.element in
-      text-planted t old new d z parent place own.shown.it own.shown.is chars made
+      (ap is_element_by own.shown.is ∙ ap is_element own.shown.content, text-planted t old new d z parent place own.shown.it own.shown.is chars made)
 
-  gone : (key p : ℕ) → is_element_at old key ≡ false → parent_at old key ≡ Some p → IsMade t old new (changes.Remove key) → Retexts old new p
+  gone : (key p : ℕ) → is_element_at old key ≡ false → parent_at old key ≡ Some p → IsMade t old new (changes.Remove key) → (is_element_at old p ≡ true) × Retexts old new p
   gone key p is up made =
       let h : HoldsChars old key = text-by old key p is up in
       let above = parent-has old z.links key p up in
       let place = some_place key above.0.children above.2 in
-      text-pruned t old new d z p place.0 above.0 above.1 key h.it h.is h.chars h.holds place.1 (made none (text-over t old d z key h) p place.0 (above.0, above.1, place.1))
+      (
+        parent-element t old d z key p up,
+        text-pruned t old new d z p place.0 above.0 above.1 key h.it h.is h.chars h.holds place.1 (made none (text-over t old d z key h) p place.0 (above.0, above.1, place.1)),
+      )
 
   removed : (key : ℕ) (spot : Spot) → IsRemoval old key spot → ((n : ℕ) → spot ≡ Pruned n → ⊥) → IsMade t old new (changes.Remove key) → TurnsAt t old new spot
   removed key (Planted n) is here made = absurd is
@@ -69,6 +72,9 @@ module _ (t : NameTable) (old new : Nodes) (d : Document) (z : StandsFor t old d
   removed key (Retexted n) is here made = gone key n is.0 is.1 made
   removed key (Attributed n) is here made = absurd is
   removed key (Renamed n) is here made = absurd is
+
+  held-element : (key : ℕ) (h : HoldsElement old key) → is_element_at old key ≡ true
+  held-element key h = ap is_element_by h.is ∙ ap is_element h.holds
 
   set : (key name : ℕ) (value : List ℕ) (h : HoldsElement old key) → IsMade t old new (changes.SetAttr key name value) → Reattributes old new key
   set key name value h made =
@@ -93,9 +99,9 @@ module _ (t : NameTable) (old new : Nodes) (d : Document) (z : StandsFor t old d
   turned-at (changes.AddText parent index chars) spot is here can made = subst (TurnsAt t old new) (sym is) (added parent index chars can made)
   turned-at (changes.SetText key chars) spot is here can made = subst (TurnsAt t old new) (sym is.2) (rewritten key is.0 chars is.1 can made)
   turned-at (changes.Remove key) spot is here can made = removed key spot is here made
-  turned-at (changes.Rename key name) spot is here can made = subst (TurnsAt t old new) (sym is) (named key name (holds_element old key can.0) made)
-  turned-at (changes.SetAttr key name value) spot is here can made = subst (TurnsAt t old new) (sym is) (set key name value (holds_element old key can.0) made)
-  turned-at (changes.UnsetAttr key name) spot is here can made = subst (TurnsAt t old new) (sym is) (unset key name (holds_attribute old key name can) made)
+  turned-at (changes.Rename key name) spot is here can made = subst (TurnsAt t old new) (sym is) (held-element key (holds_element old key can.0), named key name (holds_element old key can.0) made)
+  turned-at (changes.SetAttr key name value) spot is here can made = subst (TurnsAt t old new) (sym is) (held-element key (holds_element old key can.0), set key name value (holds_element old key can.0) made)
+  turned-at (changes.UnsetAttr key name) spot is here can made = subst (TurnsAt t old new) (sym is) (held-element key (holds_attribute old key name can), unset key name (holds_attribute old key name can) made)
 
 -- ---- there is one spot
 

@@ -32,12 +32,13 @@ module _ (t : NameTable) (old new : Nodes) where
     pub over : IsOver t old n below
     pub prunes : Prunes old new parent place n below
 
+  -- one that was there has other texts, attributes or another name
   abbrev pub TurnsAt : Spot → Type 0
   TurnsAt (Planted n) = Comes n
   TurnsAt (Pruned n) = Goes n
-  TurnsAt (Retexted n) = Retexts old new n
-  TurnsAt (Attributed n) = Reattributes old new n
-  TurnsAt (Renamed n) = Renames old new n
+  TurnsAt (Retexted n) = (is_element_at old n ≡ true) × Retexts old new n
+  TurnsAt (Attributed n) = (is_element_at old n ≡ true) × Reattributes old new n
+  TurnsAt (Renamed n) = (is_element_at old n ≡ true) × Renames old new n
 
   -- so they are at the element that the change begins at
   abbrev pub AreTurnedBy : Change → Type 0

@@ -95,7 +95,7 @@ module _ (s : Compiled) (old new : Nodes) (k : KeptState) (r : IsRightFor s old 
   inverse-turned (changes.Attr key n place value) spot is here m fits made =
       let h = holds_element old key (write-kind s.names old d z c key n place value m fits) in
       let now = record h.e { attributes = written_number n place value h.e.attributes } in
-      subst (TurnsAt s.names old new) (sym is) (element-reattributed s.names old new d z key h.it h.is (contents.Element now) (made h.it h.e h.is h.holds) h.e now refl h.holds refl refl)
+      subst (TurnsAt s.names old new) (sym is) (ap is_element_by h.is ∙ ap is_element h.holds, element-reattributed s.names old new d z key h.it h.is (contents.Element now) (made h.it h.e h.is h.holds) h.e now refl h.holds refl refl)
   inverse-turned (changes.Chars key chars) spot is here m fits made =
       turned-at s.names old new d z sound (edits.SetText key chars) spot is here (reword-kind s.names old d z c key chars m fits) made
 

@@ -92,7 +92,7 @@ module _ (c : Compiled) (old new : Nodes) (k : KeptState) (r : IsRightFor c old 
   pub put-turned : (part : List PartRow) (f : Forest) → IsPart c.names part f → CanPutBack d p place f → Grafts c.names old new p place f → (spot : Spot) → IsReturn part p spot → TurnsAt c.names old new spot
   put-turned part none is can grafts spot here = absurd can.one
   put-turned part (text n chars next) is can grafts spot here =
-      subst (TurnsAt c.names old new) (sym (subst (λ (rows : List PartRow). IsReturn rows p spot) is.1 here)) (texts-returned n chars next can grafts)
+      subst (TurnsAt c.names old new) (sym (subst (λ (rows : List PartRow). IsReturn rows p spot) is.1 here)) (parent-is c.names old new d z p place (text n chars next) can grafts, texts-returned n chars next can grafts)
   put-turned part (element n name bindings attributes children next) is can grafts spot here =
       let f = element n name bindings attributes children next in
       subst (TurnsAt c.names old new) (sym (subst (λ (rows : List PartRow). IsReturn rows p spot) is.3 here))
