@@ -6,9 +6,9 @@ use Rattle.doc_nodes.specs.Nodes.{Nodes, Has, is_element_at}
 use Rattle.doc_changes.specs.Held.{parent_at}
 use Rattle.kept_inverses.specs.from_kept_changes.Spot.{Spot}
 use Rattle.kept_inverses.specs.from_kept_changes.Spot.TheVariants.{Planted, Pruned, Retexted, Attributed, Renamed}
-use Rattle.kept_inverses.specs.from_kept_changes.from_kept_forgetting.Below.{IsWithin}
-use Rattle.kept_keys.specs.Keys.{Turn}
-use Rattle.kept_keys.specs.Keys.turns
+use Rattle.kept_inverses.specs.from_kept_forgetting.Below.{IsWithin}
+use Rattle.kept_keys.specs.from_kept_targets.Turn.{Turn}
+use Rattle.kept_keys.specs.from_kept_targets.Turn.TheVariants as turns
 
 -- an element that is taken away is gone with all elements below it
 pub record IsGone (ns : Nodes) (n : ℕ) (turn : Turn) : Type 0 where
