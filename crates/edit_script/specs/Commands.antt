@@ -82,6 +82,10 @@ unset rest = number_and_name rest >>= λ it. Ok (edits.UnsetAttr it.node it.name
 abbrev pub assess : Option (List ℕ) → Result Command ScriptFault
 assess rest = only_number rest >>= λ node. Ok (commands.Assess node)
 
+-- `swap K`
+abbrev pub swap : Option (List ℕ) → Result Command ScriptFault
+swap rest = only_number rest >>= λ section. Ok (commands.Swap section)
+
 -- nothing stands behind the word
 abbrev pub no_field : Option (List ℕ) → Result (Unit {0}) ScriptFault
 no_field None = Ok tt
@@ -91,7 +95,7 @@ no_field (Some rest) = Err WrongFields
 abbrev pub alone : Command → Option (List ℕ) → Result Command ScriptFault
 alone command rest = no_field rest >>= λ none. Ok command
 
--- a question, or a step in the history
+-- a question, a step in the history, or another set
 abbrev pub by_other_word : List ℕ → Option (List ℕ) → Result Command ScriptFault
 by_other_word word rest =
     if bytes_eq word (codes "assess") then assess rest
@@ -100,7 +104,8 @@ by_other_word word rest =
     else (if bytes_eq word (codes "total") then alone commands.Total rest
     else (if bytes_eq word (codes "undo") then alone commands.Undo rest
     else (if bytes_eq word (codes "redo") then alone commands.Redo rest
-    else Err UnknownCommand)))))
+    else (if bytes_eq word (codes "swap") then swap rest
+    else Err UnknownCommand))))))
 
 -- the first words of edits
 abbrev pub is_edit : List ℕ → Bool
@@ -157,6 +162,7 @@ IsReady commands.Report = Unit {0}
 IsReady commands.Total = Unit {0}
 IsReady commands.Undo = Unit {0}
 IsReady commands.Redo = Unit {0}
+IsReady (commands.Swap section) = Unit {0}
 IsReady (commands.Turn author seen edit) = can_be_made edit ≡ true
 
 abbrev pub IsReadyOr : Result Command ScriptFault → Type 0

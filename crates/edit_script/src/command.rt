@@ -20,6 +20,8 @@ pub enum Command {
     Undo,
     /// `redo`: on to the tree that was left by the last undo.
     Redo,
+    /// `swap K`: another schema set, which starts at a schema section.
+    Swap(u32),
     /// `as A V EDIT`: a change of the tree by an author who had seen a revision.
     Turn {
         author: u32,

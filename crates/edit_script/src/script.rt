@@ -213,7 +213,7 @@ fn no_field(rest: Option<&str>) -> Result<(), ScriptFault>
     }
 }
 
-/// What a line says whose word is not that of an edit: a question, or a step in the history.
+/// What a line says whose word is not that of an edit: a question, a step in the history, or another set.
 fn read_other(word: &str, rest: Option<&str>) -> Result<Command, ScriptFault>
     ensures gives { result ≡ script.by_other_word word.now (option_copied rest.entry) }
     ensures ready { IfOk result script.IsReady }
@@ -235,6 +235,8 @@ fn read_other(word: &str, rest: Option<&str>) -> Result<Command, ScriptFault>
     } else if word == "redo" {
         no_field(rest)?;
         Ok(Command::Redo)
+    } else if word == "swap" {
+        Ok(Command::Swap(only_number(rest)?))
     } else {
         Err(ScriptFault::UnknownCommand)
     }

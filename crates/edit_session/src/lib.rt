@@ -3,6 +3,7 @@
 
 mod editing;
 mod opening;
+mod reopening;
 mod session;
 mod undoing;
 

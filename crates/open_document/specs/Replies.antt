@@ -1,5 +1,5 @@
 -- The replies to the lines of an edit script, and what is told of these lines.
-use Rattle.std.specs.Prelude.{ℕ, List, [], ◌∷◌, ◌++◌, Option, Some, None, Result, Ok, Err, codes}
+use Rattle.std.specs.Prelude.{ℕ, ◌-◌, List, [], ◌∷◌, ◌++◌, length, Bool, ◌&&◌, nat_lt, nat_le, if◌then◌else◌, Option, Some, None, Result, Ok, Err, codes}
 use Rattle.std.specs.Fmt.{decimal}
 use Rattle.tree_rows.specs.Forest.{Document}
 use Rattle.tree_rows.specs.Kinds.{kind_of}
@@ -21,12 +21,18 @@ use Rattle.session_model.specs.State.{State, with_names, after_edit}
 use Rattle.tree_inverses.specs.Changes.{Change}
 use Rattle.edit_session.specs.Changed.{after_change}
 use Rattle.edit_session.specs.Costs.{edit_cost, change_cost}
-use Rattle.told.specs.Told.{Said, free, Told, says, looks}
+use Rattle.told.specs.Told.{Said, free, Told, says, asks, looks}
+use Rattle.told.specs.Outcomes.{SetOutcome, accepted, broken}
+use Rattle.xs_codes.specs.Codes.{text_of}
+use Rattle.xs_codes.specs.declared.fault.Fault.{Fault}
+use Rattle.xs_components.specs.declared.common.Rules.TheVariants.{V10}
+use Rattle.schema_set.specs.declared.inputs.SchemaInput.{SchemaInput}
+use Rattle.edit_session.specs.Reopened.{after_swap, swap_cost}
 use Rattle.open_document.specs.State.{OpenState}
 use Rattle.open_document.specs.Touches.{turn_fault}
 use Rattle.open_document.specs.declared.touches.TurnFault.{TurnFault}
 use Rattle.open_document.specs.declared.touches.TurnFault.TheVariants.{BadRevision, Stale}
-use Rattle.open_document.specs.Steps.{Step, undo_of, redo_of, document_behind, with_edit, with_step}
+use Rattle.open_document.specs.Steps.{Step, undo_of, redo_of, document_behind, with_edit, with_step, with_swap}
 
 -- ---- what is written
 
@@ -76,6 +82,16 @@ abbrev pub turn_refusal : TurnFault → List ℕ
 turn_refusal BadRevision = refusal 35 (codes "BadRevision")
 turn_refusal (Stale revision) = refusal 36 (codes "Stale " ++ decimal revision)
 
+-- no schema section has the number
+abbrev pub no_section : List ℕ
+no_section = refusal 33 (codes "NoSection")
+
+-- the first constraint that the set breaks that starts at the section: the number of the section of its document, that of the element in it, and the
+-- code
+abbrev pub set_refused : Fault → List ℕ
+set_refused fault =
+    refusal 34 (codes "SetRefused " ++ decimal fault.document ++ codes " " ++ decimal fault.item ++ codes " " ++ text_of fault.code)
+
 -- ---- what is told
 
 -- an edit that is made, behind which what is found is this: the reply, and what it costs
@@ -107,6 +123,24 @@ step_told s (Some step) refused next =
     says (step_said s.session step.change (after_change s.session (document_behind s step) found)) (next (with_step s step found)))
 step_told s None refused next = says (free refused) (next s)
 
+-- another set was asked for: where it breaks a constraint, this is said, and nothing changes; else what is found of the document by it is looked at,
+-- and the document stands with it then
+abbrev pub swapped_told : OpenState → (OpenState → Told) → SetOutcome → Told
+swapped_told s next (accepted set) =
+    looks (with_names set s.session.document.forest) s.session.document (λ found.
+    says (record { text = made_reply (after_swap s.session set found); cost = swap_cost s.session }) (next (with_swap s set found)))
+swapped_told s next (broken fault) = says (free (set_refused fault)) (next s)
+
+-- whether a schema section has the number
+abbrev pub is_section : List SchemaInput → ℕ → Bool
+is_section documents number = nat_lt 0 number && nat_le number (length documents)
+
+-- of a swap to the set that starts at the section of this number
+abbrev pub swap_told : OpenState → ℕ → (OpenState → Told) → Told
+swap_told s number next =
+    if is_section s.documents number then asks (record { documents = s.documents; start = number - 1; rules = V10 }) (swapped_told s next)
+    else says (free no_section) (next s)
+
 -- of a line, and what is told behind it: a question, or a line that is no command, changes nothing; an edit without an author is one of author 0
 abbrev pub line_told : OpenState → Result Command ScriptFault → (OpenState → Told) → Told
 line_told s (Ok (commands.Change edit)) next = edit_told s 0 edit (edited s.session.document edit) next
@@ -116,5 +150,6 @@ line_told s (Ok commands.Report) next = says (free (report_reply None s.session)
 line_told s (Ok commands.Total) next = says (free (total_reply s.session)) (next s)
 line_told s (Ok commands.Undo) next = step_told s (undo_of s) no_past next
 line_told s (Ok commands.Redo) next = step_told s (redo_of s) no_future next
+line_told s (Ok (commands.Swap number)) next = swap_told s number next
 line_told s (Ok (commands.Turn author seen edit)) next = turn_told s author edit (turn_fault s author seen edit) next
 line_told s (Err fault) next = says (free (refusal (faults.number_of fault) (faults.name_of fault))) (next s)

@@ -7,6 +7,7 @@ mod compiling;
 mod held;
 mod line;
 mod reply;
+mod swapping;
 mod touches;
 mod turning;
 mod verdict;

@@ -10,9 +10,11 @@ ghost use Rattle.open_document.specs.State.{OpenState};
 
 use crate::changing::{answer_change, answer_redo, answer_undo};
 use crate::held::OpenDocument;
+use crate::swapping::answer_swap;
 use crate::turning::answer_turn;
 use crate::reply::{answer_assess, answer_report, answer_total, write_refusal};
 use edit_script::{Command, ScriptFault};
+use std::alloc::Global;
 use told::BreakOff;
 use xsv_io::Sink;
 use xsv_steps::{Ledger, Steps};
@@ -24,6 +26,7 @@ use xsv_steps::{Ledger, Steps};
 /// `Memory` is want of memory, and nothing was written. `WriteFault` where the sink failed; a front of the reply was then
 /// written.
 pub(crate) fn answer_read<W: Sink, L: Ledger>(
+    alloc: Global,
     document: &mut OpenDocument,
     read: Result<Command, ScriptFault>,
     sink: &mut W,
@@ -49,6 +52,7 @@ pub(crate) fn answer_read<W: Sink, L: Ledger>(
         Ok(Command::Total) => answer_total(&document.session, sink),
         Ok(Command::Undo) => answer_undo(document, sink, steps),
         Ok(Command::Redo) => answer_redo(document, sink, steps),
+        Ok(Command::Swap(section)) => answer_swap(alloc, document, section, sink, steps),
         Ok(Command::Turn { author, seen, edit }) => {
             answer_turn(document, author, seen, &edit, sink, steps)
         }
