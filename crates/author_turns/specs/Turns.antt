@@ -1,7 +1,6 @@
 -- Who touched what when, by the turns of authors that edit one document.
 use Rattle.std.specs.Prelude.{ℕ, Bool, false, cond, not, ◌&&◌, ◌||◌, ◌==◌, nat_lt, max, List, [], ◌∷◌, Option, None, Some}
 use Rattle.author_turns.specs.declared.touched.Touched.{Touched}
-
 -- an edit, undo or redo that was accepted: the revision that it made, its author, and what it touched
 pub use Rattle.author_turns.specs.declared.turn.Turn.{Turn}
 

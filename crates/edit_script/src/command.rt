@@ -23,11 +23,7 @@ pub enum Command {
     /// `swap K`: another schema set, which starts at a schema section.
     Swap(u32),
     /// `as A V EDIT`: a change of the tree by an author who had seen a revision.
-    Turn {
-        author: u32,
-        seen: u64,
-        edit: Edit,
-    },
+    Turn { author: u32, seen: u64, edit: Edit },
 }
 
 /// Why a line is no command.

@@ -85,11 +85,7 @@ fn only_number(rest: Option<&str>) -> Result<u32, ScriptFault>
     number(field)
 }
 
-fn read_insert(
-    alloc: Global,
-    rest: Option<&str>,
-    block: Option<Items>,
-) -> Result<Edit, ScriptError>
+fn read_insert(alloc: Global, rest: Option<&str>, block: Option<Items>) -> Result<Edit, ScriptError>
     ensures gives { Gives result (script.insert (option_copied rest.entry) block) }
     ensures ready { IfOk result (λ edit. can_be_made edit ≡ true) }
 {
@@ -286,11 +282,7 @@ fn read_edit(
 }
 
 /// The edit of a line with its block.
-fn read_edit_line(
-    alloc: Global,
-    line: &str,
-    block: Option<Items>,
-) -> Result<Edit, ScriptError>
+fn read_edit_line(alloc: Global, line: &str, block: Option<Items>) -> Result<Edit, ScriptError>
     ensures gives { Gives result (script.edit_on line.now block) }
     ensures ready { IfOk result (λ edit. can_be_made edit ≡ true) }
 {

@@ -172,7 +172,7 @@ module _ (x : OpenDocument) (answered : Change → Log Change) (answered_by : la
         (means : (c : law.Change) → Means x.session.set.names it c → law.Fits x.session.document c → Means session.set.names back (inverse_of x.session.document c))
         (logged : IsLogged x) (revision : ℕ) (own_keys : Touched) (revision_is : revision ≡ session.revision) (turn_noted : turns.turns ≡ x.turns.turns ++ turn revision 0 own_keys ∷ [])
         (keyed : (h : History Forest) (c : law.Change) → StepsTo x.session.set.names x.session.document answered answered_by it h c → session.document.forest ≡ h.present
-            → Means session.set.names back (inverse_of x.session.document c) → own_keys ≡ keys h.present c) where
+        → Means session.set.names back (inverse_of x.session.document c) → own_keys ≡ keys h.present c) where
       own_made : IsChanged x.session given.1 session
       own_made = made given.1 given.4.means given.4.fits
 

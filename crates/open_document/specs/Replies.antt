@@ -1,5 +1,5 @@
 -- The replies to the lines of an edit script, and what is told of these lines.
-use Rattle.std.specs.Prelude.{ℕ, ◌-◌, List, [], ◌∷◌, ◌++◌, length, Bool, ◌&&◌, nat_lt, nat_le, if◌then◌else◌, Option, Some, None, Result, Ok, Err, codes}
+use Rattle.std.specs.Prelude.{ℕ, ◌-◌, List, [], ◌∷◌, ◌++◌, length, Bool, true, false, ◌&&◌, nat_lt, nat_le, Option, Some, None, Result, Ok, Err, codes}
 use Rattle.std.specs.Fmt.{decimal}
 use Rattle.tree_rows.specs.Forest.{Document}
 use Rattle.tree_rows.specs.Kinds.{kind_of}
@@ -22,7 +22,7 @@ use Rattle.tree_inverses.specs.Changes.{Change}
 use Rattle.edit_session.specs.Changed.{after_change}
 use Rattle.edit_session.specs.Costs.{edit_cost, change_cost}
 use Rattle.told.specs.Told.{Said, free, Told, says, asks, looks}
-use Rattle.told.specs.Outcomes.{SetOutcome, accepted, broken}
+use Rattle.told.specs.Outcomes.{Question, SetOutcome, accepted, broken}
 use Rattle.xs_codes.specs.Codes.{text_of}
 use Rattle.xs_codes.specs.declared.fault.Fault.{Fault}
 use Rattle.xs_components.specs.declared.common.Rules.TheVariants.{V10}
@@ -135,11 +135,14 @@ swapped_told s next (broken fault) = says (free (set_refused fault)) (next s)
 abbrev pub is_section : List SchemaInput → ℕ → Bool
 is_section documents number = nat_lt 0 number && nat_le number (length documents)
 
--- of a swap to the set that starts at the section of this number
-abbrev pub swap_told : OpenState → ℕ → (OpenState → Told) → Told
-swap_told s number next =
-    if is_section s.documents number then asks (record { documents = s.documents; start = number - 1; rules = V10 }) (swapped_told s next)
-    else says (free no_section) (next s)
+-- the set that starts at the section of this number is asked for
+abbrev pub swap_question : OpenState → ℕ → Question
+swap_question s number = record { documents = s.documents; start = number - 1; rules = V10 }
+
+-- of a swap to the set that starts at the section of this number, by whether there is one
+abbrev pub swap_told : OpenState → ℕ → Bool → (OpenState → Told) → Told
+swap_told s number true next = asks (swap_question s number) (swapped_told s next)
+swap_told s number false next = says (free no_section) (next s)
 
 -- of a line, and what is told behind it: a question, or a line that is no command, changes nothing; an edit without an author is one of author 0
 abbrev pub line_told : OpenState → Result Command ScriptFault → (OpenState → Told) → Told
@@ -150,6 +153,6 @@ line_told s (Ok commands.Report) next = says (free (report_reply None s.session)
 line_told s (Ok commands.Total) next = says (free (total_reply s.session)) (next s)
 line_told s (Ok commands.Undo) next = step_told s (undo_of s) no_past next
 line_told s (Ok commands.Redo) next = step_told s (redo_of s) no_future next
-line_told s (Ok (commands.Swap number)) next = swap_told s number next
+line_told s (Ok (commands.Swap number)) next = swap_told s number (is_section s.documents number) next
 line_told s (Ok (commands.Turn author seen edit)) next = turn_told s author edit (turn_fault s author seen edit) next
 line_told s (Err fault) next = says (free (refusal (faults.number_of fault) (faults.name_of fault))) (next s)

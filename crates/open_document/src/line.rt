@@ -10,9 +10,9 @@ ghost use Rattle.open_document.specs.State.{OpenState};
 
 use crate::changing::{answer_change, answer_redo, answer_undo};
 use crate::held::OpenDocument;
+use crate::reply::{answer_assess, answer_report, answer_total, write_refusal};
 use crate::swapping::answer_swap;
 use crate::turning::answer_turn;
-use crate::reply::{answer_assess, answer_report, answer_total, write_refusal};
 use edit_script::{Command, ScriptFault};
 use std::alloc::Global;
 use told::BreakOff;

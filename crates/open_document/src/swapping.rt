@@ -12,7 +12,7 @@ ghost use Rattle.schema_compile.specs.Outcomes.{IsOutcome};
 ghost use Rattle.edit_session.specs.Reopened.{IsReopened, swap_cost};
 ghost use Rattle.undo_log.specs.Log.{cleared};
 ghost use Rattle.open_document.specs.Held.{state_of, IsLogged};
-ghost use Rattle.open_document.specs.Replies.{set_refused, swap_told, swapped_told};
+ghost use Rattle.open_document.specs.Replies.{set_refused, is_section, swap_told, swapped_told};
 ghost use Rattle.open_document.specs.State.{OpenState};
 
 use crate::compiling::outcome_of;
@@ -148,7 +148,7 @@ pub(crate) fn answer_swap<W: Sink, L: Ledger>(
 ) -> Result<(), BreakOff>
     requires live { document.old.session.closed ≡ false }
     requires logged { IsLogged document.old }
-    ensures answers { (next : OpenState → Told) → Answers (swap_told (state_of document.old) number next)
+    ensures answers { (next : OpenState → Told) → Answers (swap_told (state_of document.old) number (is_section document.old.documents.items number) next)
         result (trace (W.taken sink.old) steps.old) (trace (W.taken sink.new) steps.new) (λ done. next (state_of document.new)) }
     ensures open { OnOk result (document.new.session.closed ≡ false) }
     ensures logged { document.new.session.closed ≡ false → IsLogged document.new }

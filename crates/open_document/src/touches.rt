@@ -50,7 +50,8 @@ pub(crate) fn touched_by(session: &EditSession, edit: &Edit) -> Touched
     match edit {
         Edit::Insert { parent, .. } | Edit::AddText { parent, .. } => list_of(*parent),
         Edit::Remove { node } | Edit::Rename { node, .. } => node_in(session, *node),
-        Edit::SetText { node, .. } | Edit::SetAttr { node, .. } | Edit::UnsetAttr { node, .. } => node_alone(*node),
+        Edit::SetText { node, .. } | Edit::SetAttr { node, .. } | Edit::UnsetAttr { node, .. } =>
+            node_alone(*node),
     }
 }
 
@@ -71,7 +72,11 @@ fn named(edit: &Edit) -> u32
 {
     match edit {
         Edit::Insert { parent, .. } | Edit::AddText { parent, .. } => *parent,
-        Edit::Remove { node } | Edit::Rename { node, .. } | Edit::SetText { node, .. } | Edit::SetAttr { node, .. } | Edit::UnsetAttr { node, .. } => *node,
+        Edit::Remove { node }
+        | Edit::Rename { node, .. }
+        | Edit::SetText { node, .. }
+        | Edit::SetAttr { node, .. }
+        | Edit::UnsetAttr { node, .. } => *node,
     }
 }
 
@@ -82,12 +87,14 @@ fn stale(document: &OpenDocument, author: u32, seen: u64, edit: &Edit) -> Option
 {
     match document.session.live(named(edit)) {
         None => None,
-        Some(_) => document.turns.stale(author, seen, &touched_by(&document.session, edit)),
+        Some(_) => document
+            .turns
+            .stale(author, seen, &touched_by(&document.session, edit)),
     }
 }
 
 /// Why an edit by an author is not looked at.
-#[derive(Clone, Copy, Debug)]
+#[derive(Clone, Copy)]
 pub(crate) enum TurnFault {
     /// The author cannot have seen a revision that is none yet.
     BadRevision,

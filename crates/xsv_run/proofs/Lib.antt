@@ -6,3 +6,4 @@ pub mod Replies
 pub mod Present
 pub mod Complete
 pub mod Trying
+mod Authors

@@ -3,4 +3,5 @@ pub mod Statuses
 pub mod Sides
 pub mod Output
 pub mod Complete
+pub mod Authors
 pub mod inside

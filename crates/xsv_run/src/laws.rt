@@ -6,12 +6,13 @@ ghost use Rattle.tree_rows.specs.Forest.{Document};
 ghost use Rattle.stream_sections.specs.Spelled.{whole, Order, SpellsCheck, SpellsStream};
 ghost use Rattle.stream_answers.specs.declared.wanted.Wanted.{Wanted};
 ghost use Rattle.told.specs.Told.{Said};
-ghost use Rattle.stream_answers.specs.open_document.State.{OpenState};
+ghost use Rattle.stream_answers.specs.from_open_document.State.{OpenState};
 ghost use Rattle.stream_sections.specs.declared.asked.Asked.TheVariants.{Check};
 ghost use Rattle.stream_sections.specs.declared.schemas.SchemaSection.{SchemaSection};
 ghost use Rattle.command_words.specs.declared.request.Request.{Request};
 ghost use Rattle.xsv_run.specs.Output.{Output, IsAnswer, IsOutput};
 ghost use Rattle.xsv_run.specs.Complete.{AreReplies, IsPresent, IsByOutcome, IsCheckOutput, IsStreamOutput};
+ghost use Rattle.xsv_run.specs.Authors.{Read, IsAlike, AreAnswers, ArePlain};
 
 use outcome_laws::outcomes_are_one;
 use stream_sections::streams_are_read;
@@ -46,4 +47,11 @@ pub fn streams_are_answered()
 /// to it.
 pub fn documents_are_present()
     ensures { (s : OpenState) (orders : List Order) (all : Said) (last : OpenState) → AreReplies s orders all last → IsPresent s → IsPresent last }
+{}
+
+/// What several authors are answered is what is answered without them: of lines and their answers, those without the turns that are not taken,
+/// and each without its author, are answered the same, and lead to the same document, but for who took turns.
+pub fn accepted_turns_stand_for_themselves()
+    ensures { (s q : OpenState) (reads : List Read) (said : List Said) (last : OpenState) → IsAlike s q → AreAnswers s reads said last
+        → (plain : List Read) × (answers : List Said) × (behind : OpenState) × ArePlain s reads said plain answers × AreAnswers q plain answers behind × IsAlike last behind }
 {}

@@ -11,6 +11,9 @@ mod stream;
 mod trial;
 mod wanted;
 
-pub use laws::{documents_are_present, outputs_are_one, streams_are_answered};
+pub use laws::{
+    accepted_turns_stand_for_themselves, documents_are_present, outputs_are_one,
+    streams_are_answered,
+};
 pub use running::{run, run_by};
 pub use status::Status;

@@ -1,0 +1,3 @@
+-- What crates above name of `edit_session`, passed on.
+pub use Rattle.edit_session.specs.Changed
+pub use Rattle.edit_session.specs.Reopened

@@ -1,0 +1,3 @@
+-- What crates above name of `edit_session`, passed on.
+pub use Rattle.open_document.specs.from_edit_session.Changed
+pub use Rattle.open_document.specs.from_edit_session.Reopened
