@@ -88,6 +88,10 @@ pub mod indexmap {
         {
             self.get_index_of(q).is_some()
         }
+        pub fn reserve(&mut self, n: usize) -> Result<(), AllocError> {
+            self.entries.reserve(n);
+            Ok(())
+        }
         pub fn insert(&mut self, k: K, v: V) -> Result<Option<V>, AllocError> {
             Ok(self.insert_full(k, v)?.1)
         }
@@ -200,6 +204,39 @@ pub mod indexmap {
         }
         pub fn clear(&mut self) {
             self.0.clear()
+        }
+    }
+}
+pub mod circular_buffer {
+    use super::*;
+    pub struct HeapCircularBuffer<T> {
+        most: usize,
+        items: std::collections::VecDeque<T>,
+    }
+    impl<T> HeapCircularBuffer<T> {
+        pub fn with_capacity(_: Global, most: usize) -> Result<Self, AllocError> {
+            Ok(HeapCircularBuffer { most, items: Default::default() })
+        }
+        pub fn push_back(&mut self, x: T) {
+            if self.items.len() == self.most {
+                self.items.pop_front();
+            }
+            self.items.push_back(x);
+        }
+        pub fn push_front(&mut self, x: T) {
+            if self.items.len() == self.most {
+                self.items.pop_back();
+            }
+            self.items.push_front(x);
+        }
+        pub fn pop_back(&mut self) -> Option<T> {
+            self.items.pop_back()
+        }
+        pub fn pop_front(&mut self) -> Option<T> {
+            self.items.pop_front()
+        }
+        pub fn clear(&mut self) {
+            self.items.clear()
         }
     }
 }

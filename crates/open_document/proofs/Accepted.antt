@@ -14,7 +14,7 @@ use Rattle.open_document.specs.Answers.{IsCompiled, IsOpenedBy, verdict_of, work
 use Rattle.doc_inverses.specs.declared.change.Change.{Change}
 use Rattle.std.proofs.lemmas.List.Elements.{All-nil}
 use Rattle.author_turns.specs.Logged.{AreNoLater}
-use Rattle.author_turns.specs.Turns.{Turn}
+use Rattle.author_turns.specs.declared.turn.Turn.{Turn}
 use Rattle.undo_log.specs.Log.{Log, log_of}
 use Rattle.undo_log.specs.declared.log.Taken.TheVariants.{Nothing}
 use Rattle.undo_histories.specs.Through as histories

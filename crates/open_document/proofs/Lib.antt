@@ -6,3 +6,4 @@ pub mod Making
 pub mod Stepping
 pub mod Worked
 mod Entries
+mod Touching

@@ -2,7 +2,8 @@
 use Rattle.std.proofs.Common.{◌≡◌, ◌≤◌, ◌^◌, ◌-◌, ℕ, List, [], ◌∷◌, ◌++◌, refl, sym, ap, ◌∙◌, subst, arith}
 use Rattle.std.proofs.lemmas.List.Elements.{All-push}
 use Rattle.author_turns.specs.Logged.{Logged, AreNoLater}
-use Rattle.author_turns.specs.Turns.{Turn, turn}
+use Rattle.author_turns.specs.Turns.{turn}
+use Rattle.author_turns.specs.declared.turn.Turn.{Turn}
 use Rattle.author_turns.specs.declared.touched.Touched.{Touched}
 use Rattle.session_model.specs.State.{State, next_revision}
 use Rattle.open_document.specs.Held.{state_of, IsLogged}
@@ -16,7 +17,7 @@ next_within : (n : ℕ) → next_revision n ≤ 2 ^ 64 - 1
 next_within n = grind arith
 
 still_later : (ts : List Turn) (n m : ℕ) → n ≤ m → AreNoLater ts n → AreNoLater ts m
-still_later ts n m le h k t at = let first : t.revision ≤ n = h k t at in omega arith
+still_later ts n m le h k t at = let first = h k t at in omega (arith, first, le)
 
 module _ (x : OpenDocument) (logged : IsLogged x) where
   -- the turns so far made no later revision than the next

@@ -80,7 +80,7 @@ no_future = refusal 31 (codes "NothingToRedo")
 -- the revision that an author had seen is none yet, or another author has touched the same since
 abbrev pub turn_refusal : TurnFault → List ℕ
 turn_refusal BadRevision = refusal 35 (codes "BadRevision")
-turn_refusal (Stale revision) = refusal 36 (codes "Stale " ++ decimal revision)
+turn_refusal (Stale revision) = codes "no 36 Stale " ++ decimal revision ++ 10 ∷ []
 
 -- no schema section has the number
 abbrev pub no_section : List ℕ

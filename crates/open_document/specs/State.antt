@@ -7,7 +7,7 @@ use Rattle.schema_set.specs.declared.inputs.SchemaInput.{SchemaInput}
 use Rattle.session_model.specs.State.{State}
 use Rattle.undo_log.specs.History.{History}
 use Rattle.undo_log.specs.Log.{Log}
-pub use Rattle.author_turns.specs.Turns.{Turn}
+use Rattle.author_turns.specs.declared.turn.Turn.{Turn}
 
 -- what documents are assessed by: a schema set, and the schema documents of the stream, of which another set can be asked for
 pub record Basis : Type 0 where

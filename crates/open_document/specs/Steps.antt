@@ -12,7 +12,8 @@ use Rattle.edit_session.specs.Reopened.{after_swap}
 use Rattle.assessment.specs.Attribution.{SchemaSet}
 use Rattle.undo_log.specs.History.{History, opened, edited, undone, redone}
 use Rattle.undo_log.specs.Log.{Log, cleared, noted, with_undo_taken, with_undo_answered, with_redo_taken, with_redo_answered}
-use Rattle.author_turns.specs.Turns.{Turn, turn}
+use Rattle.author_turns.specs.Turns.{turn}
+use Rattle.author_turns.specs.declared.turn.Turn.{Turn}
 use Rattle.author_turns.specs.declared.touched.Touched.{Touched}
 use Rattle.open_document.specs.State.{OpenState, kept_trees}
 use Rattle.open_document.specs.Touches.{touched, touches}

@@ -10,7 +10,7 @@ use Rattle.edit_session.specs.Parents.{parent_of}
 use Rattle.author_turns.specs.Turns.{stale}
 use Rattle.author_turns.specs.declared.touched.Touched.{Touched}
 use Rattle.open_document.specs.State.{OpenState}
-pub use Rattle.open_document.specs.declared.touches.TurnFault.{TurnFault}
+use Rattle.open_document.specs.declared.touches.TurnFault.{TurnFault}
 use Rattle.open_document.specs.declared.touches.TurnFault.TheVariants.{BadRevision, Stale}
 
 -- ---- what is touched

@@ -12,7 +12,7 @@ use Rattle.undo_log.specs.History.{History}
 use Rattle.undo_log.specs.Log.{Log}
 use Rattle.undo_log.specs.declared.log.Taken.{Taken}
 use Rattle.undo_log.specs.contracts.log.Taken as taken
-use Rattle.author_turns.specs.Turns.{Turn}
+use Rattle.author_turns.specs.declared.turn.Turn.{Turn}
 use Rattle.author_turns.specs.contracts.turn.Turn as turn_row
 use Rattle.assessment.specs.Attribution.{SchemaSet}
 use Rattle.schema_set.specs.declared.inputs.SchemaInput.{SchemaInput}

@@ -184,13 +184,13 @@ fn work_in(
     ensures kept { IsKept held.new }
 {
     match no_past(alloc) {
-        Ok(Past { log, turns }) => {
+        Ok(past) => {
             let document = OpenDocument {
                 session,
                 documents,
                 most,
-                log,
-                turns,
+                log: past.log,
+                turns: past.turns,
             };
             work_on(held, alloc, document)
         }

@@ -5,6 +5,7 @@
 mod changing;
 mod compiling;
 mod held;
+mod laws;
 mod line;
 mod reply;
 mod swapping;
@@ -15,6 +16,7 @@ mod working;
 mod workspace;
 
 pub use held::boxed;
+pub use laws::edits_touch_what_their_changes_do;
 pub use reply::{write_answer, write_made, write_total};
 pub use verdict::{SetVerdict, Verdict};
 pub use workspace::Workspace;

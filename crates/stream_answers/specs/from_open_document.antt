@@ -4,3 +4,4 @@ pub use Rattle.open_document.specs.Replies
 pub use Rattle.open_document.specs.State
 pub use Rattle.open_document.specs.Steps
 pub use Rattle.open_document.specs.Touches
+pub use Rattle.open_document.specs.declared.touches.TurnFault

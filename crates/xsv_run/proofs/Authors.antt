@@ -10,46 +10,48 @@ use Rattle.edit_script.specs.declared.command.ScriptFault.{ScriptFault}
 use Rattle.told.specs.Told.{Said, free}
 use Rattle.told.specs.Outcomes.{SetOutcome, accepted, broken}
 use Rattle.stream_answers.specs.from_open_document.Replies.{turn_refusal, is_section, no_past, no_future}
-use Rattle.stream_answers.specs.from_open_document.State.{OpenState, Turn}
-use Rattle.stream_answers.specs.from_open_document.Steps.{Step, undo_of, redo_of, with_turn}
-use Rattle.stream_answers.specs.from_open_document.Touches.{TurnFault, turn_fault, touched}
+use Rattle.stream_answers.specs.from_open_document.State.{OpenState}
+use Rattle.stream_answers.specs.from_open_document.Steps.{Step, undo_of, redo_of, with_edit, with_step}
+use Rattle.stream_answers.specs.from_open_document.Touches.{turn_fault}
+use Rattle.stream_answers.specs.from_open_document.TurnFault.{TurnFault}
 use Rattle.xsv_run.specs.Complete.{IsEditReply, IsSetReply, IsSwapReply, IsStepReply, IsTurnReply, IsReply}
 use Rattle.xsv_run.specs.Authors.{Read, without_author, fault_of, IsAlike, AreAnswers, IsPlainBy, ArePlain}
 
-abbrev turned : List Turn → OpenState → OpenState
-turned turns s = record s { turns = turns }
+-- a document with the turns of another
+abbrev turned : OpenState → OpenState → OpenState
+turned t s = record s { turns = t.turns }
 
-module _ (s : OpenState) (turns : List Turn) (own : Said) (next : OpenState) where
-  stays_so : {P : Type 0} → P × (next ≡ s) → (later : List Turn) × P × (turned later next ≡ turned turns s)
-  stays_so h = (turns, h.0, ap (turned turns) h.1)
+module _ (s t : OpenState) (own : Said) (next : OpenState) where
+  stays_so : {P : Type 0} → P × (next ≡ s) → (later : OpenState) × P × (turned later next ≡ turned t s)
+  stays_so h = (t, h.0, ap (turned t) h.1)
 
   edit_so : (author : ℕ) (edit : Edit) (r : Result Document EditError) → IsEditReply s author edit r own next
-      → (later : List Turn) × IsEditReply (turned turns s) 0 edit r own (turned later next)
+      → (later : OpenState) × IsEditReply (turned t s) 0 edit r own (turned later next)
   edit_so author edit (Ok d) h =
-      let later = with_turn (turned turns s) 0 (touched edit s.session.document.forest) in
+      let later = with_edit (turned t s) 0 edit d h.0 in
       (later, (h.0, h.1, h.2, ap (turned later) h.3))
   edit_so author edit (Err e) h = stays_so h
 
   step_so : (step : Option Step) (refused : List ℕ) → IsStepReply s step refused own next
-      → (later : List Turn) × IsStepReply (turned turns s) step refused own (turned later next)
-  step_so (Some step) refused h = let later = with_turn (turned turns s) 0 step.keys in (later, (h.0, h.1, h.2, ap (turned later) h.3))
+      → (later : OpenState) × IsStepReply (turned t s) step refused own (turned later next)
+  step_so (Some step) refused h = let later = with_step (turned t s) step h.0 in (later, (h.0, h.1, h.2, ap (turned later) h.3))
   step_so None refused h = stays_so h
 
-  set_so : (o : SetOutcome) → IsSetReply s o own next → (later : List Turn) × IsSetReply (turned turns s) o own (turned later next)
-  set_so (accepted set) h = (turns, (h.0, h.1, h.2, ap (turned turns) h.3))
+  set_so : (o : SetOutcome) → IsSetReply s o own next → (later : OpenState) × IsSetReply (turned t s) o own (turned later next)
+  set_so (accepted set) h = (t, (h.0, h.1, h.2, ap (turned t) h.3))
   set_so (broken fault) h = stays_so h
 
-  swap_so : (number : ℕ) (there : Bool) → IsSwapReply s number there own next → (later : List Turn) × IsSwapReply (turned turns s) number there own (turned later next)
+  swap_so : (number : ℕ) (there : Bool) → IsSwapReply s number there own next → (later : OpenState) × IsSwapReply (turned t s) number there own (turned later next)
   swap_so number true h = let one = set_so h.0 h.2 in (one.0, (h.0, h.1, one.1))
   swap_so number false h = stays_so h
 
   turn_so : (author : ℕ) (edit : Edit) (fault : Option TurnFault) → fault ≡ None → IsTurnReply s author edit fault own next
-      → (later : List Turn) × IsEditReply (turned turns s) 0 edit (edited s.session.document edit) own (turned later next)
+      → (later : OpenState) × IsEditReply (turned t s) 0 edit (edited s.session.document edit) own (turned later next)
   turn_so author edit fault none h =
       edit_so author edit (edited s.session.document edit) (subst (λ (f : Option TurnFault). IsTurnReply s author edit f own next) none h)
 
   -- an answer that is no refusal of a turn is that to the line without its author
-  reply_so : (read : Read) → fault_of s read ≡ None → IsReply s read own next → (later : List Turn) × IsReply (turned turns s) (without_author read) own (turned later next)
+  reply_so : (read : Read) → fault_of s read ≡ None → IsReply s read own next → (later : OpenState) × IsReply (turned t s) (without_author read) own (turned later next)
   reply_so (Ok (commands.Change edit)) none h = edit_so 0 edit (edited s.session.document edit) h
   reply_so (Ok (commands.Assess node)) none h = stays_so h
   reply_so (Ok commands.Errors) none h = stays_so h
@@ -85,7 +87,7 @@ Plainly s q reads said last =
     (plain : List Read) × (answers : List Said) × (behind : OpenState) × ArePlain s reads said plain answers × AreAnswers q plain answers behind × IsAlike last behind
 
 pub plain_so : (s q : OpenState) (reads : List Read) (said : List Said) (last : OpenState) → IsAlike s q → AreAnswers s reads said last → Plainly s q reads said last
-plain_so s q [] [] last alike h = ([], [], q, (refl, refl), refl, (alike.0, alike.1 ∙ ap (turned alike.0) (sym h)))
+plain_so s q [] [] last alike h = ([], [], q, (refl, refl), refl, alike ∙ ap (turned q) (sym h))
 plain_so s q [] (own ∷ more) last alike h = absurd h
 plain_so s q (read ∷ reads) [] last alike h = absurd h
 plain_so s q (read ∷ reads) (own ∷ more) last alike h = by (fault_of s read) refl
@@ -102,13 +104,13 @@ plain_so s q (read ∷ reads) (own ∷ more) last alike h = by (fault_of s read)
           rest.5,
         )
     by None is =
-        let one = reply_so s alike.0 own h.0 read is h.1 in
-        let rest = plain_so h.0 (turned one.0 h.0) reads more last (one.0, refl) h.2 in (
+        let one = reply_so s q own h.0 read is h.1 in
+        let rest = plain_so h.0 (turned one.0 h.0) reads more last refl h.2 in (
           without_author read ∷ rest.0,
           own ∷ rest.1,
           rest.2,
           subst (λ (f : Option TurnFault). IsPlainBy f s read own (λ next. ArePlain next reads more) (without_author read ∷ rest.0) (own ∷ rest.1)) (sym is)
               (h.0, rest.0, rest.1, h.1, refl, refl, rest.3),
-          (turned one.0 h.0, subst (λ (x : OpenState). IsReply x (without_author read) own (turned one.0 h.0)) (sym alike.1) one.1, rest.4),
+          (turned one.0 h.0, subst (λ (x : OpenState). IsReply x (without_author read) own (turned one.0 h.0)) (sym alike) one.1, rest.4),
           rest.5,
         )

@@ -12,7 +12,8 @@ use Rattle.told.specs.Told.{Said}
 use Rattle.told.specs.Outcomes.{SetOutcome, accepted, broken}
 use Rattle.stream_answers.specs.from_open_document.Replies.{is_section, no_past, no_future}
 use Rattle.stream_answers.specs.from_open_document.State.{OpenState}
-use Rattle.stream_answers.specs.from_open_document.Touches.{TurnFault, turn_fault}
+use Rattle.stream_answers.specs.from_open_document.Touches.{turn_fault}
+use Rattle.stream_answers.specs.from_open_document.TurnFault.{TurnFault}
 use Rattle.stream_answers.specs.from_open_document.Steps.{Step, undo_of, redo_of}
 use Rattle.stream_sections.specs.Spelled.{Order}
 use Rattle.xsv_run.specs.Complete.{IsEditReply, IsTurnReply, IsSetReply, IsSwapReply, IsStepReply, IsReply, AreReplies, IsPresent}

@@ -18,7 +18,8 @@ use Rattle.told.proofs.Leading.{IsOver, silent_first, silent_last, joined_assoc,
 use Rattle.stream_answers.specs.from_open_document.Answers.{verdict}
 use Rattle.stream_answers.specs.from_open_document.Replies.{edit_told, turn_told, swap_told, swapped_told, swap_question, is_section, made_reply, step_told, line_told, no_past, no_future, made_said, step_said}
 use Rattle.stream_answers.specs.from_open_document.State.{OpenState}
-use Rattle.stream_answers.specs.from_open_document.Touches.{TurnFault, turn_fault}
+use Rattle.stream_answers.specs.from_open_document.Touches.{turn_fault}
+use Rattle.stream_answers.specs.from_open_document.TurnFault.{TurnFault}
 use Rattle.stream_answers.specs.from_open_document.Steps.{Step, undo_of, redo_of, document_behind, with_edit, with_step, with_swap}
 use Rattle.stream_sections.specs.Spelled.{given, Order}
 use Rattle.stream_answers.specs.Output.{ends, end_line, ending_of, commands_told}

@@ -5,8 +5,9 @@ use Rattle.edit_script.specs.declared.command.Command.TheVariants as commands
 use Rattle.edit_script.specs.declared.command.ScriptFault.{ScriptFault}
 use Rattle.told.specs.Told.{Said, free}
 use Rattle.stream_answers.specs.from_open_document.Replies.{turn_refusal}
-use Rattle.stream_answers.specs.from_open_document.State.{OpenState, Turn}
-use Rattle.stream_answers.specs.from_open_document.Touches.{TurnFault, turn_fault}
+use Rattle.stream_answers.specs.from_open_document.State.{OpenState}
+use Rattle.stream_answers.specs.from_open_document.Touches.{turn_fault}
+use Rattle.stream_answers.specs.from_open_document.TurnFault.{TurnFault}
 use Rattle.xsv_run.specs.Complete.{IsReply}
 
 -- what a line was read as
@@ -25,7 +26,7 @@ fault_of s read = None
 
 -- the same document by all but who took turns
 abbrev pub IsAlike : OpenState → OpenState → Type 0
-IsAlike s q = (turns : List Turn) × (q ≡ record s { turns = turns })
+IsAlike s q = q ≡ record s { turns = q.turns }
 
 -- the answers to lines, one behind another, and the document behind them
 abbrev pub AreAnswers : OpenState → List Read → List Said → OpenState → Type 0

@@ -20,7 +20,8 @@ use Rattle.told.specs.Told.{Said, free, silent, joined}
 use Rattle.stream_answers.specs.from_open_document.Answers.{opened, opening_cost, verdict}
 use Rattle.stream_answers.specs.from_open_document.Replies.{refusal, turn_refusal, set_refused, no_section, swap_question, is_section, made_reply, no_past, no_future, assess_reply, report_reply, total_reply, made_said, step_said}
 use Rattle.stream_answers.specs.from_open_document.State.{OpenState, with_documents}
-use Rattle.stream_answers.specs.from_open_document.Touches.{TurnFault, turn_fault}
+use Rattle.stream_answers.specs.from_open_document.Touches.{turn_fault}
+use Rattle.stream_answers.specs.from_open_document.TurnFault.{TurnFault}
 use Rattle.stream_answers.specs.from_open_document.Steps.{Step, undo_of, redo_of, document_behind, with_edit, with_step, with_swap}
 use Rattle.stream_sections.specs.Spelled.{Order}
 use Rattle.stream_sections.specs.declared.asked.Asked.{Asked}

@@ -9,7 +9,7 @@ use Rattle.open_document.proofs.changing.change.Goals as goal
 
 pub note-requires-clause-later : goal.note-requires-clause-later
 note-requires-clause-later g c =
-    turns_before c.args.document.now c.requires.logged c.revision.result (c.revision.ensures ∙ ap (λ (s : State). s.revision) c.in-Ok.ensures.applies.new_is)
+    turns_before c.args.document.now c.requires.logged c.revision-revision.result (c.revision-revision.ensures ∙ ap (λ (s : State). s.revision) c.in-Ok.ensures.applies.new_is)
 
 pub returns-in-Ok-clause-behind : goal.returns-in-Ok-clause-behind
 returns-in-Ok-clause-behind g c =
@@ -21,7 +21,7 @@ returns-in-Ok-clause-behind g c =
     let made = c.in-Ok.ensures.applies in
     edit_behind x y log turns c.args.author c.args.edit.now c.in-Ok.back c.requires.logged c.did.ensures
     (edit_noted x y log turns c.args.edit.now c.in-Ok.back c.is_found.ensures c.requires.made c.requires.logged made c.in-Ok.ensures.inverse) made.new_is
-    (noted_as x c.requires.logged y turns c.args.author keys (ap (λ (s : State). s.revision) made.new_is) c.revision.result c.touched_by.result c.revision.ensures c.touched_by.ensures c.note.ensures)
+    (noted_as x c.requires.logged y turns c.args.author keys (ap (λ (s : State). s.revision) made.new_is) c.revision-revision.result c.touched_by-keys.result c.revision-revision.ensures c.touched_by-keys.ensures c.note.ensures)
 
 pub returns-in-Ok-clause-logged : goal.returns-in-Ok-clause-logged
 returns-in-Ok-clause-logged g c = λ live.
@@ -33,7 +33,7 @@ returns-in-Ok-clause-logged g c = λ live.
     let made = c.in-Ok.ensures.applies in
     edit_logged x y log turns c.args.author c.args.edit.now c.in-Ok.back c.requires.logged c.did.ensures
     (edit_noted x y log turns c.args.edit.now c.in-Ok.back c.is_found.ensures c.requires.made c.requires.logged made c.in-Ok.ensures.inverse) made.new_is
-    (noted_as x c.requires.logged y turns c.args.author keys (ap (λ (s : State). s.revision) made.new_is) c.revision.result c.touched_by.result c.revision.ensures c.touched_by.ensures c.note.ensures)
+    (noted_as x c.requires.logged y turns c.args.author keys (ap (λ (s : State). s.revision) made.new_is) c.revision-revision.result c.touched_by-keys.result c.revision-revision.ensures c.touched_by-keys.ensures c.note.ensures)
 
 pub returns-in-Err-clause-logged : goal.returns-in-Err-clause-logged
 returns-in-Err-clause-logged g c =

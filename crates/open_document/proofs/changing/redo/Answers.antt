@@ -19,7 +19,7 @@ make-requires-clause-can g c =
 pub note-requires-clause-later : goal.note-requires-clause-later
 note-requires-clause-later g c =
     let x = c.args.document.now in
-    turns_before x c.requires.logged c.revision.result (c.revision.ensures
+    turns_before x c.requires.logged c.revision-revision.result (c.revision-revision.ensures
     ∙ next_then x (with_redo_answered (with_redo_taken x.log)) (with_redo_answered (with_redo_taken (state_of x).log)) (touched_redone x.session.document) (slice_get x.log.future 0) (redone (state_of x).history) (slice_get (state_of x).log.future 0)
     (redo_remembered x.session.set.names x.log x.session.document c.is_found.ensures.tree c.requires.logged.logged)
     c.in-Some.step (sym c.take_redo.ensures.step ∙ c.in-Some.is) c.make.new.session c.in-Ok.ensures.changed)
@@ -36,8 +36,8 @@ returns-in-Ok-clause-makes g c =
     step_made x (with_redo_answered (with_redo_taken x.log)) (with_redo_answered (with_redo_taken (state_of x).log)) (touched_redone x.session.document) (slice_get x.log.future 0) (redone (state_of x).history) (slice_get (state_of x).log.future 0)
     (redo_remembered x.session.set.names x.log x.session.document c.is_found.ensures.tree c.requires.logged.logged) c.in-Some.step (sym c.take_redo.ensures.step ∙ c.in-Some.is) c.make.new.session c.redone.new.self c.note.new.self c.in-Ok.back
     (c.redone.ensures ∙ ap (λ (l : Log Change). with_redo_answered l c.in-Ok.back) (c.in-Some.ensures.some refl))
-    c.in-Ok.ensures.changed c.in-Ok.ensures.inverse c.requires.logged c.revision.result c.touched_on.result c.revision.ensures c.note.ensures
-    (λ h own steps there means. c.touched_on.ensures own steps.means)
+    c.in-Ok.ensures.changed c.in-Ok.ensures.inverse c.requires.logged c.revision-revision.result c.touched_on-keys.result c.revision-revision.ensures c.note.ensures
+    (λ h own steps there means. c.touched_on-keys.ensures own steps.means)
     _ c.args.steps.now c.make.new.steps c.in-Ok.ensures.counted
 
 pub returns-in-Ok-clause-logged : goal.returns-in-Ok-clause-logged
@@ -46,8 +46,8 @@ returns-in-Ok-clause-logged g c = λ live.
     logged_then x (with_redo_answered (with_redo_taken x.log)) (with_redo_answered (with_redo_taken (state_of x).log)) (touched_redone x.session.document) (slice_get x.log.future 0) (redone (state_of x).history) (slice_get (state_of x).log.future 0)
     (redo_remembered x.session.set.names x.log x.session.document c.is_found.ensures.tree c.requires.logged.logged) c.in-Some.step (sym c.take_redo.ensures.step ∙ c.in-Some.is) c.make.new.session c.redone.new.self c.note.new.self c.in-Ok.back
     (c.redone.ensures ∙ ap (λ (l : Log Change). with_redo_answered l c.in-Ok.back) (c.in-Some.ensures.some refl))
-    c.in-Ok.ensures.changed c.in-Ok.ensures.inverse c.requires.logged c.revision.result c.touched_on.result c.revision.ensures c.note.ensures
-    (λ h own steps there means. c.touched_on.ensures own steps.means)
+    c.in-Ok.ensures.changed c.in-Ok.ensures.inverse c.requires.logged c.revision-revision.result c.touched_on-keys.result c.revision-revision.ensures c.note.ensures
+    (λ h own steps there means. c.touched_on-keys.ensures own steps.means)
     c.requires.logged.depth
 
 pub returns-in-Ok-clause-open : goal.returns-in-Ok-clause-open

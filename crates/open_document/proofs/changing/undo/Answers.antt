@@ -22,7 +22,7 @@ make-requires-clause-can g c =
 pub note-requires-clause-later : goal.note-requires-clause-later
 note-requires-clause-later g c =
     let x = c.args.document.now in
-    turns_before x c.requires.logged c.revision.result (c.revision.ensures
+    turns_before x c.requires.logged c.revision-revision.result (c.revision-revision.ensures
     ∙ next_then x (with_undo_answered (with_undo_taken x.log)) (with_undo_answered (with_undo_taken (state_of x).log)) (touched_undone x.session.document) (last_item x.log.past) (undone (state_of x).history) (last_item (state_of x).log.past)
     (undo_remembered x.session.set.names x.log x.session.document c.is_found.ensures.tree c.requires.logged.logged)
     c.in-Some.step (sym c.take_undo.ensures.step ∙ c.in-Some.is) c.make.new.session c.in-Ok.ensures.changed)
@@ -39,8 +39,8 @@ returns-in-Ok-clause-makes g c =
     step_made x (with_undo_answered (with_undo_taken x.log)) (with_undo_answered (with_undo_taken (state_of x).log)) (touched_undone x.session.document) (last_item x.log.past) (undone (state_of x).history) (last_item (state_of x).log.past)
     (undo_remembered x.session.set.names x.log x.session.document c.is_found.ensures.tree c.requires.logged.logged) c.in-Some.step (sym c.take_undo.ensures.step ∙ c.in-Some.is) c.make.new.session c.undone.new.self c.note.new.self c.in-Ok.back
     (c.undone.ensures ∙ ap (λ (l : Log Change). with_undo_answered l c.in-Ok.back) (c.in-Some.ensures.some refl))
-    c.in-Ok.ensures.changed c.in-Ok.ensures.inverse c.requires.logged c.revision.result c.touched_on.result c.revision.ensures c.note.ensures
-    (λ h own steps there means. c.touched_on.ensures (inverse_of x.session.document own) means ∙ ap (touches (inverse_of x.session.document own)) there)
+    c.in-Ok.ensures.changed c.in-Ok.ensures.inverse c.requires.logged c.revision-revision.result c.touched_on-keys.result c.revision-revision.ensures c.note.ensures
+    (λ h own steps there means. c.touched_on-keys.ensures (inverse_of x.session.document own) means ∙ ap (touches (inverse_of x.session.document own)) there)
     _ c.args.steps.now c.make.new.steps c.in-Ok.ensures.counted
 
 pub returns-in-Ok-clause-logged : goal.returns-in-Ok-clause-logged
@@ -49,8 +49,8 @@ returns-in-Ok-clause-logged g c = λ live.
     logged_then x (with_undo_answered (with_undo_taken x.log)) (with_undo_answered (with_undo_taken (state_of x).log)) (touched_undone x.session.document) (last_item x.log.past) (undone (state_of x).history) (last_item (state_of x).log.past)
     (undo_remembered x.session.set.names x.log x.session.document c.is_found.ensures.tree c.requires.logged.logged) c.in-Some.step (sym c.take_undo.ensures.step ∙ c.in-Some.is) c.make.new.session c.undone.new.self c.note.new.self c.in-Ok.back
     (c.undone.ensures ∙ ap (λ (l : Log Change). with_undo_answered l c.in-Ok.back) (c.in-Some.ensures.some refl))
-    c.in-Ok.ensures.changed c.in-Ok.ensures.inverse c.requires.logged c.revision.result c.touched_on.result c.revision.ensures c.note.ensures
-    (λ h own steps there means. c.touched_on.ensures (inverse_of x.session.document own) means ∙ ap (touches (inverse_of x.session.document own)) there)
+    c.in-Ok.ensures.changed c.in-Ok.ensures.inverse c.requires.logged c.revision-revision.result c.touched_on-keys.result c.revision-revision.ensures c.note.ensures
+    (λ h own steps there means. c.touched_on-keys.ensures (inverse_of x.session.document own) means ∙ ap (touches (inverse_of x.session.document own)) there)
     c.requires.logged.depth
 
 pub returns-in-Ok-clause-open : goal.returns-in-Ok-clause-open
