@@ -1,11 +1,13 @@
 -- Values by buckets.
-use Rattle.std.proofs.Common.{◌≡◌, ℕ, ◌+◌, ◌<◌, ◌==◌, ◌||◌, Bool, true, false, List, [], ◌∷◌, ◌++◌, length, get_or, take, set, cond, bytes_eq, refl, ap, sym, subst, ◌∙◌, inl, inr, arith, append-nil, eq-eqb}
+use Rattle.std.proofs.Common.{◌≡◌, ℕ, ◌+◌, ◌<◌, ◌==◌, ◌||◌, Bool, true, false, ◌&&◌, List, [], ◌∷◌, ◌++◌, length, get_or, take, set, cond, bytes_eq, refl, ap, sym, subst, ◌∙◌, inl, inr, arith, append-nil, eq-eqb}
 use Rattle.std.specs.Prelude.{◌%◌, filter}
-use Rattle.std.proofs.lemmas.Bool.{cases_eq, false≢true}
-use Rattle.std.proofs.lemmas.Bool.Decides.{nat_tests}
+use Rattle.std.specs.Ordering.{int_eq}
+use Rattle.std.proofs.lemmas.Bool.{cases_eq, false≢true, eqb-true, and_parts}
+use Rattle.std.proofs.lemmas.Bool.Decides.{nat_tests, Decides-int_eq}
 use Rattle.std.proofs.lemmas.List.{length-set, get_or-set_same, get_or-set_other}
 use Rattle.std.proofs.lemmas.List.Elements.{filter_more}
 use Rattle.std.proofs.lemmas.Slice.Eq.{bytes_eq-Decides}
+use Rattle.dec_value.specs.Decimal.{Decimal}
 use Rattle.simple_values.specs.declared.atom.Atom.{Atom}
 use Rattle.simple_values.specs.declared.atom.Atom.TheVariants.{Untyped, Text, Uri, Name, Boolean, Number, Hex, Base64, Instant, Duration}
 use Rattle.simple_values.specs.declared.value.Value.{Value}
@@ -19,13 +21,20 @@ use Rattle.facet_checks.specs.inside.Buckets.{text_number, atom_number, value_nu
 text_is : (a b : List ℕ) → bytes_eq a b ≡ true → a ≡ b
 text_is a b = (bytes_eq-Decides a b).0
 
+number_is : (a b : Decimal) → (int_eq a.unscaled b.unscaled && (a.scale == b.scale)) ≡ true → a ≡ b
+number_is a b e =
+    let h = and_parts (int_eq a.unscaled b.unscaled) (a.scale == b.scale) e in
+    let p : a.unscaled ≡ b.unscaled = (Decides-int_eq a.unscaled b.unscaled).0 h.0 in
+    let q : a.scale ≡ b.scale = eqb-true _ _ h.1 in
+    λ i. record { unscaled = p i; scale = q i }
+
 atom_alike : (a b : Atom) → same_atom a b ≡ true → atom_number a ≡ atom_number b
 atom_alike (Untyped a) (Untyped b) e = ap (text_number 0) (text_is a b e)
 atom_alike (Text a) (Text b) e = ap (text_number 0) (text_is a b e)
 atom_alike (Uri a) (Uri b) e = ap (text_number 0) (text_is a b e)
 atom_alike (Name a) (Name b) e = refl
 atom_alike (Boolean a) (Boolean b) e = refl
-atom_alike (Number a) (Number b) e = refl
+atom_alike (Number a) (Number b) e = ap (λ d. atom_number (Number d)) (number_is a b e)
 atom_alike (Hex a) (Hex b) e = refl
 atom_alike (Base64 a) (Base64 b) e = refl
 atom_alike (Instant j a) (Instant k b) e = refl

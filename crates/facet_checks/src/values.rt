@@ -114,7 +114,17 @@ fn atom_number(atom: &Atom) -> u32
 {
     match atom {
         Atom::Untyped(text) | Atom::Text(text) | Atom::Uri(text) => text_number(text.as_str()),
+        Atom::Number(number) => integer_number(number.as_integer()),
         _ => 0,
+    }
+}
+
+fn integer_number(integer: Option<i128>) -> u32
+    ensures { result ≡ inside.integer_number integer }
+{
+    match integer {
+        Some(n) => (n.unsigned_abs() % 4_294_967_291) as u32,
+        None => 0,
     }
 }
 

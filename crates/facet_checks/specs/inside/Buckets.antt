@@ -1,7 +1,7 @@
 -- Values by buckets, so that one is looked for among few.
-use Rattle.std.specs.Prelude.{◌≡◌, ℕ, ◌+◌, ◌*◌, ◌%◌, ◌<◌, ◌==◌, Bool, List, [], ◌∷◌, ◌++◌, length, filter, slice_index_or, slice_set}
+use Rattle.std.specs.Prelude.{◌≡◌, ℕ, ◌+◌, ◌*◌, ◌%◌, ◌<◌, ◌==◌, ℤ, Bool, if◌then◌else◌, Option, None, Some, unsigned_abs, List, [], ◌∷◌, ◌++◌, length, filter, slice_index_or, slice_set}
 use Rattle.simple_values.specs.declared.atom.Atom.{Atom}
-use Rattle.simple_values.specs.declared.atom.Atom.TheVariants.{Untyped, Text, Uri}
+use Rattle.simple_values.specs.declared.atom.Atom.TheVariants.{Untyped, Text, Uri, Number}
 use Rattle.simple_values.specs.declared.value.Value.{Value}
 use Rattle.simple_values.specs.declared.value.Value.TheVariants as values
 
@@ -10,10 +10,16 @@ abbrev pub text_number : ℕ → List ℕ → ℕ
 text_number number [] = number
 text_number number (byte ∷ bytes) = text_number ((number * 31 + byte) % 4_294_967_291) bytes
 
+-- a number of an integer; other numbers have 0
+abbrev pub integer_number : Option ℤ → ℕ
+integer_number None = 0
+integer_number (Some n) = unsigned_abs n % 4_294_967_291
+
 abbrev pub atom_number : Atom → ℕ
 atom_number (Untyped text) = text_number 0 text
 atom_number (Text text) = text_number 0 text
 atom_number (Uri text) = text_number 0 text
+atom_number (Number d) = integer_number (if d.scale == 0 then Some d.unscaled else None)
 atom_number _ = 0
 
 -- a number that values have in common that are the same
