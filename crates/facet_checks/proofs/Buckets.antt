@@ -51,7 +51,7 @@ value_alike a b e = absurd (false≢true e)
 module _ (count b : ℕ) where
   step : (t s : Bool) (v x : Value) (vs : List Value) → falls count b v ≡ t → same v x ≡ s → falls count b x ≡ true
       → is_among (filter (falls count b) vs) x ≡ is_among vs x → is_among (cond t (v ∷ filter (falls count b) vs) (filter (falls count b) vs)) x ≡ (s || is_among vs x)
-  step true s v x vs e f here rest = rw (f, rest) refl
+  step true s v x vs e f here rest = ap (λ c. c || is_among (filter (falls count b) vs) x) f ∙ ap (λ r. s || r) rest
   step false false v x vs e f here rest = rest
   step false true v x vs e f here rest =
       let alike : falls count b v ≡ falls count b x = ap (λ n. (n % count) == b) (value_alike v x f) in
@@ -85,7 +85,10 @@ one_more all i at v old new l is are place there e = record {
     size = ap length e ∙ length-set old at (get_or old at [] ++ v ∷ [])
 
     kept : (b : ℕ) (t : Bool) → falls (length old) b v ≡ t → filter (falls (length old) b) (take (i + 1) all) ≡ filter (falls (length old) b) (take i all) ++ cond t (v ∷ []) []
-    kept b t f = filter_more (falls (length old) b) all i v l ∙ rw (sym is, f) refl
+    kept b t f =
+        filter_more (falls (length old) b) all i v l
+        ∙ (ap (λ x. filter (falls (length old) b) (take i all) ++ cond (falls (length old) b x) (x ∷ []) []) (sym is)
+        ∙ ap (λ c. filter (falls (length old) b) (take i all) ++ cond c (v ∷ []) []) f)
 
     each : (b : ℕ) → b < length old → get_or new b [] ≡ filter (falls (length old) b) (take (i + 1) all)
     each b h = elim (cases_eq b at) [
