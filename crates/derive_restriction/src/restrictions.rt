@@ -69,6 +69,30 @@ fn any_type_code(set: &ComparedSet<'_>, own: KeptTable, base: KeptTable) -> Opti
     wildcard_code(true, set.tables.wildcard(own), set.tables.wildcard(base))
 }
 
+// The first code of the attributes of a type against those of its base, by the tables of both.
+fn base_code(
+    alloc: Global,
+    set: &ComparedSet<'_>,
+    types: &mut SimpleTypes,
+    base: &TypeId,
+    own: KeptTable,
+    table: KeptTable,
+) -> Result<Option<Code>, AllocError>
+    requires given { AreGiven set.now.parts.now set.now.names.now }
+    requires types { AreTypes set.now.parts.now types.old }
+    requires store { IsStore set.now.tables.now.store }
+    requires tables { (ids : List Bool) × (value also : AttrUses) × StandsFor set.now.parts.now ids set.now.tables.now.store own value × StandsFor set.now.parts.now ids set.now.tables.now.store table also }
+    ensures first { (ids : List Bool) (value also : AttrUses) → StandsFor set.now.parts.now ids set.now.tables.now.store own value → StandsFor set.now.parts.now ids set.now.tables.now.store table also → uses_of set.now.parts.now base.now ≡ Ok also
+        → IfOk result (IsFirstCode (λ code. BreaksUses set.now.parts.now set.now.names.now value also code ⊎ BreaksWildcard (spec.is_any_type base.now) value.wildcard also.wildcard code)) }
+    ensures same { types.new ≡ types.old }
+{
+    if is_any_type(base) {
+        Ok(any_type_code(set, own, table))
+    } else {
+        tables_code(alloc, set, types, own, table)
+    }
+}
+
 // The first code of the attributes of a type against those of its base, where both have tables.
 fn attributes_code(
     alloc: Global,
@@ -89,13 +113,7 @@ fn attributes_code(
         Err(_error) => Ok(None),
         Ok(own) => match set.tables.of_type(*base) {
             Err(_error) => Ok(None),
-            Ok(table) => {
-                if is_any_type(base) {
-                    Ok(any_type_code(set, own, table))
-                } else {
-                    tables_code(alloc, set, types, own, table)
-                }
-            }
+            Ok(table) => base_code(alloc, set, types, base, own, table),
         },
     }
 }
