@@ -17,7 +17,7 @@ use Rattle.doc_changes.specs.Stands.{StandsFor}
 use Rattle.doc_documents.specs.Readers.{name_at}
 use Rattle.doc_heads.specs.Heads.{readers_of}
 use Rattle.doc_heads.proofs.Showing.{name_shown}
-use Rattle.kept_changes.proofs.kept_records.Nodes.{shown}
+use Rattle.kept_changes.proofs.from_kept_records.Nodes.{shown}
 
 -- the names of the elements among siblings
 abbrev pub names_in : NameTable → Forest → List ℕ

@@ -48,27 +48,27 @@ use Rattle.doc_heads.specs.Heads.{readers_of}
 use Rattle.doc_heads.proofs.Reading.{readers_are}
 use Rattle.doc_planting.proofs.Numbering.{number_within}
 use Rattle.kept_slots.specs.Slots.{at}
-use Rattle.kept_changes.specs.kept_records.KeptElement.{KeptElement}
-use Rattle.kept_changes.specs.kept_records.Slots.{KeptSlots, IsMade, kept_at, pair_at}
-use Rattle.kept_changes.specs.kept_records.Fit.{models_of, root_codes, head_at}
-use Rattle.kept_changes.specs.kept_records.Found.{IsOver, AreSettled, found_in}
-use Rattle.kept_changes.proofs.kept_records.Kept.{entry-is}
-use Rattle.kept_changes.proofs.kept_records.Made.{made-elements}
-use Rattle.kept_changes.proofs.kept_records.Nodes.{has-element, root-there, root-numbers}
-use Rattle.kept_changes.proofs.kept_records.Settled.{assessed}
-use Rattle.kept_changes.proofs.kept_records.Sums.{kept-is}
-use Rattle.kept_changes.specs.kept_state.KeptState.{KeptState}
-use Rattle.kept_changes.specs.kept_judging.Judged.{root_pair, given_pair, again_pair, pair_by, symbols_by}
-use Rattle.kept_changes.proofs.kept_forgetting.Placed.{child-place}
+use Rattle.kept_changes.specs.from_kept_records.KeptElement.{KeptElement}
+use Rattle.kept_changes.specs.from_kept_records.Slots.{KeptSlots, IsMade, kept_at, pair_at}
+use Rattle.kept_changes.specs.from_kept_records.Fit.{models_of, root_codes, head_at}
+use Rattle.kept_changes.specs.from_kept_records.Found.{IsOver, AreSettled, found_in}
+use Rattle.kept_changes.proofs.from_kept_records.Kept.{entry-is}
+use Rattle.kept_changes.proofs.from_kept_records.Made.{made-elements}
+use Rattle.kept_changes.proofs.from_kept_records.Nodes.{has-element, root-there, root-numbers}
+use Rattle.kept_changes.proofs.from_kept_records.Settled.{assessed}
+use Rattle.kept_changes.proofs.from_kept_records.Sums.{kept-is}
+use Rattle.kept_changes.specs.from_kept_state.KeptState.{KeptState}
+use Rattle.kept_changes.specs.from_kept_judging.Judged.{root_pair, given_pair, again_pair, pair_by, symbols_by}
+use Rattle.kept_changes.proofs.from_kept_forgetting.Placed.{child-place}
 use Rattle.elem_regoverning.proofs.Regoverned.{child-again, root-again}
 use Rattle.model_terms.specs.Symbols.{child_symbols}
 use Rattle.model_terms.specs.Terms.{term_in}
 use Rattle.tree_rows.specs.declared.row.Attribute.{Attribute}
 use Rattle.doc_documents.specs.Readers.{name_at}
-use Rattle.kept_changes.specs.kept_below.Moved.{AreGivenDown, moved}
-use Rattle.kept_changes.specs.kept_children.Edited.{IsRightFor}
-use Rattle.kept_changes.specs.kept_children.Steps.{GovernsBelow, digits, marked_count}
-use Rattle.kept_changes.specs.kept_children.Steps as steps
+use Rattle.kept_changes.specs.from_kept_below.Moved.{AreGivenDown, moved}
+use Rattle.kept_changes.specs.from_kept_children.Edited.{IsRightFor}
+use Rattle.kept_changes.specs.from_kept_children.Steps.{GovernsBelow, digits, marked_count}
+use Rattle.kept_changes.specs.from_kept_children.Steps as steps
 use Rattle.kept_changes.specs.Steps.{TakesBelow, TakesAt, TakesName, TakesAway, Takes}
 use Rattle.change_budgets.proofs.Attributed.{names_in, names-read, attributed-numbers, attributed-names, at-place}
 use Rattle.change_budgets.proofs.Governed.{given-down, root-given}

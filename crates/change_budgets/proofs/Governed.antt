@@ -35,11 +35,11 @@ use Rattle.doc_documents.proofs.Reading.{are_read, scope_below, scope_root, dept
 use Rattle.doc_heads.specs.Heads.{readers_of, texts_named}
 use Rattle.doc_heads.proofs.Reading.{readers_are}
 use Rattle.doc_heads.proofs.Showing.{name_shown, texts_shown, scope_shown}
-use Rattle.kept_changes.specs.kept_records.Fit.{models_of, head_at}
-use Rattle.kept_changes.proofs.kept_records.Modelled.{type-fits}
-use Rattle.kept_changes.proofs.kept_records.Nodes.{all-of, shown, child-parent, root-numbers}
-use Rattle.kept_changes.proofs.kept_forgetting.Depths.{root-parent}
-use Rattle.kept_changes.specs.kept_judging.Judged.{root_pair, given_pair, pair_by}
+use Rattle.kept_changes.specs.from_kept_records.Fit.{models_of, head_at}
+use Rattle.kept_changes.proofs.from_kept_records.Modelled.{type-fits}
+use Rattle.kept_changes.proofs.from_kept_records.Nodes.{all-of, shown, child-parent, root-numbers}
+use Rattle.kept_changes.proofs.from_kept_forgetting.Depths.{root-parent}
+use Rattle.kept_changes.specs.from_kept_judging.Judged.{root_pair, given_pair, pair_by}
 
 symbols-each : (t : NameTable) (m : Option ContentAutomaton) (names : List ℕ) → length (child_symbols t m names) ≡ length names
 symbols-each t None names = length-map names _

@@ -26,11 +26,11 @@ use Rattle.doc_changes.specs.Stands.{StandsFor}
 use Rattle.doc_documents.specs.Readers.{name_at}
 use Rattle.doc_heads.specs.Heads.{readers_of}
 use Rattle.doc_heads.proofs.Showing.{name_shown}
-use Rattle.kept_changes.specs.kept_records.Fit.{models_of}
-use Rattle.kept_changes.proofs.kept_records.Modelled.{type-fits}
-use Rattle.kept_changes.proofs.kept_records.Nodes.{shown}
-use Rattle.kept_changes.specs.kept_judging.Judged.{symbols_by}
-use Rattle.kept_changes.specs.child_lists.Family.{marked_places}
+use Rattle.kept_changes.specs.from_kept_records.Fit.{models_of}
+use Rattle.kept_changes.proofs.from_kept_records.Modelled.{type-fits}
+use Rattle.kept_changes.proofs.from_kept_records.Nodes.{shown}
+use Rattle.kept_changes.specs.from_kept_judging.Judged.{symbols_by}
+use Rattle.kept_changes.specs.from_child_lists.Family.{marked_places}
 
 abbrev trues : List Bool → ℕ
 trues [] = 0

@@ -9,10 +9,10 @@ use Rattle.edit_budgets.specs.Budget.{same_governing, children_if}
 use Rattle.edit_budgets.specs.Budget as budget
 use Rattle.doc_documents.specs.Readers.{element_numbers}
 use Rattle.kept_slots.specs.Slots.{at}
-use Rattle.kept_changes.specs.kept_records.KeptElement.{KeptElement}
-use Rattle.kept_changes.specs.kept_records.Slots.{KeptSlots}
-use Rattle.kept_changes.specs.kept_below.Moved.{is_typed}
-use Rattle.kept_changes.specs.kept_below.Moved as kept
+use Rattle.kept_changes.specs.from_kept_records.KeptElement.{KeptElement}
+use Rattle.kept_changes.specs.from_kept_records.Slots.{KeptSlots}
+use Rattle.kept_changes.specs.from_kept_below.Moved.{is_typed}
+use Rattle.kept_changes.specs.from_kept_below.Moved as kept
 use Rattle.change_budgets.proofs.Paths.{IsAt}
 
 -- there are no fewer nodes among siblings than elements

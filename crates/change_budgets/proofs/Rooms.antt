@@ -3,7 +3,7 @@ use Rattle.std.proofs.Common.{◌≡◌, ℕ, ◌+◌, ◌*◌, ◌≤◌, arith
 use Rattle.child_trees.specs.Bits.{bits}
 use Rattle.edit_budgets.specs.Budget.{list_budget}
 use Rattle.edit_budgets.proofs.Room.{list-more}
-use Rattle.kept_changes.specs.kept_children.Steps.{digits}
+use Rattle.kept_changes.specs.from_kept_children.Steps.{digits}
 
 spread : (b a : ℕ) → 32 * (b + 1) * (1 + a) ≡ 32 * (b + 1) + 32 * (b + 1) * a
 spread b a = rw (one-add a, mul-suc) (add_comm (32 * (b + 1) * a) (32 * (b + 1)))

@@ -12,9 +12,9 @@ ghost use Rattle.doc_nodes.specs.Nodes.{Nodes};
 ghost use Rattle.doc_changes.specs.Stands.{StandsFor};
 ghost use Rattle.doc_edits.specs.Changes.{CanMake, IsOf, changed};
 ghost use Rattle.doc_edits.specs.declared.change.Change.{Change as ChangeData};
-ghost use Rattle.kept_changes.specs.kept_records.Found.{found_in};
-ghost use Rattle.kept_changes.specs.kept_state.KeptState.{KeptState as KeptData};
-ghost use Rattle.kept_changes.specs.kept_children.Edited.{IsRightFor};
+ghost use Rattle.kept_changes.specs.from_kept_records.Found.{found_in};
+ghost use Rattle.kept_changes.specs.from_kept_state.KeptState.{KeptState as KeptData};
+ghost use Rattle.kept_changes.specs.from_kept_children.Edited.{IsRightFor};
 ghost use Rattle.kept_changes.specs.Steps.{Takes};
 
 /// A change takes no more steps than its edit may cost, by what is kept before it and by whatever is found of the document after it.

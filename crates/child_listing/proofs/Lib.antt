@@ -3,6 +3,6 @@ pub mod Distinct
 pub mod Depths
 pub mod Symbols
 mod Listed
-pub mod kept_judging
-pub mod kept_records
-pub mod kept_state
+pub mod from_kept_judging
+pub mod from_kept_records
+pub mod from_kept_state

@@ -25,12 +25,12 @@ use Rattle.doc_changes.specs.Held.{name_in}
 use Rattle.doc_changes.specs.Stands.{StandsFor}
 use Rattle.doc_documents.specs.Readers.{name_by, name_at}
 use Rattle.doc_heads.proofs.Showing.{name_number}
-use Rattle.kept_judging.specs.kept_records.Slots.{kept_at}
-use Rattle.kept_judging.specs.kept_records.Fit.{models_of, head_at, IsListed}
-use Rattle.kept_judging.specs.kept_records.Books.{HaveOwnLists}
-use Rattle.kept_judging.specs.kept_state.Kept.{CanGovern}
-use Rattle.kept_judging.specs.kept_state.Governed.{Governed}
-use Rattle.kept_judging.specs.kept_state.KeptState.{KeptState}
+use Rattle.kept_judging.specs.from_kept_records.Slots.{kept_at}
+use Rattle.kept_judging.specs.from_kept_records.Fit.{models_of, head_at, IsListed}
+use Rattle.kept_judging.specs.from_kept_records.Books.{HaveOwnLists}
+use Rattle.kept_judging.specs.from_kept_state.Kept.{CanGovern}
+use Rattle.kept_judging.specs.from_kept_state.Governed.{Governed}
+use Rattle.kept_judging.specs.from_kept_state.KeptState.{KeptState}
 use Rattle.kept_judging.specs.Judged.{symbols_by, given_pair}
 use Rattle.kept_judging.proofs.Heads.{element-kind}
 use Rattle.child_listing.specs.Children.{IsSpare, IsFresh, AreListed, AreGoverned, IsListing}

@@ -13,8 +13,8 @@ use Rattle.assessment.proofs.Walking.{symbols-known}
 use Rattle.compiled_schema.specs.Usable.{IsUsable, set_of}
 use Rattle.compiled_schema.specs.declared.compiled.Compiled.{Compiled}
 use Rattle.model_terms.specs.Symbols.{AreSymbolsBy, child_symbols}
-use Rattle.kept_judging.specs.kept_records.Fit.{models_of}
-use Rattle.kept_judging.proofs.kept_records.Modelled.{type-fits}
+use Rattle.kept_judging.specs.from_kept_records.Fit.{models_of}
+use Rattle.kept_judging.proofs.from_kept_records.Modelled.{type-fits}
 
 -- the automaton of a type is that of its content model
 pub record IsModelled (c : Compiled) (a : ContentAutomaton) : Type 0 where

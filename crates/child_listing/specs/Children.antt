@@ -7,11 +7,11 @@ use Rattle.model_lists.specs.Lists.{ListsView, IsLive}
 use Rattle.model_lists.specs.declared.handle.ModelList.{ModelList}
 use Rattle.child_terms.specs.declared.attribution.Attribution.{Attribution}
 use Rattle.doc_nodes.specs.Nodes.{Nodes, element_children}
-use Rattle.kept_judging.specs.kept_records.Slots.{kept_at}
-use Rattle.kept_judging.specs.kept_records.Fit.{models_of, IsListed}
-use Rattle.kept_judging.specs.kept_state.Kept.{CanGovern}
-use Rattle.kept_judging.specs.kept_state.Governed.{Governed}
-use Rattle.kept_judging.specs.kept_state.KeptState.{KeptState}
+use Rattle.kept_judging.specs.from_kept_records.Slots.{kept_at}
+use Rattle.kept_judging.specs.from_kept_records.Fit.{models_of, IsListed}
+use Rattle.kept_judging.specs.from_kept_state.Kept.{CanGovern}
+use Rattle.kept_judging.specs.from_kept_state.Governed.{Governed}
+use Rattle.kept_judging.specs.from_kept_state.KeptState.{KeptState}
 use Rattle.kept_judging.specs.Judged.{symbols_by, pair_by}
 use Rattle.child_listing.specs.declared.listing.Listing.{Listing}
 

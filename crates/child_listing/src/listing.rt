@@ -10,9 +10,9 @@ ghost use Rattle.model_lists.specs.Lists.{KeepLists};
 ghost use Rattle.doc_nodes.specs.Nodes.{element_children, is_element_at};
 ghost use Rattle.doc_changes.specs.Stands.{StandsFor};
 ghost use Rattle.doc_documents.specs.Readers.{name_at};
-ghost use Rattle.kept_judging.specs.kept_records.Fit.{models_of, head_at};
-ghost use Rattle.kept_judging.specs.kept_state.Kept.{CanGovern, IsBeside};
-ghost use Rattle.kept_judging.specs.kept_state.Governed.{Governed as GovernedData};
+ghost use Rattle.kept_judging.specs.from_kept_records.Fit.{models_of, head_at};
+ghost use Rattle.kept_judging.specs.from_kept_state.Kept.{CanGovern, IsBeside};
+ghost use Rattle.kept_judging.specs.from_kept_state.Governed.{Governed as GovernedData};
 ghost use Rattle.kept_judging.specs.Judged.{given_pair};
 ghost use Rattle.child_listing.specs.Children.{AreListed, IsListing};
 

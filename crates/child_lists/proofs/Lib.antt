@@ -2,7 +2,7 @@ pub mod Edits
 pub mod Terms
 pub mod Listed
 pub mod Written
-pub mod kept_forgetting
-pub mod kept_judging
-pub mod kept_records
-pub mod kept_state
+pub mod from_kept_forgetting
+pub mod from_kept_judging
+pub mod from_kept_records
+pub mod from_kept_state

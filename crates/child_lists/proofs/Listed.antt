@@ -25,10 +25,10 @@ use Rattle.doc_changes.specs.Held.{name_in}
 use Rattle.doc_changes.specs.Stands.{StandsFor}
 use Rattle.doc_documents.specs.Readers.{name_by, name_at}
 use Rattle.doc_heads.proofs.Showing.{name_number}
-use Rattle.child_listing.specs.kept_records.Slots.{kept_at, pair_at}
-use Rattle.child_listing.specs.kept_records.Fit.{models_of, IsListed}
-use Rattle.child_listing.specs.kept_state.KeptState.{KeptState}
-use Rattle.child_listing.proofs.kept_judging.Heads.{element-kind}
+use Rattle.child_listing.specs.from_kept_records.Slots.{kept_at, pair_at}
+use Rattle.child_listing.specs.from_kept_records.Fit.{models_of, IsListed}
+use Rattle.child_listing.specs.from_kept_state.KeptState.{KeptState}
+use Rattle.child_listing.proofs.from_kept_judging.Heads.{element-kind}
 use Rattle.child_listing.proofs.Symbols.{model-of, are-symbols}
 use Rattle.child_lists.specs.Places.{IsPlaceOf}
 use Rattle.child_lists.specs.Family.{IsListedBy, marked_places, model_of, symbols_of}

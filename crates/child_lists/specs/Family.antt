@@ -7,12 +7,12 @@ use Rattle.compiled_schema.specs.declared.compiled.Compiled.{Compiled}
 use Rattle.model_terms.specs.Terms.{stuck_in}
 use Rattle.model_lists.specs.Lists.{ambivalent_places}
 use Rattle.doc_nodes.specs.Nodes.{Nodes, Has, Lacks, element_children}
-use Rattle.child_listing.specs.kept_records.Slots.{IsMade, kept_at, pair_at, record_at}
-use Rattle.child_listing.specs.kept_records.Fit.{models_of, IsListed, IsTop, IsGathered}
-use Rattle.child_listing.specs.kept_state.Kept.{FitBut, IsBeside}
-use Rattle.child_listing.specs.kept_state.KeptChildren.{KeptChildren}
-use Rattle.child_listing.specs.kept_state.KeptState.{KeptState}
-use Rattle.child_listing.specs.kept_judging.Judged.{symbols_by, IsGivenBy, IsJudgedBy}
+use Rattle.child_listing.specs.from_kept_records.Slots.{IsMade, kept_at, pair_at, record_at}
+use Rattle.child_listing.specs.from_kept_records.Fit.{models_of, IsListed, IsTop, IsGathered}
+use Rattle.child_listing.specs.from_kept_state.Kept.{FitBut, IsBeside}
+use Rattle.child_listing.specs.from_kept_state.KeptChildren.{KeptChildren}
+use Rattle.child_listing.specs.from_kept_state.KeptState.{KeptState}
+use Rattle.child_listing.specs.from_kept_judging.Judged.{symbols_by, IsGivenBy, IsJudgedBy}
 
 -- the places of the child elements whose names are ambivalent, by the content model of their parent; without one there are none
 abbrev pub marked_places : Option ContentAutomaton → List ℕ → List ℕ

@@ -1,6 +1,6 @@
 pub mod Places
 pub mod Family
-pub mod kept_forgetting
-pub mod kept_judging
-pub mod kept_records
-pub mod kept_state
+pub mod from_kept_forgetting
+pub mod from_kept_judging
+pub mod from_kept_records
+pub mod from_kept_state

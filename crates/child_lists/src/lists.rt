@@ -13,12 +13,12 @@ ghost use Rattle.doc_nodes.specs.Nodes.{Lacks, Nodes, element_children, is_eleme
 ghost use Rattle.doc_changes.specs.Stands.{StandsFor};
 ghost use Rattle.doc_documents.specs.Readers.{name_at};
 ghost use Rattle.kept_slots.specs.Slots.{at as slot_at};
-ghost use Rattle.child_listing.specs.kept_records.Books.{HaveOwnLists};
-ghost use Rattle.child_listing.specs.kept_records.Fit.{models_of};
-ghost use Rattle.child_listing.specs.kept_records.Slots.{IsMade, pair_at};
-ghost use Rattle.child_listing.specs.kept_state.Kept.{CanGovern, IsBeside};
-ghost use Rattle.child_listing.specs.kept_state.KeptChildren.{KeptChildren as KeptChildrenData};
-ghost use Rattle.child_listing.specs.kept_judging.Judged.{pair_by};
+ghost use Rattle.child_listing.specs.from_kept_records.Books.{HaveOwnLists};
+ghost use Rattle.child_listing.specs.from_kept_records.Fit.{models_of};
+ghost use Rattle.child_listing.specs.from_kept_records.Slots.{IsMade, pair_at};
+ghost use Rattle.child_listing.specs.from_kept_state.Kept.{CanGovern, IsBeside};
+ghost use Rattle.child_listing.specs.from_kept_state.KeptChildren.{KeptChildren as KeptChildrenData};
+ghost use Rattle.child_listing.specs.from_kept_judging.Judged.{pair_by};
 ghost use Rattle.child_lists.specs.Places.{IsPlaceOf};
 ghost use Rattle.child_lists.specs.Family.{AreCounted, AreGivenBut, IsAttributed, IsListedBy, IsMidway, marked_places};
 ghost use Rattle.child_lists.specs.Family as family;

@@ -3,7 +3,7 @@
 ghost use Rattle.std.specs.Prelude.{◌≡◌, ◌⊎◌, None, Some, true, MatchOption};
 ghost use Rattle.doc_nodes.specs.Nodes.{is_element_at};
 ghost use Rattle.doc_changes.specs.Held.{parent_at};
-ghost use Rattle.child_listing.specs.kept_records.Slots.{IsMade, kept_at};
+ghost use Rattle.child_listing.specs.from_kept_records.Slots.{IsMade, kept_at};
 ghost use Rattle.child_lists.specs.Places.{IsPlaceOf};
 ghost use Rattle.child_lists.specs.Family as family;
 

@@ -13,8 +13,8 @@ use Rattle.doc_changes.specs.Stands.{StandsFor}
 use Rattle.doc_documents.proofs.Levels.{document_is}
 use Rattle.doc_inverses.specs.Changes.{Means}
 use Rattle.doc_inverses.specs.declared.change.Change.{Change}
-use Rattle.kept_inverses.specs.kept_state.KeptState.{KeptState}
-use Rattle.kept_inverses.specs.kept_children.Edited.{IsRightFor}
+use Rattle.kept_inverses.specs.from_kept_state.KeptState.{KeptState}
+use Rattle.kept_inverses.specs.from_kept_children.Edited.{IsRightFor}
 use Rattle.kept_inverses.specs.Steps.{TakesInverse}
 use Rattle.inverse_budgets.proofs.Budget.{inverse-budgeted}
 use Rattle.edit_session.specs.Changed.{IsChanged, IsReached, TakesWithin, after_change}

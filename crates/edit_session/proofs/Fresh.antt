@@ -5,10 +5,10 @@ use Rattle.compiled_schema.specs.Usable.{IsUsable}
 use Rattle.compiled_schema.specs.declared.compiled.Compiled.{Compiled}
 use Rattle.doc_nodes.specs.Nodes.{Nodes}
 use Rattle.kept_slots.specs.Slots.{at}
-use Rattle.kept_inverses.specs.kept_records.Books.{IsBooked}
-use Rattle.kept_inverses.specs.kept_records.Slots.{KeptSlots, IsMade, kept_at}
-use Rattle.kept_inverses.specs.kept_state.Kept.{IsBeside}
-use Rattle.kept_inverses.specs.kept_state.KeptState.{KeptState}
+use Rattle.kept_inverses.specs.from_kept_records.Books.{IsBooked}
+use Rattle.kept_inverses.specs.from_kept_records.Slots.{KeptSlots, IsMade, kept_at}
+use Rattle.kept_inverses.specs.from_kept_state.Kept.{IsBeside}
+use Rattle.kept_inverses.specs.from_kept_state.KeptState.{KeptState}
 use Rattle.edit_session.specs.Held.{Stands}
 
 module _ (k : KeptState) (none : k.records.slots ≡ []) where

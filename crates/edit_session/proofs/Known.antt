@@ -27,13 +27,13 @@ use Rattle.doc_nodes.specs.Nodes.{Nodes}
 use Rattle.doc_changes.specs.Stands.{StandsFor}
 use Rattle.doc_tree.specs.Following.{next_of}
 use Rattle.kept_slots.specs.Slots.{at}
-use Rattle.kept_inverses.specs.kept_records.KeptElement.{KeptElement}
-use Rattle.kept_inverses.specs.kept_records.Slots.{KeptSlots, IsMade, kept_at}
-use Rattle.kept_inverses.specs.kept_records.Found.{read_as, found_in}
-use Rattle.kept_inverses.specs.kept_state.KeptState.{KeptState}
-use Rattle.kept_inverses.proofs.kept_records.Kept.{entry-is, total-is}
-use Rattle.kept_inverses.proofs.kept_records.Made.{fit-at, made-elements, elements-made}
-use Rattle.kept_inverses.proofs.kept_records.Sums.{kept-is}
+use Rattle.kept_inverses.specs.from_kept_records.KeptElement.{KeptElement}
+use Rattle.kept_inverses.specs.from_kept_records.Slots.{KeptSlots, IsMade, kept_at}
+use Rattle.kept_inverses.specs.from_kept_records.Found.{read_as, found_in}
+use Rattle.kept_inverses.specs.from_kept_state.KeptState.{KeptState}
+use Rattle.kept_inverses.proofs.from_kept_records.Kept.{entry-is, total-is}
+use Rattle.kept_inverses.proofs.from_kept_records.Made.{fit-at, made-elements, elements-made}
+use Rattle.kept_inverses.proofs.from_kept_records.Sums.{kept-is}
 use Rattle.edit_session.specs.Held.{document_in, found_by, IsPresent, state_of, IsHeld}
 use Rattle.edit_session.specs.declared.session.EditSession.TheInside.{Inside}
 use Rattle.edit_session.proofs.Following.{numbers-elements, none-after, after-element}

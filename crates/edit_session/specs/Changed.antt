@@ -12,7 +12,7 @@ use Rattle.tree_inverses.specs.Changes.{Change, changed, Fits}
 use Rattle.doc_nodes.specs.Nodes.{Nodes}
 use Rattle.doc_inverses.specs.Changes.{Means}
 use Rattle.doc_inverses.specs.declared.change.Change as numbered
-use Rattle.kept_inverses.specs.kept_state.KeptState.{KeptState}
+use Rattle.kept_inverses.specs.from_kept_state.KeptState.{KeptState}
 use Rattle.edit_session.specs.Costs.{change_cost}
 use Rattle.edit_session.specs.Held.{document_in, IsPresent}
 

@@ -10,8 +10,8 @@ use Rattle.session_model.specs.State.{with_names}
 use Rattle.doc_nodes.specs.Nodes.{Nodes}
 use Rattle.doc_edits.specs.Changes.{CanMake, IsOf, IsPrepared, changed}
 use Rattle.doc_edits.specs.declared.change.Change.{Change}
-use Rattle.kept_inverses.specs.kept_state.KeptState.{KeptState}
-use Rattle.kept_inverses.specs.kept_children.Edited.{IsRightFor}
+use Rattle.kept_inverses.specs.from_kept_state.KeptState.{KeptState}
+use Rattle.kept_inverses.specs.from_kept_children.Edited.{IsRightFor}
 use Rattle.edit_session.specs.Held.{document_in, IsPresent}
 
 -- no test of the edit stands, and the change is the edit's; the table of the set has become one with the names of the document that is to

@@ -6,7 +6,7 @@ ghost use Rattle.compiled_schema.specs.Usable.{IsUsable, set_of};
 ghost use Rattle.session_model.specs.State.{with_names};
 ghost use Rattle.doc_changes.specs.Stands.{StandsFor};
 ghost use Rattle.kept_slots.specs.Slots.{at};
-ghost use Rattle.kept_inverses.specs.kept_state.Kept.{IsBeside};
+ghost use Rattle.kept_inverses.specs.from_kept_state.Kept.{IsBeside};
 ghost use Rattle.edit_session.specs.Held.{Stands, IsPresent};
 
 use compiled_schema::{Compiled, usable_with_more_names};

@@ -20,9 +20,9 @@ use Rattle.doc_inverses.specs.declared.change.Change.{Change}
 use Rattle.doc_inverses.specs.declared.change.Change.TheVariants as changes
 use Rattle.doc_inverses.specs.declared.part.PartRow.{PartRow}
 use Rattle.doc_inverses.proofs.Meaning.{puts_back, takes, names, writes, rewords}
-use Rattle.kept_inverses.specs.kept_records.Found.{found_in}
-use Rattle.kept_inverses.specs.kept_state.KeptState.{KeptState}
-use Rattle.kept_inverses.specs.kept_children.Edited.{IsRightFor}
+use Rattle.kept_inverses.specs.from_kept_records.Found.{found_in}
+use Rattle.kept_inverses.specs.from_kept_state.KeptState.{KeptState}
+use Rattle.kept_inverses.specs.from_kept_children.Edited.{IsRightFor}
 use Rattle.kept_inverses.specs.Steps.{TakesInverse, TakesPart}
 use Rattle.kept_inverses.proofs.Following.{take-fits, take-below, name-kind, write-kind, reword-kind}
 use Rattle.change_budgets.proofs.Budget.{change-budgeted, attributes-budgeted, came-budgeted}

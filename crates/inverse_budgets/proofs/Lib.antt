@@ -1,2 +1,2 @@
 pub mod Budget
-pub mod change_budgets
+pub mod from_change_budgets

@@ -22,17 +22,17 @@ use Rattle.doc_changes.specs.Held.{parent_at}
 use Rattle.doc_documents.specs.Readers.{own_chars}
 use Rattle.doc_heads.specs.Heads.{texts_named}
 use Rattle.kept_slots.specs.Slots.{at}
-use Rattle.kept_judging.specs.kept_records.KeptElement.{KeptElement}
-use Rattle.kept_judging.specs.kept_records.Slots.{IsKept, IsMade, blank, kept_at, entry_at, pair_at, record_at}
-use Rattle.kept_judging.specs.kept_records.Fit.{models_of, root_codes, head_at, IsListed, IsFit}
-use Rattle.kept_judging.proofs.kept_records.Counting.{counts-at}
-use Rattle.kept_judging.proofs.kept_records.Frames.{map-same}
-use Rattle.kept_judging.proofs.kept_records.Nodes.{by-node}
-use Rattle.kept_judging.specs.kept_state.Kept.{FitBut, IsBeside, Rewrites, children_of, children_at, outcome_at}
-use Rattle.kept_judging.specs.kept_state.KeptChildren.{KeptChildren}
-use Rattle.kept_judging.specs.kept_state.Outcome.{Outcome}
-use Rattle.kept_judging.specs.kept_state.KeptState.{KeptState}
-use Rattle.kept_judging.proofs.kept_state.Beside.{kept-there, rewrites-again}
+use Rattle.kept_judging.specs.from_kept_records.KeptElement.{KeptElement}
+use Rattle.kept_judging.specs.from_kept_records.Slots.{IsKept, IsMade, blank, kept_at, entry_at, pair_at, record_at}
+use Rattle.kept_judging.specs.from_kept_records.Fit.{models_of, root_codes, head_at, IsListed, IsFit}
+use Rattle.kept_judging.proofs.from_kept_records.Counting.{counts-at}
+use Rattle.kept_judging.proofs.from_kept_records.Frames.{map-same}
+use Rattle.kept_judging.proofs.from_kept_records.Nodes.{by-node}
+use Rattle.kept_judging.specs.from_kept_state.Kept.{FitBut, IsBeside, Rewrites, children_of, children_at, outcome_at}
+use Rattle.kept_judging.specs.from_kept_state.KeptChildren.{KeptChildren}
+use Rattle.kept_judging.specs.from_kept_state.Outcome.{Outcome}
+use Rattle.kept_judging.specs.from_kept_state.KeptState.{KeptState}
+use Rattle.kept_judging.proofs.from_kept_state.Beside.{kept-there, rewrites-again}
 use Rattle.kept_judging.specs.Judged.{symbols_by, shape_with, AreChildren, IsJudgedBy, IsJudgedAnew}
 use Rattle.kept_judging.proofs.Anew.{not-own-parent, fit-judged, judged-fit, anew-fits, children-stay, rewritten-fit}
 use Rattle.kept_above.specs.Climbing.{with_outcome, IsNearly, IsClimbing, KeepsRest}

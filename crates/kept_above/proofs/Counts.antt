@@ -7,7 +7,7 @@ use Rattle.assess_records.specs.declared.outcome.Attempted.TheVariants.{Full, Pa
 use Rattle.assess_records.specs.declared.outcome.Validity.{Validity}
 use Rattle.assess_records.specs.declared.outcome.Validity.TheVariants.{Valid, Invalid, NotKnown}
 use Rattle.assess_records.specs.declared.record.ElementRecord.{ElementRecord}
-use Rattle.kept_judging.specs.kept_state.Outcome.{Outcome}
+use Rattle.kept_judging.specs.from_kept_state.Outcome.{Outcome}
 use Rattle.kept_above.specs.Climbing.{with_outcome}
 
 -- each kind of count sees one part of an outcome

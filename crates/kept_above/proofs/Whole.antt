@@ -8,11 +8,11 @@ use Rattle.doc_nodes.specs.Nodes.{Nodes, is_element_at, element_children}
 use Rattle.doc_documents.proofs.Reading.{are_read}
 use Rattle.doc_heads.proofs.Reading.{readers_are}
 use Rattle.doc_heads.specs.Heads.{readers_of}
-use Rattle.kept_judging.specs.kept_records.Slots.{IsMade}
-use Rattle.kept_judging.proofs.kept_records.Made.{made-in}
-use Rattle.kept_judging.proofs.kept_records.Nodes.{has-element, root-numbers}
-use Rattle.kept_judging.specs.kept_state.Kept.{IsBeside}
-use Rattle.kept_judging.specs.kept_state.KeptState.{KeptState}
+use Rattle.kept_judging.specs.from_kept_records.Slots.{IsMade}
+use Rattle.kept_judging.proofs.from_kept_records.Made.{made-in}
+use Rattle.kept_judging.proofs.from_kept_records.Nodes.{has-element, root-numbers}
+use Rattle.kept_judging.specs.from_kept_state.Kept.{IsBeside}
+use Rattle.kept_judging.specs.from_kept_state.KeptState.{KeptState}
 
 module _ (c : Compiled) (ns : Nodes) (k : KeptState) (beside : IsBeside c ns k) (root : IsMade k.records.slots 1)
     (given : (n : ℕ) → IsMade k.records.slots n → (place child : ℕ) → slice_get (element_children ns n) place ≡ Some child → IsMade k.records.slots child) where

@@ -6,10 +6,10 @@ use Rattle.compiled_schema.specs.Usable.{set_of}
 use Rattle.compiled_schema.specs.declared.compiled.Compiled.{Compiled}
 use Rattle.doc_nodes.specs.Nodes.{Nodes, is_element_at}
 use Rattle.doc_changes.specs.Held.{parent_at}
-use Rattle.kept_judging.specs.kept_records.Slots.{IsMade, kept_at, pair_at}
-use Rattle.kept_judging.specs.kept_state.Kept.{FitBut, children_at, outcome_at}
-use Rattle.kept_judging.specs.kept_state.Outcome.{Outcome}
-use Rattle.kept_judging.specs.kept_state.KeptState.{KeptState}
+use Rattle.kept_judging.specs.from_kept_records.Slots.{IsMade, kept_at, pair_at}
+use Rattle.kept_judging.specs.from_kept_state.Kept.{FitBut, children_at, outcome_at}
+use Rattle.kept_judging.specs.from_kept_state.Outcome.{Outcome}
+use Rattle.kept_judging.specs.from_kept_state.KeptState.{KeptState}
 use Rattle.kept_judging.specs.Judged.{AreChildren, IsJudgedBy}
 
 -- one more child element that came to this

@@ -1,4 +1,4 @@
 pub mod Climbing
-pub mod kept_judging
-pub mod kept_records
-pub mod kept_state
+pub mod from_kept_judging
+pub mod from_kept_records
+pub mod from_kept_state

@@ -4,10 +4,10 @@ ghost use Rattle.std.specs.Prelude.{◌≡◌, ◌<◌, ◌^◌, [], Some, IfOk,
 ghost use Rattle.assess_records.specs.Counts.{child_count, attempt_count};
 ghost use Rattle.assess_records.specs.declared.counts.ChildCounts.{ChildCounts};
 ghost use Rattle.doc_changes.specs.Held.{parent_at};
-ghost use Rattle.kept_judging.specs.kept_records.Slots.{IsKept, IsMade, kept_at};
-ghost use Rattle.kept_judging.specs.kept_records.Books.{IsBooked};
-ghost use Rattle.kept_judging.specs.kept_records.KeptElement.{KeptElement as KeptData};
-ghost use Rattle.kept_judging.specs.kept_state.Kept.{FitBut, IsBeside, Rewrites};
+ghost use Rattle.kept_judging.specs.from_kept_records.Slots.{IsKept, IsMade, kept_at};
+ghost use Rattle.kept_judging.specs.from_kept_records.Books.{IsBooked};
+ghost use Rattle.kept_judging.specs.from_kept_records.KeptElement.{KeptElement as KeptData};
+ghost use Rattle.kept_judging.specs.from_kept_state.Kept.{FitBut, IsBeside, Rewrites};
 ghost use Rattle.kept_above.specs.Climbing.{IsClimbing, KeepsRest, with_outcome};
 
 use compiled_schema::Compiled;

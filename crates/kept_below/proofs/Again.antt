@@ -5,14 +5,14 @@ use Rattle.compiled_schema.specs.Usable.{set_of}
 use Rattle.compiled_schema.specs.declared.compiled.Compiled.{Compiled}
 use Rattle.doc_nodes.specs.Nodes.{Nodes, Lacks, node, depth_by}
 use Rattle.doc_nodes.proofs.Among.{lacks-all}
-use Rattle.child_listing.specs.kept_records.Slots.{IsMade, pair_at}
-use Rattle.child_listing.specs.kept_records.Fit.{models_of, AboveIn, IsGathered}
-use Rattle.child_listing.specs.kept_state.Kept.{CanGovern, FitBut, IsBeside, children_at}
-use Rattle.child_listing.specs.kept_state.KeptChildren.{KeptChildren}
-use Rattle.child_listing.specs.kept_state.Governed.{Governed}
-use Rattle.child_listing.specs.kept_state.KeptState.{KeptState}
-use Rattle.child_listing.specs.kept_judging.Judged.{AreChildren, IsJudgedAnew}
-use Rattle.child_listing.proofs.kept_judging.Anew.{gathered-children, same-type-children, anew-made, anew-pair, anew-all-fit}
+use Rattle.child_listing.specs.from_kept_records.Slots.{IsMade, pair_at}
+use Rattle.child_listing.specs.from_kept_records.Fit.{models_of, AboveIn, IsGathered}
+use Rattle.child_listing.specs.from_kept_state.Kept.{CanGovern, FitBut, IsBeside, children_at}
+use Rattle.child_listing.specs.from_kept_state.KeptChildren.{KeptChildren}
+use Rattle.child_listing.specs.from_kept_state.Governed.{Governed}
+use Rattle.child_listing.specs.from_kept_state.KeptState.{KeptState}
+use Rattle.child_listing.specs.from_kept_judging.Judged.{AreChildren, IsJudgedAnew}
+use Rattle.child_listing.proofs.from_kept_judging.Anew.{gathered-children, same-type-children, anew-made, anew-pair, anew-all-fit}
 use Rattle.child_listing.specs.Children.{IsSpare, IsFresh}
 use Rattle.kept_forgetting.specs.Below.{IsBelow, IsWithin, KeepsBut}
 use Rattle.kept_below.specs.Below.{AreAbove, IsSettled, IsMadeAnew}

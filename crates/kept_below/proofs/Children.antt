@@ -17,12 +17,12 @@ use Rattle.doc_changes.specs.Held.{parent_at}
 use Rattle.doc_documents.specs.Readers.{element_numbers}
 use Rattle.doc_documents.proofs.Reading.{depth_below}
 use Rattle.kept_slots.specs.Slots.{at}
-use Rattle.child_listing.specs.kept_records.Slots.{KeptSlots, IsMade, blank, pair_at, record_at}
-use Rattle.child_listing.specs.kept_records.Fit.{models_of, IsListed, AboveIn}
-use Rattle.child_listing.proofs.kept_records.Nodes.{child-parent}
-use Rattle.child_listing.specs.kept_state.Governed.{Governed}
-use Rattle.child_listing.specs.kept_state.KeptState.{KeptState}
-use Rattle.child_listing.specs.kept_judging.Judged.{symbols_by, pair_by, AreChildren}
+use Rattle.child_listing.specs.from_kept_records.Slots.{KeptSlots, IsMade, blank, pair_at, record_at}
+use Rattle.child_listing.specs.from_kept_records.Fit.{models_of, IsListed, AboveIn}
+use Rattle.child_listing.proofs.from_kept_records.Nodes.{child-parent}
+use Rattle.child_listing.specs.from_kept_state.Governed.{Governed}
+use Rattle.child_listing.specs.from_kept_state.KeptState.{KeptState}
+use Rattle.child_listing.specs.from_kept_judging.Judged.{symbols_by, pair_by, AreChildren}
 use Rattle.child_listing.specs.Children.{IsSpare, AreGoverned, IsListing}
 use Rattle.kept_forgetting.specs.Below.{IsBelow, IsWithin, KeepsBut}
 use Rattle.kept_below.specs.Below.{AreAbove, IsSettled}

@@ -8,7 +8,7 @@ use Rattle.assess_records.specs.declared.outcome.Attempted.TheVariants.{Full, Pa
 use Rattle.assess_records.specs.declared.outcome.Validity.{Validity}
 use Rattle.assess_records.specs.declared.outcome.Validity.TheVariants.{Valid, Invalid, NotKnown}
 use Rattle.assess_records.specs.declared.record.ElementRecord.{ElementRecord}
-use Rattle.child_listing.proofs.kept_records.Counting.{swap}
+use Rattle.child_listing.proofs.from_kept_records.Counting.{swap}
 
 pub counts-last : (rs : List ElementRecord) (r : ElementRecord) → counts_of (rs ++ r ∷ []) ≡ with_child r.validity r.attempted (counts_of rs)
 counts-last [] r = refl

@@ -8,18 +8,18 @@ use Rattle.elem_governing.specs.declared.pairs.Governing.{Governing}
 use Rattle.model_lists.specs.Lists.{ListsView, IsLive, KeepLists}
 use Rattle.model_lists.specs.declared.handle.ModelList.{ModelList}
 use Rattle.doc_nodes.specs.Nodes.{Nodes}
-use Rattle.child_listing.specs.kept_records.Slots.{KeptSlots, IsMade, blank, kept_at, pair_at}
-use Rattle.child_listing.specs.kept_records.Fit.{models_of, AllFitBut, AboveIn}
-use Rattle.child_listing.specs.kept_records.Books.{IsBooked, HaveOwnLists}
-use Rattle.child_listing.specs.kept_records.Found.{IsOver}
-use Rattle.child_listing.proofs.kept_records.Frames.{fit-lists}
-use Rattle.child_listing.proofs.kept_records.Lists.{own-lists-kept}
-use Rattle.child_listing.specs.kept_state.Kept.{CanGovern, FitBut, HasNone, IsBeside}
-use Rattle.child_listing.specs.kept_state.KeptChildren.{KeptChildren}
-use Rattle.child_listing.specs.kept_state.Governed.{Governed}
-use Rattle.child_listing.specs.kept_state.KeptState.{KeptState}
-use Rattle.child_listing.specs.kept_judging.Judged.{AreChildren, IsJudgedAnew}
-use Rattle.child_listing.proofs.kept_judging.Anew.{anew-made, anew-pair, anew-children, anew-all-fit}
+use Rattle.child_listing.specs.from_kept_records.Slots.{KeptSlots, IsMade, blank, kept_at, pair_at}
+use Rattle.child_listing.specs.from_kept_records.Fit.{models_of, AllFitBut, AboveIn}
+use Rattle.child_listing.specs.from_kept_records.Books.{IsBooked, HaveOwnLists}
+use Rattle.child_listing.specs.from_kept_records.Found.{IsOver}
+use Rattle.child_listing.proofs.from_kept_records.Frames.{fit-lists}
+use Rattle.child_listing.proofs.from_kept_records.Lists.{own-lists-kept}
+use Rattle.child_listing.specs.from_kept_state.Kept.{CanGovern, FitBut, HasNone, IsBeside}
+use Rattle.child_listing.specs.from_kept_state.KeptChildren.{KeptChildren}
+use Rattle.child_listing.specs.from_kept_state.Governed.{Governed}
+use Rattle.child_listing.specs.from_kept_state.KeptState.{KeptState}
+use Rattle.child_listing.specs.from_kept_judging.Judged.{AreChildren, IsJudgedAnew}
+use Rattle.child_listing.proofs.from_kept_judging.Anew.{anew-made, anew-pair, anew-children, anew-all-fit}
 use Rattle.child_listing.specs.Children.{IsSpare}
 use Rattle.kept_below.specs.Below.{IsMadeAnew}
 

@@ -8,12 +8,12 @@ use Rattle.model_lists.specs.Lists.{ListsView, IsListOf}
 use Rattle.model_lists.specs.declared.handle.ModelList.{ModelList}
 use Rattle.doc_nodes.specs.Nodes.{Nodes}
 use Rattle.kept_slots.specs.Slots.{at}
-use Rattle.child_listing.specs.kept_records.Slots.{KeptSlots, blank, kept_at}
-use Rattle.child_listing.specs.kept_state.KeptChildren.{KeptChildren}
-use Rattle.child_listing.specs.kept_state.Governed.{Governed}
-use Rattle.child_listing.specs.kept_state.KeptState.{KeptState}
-use Rattle.child_listing.specs.kept_judging.Judged.{IsJudgedAnew}
-use Rattle.child_listing.proofs.kept_judging.Anew.{anew-children}
+use Rattle.child_listing.specs.from_kept_records.Slots.{KeptSlots, blank, kept_at}
+use Rattle.child_listing.specs.from_kept_state.KeptChildren.{KeptChildren}
+use Rattle.child_listing.specs.from_kept_state.Governed.{Governed}
+use Rattle.child_listing.specs.from_kept_state.KeptState.{KeptState}
+use Rattle.child_listing.specs.from_kept_judging.Judged.{IsJudgedAnew}
+use Rattle.child_listing.proofs.from_kept_judging.Anew.{anew-children}
 use Rattle.child_listing.specs.Children.{IsSpare, IsFresh}
 use Rattle.kept_forgetting.specs.Below.{IsBelow, IsWithin, KeepsBut}
 use Rattle.kept_below.specs.Below.{IsMadeAnew}

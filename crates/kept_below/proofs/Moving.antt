@@ -20,9 +20,9 @@ use Rattle.doc_changes.specs.Stands.{StandFor, firsts}
 use Rattle.doc_documents.specs.Readers.{element_numbers}
 use Rattle.doc_documents.proofs.Reading.{are_read}
 use Rattle.kept_slots.specs.Slots.{at}
-use Rattle.child_listing.specs.kept_records.KeptElement.{KeptElement}
-use Rattle.child_listing.specs.kept_records.Slots.{KeptSlots}
-use Rattle.child_listing.specs.kept_judging.Judged.{pair_by}
+use Rattle.child_listing.specs.from_kept_records.KeptElement.{KeptElement}
+use Rattle.child_listing.specs.from_kept_records.Slots.{KeptSlots}
+use Rattle.child_listing.specs.from_kept_judging.Judged.{pair_by}
 use Rattle.kept_forgetting.specs.Below.{IsWithin}
 use Rattle.kept_below.specs.Moved.{is_typed, moved, AreGivenDown}
 use Rattle.kept_forgetting.proofs.Walks.{parent-of}

@@ -14,9 +14,9 @@ use Rattle.doc_changes.specs.Stands.{StandsFor}
 use Rattle.doc_documents.specs.Readers.{element_numbers}
 use Rattle.doc_documents.proofs.Reading.{depth_below}
 use Rattle.kept_slots.specs.Slots.{at}
-use Rattle.child_listing.specs.kept_records.Slots.{KeptSlots}
-use Rattle.child_listing.proofs.kept_records.Nodes.{there, child-parent}
-use Rattle.child_listing.specs.kept_judging.Judged.{pair_by}
+use Rattle.child_listing.specs.from_kept_records.Slots.{KeptSlots}
+use Rattle.child_listing.proofs.from_kept_records.Nodes.{there, child-parent}
+use Rattle.child_listing.specs.from_kept_judging.Judged.{pair_by}
 use Rattle.kept_below.specs.Moved.{is_typed, moved, AreGivenDown}
 use Rattle.kept_forgetting.proofs.Depths.{root-parent, root-depth}
 use Rattle.child_listing.proofs.Distinct.{distinct-filter}

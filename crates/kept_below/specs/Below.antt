@@ -3,12 +3,12 @@ use Rattle.std.specs.Prelude.{◌≡◌, ◌<◌, ℕ, List, Some}
 use Rattle.compiled_schema.specs.declared.compiled.Compiled.{Compiled}
 use Rattle.model_lists.specs.Lists.{KeepLists}
 use Rattle.doc_nodes.specs.Nodes.{Nodes, node, depth_by, Has}
-use Rattle.child_listing.specs.kept_records.Slots.{IsMade, kept_at, pair_at}
-use Rattle.child_listing.specs.kept_state.Kept.{IsBeside}
-use Rattle.child_listing.specs.kept_state.KeptChildren.{KeptChildren}
-use Rattle.child_listing.specs.kept_state.Governed.{Governed}
-use Rattle.child_listing.specs.kept_state.KeptState.{KeptState}
-use Rattle.child_listing.specs.kept_judging.Judged.{IsJudgedAnew}
+use Rattle.child_listing.specs.from_kept_records.Slots.{IsMade, kept_at, pair_at}
+use Rattle.child_listing.specs.from_kept_state.Kept.{IsBeside}
+use Rattle.child_listing.specs.from_kept_state.KeptChildren.{KeptChildren}
+use Rattle.child_listing.specs.from_kept_state.Governed.{Governed}
+use Rattle.child_listing.specs.from_kept_state.KeptState.{KeptState}
+use Rattle.child_listing.specs.from_kept_judging.Judged.{IsJudgedAnew}
 use Rattle.kept_forgetting.specs.Below.{IsWithin, KeepsBut}
 
 -- these are at lesser depths than n

@@ -11,9 +11,9 @@ use Rattle.doc_nodes.specs.Nodes.{Nodes, element_children}
 use Rattle.doc_changes.specs.Stands.{StandFor}
 use Rattle.doc_documents.specs.Readers.{element_numbers}
 use Rattle.kept_slots.specs.Slots.{at}
-use Rattle.child_listing.specs.kept_records.KeptElement.{KeptElement}
-use Rattle.child_listing.specs.kept_records.Slots.{KeptSlots}
-use Rattle.child_listing.specs.kept_judging.Judged.{pair_by}
+use Rattle.child_listing.specs.from_kept_records.KeptElement.{KeptElement}
+use Rattle.child_listing.specs.from_kept_records.Slots.{KeptSlots}
+use Rattle.child_listing.specs.from_kept_judging.Judged.{pair_by}
 
 -- this is kept of an element of the type
 abbrev pub is_typed : Option KeptElement → Option TypeId → Bool

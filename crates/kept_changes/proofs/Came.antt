@@ -15,12 +15,12 @@ use Rattle.doc_changes.specs.Stands.{StandFor, StandsFor}
 use Rattle.doc_planting.specs.Fits.{Fits}
 use Rattle.doc_planting.specs.Planted.{Plants}
 use Rattle.doc_planting.proofs.Placing.{IsParent, parent_of}
-use Rattle.kept_children.proofs.kept_records.Nodes.{by-node}
-use Rattle.kept_children.specs.kept_state.KeptState.{KeptState}
-use Rattle.kept_children.proofs.kept_forgetting.Placed.{in-table}
+use Rattle.kept_children.proofs.from_kept_records.Nodes.{by-node}
+use Rattle.kept_children.specs.from_kept_state.KeptState.{KeptState}
+use Rattle.kept_children.proofs.from_kept_forgetting.Placed.{in-table}
 use Rattle.kept_children.specs.Edited.{IsRightFor, IsPlanted, ComesAt}
-use Rattle.kept_children.specs.child_lists.Places.{IsPlaceOf}
-use Rattle.kept_children.specs.child_lists.ChildPlace.{ChildPlace}
+use Rattle.kept_children.specs.from_child_lists.Places.{IsPlaceOf}
+use Rattle.kept_children.specs.from_child_lists.ChildPlace.{ChildPlace}
 use Rattle.kept_changes.specs.Spots.{HasCome}
 use Rattle.kept_changes.proofs.Changed.{child-up}
 

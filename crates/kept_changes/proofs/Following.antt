@@ -22,10 +22,10 @@ use Rattle.doc_planting.proofs.Placing.{IsParent, parent_of}
 use Rattle.doc_edits.specs.Changes.{CanMake, IsMade, changed}
 use Rattle.doc_edits.specs.declared.change.Change.{Change}
 use Rattle.doc_edits.specs.declared.change.Change.TheVariants as changes
-use Rattle.kept_children.specs.kept_state.Kept.{IsBeside}
-use Rattle.kept_children.specs.kept_state.KeptState.{KeptState}
-use Rattle.kept_children.proofs.kept_forgetting.Placed.{parent-has, parent-element, root-alone}
-use Rattle.kept_children.specs.child_lists.ChildPlace.{ChildPlace}
+use Rattle.kept_children.specs.from_kept_state.Kept.{IsBeside}
+use Rattle.kept_children.specs.from_kept_state.KeptState.{KeptState}
+use Rattle.kept_children.proofs.from_kept_forgetting.Placed.{parent-has, parent-element, root-alone}
+use Rattle.kept_children.specs.from_child_lists.ChildPlace.{ChildPlace}
 use Rattle.kept_children.specs.Edited.{IsRightFor, IsRenamed}
 use Rattle.kept_changes.specs.Own.{Retexts, Reattributes, Renames, IsRetexted, IsReattributed, IsNamedAnew}
 use Rattle.kept_changes.specs.Spots.{IsRemoval, IsSpot, HasChangedAt, TakesSpot}

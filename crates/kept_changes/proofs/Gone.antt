@@ -15,24 +15,24 @@ use Rattle.doc_changes.specs.Parts.{IsOver, Prunes}
 use Rattle.doc_changes.specs.Stands.{StandFor, StandsFor, firsts}
 use Rattle.doc_changes.proofs.Changing.{own_below, is_over, some_place}
 use Rattle.kept_slots.specs.Slots.{at}
-use Rattle.kept_children.specs.kept_records.Slots.{IsMade, blank, pair_at}
-use Rattle.kept_children.specs.kept_records.Fit.{models_of}
-use Rattle.kept_children.proofs.kept_records.Nodes.{by-node, there}
-use Rattle.kept_children.specs.kept_state.Kept.{IsBeside, outcome_at}
-use Rattle.kept_children.specs.kept_state.Outcome.{Outcome}
-use Rattle.kept_children.specs.kept_state.KeptState.{KeptState}
-use Rattle.kept_children.specs.kept_judging.Judged.{symbols_by, pair_by}
-use Rattle.kept_children.specs.kept_forgetting.Below.{upwards, IsBelow, IsWithin}
-use Rattle.kept_children.specs.kept_forgetting.Forgotten.{Forgets}
-use Rattle.kept_children.proofs.kept_forgetting.Placed.{parent-has}
-use Rattle.kept_children.proofs.kept_forgetting.Walks.{self-within, below-within, child-below, parent-of}
-use Rattle.kept_children.specs.kept_below.Moved.{moved}
-use Rattle.kept_children.proofs.kept_below.Moving.{moved-alike}
+use Rattle.kept_children.specs.from_kept_records.Slots.{IsMade, blank, pair_at}
+use Rattle.kept_children.specs.from_kept_records.Fit.{models_of}
+use Rattle.kept_children.proofs.from_kept_records.Nodes.{by-node, there}
+use Rattle.kept_children.specs.from_kept_state.Kept.{IsBeside, outcome_at}
+use Rattle.kept_children.specs.from_kept_state.Outcome.{Outcome}
+use Rattle.kept_children.specs.from_kept_state.KeptState.{KeptState}
+use Rattle.kept_children.specs.from_kept_judging.Judged.{symbols_by, pair_by}
+use Rattle.kept_children.specs.from_kept_forgetting.Below.{upwards, IsBelow, IsWithin}
+use Rattle.kept_children.specs.from_kept_forgetting.Forgotten.{Forgets}
+use Rattle.kept_children.proofs.from_kept_forgetting.Placed.{parent-has}
+use Rattle.kept_children.proofs.from_kept_forgetting.Walks.{self-within, below-within, child-below, parent-of}
+use Rattle.kept_children.specs.from_kept_below.Moved.{moved}
+use Rattle.kept_children.proofs.from_kept_below.Moving.{moved-alike}
 use Rattle.kept_children.specs.Edited.{IsRightFor, IsPruned}
 use Rattle.kept_children.specs.Steps.{digits, marked_count, width}
-use Rattle.kept_children.specs.child_lists.Family.{marked_places}
-use Rattle.kept_children.specs.child_lists.Places.{IsPlaceOf}
-use Rattle.kept_children.specs.child_lists.ChildPlace.{ChildPlace}
+use Rattle.kept_children.specs.from_child_lists.Family.{marked_places}
+use Rattle.kept_children.specs.from_child_lists.Places.{IsPlaceOf}
+use Rattle.kept_children.specs.from_child_lists.ChildPlace.{ChildPlace}
 use Rattle.kept_changes.specs.Steps.{TakesBelow}
 
 -- what has a node of these numbers as a child's descendant is below its parent

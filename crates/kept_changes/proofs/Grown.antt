@@ -35,12 +35,12 @@ use Rattle.doc_changes.proofs.Holding.{element_of}
 use Rattle.doc_documents.specs.Readers.{name_by, name_at, scope_at}
 use Rattle.doc_documents.proofs.Named.{stands_grown}
 use Rattle.doc_heads.specs.Heads.{texts_named}
-use Rattle.kept_children.specs.kept_records.Slots.{IsMade, kept_at, entry_at, pair_at}
-use Rattle.kept_children.specs.kept_records.Fit.{models_of, head_at, shape_at, symbols_at, IsListed, IsGathered, IsFit, IsTop}
-use Rattle.kept_children.proofs.kept_records.Modelled.{type-fits}
-use Rattle.kept_children.proofs.kept_records.Nodes.{by-node}
-use Rattle.kept_children.specs.kept_state.KeptState.{KeptState}
-use Rattle.kept_children.proofs.kept_judging.Heads.{scope-known, texts-named}
+use Rattle.kept_children.specs.from_kept_records.Slots.{IsMade, kept_at, entry_at, pair_at}
+use Rattle.kept_children.specs.from_kept_records.Fit.{models_of, head_at, shape_at, symbols_at, IsListed, IsGathered, IsFit, IsTop}
+use Rattle.kept_children.proofs.from_kept_records.Modelled.{type-fits}
+use Rattle.kept_children.proofs.from_kept_records.Nodes.{by-node}
+use Rattle.kept_children.specs.from_kept_state.KeptState.{KeptState}
+use Rattle.kept_children.proofs.from_kept_judging.Heads.{scope-known, texts-named}
 use Rattle.kept_children.specs.Edited.{IsRightFor}
 
 -- ---- names of a document

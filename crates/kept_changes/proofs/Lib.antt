@@ -8,5 +8,5 @@ pub mod Following
 pub mod RootNamed
 pub mod Grown
 pub mod Under
-pub mod kept_forgetting
-pub mod kept_records
+pub mod from_kept_forgetting
+pub mod from_kept_records

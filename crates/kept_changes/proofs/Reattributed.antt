@@ -15,28 +15,28 @@ use Rattle.doc_nodes.proofs.Among.{lacks-has}
 use Rattle.doc_changes.specs.Held.{parent_at}
 use Rattle.doc_documents.proofs.Reading.{depth_below}
 use Rattle.kept_slots.specs.Slots.{at}
-use Rattle.kept_children.specs.kept_records.KeptElement.{KeptElement}
-use Rattle.kept_children.specs.kept_records.Slots.{IsMade, blank, kept_at, pair_at, record_at}
-use Rattle.kept_children.specs.kept_records.Fit.{models_of, head_at, AboveIn, IsListed, IsGathered, IsFit}
-use Rattle.kept_children.proofs.kept_records.Made.{root-parent}
-use Rattle.kept_children.proofs.kept_records.Nodes.{by-node, child-parent}
-use Rattle.kept_children.specs.kept_state.Kept.{CanGovern, FitBut, IsBeside, children_of, children_at, outcome_at}
-use Rattle.kept_children.specs.kept_state.Governed.{Governed}
-use Rattle.kept_children.specs.kept_state.KeptState.{KeptState}
-use Rattle.kept_children.specs.kept_judging.Judged.{symbols_by, root_pair, given_pair, again_pair, pair_by, AreChildren, IsJudgedBy}
-use Rattle.kept_children.proofs.kept_judging.Anew.{not-own-parent, gathered-children, fit-judged, judged-fit}
-use Rattle.kept_children.proofs.kept_judging.Reading.{root-can, given-can}
-use Rattle.kept_children.specs.kept_above.Climbing.{IsNearly, IsClimbing, KeepsRest}
-use Rattle.kept_children.proofs.kept_above.Climbing.{judged-kept, nearly}
-use Rattle.kept_children.proofs.kept_forgetting.Placed.{children-differ, child-place, parent-element, root-alone}
-use Rattle.kept_children.proofs.kept_above.Whole.{all-made}
-use Rattle.kept_children.specs.kept_forgetting.Below.{upwards, IsWithin}
-use Rattle.kept_children.specs.kept_below.Below.{AreAbove, IsSettled}
+use Rattle.kept_children.specs.from_kept_records.KeptElement.{KeptElement}
+use Rattle.kept_children.specs.from_kept_records.Slots.{IsMade, blank, kept_at, pair_at, record_at}
+use Rattle.kept_children.specs.from_kept_records.Fit.{models_of, head_at, AboveIn, IsListed, IsGathered, IsFit}
+use Rattle.kept_children.proofs.from_kept_records.Made.{root-parent}
+use Rattle.kept_children.proofs.from_kept_records.Nodes.{by-node, child-parent}
+use Rattle.kept_children.specs.from_kept_state.Kept.{CanGovern, FitBut, IsBeside, children_of, children_at, outcome_at}
+use Rattle.kept_children.specs.from_kept_state.Governed.{Governed}
+use Rattle.kept_children.specs.from_kept_state.KeptState.{KeptState}
+use Rattle.kept_children.specs.from_kept_judging.Judged.{symbols_by, root_pair, given_pair, again_pair, pair_by, AreChildren, IsJudgedBy}
+use Rattle.kept_children.proofs.from_kept_judging.Anew.{not-own-parent, gathered-children, fit-judged, judged-fit}
+use Rattle.kept_children.proofs.from_kept_judging.Reading.{root-can, given-can}
+use Rattle.kept_children.specs.from_kept_above.Climbing.{IsNearly, IsClimbing, KeepsRest}
+use Rattle.kept_children.proofs.from_kept_above.Climbing.{judged-kept, nearly}
+use Rattle.kept_children.proofs.from_kept_forgetting.Placed.{children-differ, child-place, parent-element, root-alone}
+use Rattle.kept_children.proofs.from_kept_above.Whole.{all-made}
+use Rattle.kept_children.specs.from_kept_forgetting.Below.{upwards, IsWithin}
+use Rattle.kept_children.specs.from_kept_below.Below.{AreAbove, IsSettled}
 use Rattle.kept_children.specs.Edited.{IsRightFor}
-use Rattle.kept_children.specs.child_lists.Family.{AreGivenBut, IsAttributed}
-use Rattle.kept_children.specs.child_lists.Places.{IsPlaceOf}
-use Rattle.kept_children.specs.child_lists.ChildPlace.{ChildPlace}
-use Rattle.kept_children.proofs.kept_forgetting.Placed.{one-place}
+use Rattle.kept_children.specs.from_child_lists.Family.{AreGivenBut, IsAttributed}
+use Rattle.kept_children.specs.from_child_lists.Places.{IsPlaceOf}
+use Rattle.kept_children.specs.from_child_lists.ChildPlace.{ChildPlace}
+use Rattle.kept_children.proofs.from_kept_forgetting.Placed.{one-place}
 use Rattle.kept_children.proofs.Midway.{parent-stays, sibling-stays, attributed-settled, given-settled}
 use Rattle.kept_changes.specs.Own.{IsReattributed}
 use Rattle.kept_changes.proofs.Reread.{head-same, texts-same, symbols-same, given-same, children-reread, judged-reread, right-made}

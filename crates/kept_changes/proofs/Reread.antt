@@ -17,14 +17,14 @@ use Rattle.doc_nodes.specs.Nodes.{Nodes, is_element_at, element_children}
 use Rattle.doc_changes.specs.Held.{parent_at, attributes_at}
 use Rattle.doc_documents.specs.Readers.{name_at, own_chars, scope_at}
 use Rattle.doc_heads.specs.Heads.{text_named, texts_named}
-use Rattle.kept_children.specs.kept_records.Slots.{IsMade, kept_at, entry_at, record_at}
-use Rattle.kept_children.specs.kept_records.Fit.{models_of, root_codes, head_at, IsListed, IsTop}
-use Rattle.kept_children.proofs.kept_records.Frames.{map-same}
-use Rattle.kept_children.proofs.kept_records.Made.{made-elements}
-use Rattle.kept_children.proofs.kept_records.Nodes.{has-element}
-use Rattle.kept_children.specs.kept_state.KeptChildren.{KeptChildren}
-use Rattle.kept_children.specs.kept_state.KeptState.{KeptState}
-use Rattle.kept_children.specs.kept_judging.Judged.{symbols_by, root_pair, given_pair, pair_by, AreChildren, IsJudgedBy}
+use Rattle.kept_children.specs.from_kept_records.Slots.{IsMade, kept_at, entry_at, record_at}
+use Rattle.kept_children.specs.from_kept_records.Fit.{models_of, root_codes, head_at, IsListed, IsTop}
+use Rattle.kept_children.proofs.from_kept_records.Frames.{map-same}
+use Rattle.kept_children.proofs.from_kept_records.Made.{made-elements}
+use Rattle.kept_children.proofs.from_kept_records.Nodes.{has-element}
+use Rattle.kept_children.specs.from_kept_state.KeptChildren.{KeptChildren}
+use Rattle.kept_children.specs.from_kept_state.KeptState.{KeptState}
+use Rattle.kept_children.specs.from_kept_judging.Judged.{symbols_by, root_pair, given_pair, pair_by, AreChildren, IsJudgedBy}
 use Rattle.kept_children.specs.Edited.{IsRightFor}
 
 -- ---- one element

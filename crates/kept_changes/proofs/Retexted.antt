@@ -4,17 +4,17 @@ use Rattle.compiled_schema.specs.Usable.{set_of}
 use Rattle.compiled_schema.specs.declared.compiled.Compiled.{Compiled}
 use Rattle.doc_nodes.specs.Nodes.{Nodes, is_element_at}
 use Rattle.kept_slots.specs.Slots.{Writes}
-use Rattle.kept_children.specs.kept_records.Books.{KeptView, IsBooked}
-use Rattle.kept_children.specs.kept_records.KeptElement.{KeptElement}
-use Rattle.kept_children.specs.kept_records.Slots.{IsKept, IsMade, kept_at, pair_at}
-use Rattle.kept_children.specs.kept_records.Fit.{head_at}
-use Rattle.kept_children.specs.kept_state.Kept.{FitBut, IsBeside, Rewrites, children_of, children_at, outcome_of, outcome_at}
-use Rattle.kept_children.specs.kept_state.KeptState.{KeptState}
-use Rattle.kept_children.proofs.kept_state.Beside.{kept-there, rewrites-again, beside-same}
-use Rattle.kept_children.specs.kept_judging.Judged.{AreChildren, IsJudgedAnew}
-use Rattle.kept_children.proofs.kept_judging.Anew.{gathered-children, fit-judged, judged-fit, anew-fits, children-stay}
-use Rattle.kept_children.specs.kept_above.Climbing.{IsClimbing, KeepsRest}
-use Rattle.kept_children.proofs.kept_above.Climbing.{begun, pair-stays, made-now}
+use Rattle.kept_children.specs.from_kept_records.Books.{KeptView, IsBooked}
+use Rattle.kept_children.specs.from_kept_records.KeptElement.{KeptElement}
+use Rattle.kept_children.specs.from_kept_records.Slots.{IsKept, IsMade, kept_at, pair_at}
+use Rattle.kept_children.specs.from_kept_records.Fit.{head_at}
+use Rattle.kept_children.specs.from_kept_state.Kept.{FitBut, IsBeside, Rewrites, children_of, children_at, outcome_of, outcome_at}
+use Rattle.kept_children.specs.from_kept_state.KeptState.{KeptState}
+use Rattle.kept_children.proofs.from_kept_state.Beside.{kept-there, rewrites-again, beside-same}
+use Rattle.kept_children.specs.from_kept_judging.Judged.{AreChildren, IsJudgedAnew}
+use Rattle.kept_children.proofs.from_kept_judging.Anew.{gathered-children, fit-judged, judged-fit, anew-fits, children-stay}
+use Rattle.kept_children.specs.from_kept_above.Climbing.{IsClimbing, KeepsRest}
+use Rattle.kept_children.proofs.from_kept_above.Climbing.{begun, pair-stays, made-now}
 use Rattle.kept_children.specs.Edited.{IsRightFor}
 use Rattle.kept_changes.specs.Own.{IsRetexted}
 use Rattle.kept_changes.proofs.Reread.{head-same, texts-same, children-reread, judged-reread, right-made, top-reread}

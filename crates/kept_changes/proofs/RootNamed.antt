@@ -6,16 +6,16 @@ use Rattle.compiled_schema.specs.Usable.{set_of}
 use Rattle.compiled_schema.specs.declared.compiled.Compiled.{Compiled}
 use Rattle.doc_nodes.specs.Nodes.{Nodes, node, is_element_at, element_children}
 use Rattle.doc_changes.specs.Held.{parent_at}
-use Rattle.kept_children.specs.kept_records.Slots.{IsMade, pair_at}
-use Rattle.kept_children.specs.kept_records.Fit.{models_of, head_at, IsGathered, IsFit}
-use Rattle.kept_children.proofs.kept_records.Nodes.{by-node, child-parent}
-use Rattle.kept_children.specs.kept_state.Kept.{FitBut, IsBeside, children_at}
-use Rattle.kept_children.specs.kept_state.Governed.{Governed}
-use Rattle.kept_children.specs.kept_state.KeptState.{KeptState}
-use Rattle.kept_children.specs.kept_judging.Judged.{root_pair, AreChildren}
-use Rattle.kept_children.proofs.kept_judging.Anew.{gathered-children, fit-judged, judged-fit}
-use Rattle.kept_children.proofs.kept_forgetting.Depths.{root-parent}
-use Rattle.kept_children.specs.kept_below.Below.{IsSettled}
+use Rattle.kept_children.specs.from_kept_records.Slots.{IsMade, pair_at}
+use Rattle.kept_children.specs.from_kept_records.Fit.{models_of, head_at, IsGathered, IsFit}
+use Rattle.kept_children.proofs.from_kept_records.Nodes.{by-node, child-parent}
+use Rattle.kept_children.specs.from_kept_state.Kept.{FitBut, IsBeside, children_at}
+use Rattle.kept_children.specs.from_kept_state.Governed.{Governed}
+use Rattle.kept_children.specs.from_kept_state.KeptState.{KeptState}
+use Rattle.kept_children.specs.from_kept_judging.Judged.{root_pair, AreChildren}
+use Rattle.kept_children.proofs.from_kept_judging.Anew.{gathered-children, fit-judged, judged-fit}
+use Rattle.kept_children.proofs.from_kept_forgetting.Depths.{root-parent}
+use Rattle.kept_children.specs.from_kept_below.Below.{IsSettled}
 use Rattle.kept_children.specs.Edited.{IsRightFor}
 use Rattle.kept_changes.specs.Own.{Renames, IsNamedAnew}
 use Rattle.kept_changes.proofs.Following.{renames-of}

@@ -12,8 +12,8 @@ use Rattle.doc_nodes.specs.Nodes.{Nodes, IsSound, Has}
 use Rattle.doc_changes.specs.Held.{kind_at, parent_at}
 use Rattle.doc_changes.specs.Stands.{firsts, StandFor, StandsFor}
 use Rattle.doc_changes.proofs.Holding.{HoldsChars, holds_chars}
-use Rattle.kept_children.proofs.kept_records.Nodes.{root-there, shown}
-use Rattle.kept_children.proofs.kept_forgetting.Walks.{parent-of}
+use Rattle.kept_children.proofs.from_kept_records.Nodes.{root-there, shown}
+use Rattle.kept_children.proofs.from_kept_forgetting.Walks.{parent-of}
 
 module _ (t : NameTable) (ns : Nodes) (sound : IsSound ns) (n : ℕ) where
   -- a node is one of the first, or has a parent

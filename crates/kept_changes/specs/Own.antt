@@ -7,7 +7,7 @@ use Rattle.doc_nodes.specs.declared.content.Element.{Element}
 use Rattle.doc_changes.specs.Held.{parent_at, attributes_at}
 use Rattle.doc_documents.specs.Readers.{name_at, own_chars, scope_at}
 use Rattle.kept_children.specs.Edited.{IsRightFor}
-use Rattle.kept_children.specs.kept_state.KeptState.{KeptState}
+use Rattle.kept_children.specs.from_kept_state.KeptState.{KeptState}
 
 -- ---- what is read of elements
 

@@ -7,10 +7,10 @@ use Rattle.doc_changes.specs.Held.{parent_at}
 use Rattle.doc_edits.specs.declared.change.Change.{Change}
 use Rattle.doc_edits.specs.declared.change.Change.TheVariants as changes
 use Rattle.compiled_schema.specs.Usable.{set_of}
-use Rattle.kept_children.specs.kept_records.Fit.{head_at}
-use Rattle.kept_children.specs.kept_records.Slots.{pair_at}
-use Rattle.kept_children.specs.kept_state.KeptState.{KeptState}
-use Rattle.kept_children.specs.kept_judging.Judged.{again_pair}
+use Rattle.kept_children.specs.from_kept_records.Fit.{head_at}
+use Rattle.kept_children.specs.from_kept_records.Slots.{pair_at}
+use Rattle.kept_children.specs.from_kept_state.KeptState.{KeptState}
+use Rattle.kept_children.specs.from_kept_judging.Judged.{again_pair}
 use Rattle.kept_children.specs.Edited.{IsRightFor, ComesAt}
 use Rattle.kept_children.specs.Steps.{width}
 use Rattle.kept_changes.specs.Own.{IsRetexted, IsReattributed, IsNamedAnew}

@@ -9,11 +9,11 @@ use Rattle.doc_changes.specs.Held.{parent_at}
 use Rattle.doc_documents.specs.Readers.{element_numbers}
 use Rattle.doc_edits.specs.declared.change.Change.{Change}
 use Rattle.doc_edits.specs.declared.change.Change.TheVariants as changes
-use Rattle.kept_children.specs.kept_records.Fit.{head_at}
-use Rattle.kept_children.specs.kept_records.Slots.{pair_at}
-use Rattle.kept_children.specs.kept_state.KeptState.{KeptState}
-use Rattle.kept_children.specs.kept_judging.Judged.{root_pair, again_pair}
-use Rattle.kept_children.specs.kept_below.Moved.{AreGivenDown, moved}
+use Rattle.kept_children.specs.from_kept_records.Fit.{head_at}
+use Rattle.kept_children.specs.from_kept_records.Slots.{pair_at}
+use Rattle.kept_children.specs.from_kept_state.KeptState.{KeptState}
+use Rattle.kept_children.specs.from_kept_judging.Judged.{root_pair, again_pair}
+use Rattle.kept_children.specs.from_kept_below.Moved.{AreGivenDown, moved}
 use Rattle.kept_children.specs.Steps.{GovernsBelow, digits, marked_count, width}
 
 module _ (c : Compiled) (ns : Nodes) (k : KeptState) where

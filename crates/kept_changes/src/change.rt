@@ -10,7 +10,7 @@ ghost use Rattle.doc_nodes.specs.Nodes.{is_element_at};
 ghost use Rattle.doc_changes.specs.Held.{parent_at};
 ghost use Rattle.doc_changes.specs.Stands.{StandsFor};
 ghost use Rattle.doc_edits.specs.Changes.{CanMake, IsMade, changed};
-ghost use Rattle.kept_children.specs.kept_state.Kept.{IsBeside};
+ghost use Rattle.kept_children.specs.from_kept_state.Kept.{IsBeside};
 ghost use Rattle.kept_children.specs.Edited.{IsRightFor};
 ghost use Rattle.kept_children.specs.Steps.{width};
 ghost use Rattle.kept_changes.specs.Spots.{HasChangedAt, HasCome, IsRemoval, IsSpot, TakesSpot};

@@ -3,7 +3,7 @@
 ghost use Rattle.xs_names.specs.Names.{NameTable, Grown, IsSound};
 ghost use Rattle.compiled_schema.specs.declared.compiled.Compiled.{Compiled as CompiledData};
 ghost use Rattle.doc_nodes.specs.Nodes.{Nodes};
-ghost use Rattle.kept_children.specs.kept_state.KeptState.{KeptState as KeptData};
+ghost use Rattle.kept_children.specs.from_kept_state.KeptState.{KeptState as KeptData};
 ghost use Rattle.kept_children.specs.Edited.{IsRightFor};
 
 /// What is kept beside a document stays right as names are added to the set's table, as an edit adds them before it is made: no name of

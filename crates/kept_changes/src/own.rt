@@ -3,10 +3,10 @@
 ghost use Rattle.std.specs.Prelude.{◌≡◌, ◌≤◌, OnOk};
 ghost use Rattle.compiled_schema.specs.Usable.{set_of};
 ghost use Rattle.doc_changes.specs.Held.{parent_at};
-ghost use Rattle.kept_children.specs.kept_records.Fit.{head_at};
-ghost use Rattle.kept_children.specs.kept_records.Slots.{pair_at};
-ghost use Rattle.kept_children.specs.kept_state.Kept.{IsBeside};
-ghost use Rattle.kept_children.specs.kept_judging.Judged.{again_pair, root_pair};
+ghost use Rattle.kept_children.specs.from_kept_records.Fit.{head_at};
+ghost use Rattle.kept_children.specs.from_kept_records.Slots.{pair_at};
+ghost use Rattle.kept_children.specs.from_kept_state.Kept.{IsBeside};
+ghost use Rattle.kept_children.specs.from_kept_judging.Judged.{again_pair, root_pair};
 ghost use Rattle.kept_children.specs.Edited.{IsRightFor};
 ghost use Rattle.kept_changes.specs.Own.{IsRetexted, IsReattributed, IsNamedAnew};
 ghost use Rattle.kept_changes.specs.Steps.{TakesAt, TakesName};

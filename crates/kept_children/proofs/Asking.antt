@@ -11,11 +11,11 @@ use Rattle.model_terms.specs.Terms.{is_ambivalent_symbol}
 use Rattle.doc_nodes.specs.Nodes.{Node, Nodes, node, IsSound, children_by, is_element_at, element_children}
 use Rattle.doc_changes.specs.Held.{parent_at}
 use Rattle.doc_documents.specs.Readers.{name_at}
-use Rattle.child_lists.specs.kept_records.Slots.{pair_at}
-use Rattle.child_lists.specs.kept_records.Fit.{models_of}
-use Rattle.child_lists.proofs.kept_records.Nodes.{child-parent}
-use Rattle.child_lists.specs.kept_state.KeptState.{KeptState}
-use Rattle.child_lists.specs.kept_judging.Judged.{symbols_by}
+use Rattle.child_lists.specs.from_kept_records.Slots.{pair_at}
+use Rattle.child_lists.specs.from_kept_records.Fit.{models_of}
+use Rattle.child_lists.proofs.from_kept_records.Nodes.{child-parent}
+use Rattle.child_lists.specs.from_kept_state.KeptState.{KeptState}
+use Rattle.child_lists.specs.from_kept_judging.Judged.{symbols_by}
 use Rattle.child_lists.specs.Family.{AreGivenBut, marked_places, model_of, symbols_of}
 use Rattle.kept_children.specs.Steps.{places_of}
 use Rattle.child_lists.proofs.Edits.{drop-get, drop-none, few-marked, marked-below, some-get}

@@ -9,21 +9,21 @@ use Rattle.assess_records.specs.declared.counts.ChildCounts.{ChildCounts}
 use Rattle.compiled_schema.specs.declared.compiled.Compiled.{Compiled}
 use Rattle.doc_nodes.specs.Nodes.{Nodes, IsSound, element_children}
 use Rattle.kept_slots.specs.Slots.{at}
-use Rattle.child_lists.specs.kept_records.KeptElement.{KeptElement}
-use Rattle.child_lists.specs.kept_records.Slots.{IsKept, IsMade, blank, kept_at, pair_at, record_at}
-use Rattle.child_lists.specs.kept_records.Books.{IsBooked}
-use Rattle.child_lists.proofs.kept_records.Counting.{counts-at}
-use Rattle.child_lists.proofs.kept_records.Frames.{map-same}
-use Rattle.child_lists.specs.kept_state.Kept.{FitBut, IsBeside, Rewrites, outcome_at}
-use Rattle.child_lists.specs.kept_state.KeptChildren.{KeptChildren}
-use Rattle.child_lists.specs.kept_state.Governed.{Governed}
-use Rattle.child_lists.specs.kept_state.Outcome.{Outcome}
-use Rattle.child_lists.specs.kept_state.KeptState.{KeptState}
-use Rattle.child_lists.proofs.kept_state.Beside.{kept-there}
-use Rattle.child_lists.specs.kept_judging.Judged.{pair_by}
+use Rattle.child_lists.specs.from_kept_records.KeptElement.{KeptElement}
+use Rattle.child_lists.specs.from_kept_records.Slots.{IsKept, IsMade, blank, kept_at, pair_at, record_at}
+use Rattle.child_lists.specs.from_kept_records.Books.{IsBooked}
+use Rattle.child_lists.proofs.from_kept_records.Counting.{counts-at}
+use Rattle.child_lists.proofs.from_kept_records.Frames.{map-same}
+use Rattle.child_lists.specs.from_kept_state.Kept.{FitBut, IsBeside, Rewrites, outcome_at}
+use Rattle.child_lists.specs.from_kept_state.KeptChildren.{KeptChildren}
+use Rattle.child_lists.specs.from_kept_state.Governed.{Governed}
+use Rattle.child_lists.specs.from_kept_state.Outcome.{Outcome}
+use Rattle.child_lists.specs.from_kept_state.KeptState.{KeptState}
+use Rattle.child_lists.proofs.from_kept_state.Beside.{kept-there}
+use Rattle.child_lists.specs.from_kept_judging.Judged.{pair_by}
 use Rattle.kept_above.specs.Climbing.{with_outcome}
 use Rattle.kept_above.proofs.Counts.{all-counted, all-tried, child-more, attempt-more}
-use Rattle.child_lists.proofs.kept_forgetting.Placed.{others-differ, children-differ, few-children}
+use Rattle.child_lists.proofs.from_kept_forgetting.Placed.{others-differ, children-differ, few-children}
 use Rattle.child_lists.specs.Places.{IsPlaceOf}
 use Rattle.child_lists.specs.Family.{AreCounted, IsAttributed, AreGivenBut, IsMidway}
 use Rattle.child_lists.specs.declared.place.ChildPlace.{ChildPlace}

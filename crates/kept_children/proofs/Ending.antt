@@ -14,21 +14,21 @@ use Rattle.doc_heads.proofs.Reading.{readers_are}
 use Rattle.doc_nodes.specs.Nodes.{Nodes, node, Has, IsSound, is_element_at, element_children}
 use Rattle.doc_changes.specs.Held.{parent_at}
 use Rattle.kept_slots.specs.Slots.{at}
-use Rattle.child_lists.specs.kept_records.KeptElement.{KeptElement}
-use Rattle.child_lists.specs.kept_records.Slots.{IsMade, blank, kept_at, pair_at, record_at}
-use Rattle.child_lists.specs.kept_records.Fit.{models_of, IsListed, IsFit, IsTop}
-use Rattle.child_lists.proofs.kept_records.Counting.{counts-at}
-use Rattle.child_lists.proofs.kept_records.Frames.{map-same}
-use Rattle.child_lists.proofs.kept_records.Made.{made-in}
-use Rattle.child_lists.proofs.kept_records.Nodes.{by-node, has-element, root-numbers}
-use Rattle.child_lists.specs.kept_state.Kept.{FitBut, IsBeside, children_of, children_at, outcome_at}
-use Rattle.child_lists.specs.kept_state.KeptChildren.{KeptChildren}
-use Rattle.child_lists.specs.kept_state.KeptState.{KeptState}
-use Rattle.child_lists.specs.kept_judging.Judged.{symbols_by, AreChildren, IsJudgedBy, IsJudgedAnew}
-use Rattle.child_lists.proofs.kept_judging.Anew.{not-own-parent, fit-judged, anew-pair, anew-all-fit}
+use Rattle.child_lists.specs.from_kept_records.KeptElement.{KeptElement}
+use Rattle.child_lists.specs.from_kept_records.Slots.{IsMade, blank, kept_at, pair_at, record_at}
+use Rattle.child_lists.specs.from_kept_records.Fit.{models_of, IsListed, IsFit, IsTop}
+use Rattle.child_lists.proofs.from_kept_records.Counting.{counts-at}
+use Rattle.child_lists.proofs.from_kept_records.Frames.{map-same}
+use Rattle.child_lists.proofs.from_kept_records.Made.{made-in}
+use Rattle.child_lists.proofs.from_kept_records.Nodes.{by-node, has-element, root-numbers}
+use Rattle.child_lists.specs.from_kept_state.Kept.{FitBut, IsBeside, children_of, children_at, outcome_at}
+use Rattle.child_lists.specs.from_kept_state.KeptChildren.{KeptChildren}
+use Rattle.child_lists.specs.from_kept_state.KeptState.{KeptState}
+use Rattle.child_lists.specs.from_kept_judging.Judged.{symbols_by, AreChildren, IsJudgedBy, IsJudgedAnew}
+use Rattle.child_lists.proofs.from_kept_judging.Anew.{not-own-parent, fit-judged, anew-pair, anew-all-fit}
 use Rattle.kept_above.specs.Climbing.{with_outcome, IsNearly, IsClimbing, KeepsRest}
 use Rattle.kept_above.proofs.Climbing.{judged-kept}
-use Rattle.child_lists.proofs.kept_forgetting.Placed.{others-differ, children-differ, child-place, parent-element}
+use Rattle.child_lists.proofs.from_kept_forgetting.Placed.{others-differ, children-differ, child-place, parent-element}
 use Rattle.child_lists.specs.Family.{AreCounted, IsAttributed, AreGivenBut, IsMidway}
 
 -- its child elements are given, listed, attributed and counted

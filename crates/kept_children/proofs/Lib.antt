@@ -12,9 +12,9 @@ pub mod Settling
 pub mod Asking
 pub mod Same
 pub mod Unlisted
-pub mod kept_above
-pub mod kept_below
-pub mod kept_forgetting
-pub mod kept_judging
-pub mod kept_records
-pub mod kept_state
+pub mod from_kept_above
+pub mod from_kept_below
+pub mod from_kept_forgetting
+pub mod from_kept_judging
+pub mod from_kept_records
+pub mod from_kept_state

@@ -12,12 +12,12 @@ use Rattle.doc_nodes.specs.Nodes.{Nodes, Has, element_children}
 use Rattle.doc_changes.specs.Stands.{StandFor}
 use Rattle.doc_documents.specs.Readers.{element_numbers, AreRead}
 use Rattle.kept_slots.specs.Slots.{at}
-use Rattle.child_lists.specs.kept_records.KeptElement.{KeptElement}
-use Rattle.child_lists.specs.kept_records.Slots.{KeptSlots, IsMade, pair_at}
-use Rattle.child_lists.specs.kept_state.Kept.{FitBut}
-use Rattle.child_lists.specs.kept_state.KeptState.{KeptState}
-use Rattle.child_lists.proofs.kept_state.Beside.{kept-there}
-use Rattle.child_lists.specs.kept_judging.Judged.{pair_by}
+use Rattle.child_lists.specs.from_kept_records.KeptElement.{KeptElement}
+use Rattle.child_lists.specs.from_kept_records.Slots.{KeptSlots, IsMade, pair_at}
+use Rattle.child_lists.specs.from_kept_state.Kept.{FitBut}
+use Rattle.child_lists.specs.from_kept_state.KeptState.{KeptState}
+use Rattle.child_lists.proofs.from_kept_state.Beside.{kept-there}
+use Rattle.child_lists.specs.from_kept_judging.Judged.{pair_by}
 use Rattle.kept_below.specs.Moved.{is_typed, moved}
 
 pub has-place : (xs : List ℕ) (x : ℕ) → Has x xs → (i : ℕ) × (slice_get xs i ≡ Some x)

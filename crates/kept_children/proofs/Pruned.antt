@@ -12,14 +12,14 @@ use Rattle.model_terms.specs.Symbols.{child_symbols}
 use Rattle.doc_nodes.specs.Nodes.{Node, Nodes, node, IsNode, Has, IsSound, is_element_at, children_by, element_children}
 use Rattle.doc_changes.specs.Held.{parent_at}
 use Rattle.doc_documents.specs.Readers.{name_by, name_at, chars_at, own_chars}
-use Rattle.child_lists.specs.kept_records.Slots.{IsMade, record_at, blank, kept_at}
-use Rattle.child_lists.specs.kept_records.Fit.{models_of, head_at, IsFit, IsGiven, IsListed}
-use Rattle.child_lists.proofs.kept_records.Nodes.{by-node, root-there, there as there-node}
-use Rattle.child_lists.specs.kept_state.Kept.{IsBeside, children_at, children_of}
-use Rattle.child_lists.specs.kept_state.KeptState.{KeptState}
-use Rattle.child_lists.proofs.kept_judging.Anew.{fit-judged}
-use Rattle.child_lists.proofs.kept_forgetting.Placed.{parent-has, parent-element}
-use Rattle.child_lists.specs.kept_forgetting.Below.{upwards, IsWithin}
+use Rattle.child_lists.specs.from_kept_records.Slots.{IsMade, record_at, blank, kept_at}
+use Rattle.child_lists.specs.from_kept_records.Fit.{models_of, head_at, IsFit, IsGiven, IsListed}
+use Rattle.child_lists.proofs.from_kept_records.Nodes.{by-node, root-there, there as there-node}
+use Rattle.child_lists.specs.from_kept_state.Kept.{IsBeside, children_at, children_of}
+use Rattle.child_lists.specs.from_kept_state.KeptState.{KeptState}
+use Rattle.child_lists.proofs.from_kept_judging.Anew.{fit-judged}
+use Rattle.child_lists.proofs.from_kept_forgetting.Placed.{parent-has, parent-element}
+use Rattle.child_lists.specs.from_kept_forgetting.Below.{upwards, IsWithin}
 use Rattle.kept_children.specs.Edited.{IsPruned}
 use Rattle.child_lists.specs.Family.{IsListedBy, AreGivenBut, IsMidway, marked_places, model_of, symbols_of}
 use Rattle.child_lists.specs.declared.place.ChildPlace.{ChildPlace}
@@ -27,21 +27,21 @@ use Rattle.child_lists.proofs.Edits.{passes, filter-remove, filter-same, flat-ha
 use Rattle.kept_children.proofs.Still.{IsStill, says-same, still-node, still-held, SeesNodes, ShowsSame, fit-nodes, sees-still, shows-still, head-still, judged-nodes, element-silent}
 use Rattle.child_lists.proofs.Terms.{symbols-remove, many-symbols}
 use Rattle.kept_children.proofs.Starting.{all-made, given-moved}
-use Rattle.child_lists.proofs.kept_records.Frames.{map-same, fit-lists, fit-apart}
+use Rattle.child_lists.proofs.from_kept_records.Frames.{map-same, fit-lists, fit-apart}
 use Rattle.elem_governing.specs.Governing.{govern_root}
 use Rattle.std.proofs.lemmas.Option.{none-some, same_Some}
-use Rattle.child_lists.specs.kept_judging.Judged.{symbols_by, pair_by, IsJudgedBy}
+use Rattle.child_lists.specs.from_kept_judging.Judged.{symbols_by, pair_by, IsJudgedBy}
 use Rattle.xs_codes.specs.declared.fault.Found.{Found}
 use Rattle.assess_records.specs.declared.counts.ChildCounts.{ChildCounts}
 use Rattle.model_lists.specs.Lists.{KeepLists}
 use Rattle.model_lists.specs.declared.handle.ModelList.{ModelList}
 use Rattle.kept_slots.specs.Slots.{at}
-use Rattle.child_lists.specs.kept_records.KeptElement.{KeptElement}
-use Rattle.child_lists.proofs.kept_records.Counting.{counts-at}
-use Rattle.child_lists.proofs.kept_records.Lists.{listed-kept}
+use Rattle.child_lists.specs.from_kept_records.KeptElement.{KeptElement}
+use Rattle.child_lists.proofs.from_kept_records.Counting.{counts-at}
+use Rattle.child_lists.proofs.from_kept_records.Lists.{listed-kept}
 use Rattle.kept_above.proofs.Climbing.{judged-kept}
-use Rattle.child_lists.specs.kept_state.Outcome.{Outcome}
-use Rattle.child_lists.proofs.kept_records.Nodes.{there as there-node}
+use Rattle.child_lists.specs.from_kept_state.Outcome.{Outcome}
+use Rattle.child_lists.proofs.from_kept_records.Nodes.{there as there-node}
 
 module _ (c : Compiled) (ns : Nodes) (k : KeptState) (spot : ChildPlace) (outcome : Outcome) (beside : IsBeside c ns k) (h : IsPruned c ns k spot outcome) where
   abbrev p : ℕ

@@ -6,10 +6,10 @@ use Rattle.tree_rows.specs.Forest.{Forest}
 use Rattle.elem_governing.specs.declared.pairs.Governing.{Governing}
 use Rattle.compiled_schema.specs.declared.compiled.Compiled.{Compiled}
 use Rattle.doc_nodes.specs.Nodes.{Nodes}
-use Rattle.child_lists.specs.kept_records.Books.{KeptView}
-use Rattle.child_lists.specs.kept_records.Slots.{IsMade, kept_at, pair_at, record_at}
-use Rattle.child_lists.specs.kept_state.KeptState.{KeptState}
-use Rattle.child_lists.specs.kept_judging.Judged.{pair_by}
+use Rattle.child_lists.specs.from_kept_records.Books.{KeptView}
+use Rattle.child_lists.specs.from_kept_records.Slots.{IsMade, kept_at, pair_at, record_at}
+use Rattle.child_lists.specs.from_kept_state.KeptState.{KeptState}
+use Rattle.child_lists.specs.from_kept_judging.Judged.{pair_by}
 use Rattle.kept_below.specs.Moved.{moved}
 use Rattle.child_lists.specs.Family.{AreCounted, AreGivenBut}
 use Rattle.kept_children.specs.Steps.{GovernsBelow, marked_count}

@@ -8,12 +8,12 @@ use Rattle.doc_nodes.specs.Nodes.{Nodes, node, Lacks, IsSound, depth_by, is_elem
 use Rattle.doc_changes.specs.Held.{parent_at}
 use Rattle.doc_documents.specs.Readers.{element_numbers}
 use Rattle.doc_documents.proofs.Reading.{depth_below}
-use Rattle.child_lists.specs.kept_records.Slots.{IsMade, pair_at}
-use Rattle.child_lists.specs.kept_records.Fit.{AboveIn}
-use Rattle.child_lists.specs.kept_state.Kept.{FitBut, IsBeside}
-use Rattle.child_lists.specs.kept_state.Governed.{Governed}
-use Rattle.child_lists.specs.kept_state.KeptState.{KeptState}
-use Rattle.child_lists.specs.kept_judging.Judged.{pair_by}
+use Rattle.child_lists.specs.from_kept_records.Slots.{IsMade, pair_at}
+use Rattle.child_lists.specs.from_kept_records.Fit.{AboveIn}
+use Rattle.child_lists.specs.from_kept_state.Kept.{FitBut, IsBeside}
+use Rattle.child_lists.specs.from_kept_state.Governed.{Governed}
+use Rattle.child_lists.specs.from_kept_state.KeptState.{KeptState}
+use Rattle.child_lists.specs.from_kept_judging.Judged.{pair_by}
 use Rattle.kept_below.specs.Below.{AreAbove, IsSettled}
 use Rattle.kept_below.specs.Moved.{moved, AreGivenDown}
 use Rattle.child_lists.specs.Places.{IsPlaceOf}

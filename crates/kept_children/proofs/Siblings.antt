@@ -19,13 +19,13 @@ use Rattle.doc_changes.specs.Stands.{StandFor}
 use Rattle.doc_documents.specs.Readers.{element_numbers}
 use Rattle.doc_documents.proofs.Reading.{are_read}
 use Rattle.kept_slots.specs.Slots.{at}
-use Rattle.child_lists.specs.kept_records.Slots.{KeptSlots, IsMade, pair_at}
-use Rattle.child_lists.proofs.kept_records.Nodes.{by-node, child-parent}
-use Rattle.child_lists.specs.kept_state.Kept.{FitBut}
-use Rattle.child_lists.specs.kept_state.KeptState.{KeptState}
-use Rattle.child_lists.specs.kept_forgetting.Below.{IsWithin}
-use Rattle.child_lists.proofs.kept_forgetting.Placed.{others-differ, children-differ}
-use Rattle.child_lists.proofs.kept_forgetting.Walks.{parent-outside, siblings-apart}
+use Rattle.child_lists.specs.from_kept_records.Slots.{KeptSlots, IsMade, pair_at}
+use Rattle.child_lists.proofs.from_kept_records.Nodes.{by-node, child-parent}
+use Rattle.child_lists.specs.from_kept_state.Kept.{FitBut}
+use Rattle.child_lists.specs.from_kept_state.KeptState.{KeptState}
+use Rattle.child_lists.specs.from_kept_forgetting.Below.{IsWithin}
+use Rattle.child_lists.proofs.from_kept_forgetting.Placed.{others-differ, children-differ}
+use Rattle.child_lists.proofs.from_kept_forgetting.Walks.{parent-outside, siblings-apart}
 use Rattle.kept_below.specs.Moved.{moved, is_typed, AreGivenDown}
 use Rattle.kept_below.proofs.Moving.{given-part, moved-alike, under-one}
 use Rattle.child_lists.proofs.Edits.{among-more}

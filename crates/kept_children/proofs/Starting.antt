@@ -10,12 +10,12 @@ use Rattle.compiled_schema.specs.Usable.{set_of}
 use Rattle.compiled_schema.specs.declared.compiled.Compiled.{Compiled}
 use Rattle.doc_nodes.specs.Nodes.{Node, Nodes, IsNode, Lacks, is_element_at, element_children}
 use Rattle.doc_documents.specs.Readers.{name_at}
-use Rattle.child_lists.specs.kept_records.Slots.{IsMade, pair_at}
-use Rattle.child_lists.specs.kept_records.Fit.{models_of, head_at, IsGiven}
-use Rattle.child_lists.proofs.kept_records.Made.{made-elements}
-use Rattle.child_lists.proofs.kept_records.Nodes.{has-element}
-use Rattle.child_lists.specs.kept_state.KeptState.{KeptState}
-use Rattle.child_lists.specs.kept_judging.Judged.{IsGivenBy}
+use Rattle.child_lists.specs.from_kept_records.Slots.{IsMade, pair_at}
+use Rattle.child_lists.specs.from_kept_records.Fit.{models_of, head_at, IsGiven}
+use Rattle.child_lists.proofs.from_kept_records.Made.{made-elements}
+use Rattle.child_lists.proofs.from_kept_records.Nodes.{has-element}
+use Rattle.child_lists.specs.from_kept_state.KeptState.{KeptState}
+use Rattle.child_lists.specs.from_kept_judging.Judged.{IsGivenBy}
 use Rattle.kept_children.specs.Edited.{IsRightFor}
 use Rattle.child_lists.specs.Family.{marked_places, model_of, symbols_of}
 use Rattle.child_lists.proofs.Edits.{get-map}

@@ -23,12 +23,12 @@ use Rattle.doc_changes.specs.Held.{chars_in, attributes_in, attributes_by, attri
 use Rattle.doc_documents.specs.Readers.{name_at, chars_by, chars_at, own_chars, own_scope, scope_at}
 use Rattle.doc_documents.proofs.Reading.{scope_below, scope_root, depth_below}
 use Rattle.doc_heads.specs.Heads.{text_named, texts_named}
-use Rattle.child_lists.specs.kept_records.Slots.{KeptSlots, kept_at, entry_at, pair_at, record_at}
-use Rattle.child_lists.specs.kept_records.Fit.{Models, bearer_at, head_at, root_codes, symbols_at, IsListed, IsGiven, IsGathered, IsFit}
-use Rattle.child_lists.proofs.kept_records.Frames.{map-same}
-use Rattle.child_lists.specs.kept_state.KeptChildren.{KeptChildren}
-use Rattle.child_lists.specs.kept_state.KeptState.{KeptState}
-use Rattle.child_lists.specs.kept_judging.Judged.{IsJudgedBy}
+use Rattle.child_lists.specs.from_kept_records.Slots.{KeptSlots, kept_at, entry_at, pair_at, record_at}
+use Rattle.child_lists.specs.from_kept_records.Fit.{Models, bearer_at, head_at, root_codes, symbols_at, IsListed, IsGiven, IsGathered, IsFit}
+use Rattle.child_lists.proofs.from_kept_records.Frames.{map-same}
+use Rattle.child_lists.specs.from_kept_state.KeptChildren.{KeptChildren}
+use Rattle.child_lists.specs.from_kept_state.KeptState.{KeptState}
+use Rattle.child_lists.specs.from_kept_judging.Judged.{IsJudgedBy}
 use Rattle.child_lists.proofs.Edits.{has-filter, filter-same, flat-has}
 
 -- ---- nodes

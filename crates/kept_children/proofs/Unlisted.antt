@@ -11,15 +11,15 @@ use Rattle.model_lists.proofs.Digits.{more_digits}
 use Rattle.doc_nodes.specs.Nodes.{Nodes, element_children}
 use Rattle.doc_documents.specs.Readers.{name_at}
 use Rattle.kept_slots.specs.Slots.{at}
-use Rattle.child_lists.specs.kept_records.Books.{IsBooked, KeptView}
-use Rattle.child_lists.specs.kept_records.KeptElement.{KeptElement}
-use Rattle.child_lists.specs.kept_records.Slots.{IsKept, IsMade, kept_at, pair_at, record_at}
-use Rattle.child_lists.specs.kept_state.Kept.{IsBeside, Rewrites, children_at}
-use Rattle.child_lists.specs.kept_state.KeptChildren.{KeptChildren}
-use Rattle.child_lists.specs.kept_state.Outcome.{Outcome}
-use Rattle.child_lists.specs.kept_state.KeptState.{KeptState}
-use Rattle.child_lists.proofs.kept_state.Beside.{kept-there}
-use Rattle.child_lists.specs.kept_judging.Judged.{symbols_by}
+use Rattle.child_lists.specs.from_kept_records.Books.{IsBooked, KeptView}
+use Rattle.child_lists.specs.from_kept_records.KeptElement.{KeptElement}
+use Rattle.child_lists.specs.from_kept_records.Slots.{IsKept, IsMade, kept_at, pair_at, record_at}
+use Rattle.child_lists.specs.from_kept_state.Kept.{IsBeside, Rewrites, children_at}
+use Rattle.child_lists.specs.from_kept_state.KeptChildren.{KeptChildren}
+use Rattle.child_lists.specs.from_kept_state.Outcome.{Outcome}
+use Rattle.child_lists.specs.from_kept_state.KeptState.{KeptState}
+use Rattle.child_lists.proofs.from_kept_state.Beside.{kept-there}
+use Rattle.child_lists.specs.from_kept_judging.Judged.{symbols_by}
 use Rattle.child_lists.specs.Family.{AreCounted, AreGivenBut, IsListedBy, IsMidway, model_of, symbols_of}
 use Rattle.child_lists.specs.declared.place.ChildPlace.{ChildPlace}
 use Rattle.child_lists.proofs.Edits.{get-within}

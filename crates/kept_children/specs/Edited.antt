@@ -7,13 +7,13 @@ use Rattle.doc_nodes.specs.Nodes.{Node, Nodes, node, IsNode, IsChildAt, Holds, i
 use Rattle.doc_nodes.specs.declared.content.Content.TheVariants as contents
 use Rattle.doc_nodes.specs.declared.content.Element.{Element}
 use Rattle.doc_changes.specs.Parts.{Prunes}
-use Rattle.child_lists.specs.kept_records.Fit.{IsTop}
-use Rattle.child_lists.specs.kept_records.Slots.{pair_at}
-use Rattle.child_lists.specs.kept_state.Kept.{FitBut, IsBeside, outcome_at}
-use Rattle.child_lists.specs.kept_state.Outcome.{Outcome}
-use Rattle.child_lists.specs.kept_state.KeptState.{KeptState}
-use Rattle.child_lists.specs.kept_judging.Judged.{pair_by}
-use Rattle.child_lists.specs.kept_forgetting.Forgotten.{Forgets}
+use Rattle.child_lists.specs.from_kept_records.Fit.{IsTop}
+use Rattle.child_lists.specs.from_kept_records.Slots.{pair_at}
+use Rattle.child_lists.specs.from_kept_state.Kept.{FitBut, IsBeside, outcome_at}
+use Rattle.child_lists.specs.from_kept_state.Outcome.{Outcome}
+use Rattle.child_lists.specs.from_kept_state.KeptState.{KeptState}
+use Rattle.child_lists.specs.from_kept_judging.Judged.{pair_by}
+use Rattle.child_lists.specs.from_kept_forgetting.Forgotten.{Forgets}
 use Rattle.kept_below.specs.Below.{IsSettled}
 use Rattle.child_lists.specs.Places.{IsPlaceOf}
 use Rattle.child_lists.specs.declared.place.ChildPlace.{ChildPlace}

@@ -1,9 +1,9 @@
 pub mod Edited
 pub mod Steps
-pub mod child_lists
-pub mod kept_above
-pub mod kept_below
-pub mod kept_forgetting
-pub mod kept_judging
-pub mod kept_records
-pub mod kept_state
+pub mod from_child_lists
+pub mod from_kept_above
+pub mod from_kept_below
+pub mod from_kept_forgetting
+pub mod from_kept_judging
+pub mod from_kept_records
+pub mod from_kept_state

@@ -6,9 +6,9 @@ use Rattle.elem_governing.specs.declared.pairs.Governing.{Governing}
 use Rattle.compiled_schema.specs.declared.compiled.Compiled.{Compiled}
 use Rattle.doc_nodes.specs.Nodes.{Nodes, Lacks, element_children}
 use Rattle.doc_documents.specs.Readers.{element_numbers}
-use Rattle.child_lists.specs.kept_records.Slots.{pair_at}
-use Rattle.child_lists.specs.kept_state.KeptState.{KeptState}
-use Rattle.child_lists.specs.kept_judging.Judged.{pair_by}
+use Rattle.child_lists.specs.from_kept_records.Slots.{pair_at}
+use Rattle.child_lists.specs.from_kept_state.KeptState.{KeptState}
+use Rattle.child_lists.specs.from_kept_judging.Judged.{pair_by}
 use Rattle.kept_below.specs.Moved.{AreGivenDown, moved}
 use Rattle.child_lists.specs.Family.{marked_places, model_of, symbols_of}
 use Rattle.child_lists.specs.declared.place.ChildPlace.{ChildPlace}

@@ -4,9 +4,9 @@ ghost use Rattle.std.specs.Prelude.{◌≡◌, ◌+◌, ◌*◌, ◌≤◌, ℕ,
 ghost use Rattle.tree_rows.specs.Forest.{Forest};
 ghost use Rattle.elem_governing.specs.declared.pairs.Governing.{Governing};
 ghost use Rattle.doc_nodes.specs.Nodes.{element_children};
-ghost use Rattle.child_lists.specs.kept_records.Slots.{IsMade, pair_at};
-ghost use Rattle.child_lists.specs.kept_state.Kept.{FitBut, IsBeside};
-ghost use Rattle.child_lists.specs.kept_state.KeptChildren.{KeptChildren as KeptChildrenData};
+ghost use Rattle.child_lists.specs.from_kept_records.Slots.{IsMade, pair_at};
+ghost use Rattle.child_lists.specs.from_kept_state.Kept.{FitBut, IsBeside};
+ghost use Rattle.child_lists.specs.from_kept_state.KeptChildren.{KeptChildren as KeptChildrenData};
 ghost use Rattle.kept_below.specs.Moved.{moved};
 ghost use Rattle.child_lists.specs.Places.{IsPlaceOf};
 ghost use Rattle.child_lists.specs.Family.{AreCounted, AreGivenBut, IsAttributed, IsListedBy, IsMidway};

@@ -14,10 +14,10 @@ use Rattle.doc_changes.specs.Held.{parent_at}
 use Rattle.doc_changes.specs.Stands.{StandsFor}
 use Rattle.doc_documents.proofs.Reading.{depth_below}
 use Rattle.kept_slots.specs.Slots.{at, Writes}
-use Rattle.kept_state.specs.kept_records.KeptElement.{KeptElement}
-use Rattle.kept_state.specs.kept_records.Slots.{IsMade, blank, kept_at}
-use Rattle.kept_state.specs.kept_records.Books.{IsBooked}
-use Rattle.kept_state.proofs.kept_records.Nodes.{by-node, child-parent}
+use Rattle.kept_state.specs.from_kept_records.KeptElement.{KeptElement}
+use Rattle.kept_state.specs.from_kept_records.Slots.{IsMade, blank, kept_at}
+use Rattle.kept_state.specs.from_kept_records.Books.{IsBooked}
+use Rattle.kept_state.proofs.from_kept_records.Nodes.{by-node, child-parent}
 use Rattle.kept_state.specs.Kept.{CanGovern, IsBeside}
 use Rattle.kept_state.specs.declared.state.KeptState.{KeptState}
 use Rattle.kept_forgetting.proofs.Placed.{one-place, children-differ, child-place, parent-element}

@@ -4,7 +4,7 @@ use Rattle.std.specs.Prelude.{unwrap_or}
 use Rattle.model_lists.specs.Lists.{KeepLists}
 use Rattle.model_lists.specs.declared.handle.ModelList.{ModelList}
 use Rattle.kept_slots.specs.Slots.{at}
-use Rattle.kept_state.specs.kept_records.Slots.{KeptSlots, blank, kept_at}
+use Rattle.kept_state.specs.from_kept_records.Slots.{KeptSlots, blank, kept_at}
 use Rattle.kept_state.specs.declared.state.KeptState.{KeptState}
 use Rattle.kept_forgetting.specs.Below.{KeepsBut}
 

@@ -7,7 +7,7 @@ use Rattle.model_lists.specs.declared.handle.ModelList.{ModelList}
 use Rattle.doc_nodes.specs.Nodes.{Nodes}
 use Rattle.doc_changes.specs.Held.{parent_at}
 use Rattle.kept_slots.specs.Slots.{at}
-use Rattle.kept_state.specs.kept_records.Slots.{KeptSlots, kept_at}
+use Rattle.kept_state.specs.from_kept_records.Slots.{KeptSlots, kept_at}
 use Rattle.kept_state.specs.declared.state.KeptState.{KeptState}
 
 -- ---- what is below an element

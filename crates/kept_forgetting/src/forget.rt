@@ -5,8 +5,8 @@ ghost use Rattle.compiled_schema.specs.declared.compiled.Compiled.{Compiled as C
 ghost use Rattle.model_lists.specs.Lists.{KeepLists};
 ghost use Rattle.doc_nodes.specs.Nodes.{is_element_at};
 ghost use Rattle.kept_slots.specs.Slots.{Writes};
-ghost use Rattle.kept_state.specs.kept_records.Books.{IsBooked, HaveOwnLists};
-ghost use Rattle.kept_state.specs.kept_records.Slots.{kept_at};
+ghost use Rattle.kept_state.specs.from_kept_records.Books.{IsBooked, HaveOwnLists};
+ghost use Rattle.kept_state.specs.from_kept_records.Slots.{kept_at};
 ghost use Rattle.kept_state.specs.Kept.{IsBeside};
 ghost use Rattle.kept_forgetting.specs.Forgotten.{Forgets};
 

@@ -21,9 +21,9 @@ use Rattle.doc_inverses.specs.declared.part.PartRow.{PartRow}
 use Rattle.doc_inverses.proofs.Meaning.{puts_back, takes, names, writes, rewords}
 use Rattle.doc_inverses.proofs.Own.{element_kind, text_kind}
 use Rattle.doc_inverses.proofs.Seated.{is_at}
-use Rattle.kept_changes.specs.kept_state.KeptState.{KeptState}
-use Rattle.kept_changes.specs.kept_children.Edited.{IsRightFor}
-use Rattle.kept_changes.specs.kept_children.Steps.{width}
+use Rattle.kept_changes.specs.from_kept_state.KeptState.{KeptState}
+use Rattle.kept_changes.specs.from_kept_children.Edited.{IsRightFor}
+use Rattle.kept_changes.specs.from_kept_children.Steps.{width}
 use Rattle.kept_changes.specs.Own.{IsReattributed}
 use Rattle.kept_changes.specs.Spots.{HasChangedAt, TakesSpot}
 use Rattle.kept_changes.specs.Steps.{TakesAway, TakesBelow}

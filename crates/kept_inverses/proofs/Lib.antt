@@ -1,3 +1,3 @@
 pub mod Returned
 pub mod Following
-pub mod kept_records
+pub mod from_kept_records

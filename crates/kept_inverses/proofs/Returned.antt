@@ -16,8 +16,8 @@ use Rattle.tree_inverses.specs.Sites.{first_number}
 use Rattle.tree_inverses.proofs.Twice.{absent, own_one}
 use Rattle.doc_inverses.specs.Parts.{IsPart, Grafts}
 use Rattle.doc_inverses.specs.declared.part.PartRow.{PartRow}
-use Rattle.kept_changes.specs.kept_state.KeptState.{KeptState}
-use Rattle.kept_changes.specs.kept_children.Edited.{IsRightFor, ComesAt}
+use Rattle.kept_changes.specs.from_kept_state.KeptState.{KeptState}
+use Rattle.kept_changes.specs.from_kept_children.Edited.{IsRightFor, ComesAt}
 use Rattle.kept_changes.specs.Spots.{HasChangedAt, TakesSpot}
 use Rattle.kept_changes.specs.declared.change.Spot.{Spot}
 use Rattle.kept_changes.specs.declared.change.Spot.TheVariants.{Retexted}

@@ -1,6 +1,6 @@
 pub mod Spots
 pub mod Steps
-pub mod kept_changes
-pub mod kept_children
-pub mod kept_records
-pub mod kept_state
+pub mod from_kept_changes
+pub mod from_kept_children
+pub mod from_kept_records
+pub mod from_kept_state

@@ -9,11 +9,11 @@ use Rattle.doc_changes.specs.Held.{parent_at}
 use Rattle.doc_inverses.specs.declared.change.Change.{Change}
 use Rattle.doc_inverses.specs.declared.change.Change.TheVariants as changes
 use Rattle.doc_inverses.specs.declared.part.PartRow.{PartRow}
-use Rattle.kept_changes.specs.kept_records.Fit.{head_at}
-use Rattle.kept_changes.specs.kept_records.Slots.{pair_at}
-use Rattle.kept_changes.specs.kept_state.KeptState.{KeptState}
-use Rattle.kept_changes.specs.kept_judging.Judged.{again_pair}
-use Rattle.kept_changes.specs.kept_children.Steps.{width}
+use Rattle.kept_changes.specs.from_kept_records.Fit.{head_at}
+use Rattle.kept_changes.specs.from_kept_records.Slots.{pair_at}
+use Rattle.kept_changes.specs.from_kept_state.KeptState.{KeptState}
+use Rattle.kept_changes.specs.from_kept_judging.Judged.{again_pair}
+use Rattle.kept_changes.specs.from_kept_children.Steps.{width}
 use Rattle.kept_changes.specs.Steps.{TakesBelow, TakesAt, TakesName, TakesAway}
 
 module _ (c : Compiled) (new : Nodes) (k : KeptState) where

@@ -8,11 +8,11 @@ ghost use Rattle.doc_nodes.specs.Nodes.{is_element_at};
 ghost use Rattle.doc_changes.specs.Held.{parent_at};
 ghost use Rattle.doc_changes.specs.Stands.{StandsFor};
 ghost use Rattle.doc_inverses.specs.Changes.{Means};
-ghost use Rattle.kept_changes.specs.kept_children.Edited.{IsRightFor};
+ghost use Rattle.kept_changes.specs.from_kept_children.Edited.{IsRightFor};
 ghost use Rattle.kept_inverses.specs.Spots.{IsSpotOf, IsReturn};
 ghost use Rattle.kept_inverses.specs.Steps.{TakesInverse};
 ghost use Rattle.kept_changes.specs.Steps.{TakesBelow};
-ghost use Rattle.kept_changes.specs.kept_children.Steps.{width};
+ghost use Rattle.kept_changes.specs.from_kept_children.Steps.{width};
 
 use compiled_schema::Compiled;
 use doc_inverses::{Change, Part};

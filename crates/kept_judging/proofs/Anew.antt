@@ -18,12 +18,12 @@ use Rattle.model_terms.specs.Terms.{stuck_in, term_in}
 use Rattle.model_lists.specs.Lists.{ListsView}
 use Rattle.doc_nodes.specs.Nodes.{Node, Nodes, node, IsNode, IsSound, is_element_at, element_children}
 use Rattle.doc_changes.specs.Held.{parent_at}
-use Rattle.kept_state.specs.kept_records.KeptElement.{KeptElement}
-use Rattle.kept_state.specs.kept_records.Slots.{IsMade, blank, kept_at, pair_at, record_at}
-use Rattle.kept_state.specs.kept_records.Fit.{models_of, head_at, IsListed, IsGathered, IsFit, AllFitBut, AboveIn}
+use Rattle.kept_state.specs.from_kept_records.KeptElement.{KeptElement}
+use Rattle.kept_state.specs.from_kept_records.Slots.{IsMade, blank, kept_at, pair_at, record_at}
+use Rattle.kept_state.specs.from_kept_records.Fit.{models_of, head_at, IsListed, IsGathered, IsFit, AllFitBut, AboveIn}
 use Rattle.kept_slots.specs.Slots.{at}
-use Rattle.kept_state.proofs.kept_records.Frames.{map-same, SeesChild, sees-same, fit-same, rest-fit, put-fit}
-use Rattle.kept_state.proofs.kept_records.Nodes.{by-node, child-parent}
+use Rattle.kept_state.proofs.from_kept_records.Frames.{map-same, SeesChild, sees-same, fit-same, rest-fit, put-fit}
+use Rattle.kept_state.proofs.from_kept_records.Nodes.{by-node, child-parent}
 use Rattle.kept_state.specs.Kept.{CanGovern, FitBut, IsBeside, Rewrites, children_of, children_at, outcome_of, outcome_at}
 use Rattle.kept_state.specs.declared.children.KeptChildren.{KeptChildren}
 use Rattle.kept_state.specs.declared.element.Outcome.{Outcome}

@@ -24,7 +24,7 @@ use Rattle.doc_documents.specs.Readers.{own_scope, outer_scope, scope_upto, scop
 use Rattle.doc_documents.proofs.Reading.{scope_below, scope_root, depth_below}
 use Rattle.doc_heads.specs.Heads.{text_named, texts_named, pair_of}
 use Rattle.doc_heads.proofs.Showing.{are_numbers}
-use Rattle.kept_state.proofs.kept_records.Nodes.{shown, root-there}
+use Rattle.kept_state.proofs.from_kept_records.Nodes.{shown, root-there}
 
 -- ---- a number of an element
 

@@ -16,10 +16,10 @@ use Rattle.tree_assess.specs.declared.entry.ElementEntry.{ElementEntry}
 use Rattle.doc_nodes.specs.Nodes.{Nodes}
 use Rattle.doc_documents.specs.Readers.{name_at, own_chars, scope_at}
 use Rattle.doc_heads.specs.Heads.{texts_named}
-use Rattle.kept_state.specs.kept_records.KeptElement.{KeptElement}
-use Rattle.kept_state.specs.kept_records.Books.{IsBooked}
-use Rattle.kept_state.specs.kept_records.Slots.{IsKept, kept_at, entry_at, pair_at}
-use Rattle.kept_state.specs.kept_records.Fit.{root_codes, head_at, bearer_at}
+use Rattle.kept_state.specs.from_kept_records.KeptElement.{KeptElement}
+use Rattle.kept_state.specs.from_kept_records.Books.{IsBooked}
+use Rattle.kept_state.specs.from_kept_records.Slots.{IsKept, kept_at, entry_at, pair_at}
+use Rattle.kept_state.specs.from_kept_records.Fit.{root_codes, head_at, bearer_at}
 use Rattle.kept_state.specs.Kept.{CanGovern, HaveSameFlags, IsBeside, IsFreeFor, Rewrites, children_of, children_at}
 use Rattle.kept_state.specs.declared.children.KeptChildren.{KeptChildren}
 use Rattle.kept_state.specs.declared.state.KeptState.{KeptState}

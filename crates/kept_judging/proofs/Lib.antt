@@ -3,5 +3,5 @@ pub mod Reading
 pub mod Flags
 pub mod Keeping
 pub mod Anew
-pub mod kept_records
-pub mod kept_state
+pub mod from_kept_records
+pub mod from_kept_state

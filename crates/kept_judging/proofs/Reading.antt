@@ -23,7 +23,7 @@ use Rattle.compiled_schema.specs.declared.compiled.Compiled.{Compiled}
 use Rattle.doc_nodes.specs.Nodes.{Nodes}
 use Rattle.doc_documents.specs.Readers.{name_at, scope_at}
 use Rattle.doc_heads.specs.Heads.{texts_named}
-use Rattle.kept_state.specs.kept_records.Fit.{head_at}
+use Rattle.kept_state.specs.from_kept_records.Fit.{head_at}
 use Rattle.kept_state.specs.Kept.{CanGovern}
 use Rattle.kept_judging.specs.Judged.{root_pair, given_pair, again_pair}
 

@@ -16,9 +16,9 @@ use Rattle.model_terms.specs.Terms.{stuck_in, term_in}
 use Rattle.doc_nodes.specs.Nodes.{Nodes, element_children}
 use Rattle.doc_documents.specs.Readers.{name_at, own_chars}
 use Rattle.doc_heads.specs.Heads.{texts_named}
-use Rattle.kept_state.specs.kept_records.KeptElement.{KeptElement}
-use Rattle.kept_state.specs.kept_records.Slots.{IsMade, kept_at, entry_at, pair_at, record_at}
-use Rattle.kept_state.specs.kept_records.Fit.{models_of, root_codes, IsListed, head_at, bearer_at}
+use Rattle.kept_state.specs.from_kept_records.KeptElement.{KeptElement}
+use Rattle.kept_state.specs.from_kept_records.Slots.{IsMade, kept_at, entry_at, pair_at, record_at}
+use Rattle.kept_state.specs.from_kept_records.Fit.{models_of, root_codes, IsListed, head_at, bearer_at}
 use Rattle.kept_state.specs.Kept.{children_of, Rewrites}
 use Rattle.kept_state.specs.declared.children.KeptChildren.{KeptChildren}
 use Rattle.kept_state.specs.declared.state.KeptState.{KeptState}

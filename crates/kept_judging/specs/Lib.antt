@@ -1,3 +1,3 @@
 pub mod Judged
-pub mod kept_records
-pub mod kept_state
+pub mod from_kept_records
+pub mod from_kept_state

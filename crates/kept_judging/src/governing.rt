@@ -5,7 +5,7 @@ ghost use Rattle.tree_rows.specs.Forest.{Document};
 ghost use Rattle.compiled_schema.specs.Usable.{IsUsable, set_of};
 ghost use Rattle.doc_nodes.specs.Nodes.{is_element_at};
 ghost use Rattle.doc_changes.specs.Stands.{StandsFor};
-ghost use Rattle.kept_state.specs.kept_records.Fit.{head_at};
+ghost use Rattle.kept_state.specs.from_kept_records.Fit.{head_at};
 ghost use Rattle.kept_state.specs.Kept.{CanGovern};
 ghost use Rattle.kept_judging.specs.Judged.{root_pair, given_pair, again_pair};
 

@@ -5,14 +5,14 @@ use Rattle.std.proofs.lemmas.Bool.{cases_eq}
 use Rattle.compiled_schema.specs.Usable.{set_of}
 use Rattle.compiled_schema.specs.declared.compiled.Compiled.{Compiled}
 use Rattle.doc_nodes.specs.Nodes.{Nodes, element_children}
-use Rattle.kept_above.specs.kept_records.KeptElement.{KeptElement}
-use Rattle.kept_above.specs.kept_records.Slots.{IsMade, blank, kept_at, pair_at}
-use Rattle.kept_above.specs.kept_records.Fit.{models_of, IsGathered, IsTop}
-use Rattle.kept_above.specs.kept_state.Kept.{FitBut, IsBeside, children_at, outcome_at}
-use Rattle.kept_above.specs.kept_state.KeptState.{KeptState}
-use Rattle.kept_above.proofs.kept_state.Beside.{kept-there}
-use Rattle.kept_above.specs.kept_judging.Judged.{IsJudgedAnew}
-use Rattle.kept_above.proofs.kept_judging.Anew.{gathered-children, anew-fits}
+use Rattle.kept_above.specs.from_kept_records.KeptElement.{KeptElement}
+use Rattle.kept_above.specs.from_kept_records.Slots.{IsMade, blank, kept_at, pair_at}
+use Rattle.kept_above.specs.from_kept_records.Fit.{models_of, IsGathered, IsTop}
+use Rattle.kept_above.specs.from_kept_state.Kept.{FitBut, IsBeside, children_at, outcome_at}
+use Rattle.kept_above.specs.from_kept_state.KeptState.{KeptState}
+use Rattle.kept_above.proofs.from_kept_state.Beside.{kept-there}
+use Rattle.kept_above.specs.from_kept_judging.Judged.{IsJudgedAnew}
+use Rattle.kept_above.proofs.from_kept_judging.Anew.{gathered-children, anew-fits}
 use Rattle.kept_above.specs.Climbing.{IsClimbing, KeepsRest}
 use Rattle.kept_above.proofs.Climbing.{begun, made-before, made-now, pair-stays}
 use Rattle.kept_above.proofs.Whole.{all-made}

@@ -7,8 +7,8 @@ use Rattle.identity_assessment.specs.Identity.{seen_element}
 use Rattle.tree_assess.specs.Entries.{entry_of}
 use Rattle.doc_nodes.specs.Nodes.{Nodes, node, children_by, is_element_at, element_children}
 use Rattle.kept_slots.specs.Slots.{at}
-use Rattle.kept_above.specs.kept_records.KeptElement.{KeptElement}
-use Rattle.kept_above.specs.kept_records.Slots.{KeptSlots}
+use Rattle.kept_above.specs.from_kept_records.KeptElement.{KeptElement}
+use Rattle.kept_above.specs.from_kept_records.Slots.{KeptSlots}
 use Rattle.kept_keys.specs.Seen.{first_seen, along, seen_to}
 
 drop-here : (xs : List ℕ) (p n : ℕ) → slice_get xs p ≡ Some n → drop p xs ≡ n ∷ drop (p + 1) xs

@@ -9,8 +9,8 @@ use Rattle.assessment.specs.Local.{HasElement}
 use Rattle.identity_constraints.specs.Seen as keys
 use Rattle.identity_assessment.specs.Identity.{seen}
 use Rattle.doc_nodes.specs.Nodes.{Nodes}
-use Rattle.kept_above.specs.kept_records.Slots.{KeptSlots, entry_at}
-use Rattle.kept_above.specs.kept_records.Found.{found_in}
+use Rattle.kept_above.specs.from_kept_records.Slots.{KeptSlots, entry_at}
+use Rattle.kept_above.specs.from_kept_records.Found.{found_in}
 use Rattle.kept_keys.proofs.Staying.{IsSeenAlike}
 
 module _ (ns : Nodes) (old new : KeptSlots) where

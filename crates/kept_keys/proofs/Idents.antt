@@ -9,10 +9,10 @@ use Rattle.identity_constraints.specs.Seen.{KeyForest}
 use Rattle.identity_assessment.specs.Identity.{seen}
 use Rattle.compiled_schema.specs.declared.compiled.Compiled.{Compiled}
 use Rattle.doc_nodes.specs.Nodes.{Nodes}
-use Rattle.kept_above.specs.kept_records.Slots.{IsMade, kept_at}
-use Rattle.kept_above.specs.kept_records.Found.{IsOver, SaysFound, found_in}
-use Rattle.kept_above.proofs.kept_records.Kept.{ids-are}
-use Rattle.kept_above.specs.kept_state.KeptState.{KeptState}
+use Rattle.kept_above.specs.from_kept_records.Slots.{IsMade, kept_at}
+use Rattle.kept_above.specs.from_kept_records.Found.{IsOver, SaysFound, found_in}
+use Rattle.kept_above.proofs.from_kept_records.Kept.{ids-are}
+use Rattle.kept_above.specs.from_kept_state.KeptState.{KeptState}
 use Rattle.kept_keys.specs.Keys.{IsWhole, KeepsCodes, KeepsElements, codes_at}
 use Rattle.kept_keys.proofs.Whole.{borne-stays, over-before, seen-stays, settled}
 

@@ -16,10 +16,10 @@ use Rattle.doc_nodes.specs.Nodes.{Nodes}
 use Rattle.doc_documents.specs.Readers.{scope_at}
 use Rattle.doc_heads.specs.Heads.{texts_named}
 use Rattle.doc_heads.proofs.Showing.{name_number}
-use Rattle.kept_above.specs.kept_records.Slots.{IsMade, entry_at, pair_at}
-use Rattle.kept_above.specs.kept_records.Found.{found_in}
-use Rattle.kept_above.proofs.kept_judging.Heads.{element-kind, texts-named}
-use Rattle.kept_above.specs.kept_state.KeptState.{KeptState}
+use Rattle.kept_above.specs.from_kept_records.Slots.{IsMade, entry_at, pair_at}
+use Rattle.kept_above.specs.from_kept_records.Found.{found_in}
+use Rattle.kept_above.proofs.from_kept_judging.Heads.{element-kind, texts-named}
+use Rattle.kept_above.specs.from_kept_state.KeptState.{KeptState}
 use Rattle.kept_keys.specs.Keys.{IsWhole}
 
 module _ (c : Compiled) (ns : Nodes) (k : KeptState) (whole : IsWhole c ns k) where

@@ -8,9 +8,9 @@ use Rattle.identity_constraints.specs.Seen.{KeyForest}
 use Rattle.identity_assessment.specs.Identity.{seen}
 use Rattle.compiled_schema.specs.declared.compiled.Compiled.{Compiled}
 use Rattle.doc_nodes.specs.Nodes.{Nodes, Lacks}
-use Rattle.kept_above.specs.kept_records.Slots.{IsMade, kept_at}
-use Rattle.kept_above.specs.kept_records.Found.{IsOver, found_in}
-use Rattle.kept_above.specs.kept_state.KeptState.{KeptState}
+use Rattle.kept_above.specs.from_kept_records.Slots.{IsMade, kept_at}
+use Rattle.kept_above.specs.from_kept_records.Found.{IsOver, found_in}
+use Rattle.kept_above.specs.from_kept_state.KeptState.{KeptState}
 use Rattle.kept_keys.specs.Keys.{IsWhole, IsCoded, KeepsElements, codes_at}
 use Rattle.kept_keys.specs.Seen.{numbers_in}
 use Rattle.kept_keys.proofs.Lists.{lacks-last}

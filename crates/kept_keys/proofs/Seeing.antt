@@ -11,9 +11,9 @@ use Rattle.tree_assess.specs.Entries.{entry_of}
 use Rattle.doc_nodes.specs.Nodes.{Nodes, element_children}
 use Rattle.doc_heads.specs.Heads.{readers_of}
 use Rattle.kept_slots.specs.Slots.{at}
-use Rattle.kept_above.specs.kept_records.KeptElement.{KeptElement}
-use Rattle.kept_above.specs.kept_records.Slots.{KeptSlots, IsMade, blank, entry_at}
-use Rattle.kept_above.specs.kept_records.Found.{found_in}
+use Rattle.kept_above.specs.from_kept_records.KeptElement.{KeptElement}
+use Rattle.kept_above.specs.from_kept_records.Slots.{KeptSlots, IsMade, blank, entry_at}
+use Rattle.kept_above.specs.from_kept_records.Found.{found_in}
 use Rattle.kept_keys.specs.Seen.{first_seen, along, seen_to}
 use Rattle.kept_keys.proofs.Firsts.{none-to}
 

@@ -30,8 +30,8 @@ use Rattle.model_lists.specs.Lists.{ListsView}
 use Rattle.doc_nodes.specs.Nodes.{Nodes, element_children}
 use Rattle.doc_documents.specs.Readers.{name_at, own_chars}
 use Rattle.doc_heads.specs.Heads.{texts_named}
-use Rattle.kept_above.specs.kept_records.Slots.{KeptSlots, kept_at, entry_at, pair_at, record_at}
-use Rattle.kept_above.specs.kept_records.Fit.{Models, root_codes, head_at, shape_at, IsFit}
+use Rattle.kept_above.specs.from_kept_records.Slots.{KeptSlots, kept_at, entry_at, pair_at, record_at}
+use Rattle.kept_above.specs.from_kept_records.Fit.{Models, root_codes, head_at, shape_at, IsFit}
 
 -- ---- there are child elements, by how many there are of each validity
 

@@ -11,12 +11,12 @@ use Rattle.identity_assessment.specs.Identity.{seen}
 use Rattle.compiled_schema.specs.Usable.{set_of}
 use Rattle.compiled_schema.specs.declared.compiled.Compiled.{Compiled}
 use Rattle.doc_nodes.specs.Nodes.{Nodes}
-use Rattle.kept_above.specs.kept_records.Slots.{IsMade, entry_at}
-use Rattle.kept_above.specs.kept_records.Fit.{models_of, IsTop}
-use Rattle.kept_above.specs.kept_records.Found.{IsOver, AreSettled, found_in}
-use Rattle.kept_above.proofs.kept_records.Made.{fit-at, read, made-elements, elements-made}
-use Rattle.kept_above.proofs.kept_records.Nodes.{root-numbers}
-use Rattle.kept_above.specs.kept_state.KeptState.{KeptState}
+use Rattle.kept_above.specs.from_kept_records.Slots.{IsMade, entry_at}
+use Rattle.kept_above.specs.from_kept_records.Fit.{models_of, IsTop}
+use Rattle.kept_above.specs.from_kept_records.Found.{IsOver, AreSettled, found_in}
+use Rattle.kept_above.proofs.from_kept_records.Made.{fit-at, read, made-elements, elements-made}
+use Rattle.kept_above.proofs.from_kept_records.Nodes.{root-numbers}
+use Rattle.kept_above.specs.from_kept_state.KeptState.{KeptState}
 use Rattle.kept_keys.specs.Keys.{IsWhole, KeepsElements}
 use Rattle.kept_keys.specs.Seen.{seen_to}
 use Rattle.kept_keys.proofs.Coding.{seen_times}

@@ -17,15 +17,15 @@ use Rattle.doc_nodes.specs.Nodes.{Nodes, element_children}
 use Rattle.doc_documents.specs.Readers.{name_at, own_chars}
 use Rattle.doc_heads.specs.Heads.{texts_named}
 use Rattle.kept_slots.specs.Slots.{at}
-use Rattle.kept_above.specs.kept_records.KeptElement.{KeptElement}
-use Rattle.kept_above.specs.kept_records.Slots.{IsKept, IsMade, blank, kept_at, entry_at, pair_at, record_at}
-use Rattle.kept_above.specs.kept_records.Fit.{models_of, root_codes, head_at, IsListed, IsGathered, IsFit}
-use Rattle.kept_above.specs.kept_records.Books.{IsBooked}
-use Rattle.kept_above.proofs.kept_records.Frames.{SeesChild, map-same, fit-same}
-use Rattle.kept_above.specs.kept_state.Kept.{CanGovern, FitBut, IsBeside, IsFreeFor, Rewrites}
-use Rattle.kept_above.specs.kept_state.KeptState.{KeptState}
-use Rattle.kept_above.proofs.kept_state.Beside.{kept-there, own-free, beside-written}
-use Rattle.kept_above.specs.kept_judging.Judged.{pair_by}
+use Rattle.kept_above.specs.from_kept_records.KeptElement.{KeptElement}
+use Rattle.kept_above.specs.from_kept_records.Slots.{IsKept, IsMade, blank, kept_at, entry_at, pair_at, record_at}
+use Rattle.kept_above.specs.from_kept_records.Fit.{models_of, root_codes, head_at, IsListed, IsGathered, IsFit}
+use Rattle.kept_above.specs.from_kept_records.Books.{IsBooked}
+use Rattle.kept_above.proofs.from_kept_records.Frames.{SeesChild, map-same, fit-same}
+use Rattle.kept_above.specs.from_kept_state.Kept.{CanGovern, FitBut, IsBeside, IsFreeFor, Rewrites}
+use Rattle.kept_above.specs.from_kept_state.KeptState.{KeptState}
+use Rattle.kept_above.proofs.from_kept_state.Beside.{kept-there, own-free, beside-written}
+use Rattle.kept_above.specs.from_kept_judging.Judged.{pair_by}
 use Rattle.kept_keys.specs.Keys.{IsWhole, IsCoded, KeepsCodes, KeepsElements}
 use Rattle.kept_keys.proofs.Whole.{elements-again, elements-same}
 

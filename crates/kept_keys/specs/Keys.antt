@@ -6,10 +6,10 @@ use Rattle.identity_constraints.specs.Satisfied.{identity_at}
 use Rattle.compiled_schema.specs.Usable.{set_of}
 use Rattle.compiled_schema.specs.declared.compiled.Compiled.{Compiled}
 use Rattle.doc_nodes.specs.Nodes.{Nodes}
-use Rattle.kept_above.specs.kept_records.Slots.{IsMade, kept_at, pair_at}
-use Rattle.kept_above.specs.kept_records.Fit.{IsTop}
-use Rattle.kept_above.specs.kept_state.Kept.{FitBut, IsBeside}
-use Rattle.kept_above.specs.kept_state.KeptState.{KeptState}
+use Rattle.kept_above.specs.from_kept_records.Slots.{IsMade, kept_at, pair_at}
+use Rattle.kept_above.specs.from_kept_records.Fit.{IsTop}
+use Rattle.kept_above.specs.from_kept_state.Kept.{FitBut, IsBeside}
+use Rattle.kept_above.specs.from_kept_state.KeptState.{KeptState}
 
 -- the codes of the identity constraints of the element of a number, in a forest as they see it (Structures 3.11.4)
 abbrev pub codes_at : Compiled → KeyForest → ℕ → List Found

@@ -5,8 +5,8 @@ use Rattle.identity_assessment.specs.Identity.{seen_element}
 use Rattle.tree_assess.specs.Entries.{entry_of}
 use Rattle.doc_nodes.specs.Nodes.{Nodes, element_children}
 use Rattle.kept_slots.specs.Slots.{at}
-use Rattle.kept_above.specs.kept_records.KeptElement.{KeptElement}
-use Rattle.kept_above.specs.kept_records.Slots.{KeptSlots, IsKept}
+use Rattle.kept_above.specs.from_kept_records.KeptElement.{KeptElement}
+use Rattle.kept_above.specs.from_kept_records.Slots.{KeptSlots, IsKept}
 use Rattle.kept_keys.specs.declared.siblings.KeptSiblings.{KeptSiblings}
 
 -- the child elements of an element; without one, the root

@@ -6,10 +6,10 @@ ghost use Rattle.identity_assessment.specs.Identity.{seen};
 ghost use Rattle.identity_tables.specs.Ids.{id_codes};
 ghost use Rattle.assessment.specs.Bearings.{borne_values};
 ghost use Rattle.compiled_schema.specs.Usable.{set_of};
-ghost use Rattle.kept_above.specs.kept_records.Slots.{IsMade, kept_at};
-ghost use Rattle.kept_above.specs.kept_records.Fit.{models_of, IsGathered, IsTop};
-ghost use Rattle.kept_above.specs.kept_records.Found.{IsOver, SaysFound, found_in};
-ghost use Rattle.kept_above.specs.kept_state.Kept.{FitBut, IsBeside};
+ghost use Rattle.kept_above.specs.from_kept_records.Slots.{IsMade, kept_at};
+ghost use Rattle.kept_above.specs.from_kept_records.Fit.{models_of, IsGathered, IsTop};
+ghost use Rattle.kept_above.specs.from_kept_records.Found.{IsOver, SaysFound, found_in};
+ghost use Rattle.kept_above.specs.from_kept_state.Kept.{FitBut, IsBeside};
 ghost use Rattle.kept_keys.specs.Keys.{IsCoded, IsWhole, KeepsCodes, KeepsElements, codes_at};
 
 use crate::codes::{NumberedCodes, codes_of};

@@ -1,2 +1,2 @@
 pub mod Beside
-pub mod kept_records
+pub mod from_kept_records

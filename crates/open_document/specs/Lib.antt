@@ -5,4 +5,4 @@ pub mod Stepping
 pub mod Replies
 pub mod Answers
 pub mod Held
-pub mod edit_session
+pub mod from_edit_session

@@ -2,5 +2,5 @@ pub mod Refusals
 pub mod Faults
 pub mod Output
 pub mod inside
-pub mod edit_session
-pub mod open_document
+pub mod from_edit_session
+pub mod from_open_document

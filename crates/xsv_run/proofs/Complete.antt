@@ -18,8 +18,8 @@ use Rattle.told.specs.Told.{Said, free, joined, Told, over, asks, Leads}
 use Rattle.told.specs.declared.ending.Ending.{Ending}
 use Rattle.told.specs.declared.ending.Ending.TheVariants as endings
 use Rattle.told.proofs.Leading.{IsOver, leads_says, leads_to_one}
-use Rattle.stream_answers.specs.open_document.Answers.{opened, opening_cost}
-use Rattle.stream_answers.specs.open_document.State.{Basis, OpenState, with_documents}
+use Rattle.stream_answers.specs.from_open_document.Answers.{opened, opening_cost}
+use Rattle.stream_answers.specs.from_open_document.State.{Basis, OpenState, with_documents}
 use Rattle.stream_sections.specs.Sections as sections
 use Rattle.stream_sections.specs.Spelled.{whole, given, has_document, Order, SpellsCheck, SpellsStream}
 use Rattle.stream_sections.specs.declared.asked.Asked.{Asked}

@@ -9,9 +9,9 @@ use Rattle.edit_script.specs.declared.command.Command.{Command}
 use Rattle.edit_script.specs.declared.command.Command.TheVariants as commands
 use Rattle.edit_script.specs.declared.command.ScriptFault.{ScriptFault}
 use Rattle.told.specs.Told.{Said}
-use Rattle.stream_answers.specs.open_document.Replies.{no_past, no_future}
-use Rattle.stream_answers.specs.open_document.State.{OpenState}
-use Rattle.stream_answers.specs.open_document.Steps.{Step, undo_of, redo_of}
+use Rattle.stream_answers.specs.from_open_document.Replies.{no_past, no_future}
+use Rattle.stream_answers.specs.from_open_document.State.{OpenState}
+use Rattle.stream_answers.specs.from_open_document.Steps.{Step, undo_of, redo_of}
 use Rattle.stream_sections.specs.Spelled.{Order}
 use Rattle.xsv_run.specs.Complete.{IsEditReply, IsStepReply, IsReply, AreReplies, IsPresent}
 

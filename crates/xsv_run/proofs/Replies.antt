@@ -9,14 +9,14 @@ use Rattle.edit_script.specs.declared.command.Command.{Command}
 use Rattle.edit_script.specs.declared.command.Command.TheVariants as commands
 use Rattle.edit_script.specs.declared.command.ScriptFault.{ScriptFault}
 use Rattle.session_model.specs.State.{after_edit}
-use Rattle.stream_answers.specs.edit_session.Changed.{after_change}
+use Rattle.stream_answers.specs.from_edit_session.Changed.{after_change}
 use Rattle.told.specs.Told.{Said, free, silent, joined, Told, over, says, Leads}
 use Rattle.told.specs.declared.ending.Ending.{Ending}
 use Rattle.told.proofs.Leading.{IsOver, silent_first, silent_last, joined_assoc, leads_says}
-use Rattle.stream_answers.specs.open_document.Answers.{verdict}
-use Rattle.stream_answers.specs.open_document.Replies.{edit_told, step_told, line_told, no_past, no_future, made_said, step_said}
-use Rattle.stream_answers.specs.open_document.State.{OpenState}
-use Rattle.stream_answers.specs.open_document.Steps.{Step, undo_of, redo_of, document_behind, with_edit, with_step}
+use Rattle.stream_answers.specs.from_open_document.Answers.{verdict}
+use Rattle.stream_answers.specs.from_open_document.Replies.{edit_told, step_told, line_told, no_past, no_future, made_said, step_said}
+use Rattle.stream_answers.specs.from_open_document.State.{OpenState}
+use Rattle.stream_answers.specs.from_open_document.Steps.{Step, undo_of, redo_of, document_behind, with_edit, with_step}
 use Rattle.stream_sections.specs.Spelled.{given, Order}
 use Rattle.stream_answers.specs.Output.{ends, end_line, ending_of, commands_told}
 use Rattle.xsv_run.specs.Complete.{IsEditReply, IsStepReply, IsReply, AreReplies}

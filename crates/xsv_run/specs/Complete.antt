@@ -13,13 +13,13 @@ use Rattle.edit_script.specs.declared.command.ScriptFault.{ScriptFault}
 use Rattle.assessment.specs.Assessment.{Entry}
 use Rattle.what_is_found.specs.IsFound.{IsFound}
 use Rattle.session_model.specs.State.{with_names, after_edit}
-use Rattle.stream_answers.specs.edit_session.Changed.{after_change}
+use Rattle.stream_answers.specs.from_edit_session.Changed.{after_change}
 use Rattle.told.specs.Outcomes.{SetOutcome, accepted, broken, IsOutcomeOf}
 use Rattle.told.specs.Told.{Said, free, silent, joined}
-use Rattle.stream_answers.specs.open_document.Answers.{opened, opening_cost, verdict}
-use Rattle.stream_answers.specs.open_document.Replies.{refusal, no_past, no_future, assess_reply, report_reply, total_reply, made_said, step_said}
-use Rattle.stream_answers.specs.open_document.State.{OpenState, with_documents}
-use Rattle.stream_answers.specs.open_document.Steps.{Step, undo_of, redo_of, document_behind, with_edit, with_step}
+use Rattle.stream_answers.specs.from_open_document.Answers.{opened, opening_cost, verdict}
+use Rattle.stream_answers.specs.from_open_document.Replies.{refusal, no_past, no_future, assess_reply, report_reply, total_reply, made_said, step_said}
+use Rattle.stream_answers.specs.from_open_document.State.{OpenState, with_documents}
+use Rattle.stream_answers.specs.from_open_document.Steps.{Step, undo_of, redo_of, document_behind, with_edit, with_step}
 use Rattle.stream_sections.specs.Spelled.{Order}
 use Rattle.stream_sections.specs.declared.asked.Asked.{Asked}
 use Rattle.stream_sections.specs.declared.schemas.SchemaSection.{SchemaSection}

@@ -6,7 +6,7 @@ ghost use Rattle.tree_rows.specs.Forest.{Document};
 ghost use Rattle.stream_sections.specs.Spelled.{whole, Order, SpellsCheck, SpellsStream};
 ghost use Rattle.stream_answers.specs.declared.wanted.Wanted.{Wanted};
 ghost use Rattle.told.specs.Told.{Said};
-ghost use Rattle.stream_answers.specs.open_document.State.{OpenState};
+ghost use Rattle.stream_answers.specs.from_open_document.State.{OpenState};
 ghost use Rattle.stream_sections.specs.declared.asked.Asked.TheVariants.{Check};
 ghost use Rattle.stream_sections.specs.declared.schemas.SchemaSection.{SchemaSection};
 ghost use Rattle.command_words.specs.declared.request.Request.{Request};

@@ -1,6 +1,6 @@
 use Rattle.std.proofs.Common.{◌≡◌, Some, None, map, option_copied, sym, ap, subst, ◌∙◌}
 use Rattle.model_terms.specs.Symbols.{AreSymbolsBy}
-use Rattle.kept_judging.specs.kept_records.Fit.{models_of}
+use Rattle.kept_judging.specs.from_kept_records.Fit.{models_of}
 use Rattle.child_listing.proofs.Listed.{none-listed}
 use Rattle.child_listing.proofs.Symbols.{model-of, names-within, are-symbols}
 use Rattle.child_listing.proofs.listing.attribute_below.Goals as goal

@@ -1,6 +1,6 @@
 use Rattle.std.proofs.Common.{None, map, length, slice_index_or, refl, sym, ap, ◌∙◌}
 use Rattle.compiled_schema.specs.Usable.{set_of}
-use Rattle.kept_judging.specs.kept_records.Fit.{head_at}
+use Rattle.kept_judging.specs.from_kept_records.Fit.{head_at}
 use Rattle.kept_judging.specs.Judged.{given_pair}
 use Rattle.child_listing.proofs.Listed.{have-names, few-elements, are-elements, terms-many, is-listing}
 use Rattle.child_listing.proofs.listing.list_children.Goals as goal

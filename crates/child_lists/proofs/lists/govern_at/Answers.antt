@@ -1,8 +1,8 @@
 use Rattle.std.proofs.Common.{◌∙◌}
 use Rattle.std.proofs.lemmas.Result.{IfOk-weaker}
 use Rattle.compiled_schema.specs.Usable.{set_of}
-use Rattle.child_listing.specs.kept_records.Fit.{head_at}
-use Rattle.child_listing.specs.kept_judging.Judged.{given_pair}
+use Rattle.child_listing.specs.from_kept_records.Fit.{head_at}
+use Rattle.child_listing.specs.from_kept_judging.Judged.{given_pair}
 use Rattle.child_lists.proofs.Listed.{child-element}
 use Rattle.child_lists.proofs.lists.govern_at.Goals as goal
 

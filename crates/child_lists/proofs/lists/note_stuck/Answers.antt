@@ -1,7 +1,7 @@
 use Rattle.std.proofs.Common.{ap, ◌∙◌}
-use Rattle.child_listing.specs.kept_records.KeptElement.{KeptElement}
-use Rattle.child_listing.specs.kept_state.KeptChildren.{KeptChildren}
-use Rattle.child_listing.proofs.kept_state.Beside.{kept-there}
+use Rattle.child_listing.specs.from_kept_records.KeptElement.{KeptElement}
+use Rattle.child_listing.specs.from_kept_state.KeptChildren.{KeptChildren}
+use Rattle.child_listing.proofs.from_kept_state.Beside.{kept-there}
 use Rattle.child_lists.proofs.Written.{midway-written, stuck-written, given-written, counted-written, pair-stays}
 use Rattle.child_lists.proofs.lists.note_stuck.Goals as goal
 

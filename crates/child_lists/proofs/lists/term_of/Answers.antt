@@ -1,8 +1,8 @@
 use Rattle.std.proofs.Common.{Option, Some, length, sym, ap, ◌∙◌}
 use Rattle.content_models.specs.declared.automaton.ContentAutomaton.{ContentAutomaton}
 use Rattle.doc_nodes.specs.Nodes.{element_children}
-use Rattle.child_listing.specs.kept_records.Slots.{kept_at, pair_at}
-use Rattle.child_listing.specs.kept_state.KeptChildren.{KeptChildren}
+use Rattle.child_listing.specs.from_kept_records.Slots.{kept_at, pair_at}
+use Rattle.child_listing.specs.from_kept_state.KeptChildren.{KeptChildren}
 use Rattle.model_terms.specs.Terms.{stuck_in, term_in}
 use Rattle.child_lists.specs.Family.{model_of, symbols_of}
 use Rattle.child_lists.proofs.Listed.{unlisted, unlisted-term, child-element, in-list, place-there, symbol-here, symbols-many, unmarked-here, as-few-steps, symbols-all}

@@ -1,5 +1,5 @@
 use Rattle.std.specs.Prelude.{remove}
-use Rattle.child_listing.specs.kept_records.Slots.{kept_at}
+use Rattle.child_listing.specs.from_kept_records.Slots.{kept_at}
 use Rattle.child_lists.specs.Family.{model_of}
 use Rattle.child_lists.proofs.Listed.{listed-as, listed-back, unlisted-any}
 use Rattle.child_lists.proofs.Written.{midway-edited}

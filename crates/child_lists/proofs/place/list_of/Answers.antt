@@ -1,6 +1,6 @@
 use Rattle.std.proofs.Common.{option_copied, sym, ap, ◌∙◌, inl, inr}
 use Rattle.elem_governing.specs.declared.pairs.Governing.{Governing}
-use Rattle.child_listing.specs.kept_records.Fit.{models_of}
+use Rattle.child_listing.specs.from_kept_records.Fit.{models_of}
 use Rattle.child_lists.proofs.place.list_of.Goals as goal
 
 pub returns-in-None : goal.returns-in-None

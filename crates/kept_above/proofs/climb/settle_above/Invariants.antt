@@ -1,6 +1,6 @@
 use Rattle.std.proofs.Common.{◌≡◌}
 use Rattle.doc_nodes.specs.Nodes.{node, depth_by}
-use Rattle.kept_judging.specs.kept_state.Kept.{IsBeside}
+use Rattle.kept_judging.specs.from_kept_state.Kept.{IsBeside}
 use Rattle.kept_above.specs.Climbing.{IsClimbing, KeepsRest}
 use Rattle.kept_above.proofs.climb.settle_above.Given as goal
 

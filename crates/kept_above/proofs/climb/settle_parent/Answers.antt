@@ -1,10 +1,10 @@
 use Rattle.std.proofs.Common.{refl, sym, subst}
 use Rattle.compiled_schema.specs.Usable.{set_of}
-use Rattle.kept_judging.specs.kept_state.Kept.{outcome_at}
-use Rattle.kept_judging.specs.kept_state.KeptChildren.{KeptChildren}
-use Rattle.kept_judging.specs.kept_state.Outcome.{Outcome}
-use Rattle.kept_judging.proofs.kept_state.Beside.{beside-same}
-use Rattle.kept_judging.specs.kept_records.KeptElement.{KeptElement}
+use Rattle.kept_judging.specs.from_kept_state.Kept.{outcome_at}
+use Rattle.kept_judging.specs.from_kept_state.KeptChildren.{KeptChildren}
+use Rattle.kept_judging.specs.from_kept_state.Outcome.{Outcome}
+use Rattle.kept_judging.proofs.from_kept_state.Beside.{beside-same}
+use Rattle.kept_judging.specs.from_kept_records.KeptElement.{KeptElement}
 use Rattle.kept_judging.specs.Judged.{IsJudgedBy}
 use Rattle.kept_above.specs.Climbing.{IsClimbing, with_outcome}
 use Rattle.kept_above.proofs.Climbing.{nearly-few, nearly-fewer, parent-made, recounted-by, judged-mid, climbed, kept-rest}

@@ -11,11 +11,11 @@ use Rattle.compiled_schema.specs.declared.compiled.Compiled.{Compiled}
 use Rattle.doc_nodes.specs.Nodes.{Nodes, Has, element_children}
 use Rattle.doc_documents.specs.Readers.{element_numbers}
 use Rattle.kept_slots.specs.Slots.{at}
-use Rattle.child_listing.specs.kept_records.Slots.{blank}
-use Rattle.child_listing.specs.kept_state.Kept.{CanGovern, FitBut, IsBeside}
-use Rattle.child_listing.specs.kept_state.Governed.{Governed}
-use Rattle.child_listing.specs.kept_state.KeptState.{KeptState}
-use Rattle.child_listing.specs.kept_judging.Judged.{pair_by}
+use Rattle.child_listing.specs.from_kept_records.Slots.{blank}
+use Rattle.child_listing.specs.from_kept_state.Kept.{CanGovern, FitBut, IsBeside}
+use Rattle.child_listing.specs.from_kept_state.Governed.{Governed}
+use Rattle.child_listing.specs.from_kept_state.KeptState.{KeptState}
+use Rattle.child_listing.specs.from_kept_judging.Judged.{pair_by}
 use Rattle.child_listing.specs.Children.{AreGoverned}
 use Rattle.kept_forgetting.specs.Below.{IsBelow}
 use Rattle.kept_below.specs.Below.{IsMadeAnew}

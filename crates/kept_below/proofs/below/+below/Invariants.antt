@@ -4,8 +4,8 @@ use Rattle.assess_records.specs.Counts.{counts_of}
 use Rattle.elem_governing.specs.declared.pairs.Governing.{Governing}
 use Rattle.doc_nodes.specs.Nodes.{Has, node, depth_by}
 use Rattle.doc_documents.specs.Readers.{element_numbers}
-use Rattle.child_listing.specs.kept_state.Kept.{FitBut, IsBeside}
-use Rattle.child_listing.specs.kept_state.Governed.{Governed}
+use Rattle.child_listing.specs.from_kept_state.Kept.{FitBut, IsBeside}
+use Rattle.child_listing.specs.from_kept_state.Governed.{Governed}
 use Rattle.child_listing.specs.Children.{AreGoverned}
 use Rattle.kept_forgetting.specs.Below.{IsBelow, KeepsBut}
 use Rattle.kept_below.specs.Moved.{moved, AreGivenDown}

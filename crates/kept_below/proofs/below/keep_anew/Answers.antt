@@ -1,7 +1,7 @@
 use Rattle.std.proofs.Common.{◌≡◌, Option, Some, refl, sym, subst, ◌∙◌}
 use Rattle.model_lists.specs.Lists.{KeepLists}
 use Rattle.model_lists.specs.declared.handle.ModelList.{ModelList}
-use Rattle.child_listing.specs.kept_records.Slots.{kept_at}
+use Rattle.child_listing.specs.from_kept_records.Slots.{kept_at}
 use Rattle.kept_below.proofs.Fits.{old-list-live, old-list-free, relisted-beside}
 use Rattle.kept_below.proofs.below.keep_anew.Goals as goal
 

@@ -2,12 +2,12 @@ use Rattle.std.proofs.Common.{[], ◌∷◌, sym, ap, subst, ◌∙◌, arith}
 use Rattle.std.proofs.lemmas.Option.{none-some}
 use Rattle.doc_nodes.specs.Nodes.{is_element_at}
 use Rattle.doc_changes.specs.Held.{parent_at}
-use Rattle.child_listing.specs.kept_records.Slots.{IsMade, pair_at}
+use Rattle.child_listing.specs.from_kept_records.Slots.{IsMade, pair_at}
 use Rattle.kept_below.proofs.Again.{on-one}
 use Rattle.kept_forgetting.proofs.Depths.{root-parent}
-use Rattle.child_listing.proofs.kept_judging.Heads.{root-element}
+use Rattle.child_listing.proofs.from_kept_judging.Heads.{root-element}
 use Rattle.kept_below.proofs.Opening.{governs, root-governs, all-given, opening-counts}
-use Rattle.child_listing.proofs.kept_records.Nodes.{root-numbers}
+use Rattle.child_listing.proofs.from_kept_records.Nodes.{root-numbers}
 use Rattle.kept_below.proofs.below.open_records.Goals as goal
 
 -- the root is read where it is numbered 1; then what is asked of settle_below holds, since nothing is kept yet

@@ -3,7 +3,7 @@ use Rattle.std.specs.Prelude.{OnOk}
 use Rattle.compiled_schema.specs.declared.compiled.Compiled.{Compiled}
 use Rattle.doc_edits.specs.Changes.{CanMake, changed}
 use Rattle.doc_edits.specs.declared.change.Change.{Change}
-use Rattle.kept_children.specs.kept_state.Kept.{IsBeside}
+use Rattle.kept_children.specs.from_kept_state.Kept.{IsBeside}
 use Rattle.kept_children.specs.Edited.{IsRightFor}
 use Rattle.kept_changes.specs.Spots.{HasChangedAt, TakesSpot}
 use Rattle.kept_changes.proofs.Following.{changed-at, changed-beside, pruned-change, removal-stands, takes-change, takes-removal, ok-of}

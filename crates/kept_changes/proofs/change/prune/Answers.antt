@@ -6,8 +6,8 @@ use Rattle.tree_edits.specs.declared.edit.Edit.TheVariants as edits
 use Rattle.doc_nodes.specs.Nodes.{IsChildAt, is_element_at}
 use Rattle.doc_changes.specs.Held.{parent_at}
 use Rattle.doc_changes.specs.Parts.{IsOver, Prunes}
-use Rattle.kept_children.specs.kept_state.Kept.{outcome_at}
-use Rattle.kept_children.specs.kept_forgetting.Forgotten.{Forgets}
+use Rattle.kept_children.specs.from_kept_state.Kept.{outcome_at}
+use Rattle.kept_children.specs.from_kept_forgetting.Forgotten.{Forgets}
 use Rattle.kept_children.specs.Steps.{width}
 use Rattle.kept_changes.specs.Steps.{TakesBelow}
 use Rattle.kept_changes.proofs.Reread.{right-made}

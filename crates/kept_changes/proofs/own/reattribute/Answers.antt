@@ -3,11 +3,11 @@ use Rattle.std.specs.Prelude.{OnOk}
 use Rattle.compiled_schema.specs.Usable.{set_of}
 use Rattle.compiled_schema.specs.declared.compiled.Compiled.{Compiled}
 use Rattle.doc_changes.specs.Held.{parent_at}
-use Rattle.kept_children.specs.kept_records.Fit.{models_of, AboveIn, IsGathered}
-use Rattle.kept_children.specs.kept_state.Kept.{CanGovern, FitBut, IsBeside}
-use Rattle.kept_children.specs.kept_state.Governed.{Governed}
-use Rattle.kept_children.specs.kept_above.Climbing.{IsClimbing}
-use Rattle.kept_children.specs.kept_below.Below.{AreAbove, IsSettled}
+use Rattle.kept_children.specs.from_kept_records.Fit.{models_of, AboveIn, IsGathered}
+use Rattle.kept_children.specs.from_kept_state.Kept.{CanGovern, FitBut, IsBeside}
+use Rattle.kept_children.specs.from_kept_state.Governed.{Governed}
+use Rattle.kept_children.specs.from_kept_above.Climbing.{IsClimbing}
+use Rattle.kept_children.specs.from_kept_below.Below.{AreAbove, IsSettled}
 use Rattle.kept_changes.proofs.Reread.{all-ok}
 use Rattle.kept_changes.proofs.Reattributed.{above-of, own-made, others-fit, own-gathered, above-waits, above-higher, same-again, again-can, reattribute-climbs, reattribute-right}
 use Rattle.kept_changes.proofs.own.reattribute.Goals as goal

@@ -1,8 +1,8 @@
 use Rattle.std.proofs.Common.{◌≡◌, ℕ, Option, Some, sym, subst}
 use Rattle.compiled_schema.specs.Usable.{set_of}
 use Rattle.doc_changes.specs.Held.{parent_at}
-use Rattle.kept_children.specs.kept_records.Fit.{head_at}
-use Rattle.kept_children.specs.kept_judging.Judged.{root_pair}
+use Rattle.kept_children.specs.from_kept_records.Fit.{head_at}
+use Rattle.kept_children.specs.from_kept_judging.Judged.{root_pair}
 use Rattle.kept_changes.specs.Own.{IsNamedAnew}
 use Rattle.kept_changes.specs.Steps.{TakesAt, TakesName}
 use Rattle.kept_changes.proofs.Following.{named-element, named-child, named-root}

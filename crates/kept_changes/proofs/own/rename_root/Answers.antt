@@ -1,9 +1,9 @@
 use Rattle.std.proofs.Common.{ℕ, List, [], ◌∷◌, true, ◌≡◌, sym, ap, ◌∙◌, subst}
 use Rattle.compiled_schema.specs.Usable.{set_of}
 use Rattle.doc_nodes.specs.Nodes.{is_element_at}
-use Rattle.kept_children.specs.kept_records.Fit.{models_of, AboveIn, IsGathered}
-use Rattle.kept_children.specs.kept_state.Kept.{FitBut}
-use Rattle.kept_children.specs.kept_below.Below.{AreAbove}
+use Rattle.kept_children.specs.from_kept_records.Fit.{models_of, AboveIn, IsGathered}
+use Rattle.kept_children.specs.from_kept_state.Kept.{FitBut}
+use Rattle.kept_children.specs.from_kept_below.Below.{AreAbove}
 use Rattle.kept_changes.proofs.Reread.{all-ok}
 use Rattle.kept_changes.proofs.RootNamed.{root-element, root-gathered, others-fit, root-alone, root-right}
 use Rattle.kept_changes.proofs.own.rename_root.Goals as goal

@@ -2,12 +2,12 @@ use Rattle.std.proofs.Common.{[], sym, ap, ◌∙◌, subst}
 use Rattle.std.specs.Prelude.{OnOk}
 use Rattle.elem_governing.specs.declared.pairs.Governing.{Governing}
 use Rattle.compiled_schema.specs.declared.compiled.Compiled.{Compiled}
-use Rattle.kept_children.specs.kept_records.KeptElement.{KeptElement}
-use Rattle.kept_children.specs.kept_state.Kept.{CanGovern, FitBut, IsBeside, children_at}
-use Rattle.kept_children.specs.kept_state.KeptState.{KeptState}
-use Rattle.kept_children.proofs.kept_state.Beside.{kept-there}
-use Rattle.kept_children.specs.kept_judging.Judged.{IsJudgedAnew}
-use Rattle.kept_children.specs.kept_above.Climbing.{IsClimbing}
+use Rattle.kept_children.specs.from_kept_records.KeptElement.{KeptElement}
+use Rattle.kept_children.specs.from_kept_state.Kept.{CanGovern, FitBut, IsBeside, children_at}
+use Rattle.kept_children.specs.from_kept_state.KeptState.{KeptState}
+use Rattle.kept_children.proofs.from_kept_state.Beside.{kept-there}
+use Rattle.kept_children.specs.from_kept_judging.Judged.{IsJudgedAnew}
+use Rattle.kept_children.specs.from_kept_above.Climbing.{IsClimbing}
 use Rattle.kept_changes.proofs.Reread.{all-ok}
 use Rattle.kept_changes.proofs.Retexted.{made-own, texts-written, texts-beside, retext-climbs, retext-right}
 use Rattle.kept_changes.proofs.own.retext.Goals as goal

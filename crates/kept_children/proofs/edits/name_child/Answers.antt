@@ -2,9 +2,9 @@ use Rattle.std.proofs.Common.{◌+◌, ◌*◌, ◌≤◌, [], ◌∷◌, sym, a
 use Rattle.std.proofs.lemmas.Result.{on_ok_weaker}
 use Rattle.compiled_schema.specs.declared.compiled.Compiled.{Compiled}
 use Rattle.doc_nodes.specs.Nodes.{element_children}
-use Rattle.child_lists.specs.kept_records.Slots.{pair_at}
-use Rattle.child_lists.specs.kept_state.Kept.{children_at}
-use Rattle.child_lists.specs.kept_state.KeptChildren.{KeptChildren}
+use Rattle.child_lists.specs.from_kept_records.Slots.{pair_at}
+use Rattle.child_lists.specs.from_kept_state.Kept.{children_at}
+use Rattle.child_lists.specs.from_kept_state.KeptChildren.{KeptChildren}
 use Rattle.kept_below.specs.Moved.{moved}
 use Rattle.child_lists.specs.Family.{AreGivenBut, IsAttributed, IsMidway}
 use Rattle.kept_children.specs.Edited.{IsRightFor}

@@ -1,8 +1,8 @@
 use Rattle.std.proofs.Common.{[], ◌∷◌, ◌∙◌, refl, inl, sym, subst}
 use Rattle.std.proofs.lemmas.Result.{on_ok_weaker}
-use Rattle.child_lists.proofs.kept_judging.Keeping.{both-ok}
+use Rattle.child_lists.proofs.from_kept_judging.Keeping.{both-ok}
 use Rattle.compiled_schema.specs.Usable.{set_of}
-use Rattle.child_lists.specs.kept_records.Fit.{models_of, IsGathered}
+use Rattle.child_lists.specs.from_kept_records.Fit.{models_of, IsGathered}
 use Rattle.kept_children.proofs.Settling.{term-alone, governed-element, governed-above, governed-deeper, governed-at, governed-steps, governed-left}
 use Rattle.kept_children.proofs.edits.settle_again_at.Goals as goal
 

@@ -1,8 +1,8 @@
 use Rattle.std.proofs.Common.{[], sym, subst, ◌∙◌}
 use Rattle.compiled_schema.specs.declared.compiled.Compiled.{Compiled}
-use Rattle.child_lists.specs.kept_state.Kept.{FitBut, IsBeside}
-use Rattle.child_lists.specs.kept_state.Outcome.{Outcome}
-use Rattle.child_lists.proofs.kept_judging.Keeping.{both-ok}
+use Rattle.child_lists.specs.from_kept_state.Kept.{FitBut, IsBeside}
+use Rattle.child_lists.specs.from_kept_state.Outcome.{Outcome}
+use Rattle.child_lists.proofs.from_kept_judging.Keeping.{both-ok}
 use Rattle.kept_above.specs.Climbing.{IsClimbing}
 use Rattle.kept_children.specs.Edited.{IsRightFor}
 use Rattle.kept_children.proofs.Ending.{climbing, top-kept}

@@ -1,9 +1,9 @@
 use Rattle.std.proofs.Common.{[], sym, subst, ◌∙◌}
 use Rattle.std.proofs.lemmas.Result.{on_ok_weaker}
 use Rattle.compiled_schema.specs.declared.compiled.Compiled.{Compiled}
-use Rattle.child_lists.specs.kept_records.Slots.{pair_at}
-use Rattle.child_lists.specs.kept_state.Kept.{children_at}
-use Rattle.child_lists.specs.kept_judging.Judged.{AreChildren}
+use Rattle.child_lists.specs.from_kept_records.Slots.{pair_at}
+use Rattle.child_lists.specs.from_kept_state.Kept.{children_at}
+use Rattle.child_lists.specs.from_kept_judging.Judged.{AreChildren}
 use Rattle.child_lists.specs.Family.{IsMidway}
 use Rattle.kept_children.specs.Edited.{IsRightFor}
 use Rattle.kept_children.proofs.Ending.{children-right}

@@ -1,8 +1,8 @@
 use Rattle.std.proofs.Common.{◌+◌, ◌*◌, ◌≤◌, [], sym, subst, ◌∙◌}
 use Rattle.doc_nodes.specs.Nodes.{element_children}
-use Rattle.child_lists.specs.kept_records.Slots.{pair_at}
-use Rattle.child_lists.specs.kept_state.Kept.{children_at}
-use Rattle.child_lists.specs.kept_state.KeptChildren.{KeptChildren}
+use Rattle.child_lists.specs.from_kept_records.Slots.{pair_at}
+use Rattle.child_lists.specs.from_kept_state.Kept.{children_at}
+use Rattle.child_lists.specs.from_kept_state.KeptChildren.{KeptChildren}
 use Rattle.kept_below.specs.Moved.{moved}
 use Rattle.child_lists.specs.Family.{AreGivenBut, IsMidway, symbols_of}
 use Rattle.kept_children.specs.Steps.{digits, marked_count, places_of, width}

@@ -2,7 +2,7 @@ use Rattle.std.proofs.Common.{Option, sym, ap, ◌∙◌}
 use Rattle.std.specs.Prelude.{slice_get}
 use Rattle.std.proofs.lemmas.Option.{none-some}
 use Rattle.content_models.specs.declared.automaton.ContentAutomaton.{ContentAutomaton}
-use Rattle.child_lists.specs.kept_records.Slots.{kept_at}
+use Rattle.child_lists.specs.from_kept_records.Slots.{kept_at}
 use Rattle.child_lists.specs.Family.{marked_places, model_of, symbols_of}
 use Rattle.child_lists.proofs.Listed.{listed-as, unlisted, unlisted-places}
 use Rattle.kept_children.proofs.Asking.{child-there, child-up}

@@ -2,8 +2,8 @@ use Rattle.std.proofs.Common.{◌≡◌, ℕ, ◌+◌, ◌*◌, ◌≤◌, [], d
 use Rattle.tree_rows.specs.Forest.{Forest}
 use Rattle.elem_governing.specs.declared.pairs.Governing.{Governing}
 use Rattle.doc_nodes.specs.Nodes.{element_children}
-use Rattle.child_lists.specs.kept_records.Slots.{pair_at}
-use Rattle.child_lists.specs.kept_state.KeptChildren.{KeptChildren}
+use Rattle.child_lists.specs.from_kept_records.Slots.{pair_at}
+use Rattle.child_lists.specs.from_kept_state.KeptChildren.{KeptChildren}
 use Rattle.kept_below.specs.Moved.{moved}
 use Rattle.child_lists.specs.Family.{AreCounted, AreGivenBut, IsAttributed, IsMidway}
 use Rattle.kept_children.specs.Steps.{GovernsBelow, digits, marked_count, places_of, width}

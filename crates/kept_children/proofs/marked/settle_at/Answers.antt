@@ -1,6 +1,6 @@
 use Rattle.std.proofs.Common.{[], ◌∷◌}
 use Rattle.std.proofs.lemmas.Result.{on_ok_weaker}
-use Rattle.child_lists.proofs.kept_judging.Keeping.{both-ok}
+use Rattle.child_lists.proofs.from_kept_judging.Keeping.{both-ok}
 use Rattle.kept_children.proofs.Settling.{term-alone, governed-element, governed-above, governed-deeper, governed-at, governed-steps, governed-left}
 use Rattle.kept_children.proofs.marked.settle_at.Goals as goal
 

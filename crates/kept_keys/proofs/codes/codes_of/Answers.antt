@@ -4,7 +4,7 @@ use Rattle.identity_paths.specs.declared.paths.IdentityPaths.{IdentityPaths}
 use Rattle.identity_assessment.specs.Identity.{seen}
 use Rattle.forest_keys.specs.Codes.{all_codes}
 use Rattle.path_walk.specs.Sight.{AreNamed}
-use Rattle.kept_above.specs.kept_records.Found.{found_in}
+use Rattle.kept_above.specs.from_kept_records.Found.{found_in}
 use Rattle.kept_keys.specs.Keys.{codes_at}
 use Rattle.kept_keys.specs.Seen.{numbers_in, siblings_of}
 use Rattle.kept_keys.proofs.Coding.{codes-by-number}

@@ -1,8 +1,8 @@
 use Rattle.std.proofs.Common.{◌≡◌, sym, ap, ◌∙◌}
 use Rattle.std.proofs.lemmas.Slice.Eq.{slice_eq-Decides}
-use Rattle.kept_above.specs.kept_records.KeptElement.{KeptElement}
-use Rattle.kept_above.specs.kept_records.Slots.{kept_at}
-use Rattle.kept_above.proofs.kept_state.Beside.{kept-there}
+use Rattle.kept_above.specs.from_kept_records.KeptElement.{KeptElement}
+use Rattle.kept_above.specs.from_kept_records.Slots.{kept_at}
+use Rattle.kept_above.proofs.from_kept_state.Beside.{kept-there}
 use Rattle.kept_keys.proofs.Deciding.{found-decides}
 use Rattle.kept_keys.proofs.scopes.has_codes.Goals as goal
 

@@ -3,9 +3,9 @@ use Rattle.std.specs.Prelude.{OnOk}
 use Rattle.std.proofs.lemmas.Result.{on_ok_weaker}
 use Rattle.elem_governing.specs.declared.pairs.Governing.{Governing}
 use Rattle.compiled_schema.specs.declared.compiled.Compiled.{Compiled}
-use Rattle.kept_above.specs.kept_state.Kept.{CanGovern, FitBut, IsBeside, children_at}
-use Rattle.kept_above.specs.kept_state.Outcome.{Outcome}
-use Rattle.kept_above.specs.kept_judging.Judged.{IsJudgedAnew}
+use Rattle.kept_above.specs.from_kept_state.Kept.{CanGovern, FitBut, IsBeside, children_at}
+use Rattle.kept_above.specs.from_kept_state.Outcome.{Outcome}
+use Rattle.kept_above.specs.from_kept_judging.Judged.{IsJudgedAnew}
 use Rattle.kept_above.specs.Climbing.{IsClimbing}
 use Rattle.kept_keys.proofs.Again.{all-ok, climbing, codes-kept, whole-again}
 use Rattle.kept_keys.proofs.scopes.judge_upwards.Goals as goal

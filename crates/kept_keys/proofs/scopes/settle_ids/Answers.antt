@@ -1,7 +1,7 @@
 use Rattle.std.proofs.Common.{true, refl, sym, ◌∙◌}
 use Rattle.std.proofs.lemmas.Result.{on_ok_weaker}
 use Rattle.std.proofs.lemmas.Slice.Eq.{slice_eq-Decides}
-use Rattle.kept_above.proofs.kept_judging.Keeping.{both-ok}
+use Rattle.kept_above.proofs.from_kept_judging.Keeping.{both-ok}
 use Rattle.kept_keys.proofs.Deciding.{found-decides}
 use Rattle.kept_keys.proofs.Idents.{elements-ids, ids-after, ids-found}
 use Rattle.kept_keys.proofs.Whole.{elements-same}

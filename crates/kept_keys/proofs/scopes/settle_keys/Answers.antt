@@ -4,8 +4,8 @@ use Rattle.tree_rows.specs.Forest.{Document}
 use Rattle.identity_tables.specs.Ids.{id_codes}
 use Rattle.assessment.specs.Bearings.{borne_values}
 use Rattle.compiled_schema.specs.declared.compiled.Compiled.{Compiled}
-use Rattle.kept_above.proofs.kept_judging.Keeping.{both-ok}
-use Rattle.kept_above.specs.kept_records.Found.{IsOver, found_in}
+use Rattle.kept_above.proofs.from_kept_judging.Keeping.{both-ok}
+use Rattle.kept_above.specs.from_kept_records.Found.{IsOver, found_in}
 use Rattle.kept_keys.specs.Keys.{IsWhole}
 use Rattle.kept_keys.proofs.Again.{all-ok}
 use Rattle.kept_keys.proofs.Idents.{says-found}

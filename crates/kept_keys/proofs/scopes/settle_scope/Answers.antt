@@ -1,6 +1,6 @@
 use Rattle.std.proofs.Common.{refl}
 use Rattle.std.proofs.lemmas.Result.{on_ok_weaker}
-use Rattle.kept_above.specs.kept_state.KeptState.{KeptState}
+use Rattle.kept_above.specs.from_kept_state.KeptState.{KeptState}
 use Rattle.kept_keys.proofs.Whole.{top-stays}
 use Rattle.kept_keys.proofs.Written.{beside-coded, coded-same, coded-then, elements-written, fit-coded, gathered-coded}
 use Rattle.kept_keys.proofs.scopes.settle_scope.Goals as goal

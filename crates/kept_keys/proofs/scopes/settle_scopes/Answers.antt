@@ -4,8 +4,8 @@ use Rattle.std.proofs.lemmas.List.{nil_from_length}
 use Rattle.std.proofs.lemmas.List.Elements.{All-pop}
 use Rattle.identity_assessment.specs.Identity.{seen}
 use Rattle.compiled_schema.specs.declared.compiled.Compiled.{Compiled}
-use Rattle.kept_above.specs.kept_records.Found.{found_in}
-use Rattle.kept_above.specs.kept_records.Slots.{IsMade}
+use Rattle.kept_above.specs.from_kept_records.Found.{found_in}
+use Rattle.kept_above.specs.from_kept_records.Slots.{IsMade}
 use Rattle.kept_keys.specs.Keys.{IsWhole}
 use Rattle.kept_keys.proofs.Numbered.{all-numbers}
 use Rattle.kept_keys.proofs.Scoped.{coded-all, coded-more, coded-none, coded-plain, coded-short}

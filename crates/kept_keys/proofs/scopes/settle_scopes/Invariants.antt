@@ -1,8 +1,8 @@
 use Rattle.std.proofs.Common.{◌≡◌, All, vec_len}
 use Rattle.tree_rows.specs.Forest.{Document}
 use Rattle.identity_assessment.specs.Identity.{seen}
-use Rattle.kept_above.specs.kept_records.Slots.{IsMade}
-use Rattle.kept_above.specs.kept_records.Found.{IsOver, found_in}
+use Rattle.kept_above.specs.from_kept_records.Slots.{IsMade}
+use Rattle.kept_above.specs.from_kept_records.Found.{IsOver, found_in}
 use Rattle.kept_keys.specs.Keys.{IsWhole, KeepsElements}
 use Rattle.kept_keys.proofs.Scoped.{AreCodedBut}
 use Rattle.kept_keys.proofs.scopes.settle_scopes.Given as goal

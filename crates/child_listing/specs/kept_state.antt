@@ -1,6 +1,0 @@
--- What crates above name of `kept_state`, passed on.
-pub use Rattle.kept_judging.specs.kept_state.Kept
-pub use Rattle.kept_judging.specs.kept_state.KeptChildren
-pub use Rattle.kept_judging.specs.kept_state.Governed
-pub use Rattle.kept_judging.specs.kept_state.Outcome
-pub use Rattle.kept_judging.specs.kept_state.KeptState

@@ -1,0 +1,2 @@
+-- What crates above name of `kept_state`, passed on.
+pub use Rattle.child_listing.proofs.from_kept_state.Beside

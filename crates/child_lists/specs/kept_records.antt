@@ -1,6 +1,0 @@
--- What crates above name of `kept_records`, passed on.
-pub use Rattle.child_listing.specs.kept_records.Books
-pub use Rattle.child_listing.specs.kept_records.Fit
-pub use Rattle.child_listing.specs.kept_records.Found
-pub use Rattle.child_listing.specs.kept_records.Slots
-pub use Rattle.child_listing.specs.kept_records.KeptElement

@@ -1,6 +1,0 @@
--- What crates above name of `kept_state`, passed on.
-pub use Rattle.child_listing.specs.kept_state.Kept
-pub use Rattle.child_listing.specs.kept_state.KeptChildren
-pub use Rattle.child_listing.specs.kept_state.Governed
-pub use Rattle.child_listing.specs.kept_state.Outcome
-pub use Rattle.child_listing.specs.kept_state.KeptState

@@ -1,2 +1,0 @@
--- What crates above name of `kept_state`, passed on.
-pub use Rattle.kept_judging.proofs.kept_state.Beside

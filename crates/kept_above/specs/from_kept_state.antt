@@ -1,0 +1,4 @@
+-- What crates above name of `kept_state`, passed on.
+pub use Rattle.kept_judging.specs.from_kept_state.Kept
+pub use Rattle.kept_judging.specs.from_kept_state.Outcome
+pub use Rattle.kept_judging.specs.from_kept_state.KeptState

@@ -1,6 +1,0 @@
--- What crates above name of `kept_records`, passed on.
-pub use Rattle.kept_judging.specs.kept_records.Books
-pub use Rattle.kept_judging.specs.kept_records.Fit
-pub use Rattle.kept_judging.specs.kept_records.Found
-pub use Rattle.kept_judging.specs.kept_records.Slots
-pub use Rattle.kept_judging.specs.kept_records.KeptElement

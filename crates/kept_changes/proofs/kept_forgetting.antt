@@ -1,3 +1,0 @@
--- What crates above name of `kept_forgetting`, passed on.
-pub use Rattle.kept_children.proofs.kept_forgetting.Depths
-pub use Rattle.kept_children.proofs.kept_forgetting.Placed

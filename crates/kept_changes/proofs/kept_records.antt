@@ -1,8 +1,0 @@
--- What crates above name of `kept_records`, passed on.
-pub use Rattle.kept_children.proofs.kept_records.Kept
-pub use Rattle.kept_children.proofs.kept_records.Made
-pub use Rattle.kept_children.proofs.kept_records.Modelled
-pub use Rattle.kept_children.proofs.kept_records.Nodes
-pub use Rattle.kept_children.proofs.kept_records.Said
-pub use Rattle.kept_children.proofs.kept_records.Settled
-pub use Rattle.kept_children.proofs.kept_records.Sums

@@ -1,2 +1,0 @@
--- What crates above name of `child_lists`, passed on.
-pub use Rattle.kept_children.specs.child_lists.Family

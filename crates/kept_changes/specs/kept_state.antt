@@ -1,3 +1,0 @@
--- What crates above name of `kept_state`, passed on.
-pub use Rattle.kept_children.specs.kept_state.Kept
-pub use Rattle.kept_children.specs.kept_state.KeptState

@@ -1,4 +1,0 @@
--- What crates above name of `kept_forgetting`, passed on.
-pub use Rattle.child_lists.proofs.kept_forgetting.Depths
-pub use Rattle.child_lists.proofs.kept_forgetting.Placed
-pub use Rattle.child_lists.proofs.kept_forgetting.Walks

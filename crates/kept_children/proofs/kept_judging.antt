@@ -1,4 +1,0 @@
--- What crates above name of `kept_judging`, passed on.
-pub use Rattle.child_lists.proofs.kept_judging.Anew
-pub use Rattle.child_lists.proofs.kept_judging.Heads
-pub use Rattle.child_lists.proofs.kept_judging.Reading

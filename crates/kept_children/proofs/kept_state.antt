@@ -1,2 +1,0 @@
--- What crates above name of `kept_state`, passed on.
-pub use Rattle.child_lists.proofs.kept_state.Beside

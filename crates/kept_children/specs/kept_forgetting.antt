@@ -1,3 +1,0 @@
--- What crates above name of `kept_forgetting`, passed on.
-pub use Rattle.child_lists.specs.kept_forgetting.Below
-pub use Rattle.child_lists.specs.kept_forgetting.Forgotten

@@ -1,2 +1,0 @@
--- What crates above name of `kept_judging`, passed on.
-pub use Rattle.child_lists.specs.kept_judging.Judged

@@ -1,5 +1,0 @@
--- What crates above name of `kept_records`, passed on.
-pub use Rattle.kept_changes.proofs.kept_records.Kept
-pub use Rattle.kept_changes.proofs.kept_records.Made
-pub use Rattle.kept_changes.proofs.kept_records.Said
-pub use Rattle.kept_changes.proofs.kept_records.Sums

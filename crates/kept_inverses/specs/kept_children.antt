@@ -1,2 +1,0 @@
--- What crates above name of `kept_children`, passed on.
-pub use Rattle.kept_changes.specs.kept_children.Edited

@@ -1,2 +1,0 @@
--- What crates above name of `edit_session`, passed on.
-pub use Rattle.open_document.specs.edit_session.Changed
