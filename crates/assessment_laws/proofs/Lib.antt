@@ -8,3 +8,4 @@ pub mod Attrs
 pub mod Judged
 pub mod Terms
 pub mod Only
+pub mod Values

@@ -59,13 +59,13 @@ use Rattle.kept_records.proofs.Settled.{assessed}
 use Rattle.kept_records.proofs.Sums.{kept-is}
 use Rattle.kept_state.specs.declared.state.KeptState.{KeptState}
 use Rattle.kept_judging.specs.Judged.{root_pair, given_pair, again_pair, pair_by, symbols_by}
-use Rattle.kept_forgetting.proofs.Placed.{child-place}
-use Rattle.elem_regoverning.proofs.Regoverned.{child-again, root-again}
+use Rattle.kept_judging.proofs.Placed.{child-place}
+use Rattle.elem_governing.proofs.Regoverned.{child-again, root-again}
 use Rattle.model_terms.specs.Symbols.{child_symbols}
 use Rattle.model_terms.specs.Terms.{term_in}
 use Rattle.tree_rows.specs.declared.row.Attribute.{Attribute}
 use Rattle.doc_documents.specs.Readers.{name_at}
-use Rattle.kept_below.specs.Moved.{AreGivenDown, moved}
+use Rattle.child_listing.specs.Moved.{AreGivenDown, moved}
 use Rattle.kept_children.specs.Edited.{IsRightFor}
 use Rattle.kept_children.specs.Steps.{GovernsBelow, digits, marked_count}
 use Rattle.kept_children.specs.Steps as steps

@@ -38,7 +38,7 @@ use Rattle.doc_heads.proofs.Showing.{name_shown, texts_shown, scope_shown}
 use Rattle.kept_records.specs.Fit.{models_of, head_at}
 use Rattle.kept_records.proofs.Modelled.{type-fits}
 use Rattle.kept_records.proofs.Nodes.{all-of, shown, child-parent, root-numbers}
-use Rattle.kept_forgetting.proofs.Depths.{root-parent}
+use Rattle.kept_judging.proofs.Depths.{root-parent}
 use Rattle.kept_judging.specs.Judged.{root_pair, given_pair, pair_by}
 
 symbols-each : (t : NameTable) (m : Option ContentAutomaton) (names : List ℕ) → length (child_symbols t m names) ≡ length names

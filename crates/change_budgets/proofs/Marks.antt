@@ -30,7 +30,7 @@ use Rattle.kept_records.specs.Fit.{models_of}
 use Rattle.kept_records.proofs.Modelled.{type-fits}
 use Rattle.kept_records.proofs.Nodes.{shown}
 use Rattle.kept_judging.specs.Judged.{symbols_by}
-use Rattle.child_lists.specs.Family.{marked_places}
+use Rattle.child_listing.specs.Family.{marked_places}
 
 abbrev trues : List Bool → ℕ
 trues [] = 0

@@ -11,8 +11,8 @@ use Rattle.doc_documents.specs.Readers.{element_numbers}
 use Rattle.kept_slots.specs.Slots.{at}
 use Rattle.kept_records.specs.declared.element.KeptElement.{KeptElement}
 use Rattle.kept_records.specs.Slots.{KeptSlots}
-use Rattle.kept_below.specs.Moved.{is_typed}
-use Rattle.kept_below.specs.Moved as kept
+use Rattle.child_listing.specs.Moved.{is_typed}
+use Rattle.child_listing.specs.Moved as kept
 use Rattle.change_budgets.proofs.Paths.{IsAt}
 
 -- there are no fewer nodes among siblings than elements

@@ -17,7 +17,7 @@ use Rattle.model_terms.specs.Symbols.{child_symbols}
 use Rattle.model_terms.specs.Terms.{stuck_in, term_in, terms_in}
 use Rattle.model_lists.specs.Lists.{ListsView, IsListOf, IsLive}
 use Rattle.model_lists.specs.declared.handle.ModelList.{ModelList}
-use Rattle.child_terms.specs.declared.attribution.Attribution.{Attribution}
+use Rattle.model_lists.specs.declared.attribution.Attribution.{Attribution}
 use Rattle.doc_nodes.specs.Nodes.{Node, Nodes, node, Has, children_by, is_element, is_element_by, is_element_at, element_children}
 use Rattle.doc_nodes.specs.declared.content.Content.{Content}
 use Rattle.doc_nodes.specs.declared.content.Content.TheVariants as contents

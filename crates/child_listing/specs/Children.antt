@@ -5,7 +5,7 @@ use Rattle.compiled_schema.specs.declared.compiled.Compiled.{Compiled}
 use Rattle.model_terms.specs.Terms.{stuck_in, terms_in}
 use Rattle.model_lists.specs.Lists.{ListsView, IsLive}
 use Rattle.model_lists.specs.declared.handle.ModelList.{ModelList}
-use Rattle.child_terms.specs.declared.attribution.Attribution.{Attribution}
+use Rattle.model_lists.specs.declared.attribution.Attribution.{Attribution}
 use Rattle.doc_nodes.specs.Nodes.{Nodes, element_children}
 use Rattle.kept_records.specs.Slots.{kept_at}
 use Rattle.kept_records.specs.Fit.{models_of, IsListed}

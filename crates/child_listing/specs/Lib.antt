@@ -1,1 +1,5 @@
 pub mod Children
+pub mod Places
+pub mod Family
+pub mod Below
+pub mod Moved

@@ -16,7 +16,7 @@ ghost use Rattle.kept_state.specs.declared.element.Governed.{Governed as Governe
 ghost use Rattle.kept_judging.specs.Judged.{given_pair};
 ghost use Rattle.child_listing.specs.Children.{AreListed, IsListing};
 
-use child_terms::{Attribution, attribute, attribute_none};
+use model_lists::{Attribution, attribute, attribute_none};
 use compiled_schema::Compiled;
 use content_models::ContentAutomaton;
 use doc_tree::DocTree;

@@ -1,6 +1,6 @@
 use attr_uses::AttrTables;
 use component_tables::{ComponentNames, ContentTypes, Declarations};
-use identity_paths::IdentityPaths;
+use xpath_subset::IdentityPaths;
 use schema_models::Models;
 use simple_types::SimpleTypes;
 use xs_components::{Components, Members};

@@ -2,7 +2,7 @@
 use Rattle.std.proofs.Common.{◌≡◌, ℕ, zero, suc, List, [], map, Option, None, Some, refl, sym, ap, subst, ◌∙◌}
 use Rattle.std.specs.declared.alloc.Global.{Global}
 use Rattle.std.specs.declared.vec.Vec.{Vec}
-use Rattle.identity_counts.specs.Counting.{Links}
+use Rattle.identity_carry.specs.Counting.{Links}
 use Rattle.key_records.specs.Counted.{Counted, no_targets, plus}
 use Rattle.key_records.specs.Records.{AreRecords}
 use Rattle.key_records.specs.declared.records.KeyRecords.{KeyRecords}

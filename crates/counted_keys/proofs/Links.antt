@@ -1,6 +1,6 @@
 -- Counts of child elements, by links that differ only at elements that show nothing.
 use Rattle.std.proofs.Common.{◌≡◌, ◌≢◌, ◌⊎◌, ◌+◌, ◌≤◌, ◌<◌, ℕ, zero, suc, Bool, true, false, List, [], ◌∷◌, length, inl, inr, Option, None, Some, refl, sym, ap, ◌∙◌, arith, true≢false}
-use Rattle.identity_counts.specs.Counting.{Links, Has, Lacks, Distinct, IsLinked, bearers, is_seen, weight}
+use Rattle.identity_carry.specs.Counting.{Links, Has, Lacks, Distinct, IsLinked, bearers, is_seen, weight}
 use Rattle.identity_tables.specs.KeyTables.{Tables}
 use Rattle.identity_carry.specs.Tables.{AreParents, AreSettled, KeyTuple, is_in_table, own, parent_in, said}
 use Rattle.key_records.specs.Counted.{Counted}

@@ -7,10 +7,10 @@ use Rattle.tree_rows.specs.Forest.{Forest}
 use Rattle.tree_rows.specs.Forest as trees
 use Rattle.tree_rows.specs.Whole.{times}
 use Rattle.tree_rows.specs.declared.name.Expanded.{Expanded}
-use Rattle.slot_sums.specs.Elements.{HasElement, element_sum}
-use Rattle.slot_sums.proofs.Sums.{sums_are}
+use Rattle.kept_slots.specs.Elements.{HasElement, element_sum}
+use Rattle.kept_slots.proofs.SlotSums.{sums_are}
 use Rattle.xs_components.specs.Tables.{Tables}
-use Rattle.identity_paths.specs.declared.paths.IdentityPaths.{IdentityPaths}
+use Rattle.xpath_subset.specs.declared.paths.IdentityPaths.{IdentityPaths}
 use Rattle.identity_constraints.specs.Seen.{KeyElement, KeyForest, none, element}
 use Rattle.identity_constraints.specs.Targets.{Outcome, outcomes}
 use Rattle.key_records.specs.Counted.{Feature, has}

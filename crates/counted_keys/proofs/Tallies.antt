@@ -2,7 +2,7 @@
 use Rattle.std.proofs.Common.{◌≡◌, ◌+◌, ◌<◌, ℕ, List, [], ◌∷◌, length, map, Option, None, Some, refl, sym, ap, subst, ◌∙◌, arith}
 use Rattle.std.specs.declared.alloc.Global.{Global}
 use Rattle.std.specs.declared.vec.Vec.{Vec}
-use Rattle.identity_counts.specs.Counting.{Links, IsLinked}
+use Rattle.identity_carry.specs.Counting.{Links, IsLinked}
 use Rattle.identity_carry.specs.Tables.{AreParents}
 use Rattle.key_records.specs.Counted.{Counted, Feature, no_targets, plus}
 use Rattle.key_records.specs.Records.{AreRecords}

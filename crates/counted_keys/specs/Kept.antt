@@ -1,6 +1,6 @@
 -- Targets that are kept by the numbers of elements, with what is counted of them: Structures 3.11.4, 3.11.5.
 use Rattle.std.specs.Prelude.{◌≡◌, ◌≢◌, ◌⊎◌, ℕ, false, List, Option}
-use Rattle.identity_counts.specs.Counting.{Links, IsLinked}
+use Rattle.identity_carry.specs.Counting.{Links, IsLinked}
 use Rattle.identity_carry.specs.Tables.{AreParents, KeyTuple, parent_in, is_in_table}
 use Rattle.identity_tables.specs.KeyTables.{Tables}
 use Rattle.key_records.specs.References.{AreReferences}

@@ -1,7 +1,7 @@
 //! Targets counted one by one.
 
 ghost use Rattle.std.specs.Prelude.{◌≡◌, map, OnOk};
-ghost use Rattle.identity_counts.specs.Counting.{Links, IsLinked};
+ghost use Rattle.identity_carry.specs.Counting.{Links, IsLinked};
 ghost use Rattle.identity_carry.specs.Tables.{AreParents};
 ghost use Rattle.key_records.specs.Counted.{Counted, counted_of, plus};
 ghost use Rattle.key_records.specs.References.{AreReferences};

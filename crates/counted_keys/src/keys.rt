@@ -1,7 +1,7 @@
 //! Targets by the numbers of elements.
 
 ghost use Rattle.std.specs.Prelude.{◌≡◌, ◌<◌, [], ℕ, length, map, set, None, IfOk, OnOk};
-ghost use Rattle.identity_counts.specs.Counting.{Links, IsLinked};
+ghost use Rattle.identity_carry.specs.Counting.{Links, IsLinked};
 ghost use Rattle.identity_carry.specs.Tables.{AreParents, parent_in};
 ghost use Rattle.key_records.specs.References.{AreReferences};
 ghost use Rattle.scope_targets.specs.Found.{targeting_of};

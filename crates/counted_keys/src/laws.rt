@@ -3,8 +3,8 @@
 ghost use Rattle.std.specs.Prelude.{◌≡◌, ℕ, Bool, true, false, List, Option, Some};
 ghost use Rattle.xs_names.specs.Names.{NameTable};
 ghost use Rattle.xs_components.specs.Tables.{Tables};
-ghost use Rattle.identity_paths.specs.declared.paths.IdentityPaths.{IdentityPaths};
-ghost use Rattle.identity_counts.specs.Counting.{Links, IsLinked};
+ghost use Rattle.xpath_subset.specs.declared.paths.IdentityPaths.{IdentityPaths};
+ghost use Rattle.identity_carry.specs.Counting.{Links, IsLinked};
 ghost use Rattle.identity_tables.specs.KeyTables as tables;
 ghost use Rattle.identity_carry.specs.Tables.{AreParents, AreSettled, KeyTuple, is_in_table, own};
 ghost use Rattle.identity_constraints.specs.Seen.{KeyElement, KeyForest};

@@ -19,7 +19,7 @@ use Rattle.doc_changes.specs.Held.{kind_at, parent_at, attributes_at, has_number
 use Rattle.doc_planting.specs.Fits.{Fits}
 use Rattle.doc_planting.specs.Planted.{Plants}
 use Rattle.tree_names.specs.Found.{HasNames}
-use Rattle.edit_names.specs.Names.{table_with}
+use Rattle.tree_names.specs.Names.{table_with}
 use Rattle.doc_edits.specs.declared.change.Change.{Change}
 use Rattle.doc_edits.specs.declared.change.Change.TheVariants as changes
 

@@ -2,5 +2,7 @@
 #![tactic(auto)]
 
 mod heads;
+mod texts;
 
 pub use heads::{head_at, name_alone, names_below};
+pub use texts::chars_of;

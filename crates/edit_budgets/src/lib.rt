@@ -2,5 +2,7 @@
 #![tactic(auto)]
 
 mod laws;
+mod undo_laws;
 
 pub use laws::lists_keep_their_budget;
+pub use undo_laws::edits_cost_as_changes;

@@ -11,7 +11,7 @@ use Rattle.assessment.specs.Attribution.{SchemaSet}
 use Rattle.compiled_schema.specs.Usable.{set_of}
 use Rattle.compiled_schema.specs.declared.compiled.Compiled.{Compiled}
 use Rattle.edit_budgets.specs.Budget.{edit_budget}
-use Rattle.edit_names.proofs.Edited.{table_after}
+use Rattle.tree_names.proofs.Edited.{table_after}
 use Rattle.what_is_found.specs.IsFound.{IsFound}
 use Rattle.session_model.specs.Spending.{BreaksWithin}
 use Rattle.session_model.specs.State.{State, with_names}

@@ -11,7 +11,7 @@ ghost use Rattle.edit_session.specs.Held.{Stands, IsPresent};
 
 use compiled_schema::{Compiled, usable_with_more_names};
 use doc_tree::DocTree;
-use kept_below::open_records;
+use child_listing::open_records;
 use kept_keys::settle_keys;
 use kept_state::KeptState;
 use plain_tree::Tree;

@@ -2,3 +2,4 @@ pub mod Shapes
 pub mod Marking
 pub mod SimpleTrees
 pub mod ContentTrees
+pub mod Flagged

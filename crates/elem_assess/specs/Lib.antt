@@ -5,3 +5,4 @@ pub mod Set
 pub mod Local
 pub mod Marked
 pub mod Own
+pub mod Flags

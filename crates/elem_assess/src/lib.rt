@@ -5,10 +5,12 @@ mod content_laws;
 mod judged;
 mod laws;
 mod outcomes;
+mod record_laws;
 mod records;
 mod texts;
 
 pub use content_laws::{simple_contents_are_read, simple_types_are_simple_trees};
 pub use judged::{JudgedElement, judge_element};
 pub use laws::codes_of_ids_stand_last;
+pub use record_laws::records_go_by_flags;
 pub use records::{AssessSet, Judged, local};

@@ -8,7 +8,7 @@ use Rattle.tree_rows.specs.Forest.{Forest, none, text, element, Document}
 use Rattle.tree_rows.specs.Whole.{HasRoot, IsTree, times}
 use Rattle.assess_records.specs.Numbered.{Scope, heads, scope_in}
 use Rattle.elem_governing.specs.declared.pairs.Governing.{Governing}
-use Rattle.identity_paths.specs.declared.paths.IdentityPaths.{IdentityPaths}
+use Rattle.xpath_subset.specs.declared.paths.IdentityPaths.{IdentityPaths}
 use Rattle.identity_constraints.specs.Satisfied.{identity_codes, identity_at}
 use Rattle.assessment.specs.Attribution.{SchemaSet}
 use Rattle.assessment.specs.Assessment.{Beside, Assessed, nothing, entry, other_pairs, root_pairs, AreAssessed, IsAssessment}

@@ -7,7 +7,7 @@ use Rattle.xs_codes.specs.declared.fault.Found.{Found}
 use Rattle.xs_components.specs.Tables.{Tables}
 use Rattle.assess_records.specs.declared.outcome.Validity.{Validity}
 use Rattle.assess_records.specs.declared.record.ElementRecord.{ElementRecord}
-use Rattle.identity_paths.specs.declared.paths.IdentityPaths.{IdentityPaths}
+use Rattle.xpath_subset.specs.declared.paths.IdentityPaths.{IdentityPaths}
 use Rattle.identity_constraints.specs.Seen.{KeyElement, none}
 use Rattle.elem_codes.specs.Records.{is_invalid}
 use Rattle.elem_assess.specs.Marked.{validity_with, marked_record}

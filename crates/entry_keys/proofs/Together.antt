@@ -9,7 +9,7 @@ use Rattle.xs_codes.specs.declared.fault.Found.{Found}
 use Rattle.assess_records.specs.declared.outcome.Validity.{Validity}
 use Rattle.assess_records.specs.declared.record.ElementRecord.{ElementRecord}
 use Rattle.identity_tables.specs.Ids.{BorneAtom, borne_in, borne_in_all, id_codes}
-use Rattle.identity_paths.specs.declared.paths.IdentityPaths.{IdentityPaths}
+use Rattle.xpath_subset.specs.declared.paths.IdentityPaths.{IdentityPaths}
 use Rattle.identity_constraints.specs.Satisfied.{identity_at}
 use Rattle.assessment.specs.Attribution.{SchemaSet}
 use Rattle.assessment.specs.Assessment.{Entry, Assessed, nothing, entry, entries, IsAssessment}

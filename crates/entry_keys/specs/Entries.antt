@@ -1,7 +1,7 @@
 -- The entries of a document's elements.
 use Rattle.std.specs.Prelude.{◌≡◌, List, map}
 use Rattle.tree_rows.specs.Forest.{Forest}
-use Rattle.identity_paths.specs.declared.paths.IdentityPaths.{IdentityPaths}
+use Rattle.xpath_subset.specs.declared.paths.IdentityPaths.{IdentityPaths}
 use Rattle.assessment.specs.Attribution.{SchemaSet}
 use Rattle.assessment.specs.Assessment.{Assessed, entries, IsAssessment}
 use Rattle.identity_assessment.specs.Identity.{beside_of}

@@ -9,3 +9,4 @@ mod Filling
 mod ReadLaws
 mod Codes
 mod Siblings
+pub mod ViewLaws

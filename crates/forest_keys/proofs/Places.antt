@@ -3,7 +3,7 @@ use Rattle.std.proofs.Common.{◌≡◌, ◌⊎◌, ◌+◌, ◌<◌, ◌≤◌,
 use Rattle.std.specs.Prelude.{slice_get}
 use Rattle.std.specs.Option.{option_and_then}
 use Rattle.std.proofs.lemmas.List.{length-append}
-use Rattle.identity_counts.specs.Counting.{firsts, StandFor}
+use Rattle.identity_carry.specs.Counting.{firsts, StandFor}
 use Rattle.identity_carry.specs.Tables.{AreParents}
 use Rattle.identity_constraints.specs.Seen.{KeyForest, none, element}
 use Rattle.path_walk.specs.inside.Walk.{size}

@@ -3,8 +3,10 @@
 
 mod all_codes;
 mod keyrefs;
+mod laws;
 mod placing;
 mod putting;
 mod reading;
 
 pub use all_codes::forest_codes;
+pub use laws::counts_are_the_tables;

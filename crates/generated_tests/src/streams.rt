@@ -1,6 +1,6 @@
 ghost use Rattle.std.specs.Prelude.{◌≤◌};
 
-use generated_stream::{generate_stream, generated_lines};
+use generated_trial::{generate_stream, generated_lines};
 use generated_trial::{GeneratedSource, KeptText};
 use std::alloc::Global;
 use std::process::Abort;

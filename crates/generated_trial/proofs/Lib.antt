@@ -1,2 +1,5 @@
 pub mod Buffers
 pub mod Counting
+pub mod Stepping
+pub mod Texts
+pub mod Counts

@@ -1,7 +1,7 @@
 -- The bytes that are left of a generated stream.
 use Rattle.std.specs.Prelude.{ℕ, List, ◌∷◌, ◌++◌, drop, Option, None, Some}
-use Rattle.generated_stream.specs.Lines.{pieces_lines, lines_text}
-use Rattle.generated_stream.specs.declared.piece.Piece.{Piece}
+use Rattle.generated_trial.specs.Lines.{pieces_lines, lines_text}
+use Rattle.generated_trial.specs.declared.piece.Piece.{Piece}
 use Rattle.generated_trial.specs.declared.source.GeneratedSource.{GeneratedSource}
 
 -- the pieces that are left: one that was taken, and those to come

@@ -1,10 +1,10 @@
 ghost use Rattle.std.specs.Prelude.{◌≡◌, ◌≤◌, [], vec_len, None, Some, OnOk};
 ghost use Rattle.xsv_io.specs.Causes.{HasCause};
-ghost use Rattle.generated_stream.specs.Lines.{stream_text};
+ghost use Rattle.generated_trial.specs.Lines.{stream_text};
 ghost use Rattle.generated_trial.specs.Rest.{rest_of};
 
 use crate::{GeneratedSource, KeptText};
-use generated_stream::{Pieces, write_piece};
+use crate::{Pieces, write_piece};
 use std::alloc::Global;
 use xsv_io::{Failed, Source};
 

@@ -1,7 +1,7 @@
 ghost use Rattle.std.specs.Prelude.{◌≤◌, vec_len};
 
 use crate::KeptText;
-use generated_stream::{Piece, Pieces};
+use crate::{Piece, Pieces};
 
 /// The stream of a number and a count of items, as a source. It is made piece by piece as it is read, and fails for want of memory
 /// alone.

@@ -20,10 +20,10 @@ use Rattle.elem_governing.specs.declared.pairs.Governing.{Governing}
 use Rattle.model_checks.specs.Named.{AreNamed}
 use Rattle.assessment.specs.Attribution.{SchemaSet, content_particle, AreTerms}
 use Rattle.assessment.specs.Assessment.{Entry, Assessed, Beside, first_pair, other_pairs, sibling_records, judged_of, governed, root_pairs, AreJudged, IsEntry, AreAssessed, IsAssessment}
-use Rattle.grown_records.specs.There.{ArePartsNamed}
-use Rattle.grown_records.proofs.Heads.{texts-within, scope-known, texts-kept, scope-kept, head-kept, heads-kept}
-use Rattle.grown_records.proofs.Types.{child-kept, root-kept}
-use Rattle.grown_records.proofs.Elements.{local-kept}
+use Rattle.grown_assessments.specs.There.{ArePartsNamed}
+use Rattle.grown_assessments.proofs.Heads.{texts-within, scope-known, texts-kept, scope-kept, head-kept, heads-kept}
+use Rattle.grown_assessments.proofs.Types.{child-kept, root-kept}
+use Rattle.grown_assessments.proofs.Elements.{local-kept}
 use Rattle.grown_assessments.specs.Grown.{with_table}
 use Rattle.grown_assessments.proofs.Terms.{terms-kept}
 

@@ -1,2 +1,7 @@
 pub mod Terms
 pub mod Assessments
+pub mod Spaces
+pub mod Heads
+pub mod Types
+pub mod Attrs
+pub mod Elements

@@ -7,7 +7,7 @@ ghost use Rattle.tree_rows.specs.Forest.{Forest};
 ghost use Rattle.model_checks.specs.Named.{AreNamed};
 ghost use Rattle.assessment.specs.Attribution.{SchemaSet, AreTerms};
 ghost use Rattle.assessment.specs.Assessment.{Beside, Assessed, IsAssessment};
-ghost use Rattle.grown_records.specs.There.{ArePartsNamed};
+ghost use Rattle.grown_assessments.specs.There.{ArePartsNamed};
 ghost use Rattle.grown_assessments.specs.Grown.{with_table};
 
 /// The terms of child elements whose names the table had, and the place where they get stuck (Structures 3.4.4), stay as names are

@@ -23,7 +23,7 @@ use Rattle.assessment.specs.Assessment.{Entry, Assessed, nothing, entry, Beside,
 use Rattle.assessment.specs.Bearings.{bearings_below, bearings, borne_of, borne_values}
 use Rattle.assessment.specs.Joined.{is_root}
 use Rattle.assessment.specs.Plain.{plain_beside}
-use Rattle.identity_paths.specs.declared.paths.IdentityPaths.{IdentityPaths}
+use Rattle.xpath_subset.specs.declared.paths.IdentityPaths.{IdentityPaths}
 use Rattle.identity_constraints.specs.Seen.{element as key_element}
 use Rattle.identity_constraints.specs.Satisfied.{identity_at}
 use Rattle.identity_assessment.specs.Identity.{seen_element, seen, beside_of, with_more, has_invalid, with_all, said, with_codes}

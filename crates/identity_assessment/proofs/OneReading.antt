@@ -6,9 +6,9 @@ use Rattle.xs_components.specs.Tables.{Tables}
 use Rattle.xs_components.specs.declared.constraint.Constraint.{Constraint}
 use Rattle.assessment.specs.Attribution.{SchemaSet}
 use Rattle.assessment.specs.Assessment.{Assessed}
-use Rattle.identity_paths.specs.Reads.{ArePathsOf, AreIdentities}
-use Rattle.identity_paths.specs.declared.paths.IdentityPaths.{IdentityPaths}
-use Rattle.identity_paths.proofs.Once.{paths-once}
+use Rattle.xpath_subset.specs.Reads.{ArePathsOf, AreIdentities}
+use Rattle.xpath_subset.specs.declared.paths.IdentityPaths.{IdentityPaths}
+use Rattle.xpath_subset.proofs.Once.{paths-once}
 use Rattle.identity_assessment.specs.Identity.{beside_of}
 
 each-once : (parts : List Constraint) (xs ys : List IdentityPaths) → AllZip ArePathsOf parts xs → AllZip ArePathsOf parts ys → xs ≡ ys

@@ -13,7 +13,7 @@ use Rattle.assessment.specs.Attribution.{SchemaSet}
 use Rattle.assessment.specs.Assessment.{Entry, Assessed, nothing, entry, Beside}
 use Rattle.assessment.specs.Bearings.{borne_values}
 use Rattle.assessment.specs.Joined.{is_root}
-use Rattle.identity_paths.specs.declared.paths.IdentityPaths.{IdentityPaths}
+use Rattle.xpath_subset.specs.declared.paths.IdentityPaths.{IdentityPaths}
 use Rattle.identity_constraints.specs.Seen.{KeyAttribute, KeyElement, KeyForest, none, element}
 use Rattle.identity_constraints.specs.Satisfied.{identity_at}
 

@@ -3,8 +3,8 @@
 ghost use Rattle.std.specs.Prelude.{◌≡◌, List};
 ghost use Rattle.tree_rows.specs.Forest.{Forest};
 ghost use Rattle.xs_components.specs.Tables.{Tables};
-ghost use Rattle.identity_paths.specs.Reads.{AreIdentities};
-ghost use Rattle.identity_paths.specs.declared.paths.IdentityPaths.{IdentityPaths};
+ghost use Rattle.xpath_subset.specs.Reads.{AreIdentities};
+ghost use Rattle.xpath_subset.specs.declared.paths.IdentityPaths.{IdentityPaths};
 ghost use Rattle.assessment.specs.Attribution.{SchemaSet};
 ghost use Rattle.assessment.specs.Assessment.{Assessed, IsAssessment};
 ghost use Rattle.assessment.specs.Plain.{plain_beside};

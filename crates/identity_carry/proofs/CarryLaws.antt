@@ -3,8 +3,8 @@ use Rattle.std.proofs.Common.{◌≡◌, ◌≢◌, ℕ, ◌+◌, ◌*◌, ◌�
 use Rattle.std.specs.Prelude.{OnOk}
 use Rattle.simple_values.specs.declared.key.Key.{Key}
 use Rattle.identity_tables.specs.KeyTables.{Tables, own_count, IsOneMoreTuple}
-use Rattle.identity_counts.specs.Counting.{Links, IsLinked, IsPending, IsTouched}
-use Rattle.identity_counts.proofs.Touching.{touched, told_same, told_root, told_up, one_bearer_more, one_bearer_less, can_fall, pending, settled}
+use Rattle.identity_carry.specs.Counting.{Links, IsLinked, IsPending, IsTouched}
+use Rattle.identity_carry.proofs.Touching.{touched, told_same, told_root, told_up, one_bearer_more, one_bearer_less, can_fall, pending, settled}
 use Rattle.identity_carry.specs.Tables.{same_key_tuple, for_key, own, said, AreParents, AreSettled, ArePending, HasSameOwn, IsOneMoreOwn, is_in_table}
 use Rattle.identity_carry.specs.declared.carrying.Waiting.{Waiting}
 use Rattle.identity_carry.proofs.EntryLaws.{decides, own_kept, own_more, said_more, said_others, said_kept, own_others}

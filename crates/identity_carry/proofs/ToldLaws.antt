@@ -3,7 +3,7 @@ use Rattle.std.proofs.Common.{◌≡◌, ℕ, ◌+◌, ◌*◌, List, [], ◌∷
 use Rattle.std.specs.Prelude.{OnOk}
 use Rattle.simple_values.specs.declared.key.Key.{Key}
 use Rattle.identity_tables.specs.KeyTables.{Tables, IsOneMoreTuple}
-use Rattle.identity_counts.specs.Counting.{Has, is_seen}
+use Rattle.identity_carry.specs.Counting.{Has, is_seen}
 use Rattle.identity_carry.specs.Tables.{KeyTuple, for_key, AreTold, IsAlikeBut}
 use Rattle.identity_carry.proofs.EntryLaws.{own_kept, said_others, own_others, said_kept}
 

@@ -4,7 +4,7 @@ use Rattle.std.specs.Option.{option_and_then}
 use Rattle.simple_values.specs.declared.key.Key.{Key}
 use Rattle.identity_tables.specs.Tuple.{same_tuple}
 use Rattle.identity_tables.specs.KeyTables.{Tables, own_count}
-use Rattle.identity_counts.specs.Counting.{Links, Change, Has, IsSettled, IsPending, is_seen}
+use Rattle.identity_carry.specs.Counting.{Links, Change, Has, IsSettled, IsPending, is_seen}
 use Rattle.identity_carry.specs.declared.carrying.Waiting.{Waiting}
 
 -- a tuple with the key or unique that it is for

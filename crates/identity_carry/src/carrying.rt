@@ -2,7 +2,7 @@
 
 ghost use Rattle.std.specs.Prelude.{◌≡◌, ℕ, ◌*◌, ◌<◌, ◌≤◌, ◌^◌, IfOk, OnOk, Bool, Some, None, length};
 ghost use Rattle.identity_tables.specs.KeyTables.{own_count};
-ghost use Rattle.identity_counts.specs.Counting.{Links, Numbers, IsLinked, IsTouched, StandFor, firsts, is_visible as visible};
+ghost use Rattle.identity_carry.specs.Counting.{Links, Numbers, IsLinked, IsTouched, StandFor, firsts, is_visible as visible};
 ghost use Rattle.identity_carry.specs.Tables.{AreParents, AreSettled, ArePending, AreTold, HasSameOwn, IsAlikeBut, IsOneMoreOwn, for_key, own, said, same_key_tuple, is_in_table, level};
 
 use identity_tables::{KeyTables, Tuple};
@@ -22,7 +22,7 @@ fn is_seen(tables: &KeyTables, n: u32, key: u32, tuple: &Tuple) -> bool
 {
     let own = tables.own_count(n, 2 * key, tuple);
     let said = tables.own_count(n, 2 * key + 1, tuple);
-    identity_counts::is_seen(own, said)
+    crate::is_seen(own, said)
 }
 
 // The parent of an element.

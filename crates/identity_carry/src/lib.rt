@@ -2,5 +2,7 @@
 #![tactic(auto)]
 
 mod carrying;
+mod seen;
 
 pub use carrying::{add_tuple, drop_tuple, is_visible};
+pub use seen::is_seen;

@@ -20,7 +20,7 @@ use Rattle.xpath_subset.specs.Grammar.{WrittenPaths, IsReading, paths_meaning}
 use Rattle.xpath_subset.specs.declared.path.Path.{Path}
 use Rattle.xpath_subset.specs.declared.reading.XPathFault.{XPathFault}
 use Rattle.xpath_subset.specs.declared.reading.XPathFault.TheVariants.{Syntax, Unbound}
-use Rattle.identity_paths.specs.Reads.{IsReadAs}
+use Rattle.xpath_subset.specs.Reads.{IsReadAs}
 use Rattle.identity_faults.specs.Faults.{fault_at, IsUnreadable, IsCountFault}
 
 -- ---- one path

@@ -13,7 +13,7 @@ use Rattle.xs_components.specs.declared.constraint.PathText.{PathText}
 use Rattle.xpath_subset.specs.Grammar.{WrittenPaths, IsSelector, IsReading, paths_meaning}
 use Rattle.xpath_subset.specs.declared.path.Path.{Path}
 use Rattle.xpath_subset.specs.declared.reading.XPathFault.{XPathFault}
-use Rattle.identity_paths.specs.Reads.{IsReadAs}
+use Rattle.xpath_subset.specs.Reads.{IsReadAs}
 use Rattle.identity_faults.specs.Faults.{fault_at, IsSelectorFault, IsFieldFault, IsCountFault, IsFaultOf}
 use Rattle.identity_faults.specs.inside.Reading.{IsPathRead, AreFieldsRead, IsConstraintRead}
 use Rattle.identity_faults.specs.declared.reading.PathReading.{PathReading}

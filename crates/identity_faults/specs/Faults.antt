@@ -10,7 +10,7 @@ use Rattle.xs_components.specs.declared.constraint.ConstraintKind.TheVariants.{K
 use Rattle.xs_components.specs.declared.constraint.PathText.{PathText}
 use Rattle.xpath_subset.specs.Grammar.{WrittenPaths, IsSelector, IsField}
 use Rattle.xpath_subset.specs.declared.path.Path.{Path}
-use Rattle.identity_paths.specs.Reads.{IsReadAs}
+use Rattle.xpath_subset.specs.Reads.{IsReadAs}
 
 abbrev pub fault_at : Place → Code → Fault
 fault_at at code = record { phase = 10; document = at.document; item = at.item; code = code }

@@ -2,12 +2,12 @@
 
 ghost use Rattle.std.specs.Prelude.{◌≡◌, IfOk, MatchResult, None, Some};
 ghost use Rattle.xs_codes.specs.Least.{IsLeast};
-ghost use Rattle.identity_paths.specs.Reads.{AreIdentities};
+ghost use Rattle.xpath_subset.specs.Reads.{AreIdentities};
 ghost use Rattle.identity_faults.specs.Faults as spec;
 ghost use Rattle.identity_faults.specs.inside.Reading.{IsConstraintRead};
 
 use crate::reading::{fault_at, fields_reading, selector_reading};
-use identity_paths::IdentityPaths;
+use xpath_subset::IdentityPaths;
 use std::alloc::{AllocError, Global};
 use xs_codes::{Code, Fault, sooner};
 use xs_components::{Components, Constraint, ConstraintKind};

@@ -9,7 +9,7 @@ use Rattle.assessment.specs.Assessment.{Entry, entries}
 use Rattle.assessment.proofs.Alike.{element-counts}
 use Rattle.compiled_schema.specs.Usable.{set_of}
 use Rattle.compiled_schema.specs.declared.compiled.Compiled.{Compiled}
-use Rattle.undo_budgets.specs.Budget.{change_budget}
+use Rattle.edit_budgets.specs.UndoBudget.{change_budget}
 use Rattle.what_is_found.specs.IsFound.{IsFound}
 use Rattle.doc_nodes.specs.Nodes.{Nodes}
 use Rattle.doc_changes.specs.Stands.{StandsFor, expanded_of}

@@ -6,7 +6,7 @@ ghost use Rattle.tree_inverses.specs.Changes as law;
 ghost use Rattle.assessment.specs.Assessment.{Entry, entries};
 ghost use Rattle.compiled_schema.specs.Usable.{set_of};
 ghost use Rattle.compiled_schema.specs.declared.compiled.Compiled.{Compiled as CompiledData};
-ghost use Rattle.undo_budgets.specs.Budget.{change_budget};
+ghost use Rattle.edit_budgets.specs.UndoBudget.{change_budget};
 ghost use Rattle.what_is_found.specs.IsFound.{IsFound};
 ghost use Rattle.doc_nodes.specs.Nodes.{Nodes};
 ghost use Rattle.doc_changes.specs.Stands.{StandsFor};

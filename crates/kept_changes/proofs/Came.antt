@@ -17,10 +17,10 @@ use Rattle.doc_planting.specs.Planted.{Plants}
 use Rattle.doc_planting.proofs.Placing.{IsParent, parent_of}
 use Rattle.kept_records.proofs.Nodes.{by-node}
 use Rattle.kept_state.specs.declared.state.KeptState.{KeptState}
-use Rattle.kept_forgetting.proofs.Placed.{in-table}
+use Rattle.kept_judging.proofs.Placed.{in-table}
 use Rattle.kept_children.specs.Edited.{IsRightFor, IsPlanted, ComesAt}
-use Rattle.child_lists.specs.Places.{IsPlaceOf}
-use Rattle.child_lists.specs.declared.place.ChildPlace.{ChildPlace}
+use Rattle.child_listing.specs.Places.{IsPlaceOf}
+use Rattle.child_listing.specs.declared.place.ChildPlace.{ChildPlace}
 use Rattle.kept_changes.specs.Spots.{HasCome}
 use Rattle.kept_changes.proofs.Changed.{child-up}
 

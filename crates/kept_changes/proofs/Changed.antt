@@ -18,7 +18,7 @@ use Rattle.doc_changes.specs.Parts.{Prunes}
 use Rattle.doc_changes.specs.Stands.{StandsFor}
 use Rattle.doc_documents.specs.Readers.{name_by, chars_by, chars_at, own_chars, own_scope, outer_scope, scope_upto, scope_at}
 use Rattle.doc_planting.specs.Planted.{Plants}
-use Rattle.kept_forgetting.proofs.Placed.{has-at, in-table, parent-element}
+use Rattle.kept_judging.proofs.Placed.{has-at, in-table, parent-element}
 use Rattle.kept_children.specs.Edited.{ComesAt}
 use Rattle.kept_changes.specs.Own.{Stays, HaveSameElements, Retexts, Reattributes, Renames}
 

@@ -24,8 +24,8 @@ use Rattle.doc_edits.specs.declared.change.Change.{Change}
 use Rattle.doc_edits.specs.declared.change.Change.TheVariants as changes
 use Rattle.kept_state.specs.Kept.{IsBeside}
 use Rattle.kept_state.specs.declared.state.KeptState.{KeptState}
-use Rattle.kept_forgetting.proofs.Placed.{parent-has, parent-element, root-alone}
-use Rattle.child_lists.specs.declared.place.ChildPlace.{ChildPlace}
+use Rattle.kept_judging.proofs.Placed.{parent-has, parent-element, root-alone}
+use Rattle.child_listing.specs.declared.place.ChildPlace.{ChildPlace}
 use Rattle.kept_children.specs.Edited.{IsRightFor, IsRenamed}
 use Rattle.kept_changes.specs.Own.{Retexts, Reattributes, Renames, IsRetexted, IsReattributed, IsNamedAnew}
 use Rattle.kept_changes.specs.Spots.{IsRemoval, IsSpot, HasChangedAt, TakesSpot}

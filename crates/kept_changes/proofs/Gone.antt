@@ -22,17 +22,17 @@ use Rattle.kept_state.specs.Kept.{IsBeside, outcome_at}
 use Rattle.kept_state.specs.declared.element.Outcome.{Outcome}
 use Rattle.kept_state.specs.declared.state.KeptState.{KeptState}
 use Rattle.kept_judging.specs.Judged.{symbols_by, pair_by}
-use Rattle.kept_forgetting.specs.Below.{upwards, IsBelow, IsWithin}
-use Rattle.kept_forgetting.specs.Forgotten.{Forgets}
-use Rattle.kept_forgetting.proofs.Placed.{parent-has}
-use Rattle.kept_forgetting.proofs.Walks.{self-within, below-within, child-below, parent-of}
-use Rattle.kept_below.specs.Moved.{moved}
-use Rattle.kept_below.proofs.Moving.{moved-alike}
+use Rattle.kept_judging.specs.Below.{upwards, IsBelow, IsWithin}
+use Rattle.kept_judging.specs.Forgotten.{Forgets}
+use Rattle.kept_judging.proofs.Placed.{parent-has}
+use Rattle.kept_judging.proofs.Walks.{self-within, below-within, child-below, parent-of}
+use Rattle.child_listing.specs.Moved.{moved}
+use Rattle.child_listing.proofs.Moving.{moved-alike}
 use Rattle.kept_children.specs.Edited.{IsRightFor, IsPruned}
 use Rattle.kept_children.specs.Steps.{digits, marked_count, width}
-use Rattle.child_lists.specs.Family.{marked_places}
-use Rattle.child_lists.specs.Places.{IsPlaceOf}
-use Rattle.child_lists.specs.declared.place.ChildPlace.{ChildPlace}
+use Rattle.child_listing.specs.Family.{marked_places}
+use Rattle.child_listing.specs.Places.{IsPlaceOf}
+use Rattle.child_listing.specs.declared.place.ChildPlace.{ChildPlace}
 use Rattle.kept_changes.specs.Steps.{TakesBelow}
 
 -- what has a node of these numbers as a child's descendant is below its parent

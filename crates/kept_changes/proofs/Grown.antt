@@ -20,10 +20,10 @@ use Rattle.assessment.proofs.Walking.{symbols-known}
 use Rattle.compiled_schema.specs.Usable.{IsUsable, set_of}
 use Rattle.compiled_schema.specs.declared.compiled.Compiled.{Compiled}
 use Rattle.compiled_schema.proofs.UsableLaws.{usable-more}
-use Rattle.grown_records.specs.There.{ArePartsNamed, IsShapeNamed}
-use Rattle.grown_records.proofs.Spaces.{instance-text-kept}
-use Rattle.grown_records.proofs.Types.{child-kept, root-kept}
-use Rattle.grown_records.proofs.Elements.{local-kept}
+use Rattle.grown_assessments.specs.There.{ArePartsNamed, IsShapeNamed}
+use Rattle.grown_assessments.proofs.Spaces.{instance-text-kept}
+use Rattle.grown_assessments.proofs.Types.{child-kept, root-kept}
+use Rattle.grown_assessments.proofs.Elements.{local-kept}
 use Rattle.model_terms.specs.Symbols.{child_symbols}
 use Rattle.model_terms.specs.Terms.{stuck_in, term_in}
 use Rattle.tree_rows.specs.Forest.{Document}

@@ -6,7 +6,7 @@ use Rattle.std.proofs.lemmas.Bool.{cases_eq}
 use Rattle.std.proofs.lemmas.Option.{none-some, same_Some}
 use Rattle.assess_records.specs.Counts.{counts_of}
 use Rattle.elem_governing.specs.declared.pairs.Governing.{Governing}
-use Rattle.elem_regoverning.proofs.Regoverned.{child-again, root-again}
+use Rattle.elem_governing.proofs.Regoverned.{child-again, root-again}
 use Rattle.compiled_schema.specs.Usable.{set_of}
 use Rattle.compiled_schema.specs.declared.compiled.Compiled.{Compiled}
 use Rattle.model_terms.specs.Terms.{stuck_in, term_in}
@@ -26,17 +26,17 @@ use Rattle.kept_state.specs.declared.state.KeptState.{KeptState}
 use Rattle.kept_judging.specs.Judged.{symbols_by, root_pair, given_pair, again_pair, pair_by, AreChildren, IsJudgedBy}
 use Rattle.kept_judging.proofs.Anew.{not-own-parent, gathered-children, fit-judged, judged-fit}
 use Rattle.kept_judging.proofs.Reading.{root-can, given-can}
-use Rattle.kept_above.specs.Climbing.{IsNearly, IsClimbing, KeepsRest}
-use Rattle.kept_above.proofs.Climbing.{judged-kept, nearly}
-use Rattle.kept_forgetting.proofs.Placed.{children-differ, child-place, parent-element, root-alone}
-use Rattle.kept_above.proofs.Whole.{all-made}
-use Rattle.kept_forgetting.specs.Below.{upwards, IsWithin}
-use Rattle.kept_below.specs.Below.{AreAbove, IsSettled}
+use Rattle.kept_judging.specs.Climbing.{IsNearly, IsClimbing, KeepsRest}
+use Rattle.kept_judging.proofs.Climbing.{judged-kept, nearly}
+use Rattle.kept_judging.proofs.Placed.{children-differ, child-place, parent-element, root-alone}
+use Rattle.kept_judging.proofs.Whole.{all-made}
+use Rattle.kept_judging.specs.Below.{upwards, IsWithin}
+use Rattle.child_listing.specs.Below.{AreAbove, IsSettled}
 use Rattle.kept_children.specs.Edited.{IsRightFor}
-use Rattle.child_lists.specs.Family.{AreGivenBut, IsAttributed}
-use Rattle.child_lists.specs.Places.{IsPlaceOf}
-use Rattle.child_lists.specs.declared.place.ChildPlace.{ChildPlace}
-use Rattle.kept_forgetting.proofs.Placed.{one-place}
+use Rattle.child_listing.specs.Family.{AreGivenBut, IsAttributed}
+use Rattle.child_listing.specs.Places.{IsPlaceOf}
+use Rattle.child_listing.specs.declared.place.ChildPlace.{ChildPlace}
+use Rattle.kept_judging.proofs.Placed.{one-place}
 use Rattle.kept_children.proofs.Midway.{parent-stays, sibling-stays, attributed-settled, given-settled}
 use Rattle.kept_changes.specs.Own.{IsReattributed}
 use Rattle.kept_changes.proofs.Reread.{head-same, texts-same, symbols-same, given-same, children-reread, judged-reread, right-made}

@@ -13,8 +13,8 @@ use Rattle.kept_state.specs.declared.state.KeptState.{KeptState}
 use Rattle.kept_state.proofs.Beside.{kept-there, rewrites-again, beside-same}
 use Rattle.kept_judging.specs.Judged.{AreChildren, IsJudgedAnew}
 use Rattle.kept_judging.proofs.Anew.{gathered-children, fit-judged, judged-fit, anew-fits, children-stay}
-use Rattle.kept_above.specs.Climbing.{IsClimbing, KeepsRest}
-use Rattle.kept_above.proofs.Climbing.{begun, pair-stays, made-now}
+use Rattle.kept_judging.specs.Climbing.{IsClimbing, KeepsRest}
+use Rattle.kept_judging.proofs.Climbing.{begun, pair-stays, made-now}
 use Rattle.kept_children.specs.Edited.{IsRightFor}
 use Rattle.kept_changes.specs.Own.{IsRetexted}
 use Rattle.kept_changes.proofs.Reread.{head-same, texts-same, children-reread, judged-reread, right-made, top-reread}

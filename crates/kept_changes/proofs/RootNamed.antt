@@ -14,8 +14,8 @@ use Rattle.kept_state.specs.declared.element.Governed.{Governed}
 use Rattle.kept_state.specs.declared.state.KeptState.{KeptState}
 use Rattle.kept_judging.specs.Judged.{root_pair, AreChildren}
 use Rattle.kept_judging.proofs.Anew.{gathered-children, fit-judged, judged-fit}
-use Rattle.kept_forgetting.proofs.Depths.{root-parent}
-use Rattle.kept_below.specs.Below.{IsSettled}
+use Rattle.kept_judging.proofs.Depths.{root-parent}
+use Rattle.child_listing.specs.Below.{IsSettled}
 use Rattle.kept_children.specs.Edited.{IsRightFor}
 use Rattle.kept_changes.specs.Own.{Renames, IsNamedAnew}
 use Rattle.kept_changes.proofs.Following.{renames-of}

@@ -13,7 +13,7 @@ use Rattle.doc_changes.specs.Held.{kind_at, parent_at}
 use Rattle.doc_changes.specs.Stands.{firsts, StandFor, StandsFor}
 use Rattle.doc_changes.proofs.Holding.{HoldsChars, holds_chars}
 use Rattle.kept_records.proofs.Nodes.{root-there, shown}
-use Rattle.kept_forgetting.proofs.Walks.{parent-of}
+use Rattle.kept_judging.proofs.Walks.{parent-of}
 
 module _ (t : NameTable) (ns : Nodes) (sound : IsSound ns) (n : ℕ) where
   -- a node is one of the first, or has a parent

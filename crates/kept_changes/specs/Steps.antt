@@ -13,7 +13,7 @@ use Rattle.kept_records.specs.Fit.{head_at}
 use Rattle.kept_records.specs.Slots.{pair_at}
 use Rattle.kept_state.specs.declared.state.KeptState.{KeptState}
 use Rattle.kept_judging.specs.Judged.{root_pair, again_pair}
-use Rattle.kept_below.specs.Moved.{AreGivenDown, moved}
+use Rattle.child_listing.specs.Moved.{AreGivenDown, moved}
 use Rattle.kept_children.specs.Steps.{GovernsBelow, digits, marked_count, width}
 
 module _ (c : Compiled) (ns : Nodes) (k : KeptState) where

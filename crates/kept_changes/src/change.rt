@@ -17,12 +17,12 @@ ghost use Rattle.kept_changes.specs.Spots.{HasChangedAt, HasCome, IsRemoval, IsS
 ghost use Rattle.kept_changes.specs.Steps.{Takes, TakesBelow};
 
 use crate::own::{reattribute, rename, retext};
-use child_lists::place_of;
+use child_listing::place_of;
 use compiled_schema::Compiled;
 use doc_edits::{Change, make_change};
 use doc_tree::DocTree;
 use kept_children::{put_child, take_child};
-use kept_forgetting::forget_below;
+use kept_judging::forget_below;
 use kept_state::KeptState;
 use plain_tree::Tree;
 use std::alloc::AllocError;

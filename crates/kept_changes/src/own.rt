@@ -11,12 +11,12 @@ ghost use Rattle.kept_children.specs.Edited.{IsRightFor};
 ghost use Rattle.kept_changes.specs.Own.{IsRetexted, IsReattributed, IsNamedAnew};
 ghost use Rattle.kept_changes.specs.Steps.{TakesAt, TakesName};
 
-use child_lists::place_of;
+use child_listing::place_of;
 use compiled_schema::Compiled;
-use doc_texts::chars_of;
+use doc_readers::chars_of;
 use doc_tree::DocTree;
-use kept_above::settle_above;
-use kept_below::settle_again;
+use kept_judging::settle_above;
+use child_listing::settle_again;
 use kept_children::name_child;
 use kept_judging::{judge, pair_again, pair_of_root};
 use kept_state::{Governed, KeptState};

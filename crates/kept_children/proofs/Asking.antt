@@ -16,10 +16,10 @@ use Rattle.kept_records.specs.Fit.{models_of}
 use Rattle.kept_records.proofs.Nodes.{child-parent}
 use Rattle.kept_state.specs.declared.state.KeptState.{KeptState}
 use Rattle.kept_judging.specs.Judged.{symbols_by}
-use Rattle.child_lists.specs.Family.{AreGivenBut, marked_places, model_of, symbols_of}
+use Rattle.child_listing.specs.Family.{AreGivenBut, marked_places, model_of, symbols_of}
 use Rattle.kept_children.specs.Steps.{places_of}
-use Rattle.child_lists.proofs.Edits.{drop-get, drop-none, few-marked, marked-below, some-get}
-use Rattle.child_lists.proofs.Terms.{many-symbols}
+use Rattle.child_listing.proofs.Edits.{drop-get, drop-none, few-marked, marked-below, some-get}
+use Rattle.child_listing.proofs.Terms.{many-symbols}
 
 pub few-places : (model : Option ContentAutomaton) (symbols : List ℕ) → length (marked_places model symbols) ≤ length symbols
 few-places None symbols = omega arith

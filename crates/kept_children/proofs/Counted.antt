@@ -21,14 +21,14 @@ use Rattle.kept_state.specs.declared.element.Outcome.{Outcome}
 use Rattle.kept_state.specs.declared.state.KeptState.{KeptState}
 use Rattle.kept_state.proofs.Beside.{kept-there}
 use Rattle.kept_judging.specs.Judged.{pair_by}
-use Rattle.kept_above.specs.Climbing.{with_outcome}
-use Rattle.kept_above.proofs.Counts.{all-counted, all-tried, child-more, attempt-more}
-use Rattle.kept_forgetting.proofs.Placed.{others-differ, children-differ, few-children}
-use Rattle.child_lists.specs.Places.{IsPlaceOf}
-use Rattle.child_lists.specs.Family.{AreCounted, IsAttributed, AreGivenBut, IsMidway}
-use Rattle.child_lists.specs.declared.place.ChildPlace.{ChildPlace}
-use Rattle.child_lists.proofs.Edits.{among-more, among-removed, get-within}
-use Rattle.child_lists.proofs.Written.{pair-stays, midway-written, attributed-written, given-written, counts-written}
+use Rattle.kept_judging.specs.Climbing.{with_outcome}
+use Rattle.kept_judging.proofs.Counts.{all-counted, all-tried, child-more, attempt-more}
+use Rattle.kept_judging.proofs.Placed.{others-differ, children-differ, few-children}
+use Rattle.child_listing.specs.Places.{IsPlaceOf}
+use Rattle.child_listing.specs.Family.{AreCounted, IsAttributed, AreGivenBut, IsMidway}
+use Rattle.child_listing.specs.declared.place.ChildPlace.{ChildPlace}
+use Rattle.child_listing.proofs.Edits.{among-more, among-removed, get-within}
+use Rattle.child_listing.proofs.Written.{pair-stays, midway-written, attributed-written, given-written, counts-written}
 use Rattle.kept_children.specs.Edited.{IsSettledAt}
 use Rattle.kept_children.specs.Steps.{LeaveRoom}
 use Rattle.kept_children.proofs.Siblings.{moved-but-parent}

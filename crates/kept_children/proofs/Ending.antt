@@ -26,10 +26,10 @@ use Rattle.kept_state.specs.declared.children.KeptChildren.{KeptChildren}
 use Rattle.kept_state.specs.declared.state.KeptState.{KeptState}
 use Rattle.kept_judging.specs.Judged.{symbols_by, AreChildren, IsJudgedBy, IsJudgedAnew}
 use Rattle.kept_judging.proofs.Anew.{not-own-parent, fit-judged, anew-pair, anew-all-fit}
-use Rattle.kept_above.specs.Climbing.{with_outcome, IsNearly, IsClimbing, KeepsRest}
-use Rattle.kept_above.proofs.Climbing.{judged-kept}
-use Rattle.kept_forgetting.proofs.Placed.{others-differ, children-differ, child-place, parent-element}
-use Rattle.child_lists.specs.Family.{AreCounted, IsAttributed, AreGivenBut, IsMidway}
+use Rattle.kept_judging.specs.Climbing.{with_outcome, IsNearly, IsClimbing, KeepsRest}
+use Rattle.kept_judging.proofs.Climbing.{judged-kept}
+use Rattle.kept_judging.proofs.Placed.{others-differ, children-differ, child-place, parent-element}
+use Rattle.child_listing.specs.Family.{AreCounted, IsAttributed, AreGivenBut, IsMidway}
 
 -- its child elements are given, listed, attributed and counted
 pub children-right : (c : Compiled) (ns : Nodes) (k : KeptState) (n : ℕ) → IsAttributed c ns k n → AreCounted k n (element_children ns n) → AreGivenBut c ns k n [] →

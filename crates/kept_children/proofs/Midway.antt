@@ -22,15 +22,15 @@ use Rattle.kept_state.specs.declared.children.KeptChildren.{KeptChildren}
 use Rattle.kept_state.specs.declared.element.Governed.{Governed}
 use Rattle.kept_state.specs.declared.state.KeptState.{KeptState}
 use Rattle.kept_judging.specs.Judged.{symbols_by, pair_by}
-use Rattle.kept_above.proofs.Climbing.{judged-kept}
-use Rattle.kept_forgetting.proofs.Placed.{children-differ}
-use Rattle.kept_forgetting.specs.Below.{upwards, IsWithin}
-use Rattle.kept_forgetting.proofs.Walks.{self-within, parent-outside, siblings-apart}
-use Rattle.kept_below.specs.Below.{IsSettled}
-use Rattle.child_lists.specs.Places.{IsPlaceOf}
-use Rattle.child_lists.specs.Family.{IsAttributed, AreGivenBut, IsMidway, model_of, symbols_of}
-use Rattle.child_lists.specs.declared.place.ChildPlace.{ChildPlace}
-use Rattle.kept_forgetting.proofs.Placed.{one-place}
+use Rattle.kept_judging.proofs.Climbing.{judged-kept}
+use Rattle.kept_judging.proofs.Placed.{children-differ}
+use Rattle.kept_judging.specs.Below.{upwards, IsWithin}
+use Rattle.kept_judging.proofs.Walks.{self-within, parent-outside, siblings-apart}
+use Rattle.child_listing.specs.Below.{IsSettled}
+use Rattle.child_listing.specs.Places.{IsPlaceOf}
+use Rattle.child_listing.specs.Family.{IsAttributed, AreGivenBut, IsMidway, model_of, symbols_of}
+use Rattle.child_listing.specs.declared.place.ChildPlace.{ChildPlace}
+use Rattle.kept_judging.proofs.Placed.{one-place}
 
 -- ---- a child element is governed anew
 

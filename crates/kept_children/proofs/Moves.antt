@@ -18,7 +18,7 @@ use Rattle.kept_state.specs.Kept.{FitBut}
 use Rattle.kept_state.specs.declared.state.KeptState.{KeptState}
 use Rattle.kept_state.proofs.Beside.{kept-there}
 use Rattle.kept_judging.specs.Judged.{pair_by}
-use Rattle.kept_below.specs.Moved.{is_typed, moved}
+use Rattle.child_listing.specs.Moved.{is_typed, moved}
 
 pub has-place : (xs : List ℕ) (x : ℕ) → Has x xs → (i : ℕ) × (slice_get xs i ≡ Some x)
 has-place [] x h = absurd h

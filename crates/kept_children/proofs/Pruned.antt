@@ -18,14 +18,14 @@ use Rattle.kept_records.proofs.Nodes.{by-node, root-there, there as there-node}
 use Rattle.kept_state.specs.Kept.{IsBeside, children_at, children_of}
 use Rattle.kept_state.specs.declared.state.KeptState.{KeptState}
 use Rattle.kept_judging.proofs.Anew.{fit-judged}
-use Rattle.kept_forgetting.proofs.Placed.{parent-has, parent-element}
-use Rattle.kept_forgetting.specs.Below.{upwards, IsWithin}
+use Rattle.kept_judging.proofs.Placed.{parent-has, parent-element}
+use Rattle.kept_judging.specs.Below.{upwards, IsWithin}
 use Rattle.kept_children.specs.Edited.{IsPruned}
-use Rattle.child_lists.specs.Family.{IsListedBy, AreGivenBut, IsMidway, marked_places, model_of, symbols_of}
-use Rattle.child_lists.specs.declared.place.ChildPlace.{ChildPlace}
-use Rattle.child_lists.proofs.Edits.{passes, filter-remove, filter-same, flat-has, flat-remove, has-filter, get-within, IsAmong, among-more}
+use Rattle.child_listing.specs.Family.{IsListedBy, AreGivenBut, IsMidway, marked_places, model_of, symbols_of}
+use Rattle.child_listing.specs.declared.place.ChildPlace.{ChildPlace}
+use Rattle.child_listing.proofs.Edits.{passes, filter-remove, filter-same, flat-has, flat-remove, has-filter, get-within, IsAmong, among-more}
 use Rattle.kept_children.proofs.Still.{IsStill, says-same, still-node, still-held, SeesNodes, ShowsSame, fit-nodes, sees-still, shows-still, head-still, judged-nodes, element-silent}
-use Rattle.child_lists.proofs.Terms.{symbols-remove, many-symbols}
+use Rattle.child_listing.proofs.Terms.{symbols-remove, many-symbols}
 use Rattle.kept_children.proofs.Starting.{all-made, given-moved}
 use Rattle.kept_records.proofs.Frames.{map-same, fit-lists, fit-apart}
 use Rattle.elem_governing.specs.Governing.{govern_root}
@@ -39,7 +39,7 @@ use Rattle.kept_slots.specs.Slots.{at}
 use Rattle.kept_records.specs.declared.element.KeptElement.{KeptElement}
 use Rattle.kept_records.proofs.Counting.{counts-at}
 use Rattle.kept_records.proofs.Lists.{listed-kept}
-use Rattle.kept_above.proofs.Climbing.{judged-kept}
+use Rattle.kept_judging.proofs.Climbing.{judged-kept}
 use Rattle.kept_state.specs.declared.element.Outcome.{Outcome}
 use Rattle.kept_records.proofs.Nodes.{there as there-node}
 

@@ -17,15 +17,15 @@ use Rattle.kept_records.proofs.Nodes.{by-node}
 use Rattle.kept_state.specs.Kept.{IsBeside, children_at}
 use Rattle.kept_state.specs.declared.state.KeptState.{KeptState}
 use Rattle.kept_judging.proofs.Anew.{fit-judged, not-own-parent}
-use Rattle.kept_forgetting.proofs.Placed.{children-differ, parent-has, parent-element}
+use Rattle.kept_judging.proofs.Placed.{children-differ, parent-has, parent-element}
 use Rattle.kept_children.specs.Edited.{IsRenamed}
-use Rattle.child_lists.specs.Family.{AreCounted, IsListedBy, AreGivenBut, IsMidway, marked_places, model_of, symbols_of}
-use Rattle.child_lists.specs.Places.{IsPlaceOf}
-use Rattle.child_lists.specs.declared.place.ChildPlace.{ChildPlace}
-use Rattle.child_lists.proofs.Edits.{filter-same, flat-has}
-use Rattle.kept_forgetting.proofs.Placed.{one-place}
+use Rattle.child_listing.specs.Family.{AreCounted, IsListedBy, AreGivenBut, IsMidway, marked_places, model_of, symbols_of}
+use Rattle.child_listing.specs.Places.{IsPlaceOf}
+use Rattle.child_listing.specs.declared.place.ChildPlace.{ChildPlace}
+use Rattle.child_listing.proofs.Edits.{filter-same, flat-has}
+use Rattle.kept_judging.proofs.Placed.{one-place}
 use Rattle.kept_children.proofs.Still.{IsStill, still-node, still-held, SeesNodes, ShowsSame, fit-nodes, sees-still, shows-still, head-still, judged-nodes, SaysSame, gathered-nodes}
-use Rattle.child_lists.proofs.Terms.{symbols-set, symbol_by}
+use Rattle.child_listing.proofs.Terms.{symbols-set, symbol_by}
 use Rattle.kept_children.proofs.Starting.{all-made, given-moved}
 use Rattle.elem_governing.specs.Governing.{govern_root}
 use Rattle.std.proofs.lemmas.Option.{none-some, same_Some}

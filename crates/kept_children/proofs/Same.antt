@@ -10,8 +10,8 @@ use Rattle.kept_records.specs.Books.{KeptView}
 use Rattle.kept_records.specs.Slots.{IsMade, kept_at, pair_at, record_at}
 use Rattle.kept_state.specs.declared.state.KeptState.{KeptState}
 use Rattle.kept_judging.specs.Judged.{pair_by}
-use Rattle.kept_below.specs.Moved.{moved}
-use Rattle.child_lists.specs.Family.{AreCounted, AreGivenBut}
+use Rattle.child_listing.specs.Moved.{moved}
+use Rattle.child_listing.specs.Family.{AreCounted, AreGivenBut}
 use Rattle.kept_children.specs.Steps.{GovernsBelow, marked_count}
 use Rattle.kept_children.proofs.Asking.{places-stay}
 

@@ -14,11 +14,11 @@ use Rattle.kept_state.specs.Kept.{FitBut, IsBeside}
 use Rattle.kept_state.specs.declared.element.Governed.{Governed}
 use Rattle.kept_state.specs.declared.state.KeptState.{KeptState}
 use Rattle.kept_judging.specs.Judged.{pair_by}
-use Rattle.kept_below.specs.Below.{AreAbove, IsSettled}
-use Rattle.kept_below.specs.Moved.{moved, AreGivenDown}
-use Rattle.child_lists.specs.Places.{IsPlaceOf}
-use Rattle.child_lists.specs.declared.place.ChildPlace.{ChildPlace}
-use Rattle.child_lists.proofs.Listed.{child-element}
+use Rattle.child_listing.specs.Below.{AreAbove, IsSettled}
+use Rattle.child_listing.specs.Moved.{moved, AreGivenDown}
+use Rattle.child_listing.specs.Places.{IsPlaceOf}
+use Rattle.child_listing.specs.declared.place.ChildPlace.{ChildPlace}
+use Rattle.child_listing.proofs.FamilyListed.{child-element}
 use Rattle.kept_children.specs.Edited.{IsSettledAt}
 use Rattle.kept_children.specs.Steps.{GovernsBelow, LeaveRoom, Suffice, TakeAtMost, digits, marked_count, places_of, width}
 use Rattle.kept_children.proofs.Siblings.{alone, alone-down, alone-less, moved-settled}

@@ -23,12 +23,12 @@ use Rattle.kept_records.specs.Slots.{KeptSlots, IsMade, pair_at}
 use Rattle.kept_records.proofs.Nodes.{by-node, child-parent}
 use Rattle.kept_state.specs.Kept.{FitBut}
 use Rattle.kept_state.specs.declared.state.KeptState.{KeptState}
-use Rattle.kept_forgetting.specs.Below.{IsWithin}
-use Rattle.kept_forgetting.proofs.Placed.{others-differ, children-differ}
-use Rattle.kept_forgetting.proofs.Walks.{parent-outside, siblings-apart}
-use Rattle.kept_below.specs.Moved.{moved, is_typed, AreGivenDown}
-use Rattle.kept_below.proofs.Moving.{given-part, moved-alike, under-one}
-use Rattle.child_lists.proofs.Edits.{among-more}
+use Rattle.kept_judging.specs.Below.{IsWithin}
+use Rattle.kept_judging.proofs.Placed.{others-differ, children-differ}
+use Rattle.kept_judging.proofs.Walks.{parent-outside, siblings-apart}
+use Rattle.child_listing.specs.Moved.{moved, is_typed, AreGivenDown}
+use Rattle.child_listing.proofs.Moving.{given-part, moved-alike, under-one}
+use Rattle.child_listing.proofs.Edits.{among-more}
 use Rattle.kept_children.specs.Steps.{GovernsBelow}
 use Rattle.kept_children.proofs.Moves.{has-place, nothing-moves}
 

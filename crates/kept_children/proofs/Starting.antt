@@ -17,9 +17,9 @@ use Rattle.kept_records.proofs.Nodes.{has-element}
 use Rattle.kept_state.specs.declared.state.KeptState.{KeptState}
 use Rattle.kept_judging.specs.Judged.{IsGivenBy}
 use Rattle.kept_children.specs.Edited.{IsRightFor}
-use Rattle.child_lists.specs.Family.{marked_places, model_of, symbols_of}
-use Rattle.child_lists.proofs.Edits.{get-map}
-use Rattle.child_lists.proofs.Terms.{terms-same}
+use Rattle.child_listing.specs.Family.{marked_places, model_of, symbols_of}
+use Rattle.child_listing.proofs.Edits.{get-map}
+use Rattle.child_listing.proofs.Terms.{terms-same}
 
 -- a number of a node was given out
 pub in-table : (ns : Nodes) (n : ℕ) (it : Node) → IsNode ns n it → n < length ns

@@ -29,7 +29,7 @@ use Rattle.kept_records.proofs.Frames.{map-same}
 use Rattle.kept_state.specs.declared.children.KeptChildren.{KeptChildren}
 use Rattle.kept_state.specs.declared.state.KeptState.{KeptState}
 use Rattle.kept_judging.specs.Judged.{IsJudgedBy}
-use Rattle.child_lists.proofs.Edits.{has-filter, filter-same, flat-has}
+use Rattle.child_listing.proofs.Edits.{has-filter, filter-same, flat-has}
 
 -- ---- nodes
 

@@ -20,11 +20,11 @@ use Rattle.kept_state.specs.declared.element.Outcome.{Outcome}
 use Rattle.kept_state.specs.declared.state.KeptState.{KeptState}
 use Rattle.kept_state.proofs.Beside.{kept-there}
 use Rattle.kept_judging.specs.Judged.{symbols_by}
-use Rattle.child_lists.specs.Family.{AreCounted, AreGivenBut, IsListedBy, IsMidway, model_of, symbols_of}
-use Rattle.child_lists.specs.declared.place.ChildPlace.{ChildPlace}
-use Rattle.child_lists.proofs.Edits.{get-within}
-use Rattle.child_lists.proofs.Terms.{many-symbols}
-use Rattle.child_lists.proofs.Written.{midway-written, listed-written, counts-written, given-written, pair-stays}
+use Rattle.child_listing.specs.Family.{AreCounted, AreGivenBut, IsListedBy, IsMidway, model_of, symbols_of}
+use Rattle.child_listing.specs.declared.place.ChildPlace.{ChildPlace}
+use Rattle.child_listing.proofs.Edits.{get-within}
+use Rattle.child_listing.proofs.Terms.{many-symbols}
+use Rattle.child_listing.proofs.Written.{midway-written, listed-written, counts-written, given-written, pair-stays}
 use Rattle.kept_children.specs.Edited.{IsPruned}
 use Rattle.kept_children.specs.Steps.{digits, places_of, width}
 use Rattle.kept_children.proofs.Pruned.{others, pruned-children, pruned-counts, pruned-each, pruned-given, pruned-listed, pruned-made, pruned-midway, pruned-symbols}

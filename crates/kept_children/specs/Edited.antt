@@ -13,10 +13,10 @@ use Rattle.kept_state.specs.Kept.{FitBut, IsBeside, outcome_at}
 use Rattle.kept_state.specs.declared.element.Outcome.{Outcome}
 use Rattle.kept_state.specs.declared.state.KeptState.{KeptState}
 use Rattle.kept_judging.specs.Judged.{pair_by}
-use Rattle.kept_forgetting.specs.Forgotten.{Forgets}
-use Rattle.kept_below.specs.Below.{IsSettled}
-use Rattle.child_lists.specs.Places.{IsPlaceOf}
-use Rattle.child_lists.specs.declared.place.ChildPlace.{ChildPlace}
+use Rattle.kept_judging.specs.Forgotten.{Forgets}
+use Rattle.child_listing.specs.Below.{IsSettled}
+use Rattle.child_listing.specs.Places.{IsPlaceOf}
+use Rattle.child_listing.specs.declared.place.ChildPlace.{ChildPlace}
 
 -- all that is kept is right for the document that these nodes stand for
 pub record IsRightFor (c : Compiled) (ns : Nodes) (k : KeptState) : Type 0 where

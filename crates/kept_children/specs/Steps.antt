@@ -9,9 +9,9 @@ use Rattle.doc_documents.specs.Readers.{element_numbers}
 use Rattle.kept_records.specs.Slots.{pair_at}
 use Rattle.kept_state.specs.declared.state.KeptState.{KeptState}
 use Rattle.kept_judging.specs.Judged.{pair_by}
-use Rattle.kept_below.specs.Moved.{AreGivenDown, moved}
-use Rattle.child_lists.specs.Family.{marked_places, model_of, symbols_of}
-use Rattle.child_lists.specs.declared.place.ChildPlace.{ChildPlace}
+use Rattle.child_listing.specs.Moved.{AreGivenDown, moved}
+use Rattle.child_listing.specs.Family.{marked_places, model_of, symbols_of}
+use Rattle.child_listing.specs.declared.place.ChildPlace.{ChildPlace}
 
 -- of a list of so many: the binary digits of one more, and one
 abbrev pub digits : ℕ → ℕ

@@ -3,3 +3,11 @@ pub mod Reading
 pub mod Flags
 pub mod Keeping
 pub mod Anew
+pub mod Placed
+pub mod Walks
+pub mod Depths
+pub mod Passing
+pub mod Forgetting
+pub mod Counts
+pub mod Climbing
+pub mod Whole

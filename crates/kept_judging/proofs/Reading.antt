@@ -17,7 +17,7 @@ use Rattle.elem_governing.specs.declared.pairs.Governing.{Governing}
 use Rattle.elem_governing.specs.declared.pairs.Mode.{Mode}
 use Rattle.elem_governing.specs.declared.pairs.Mode.TheVariants.{Strict, Lax, Skip}
 use Rattle.elem_governing.proofs.There.{root-there, child-there}
-use Rattle.elem_regoverning.specs.Again.{regoverned}
+use Rattle.elem_governing.specs.Again.{regoverned}
 use Rattle.compiled_schema.specs.Usable.{IsUsable, set_of}
 use Rattle.compiled_schema.specs.declared.compiled.Compiled.{Compiled}
 use Rattle.doc_nodes.specs.Nodes.{Nodes}

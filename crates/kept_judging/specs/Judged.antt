@@ -6,7 +6,7 @@ use Rattle.assess_records.specs.Numbered.{Head, shape_of}
 use Rattle.assess_records.specs.declared.shape.ElementShape.{ElementShape}
 use Rattle.elem_governing.specs.Governing.{govern_root, govern_child}
 use Rattle.elem_governing.specs.declared.pairs.Governing.{Governing}
-use Rattle.elem_regoverning.specs.Again.{regoverned}
+use Rattle.elem_governing.specs.Again.{regoverned}
 use Rattle.assessment.specs.Attribution.{SchemaSet}
 use Rattle.assessment.specs.Assessment.{AreJudged}
 use Rattle.compiled_schema.specs.Usable.{set_of}

@@ -1,1 +1,4 @@
 pub mod Judged
+pub mod Below
+pub mod Forgotten
+pub mod Climbing

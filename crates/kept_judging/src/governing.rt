@@ -14,7 +14,7 @@ use compiled_schema::Compiled;
 use doc_readers::name_alone;
 use doc_tree::DocTree;
 use elem_governing::{Governing, govern_child, govern_plain_child, govern_root};
-use elem_regoverning::regovern;
+use elem_governing::regovern;
 use kept_state::Governed;
 use std::alloc::{AllocError, Global};
 use xs_components::TermId;

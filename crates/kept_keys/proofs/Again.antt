@@ -13,9 +13,9 @@ use Rattle.kept_state.specs.declared.state.KeptState.{KeptState}
 use Rattle.kept_state.proofs.Beside.{kept-there}
 use Rattle.kept_judging.specs.Judged.{IsJudgedAnew}
 use Rattle.kept_judging.proofs.Anew.{gathered-children, anew-fits}
-use Rattle.kept_above.specs.Climbing.{IsClimbing, KeepsRest}
-use Rattle.kept_above.proofs.Climbing.{begun, made-before, made-now, pair-stays}
-use Rattle.kept_above.proofs.Whole.{all-made}
+use Rattle.kept_judging.specs.Climbing.{IsClimbing, KeepsRest}
+use Rattle.kept_judging.proofs.Climbing.{begun, made-before, made-now, pair-stays}
+use Rattle.kept_judging.proofs.Whole.{all-made}
 use Rattle.kept_keys.specs.Keys.{IsWhole, KeepsCodes, KeepsElements}
 use Rattle.kept_keys.proofs.Whole.{top-stays}
 

@@ -16,7 +16,7 @@ use crate::codes::{NumberedCodes, codes_of};
 use assess_records::Codes;
 use compiled_schema::Compiled;
 use doc_tree::DocTree;
-use kept_above::settle_above;
+use kept_judging::settle_above;
 use kept_judging::judge;
 use kept_state::{Governed, KeptState};
 use std::alloc::AllocError;

@@ -12,7 +12,7 @@ use Rattle.content_models.specs.declared.automaton.ContentAutomaton.{ContentAuto
 use Rattle.content_models.specs.declared.automaton.ContentAutomaton.TheVariants.{States, All}
 use Rattle.assessment.specs.Attribution.{SchemaSet}
 use Rattle.assessment.proofs.Walking.{kept-now, symbols-known}
-use Rattle.model_rows.specs.Maps.{leaf_of}
+use Rattle.model_lists.specs.Maps.{leaf_of}
 use Rattle.model_terms.specs.Symbols.{AreSymbolsBy}
 use Rattle.model_terms.specs.Terms.{is_ambivalent_symbol}
 use Rattle.model_lists.specs.Lists.{ListsView, RowLists, MemberLists, HasLeaves, IsRowList, IsMemberList, IsListIn, IsListOf, member_of}

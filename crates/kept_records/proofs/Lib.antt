@@ -10,3 +10,4 @@ pub mod Lists
 pub mod Frames
 pub mod Said
 pub mod Counting
+pub mod Dropping

@@ -4,8 +4,8 @@ use Rattle.std.specs.Prelude.{nat_lt, not, [], ◌∷◌}
 use Rattle.std.proofs.lemmas.Bool.{and_parts, eqb-true}
 use Rattle.simple_values.specs.declared.key.Key.{Key}
 use Rattle.identity_tables.specs.KeyTables.{Tables, own_count, IsOneMoreTuple}
-use Rattle.identity_counts.specs.Counting.{Has, Links}
-use Rattle.identity_counts.proofs.Bearers.{same_or_other}
+use Rattle.identity_carry.specs.Counting.{Has, Links}
+use Rattle.identity_carry.proofs.Bearers.{same_or_other}
 use Rattle.identity_carry.specs.Tables.{KeyTuple, for_key, same_key_tuple, is_in_table, AreSettled, IsOneMoreOwn}
 use Rattle.identity_carry.proofs.EntryLaws.{decides, own_more, said_kept}
 use Rattle.key_records.specs.Faults.{weight}

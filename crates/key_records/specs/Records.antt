@@ -2,7 +2,7 @@
 use Rattle.std.specs.Prelude.{◌≡◌, ◌+◌, ◌*◌, ◌≤◌, ◌&&◌, ℕ, nat_eq, nat_lt, Bool, true, false, not, List, Some}
 use Rattle.simple_values.specs.declared.key.Key.{Key}
 use Rattle.identity_tables.specs.KeyTables.{Tables, own_count}
-use Rattle.identity_counts.specs.Counting.{Links}
+use Rattle.identity_carry.specs.Counting.{Links}
 use Rattle.identity_carry.specs.Tables.{AreSettled, for_key, same_key_tuple, is_in_table}
 use Rattle.key_records.specs.Counted.{Counted, with_keys, with_misuse, without_keys, with_nillable}
 use Rattle.key_records.specs.Faults.{faults_at, weight}

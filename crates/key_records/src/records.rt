@@ -2,7 +2,7 @@
 
 ghost use Rattle.std.specs.Prelude.{◌≡◌, ◌≤◌, ◌<◌, ◌^◌, ◌&&◌, ◌↔◌, ℕ, List, nat_lt, not, IsTrue, IfOk, OnOk};
 ghost use Rattle.simple_values.specs.declared.key.Key.{Key};
-ghost use Rattle.identity_counts.specs.Counting.{Has, Links, IsLinked};
+ghost use Rattle.identity_carry.specs.Counting.{Has, Links, IsLinked};
 ghost use Rattle.identity_carry.specs.Tables.{AreParents, AreSettled};
 ghost use Rattle.key_records.specs.Counted.{no_targets};
 ghost use Rattle.key_records.specs.References.{AreReferences};

@@ -17,8 +17,8 @@ use Rattle.content_models.specs.declared.automaton.ContentAutomaton.TheVariants.
 use Rattle.all_summary.specs.declared.map.AllMap.{AllMap}
 use Rattle.all_summary.specs.Masks.{acts, of_letter}
 use Rattle.all_summary.proofs.Running.{letters_are}
-use Rattle.model_rows.specs.Maps.{width_of, leaf_of}
-use Rattle.model_rows.proofs.Running.{rows_are, run-within}
+use Rattle.model_lists.specs.Maps.{width_of, leaf_of}
+use Rattle.model_lists.proofs.RowRunning.{rows_are, run-within}
 use Rattle.model_terms.specs.Symbols.{AreSymbolsBy}
 use Rattle.model_terms.specs.Terms.{begins, is_word, is_ambivalent_symbol, stuck_in}
 use Rattle.model_terms.proofs.Along.{run-append}

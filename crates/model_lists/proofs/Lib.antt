@@ -10,3 +10,7 @@ pub mod Leading
 pub mod Choosing
 pub mod Marking
 pub mod Digits
+mod Walking
+pub mod RowRunning
+pub mod Keeping
+pub mod Writing

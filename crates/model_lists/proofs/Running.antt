@@ -13,8 +13,8 @@ use Rattle.content_models.specs.declared.automaton.ContentAutomaton.TheVariants.
 use Rattle.all_summary.specs.declared.map.AllMap.{AllMap}
 use Rattle.all_summary.specs.Masks.{of_letter, acts}
 use Rattle.all_summary.proofs.Running.{letters_are}
-use Rattle.model_rows.specs.Maps.{width_of, leaf_of}
-use Rattle.model_rows.proofs.Running.{rows_are, run-within}
+use Rattle.model_lists.specs.Maps.{width_of, leaf_of}
+use Rattle.model_lists.proofs.RowRunning.{rows_are, run-within}
 use Rattle.model_terms.specs.Terms.{begins, stuck_in}
 use Rattle.model_terms.proofs.Stuck.{stuck-is, one-stuck}
 use Rattle.model_lists.specs.Lists.{member_of}

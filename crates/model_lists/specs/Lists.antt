@@ -6,7 +6,7 @@ use Rattle.content_models.specs.declared.automaton.ContentAutomaton.{ContentAuto
 use Rattle.content_models.specs.declared.automaton.ContentAutomaton.TheVariants.{States, All}
 use Rattle.all_summary.specs.declared.map.AllMap.{AllMap}
 use Rattle.all_summary.specs.Masks.{of_letter}
-use Rattle.model_rows.specs.Maps.{width_of, leaf_of}
+use Rattle.model_lists.specs.Maps.{width_of, leaf_of}
 use Rattle.model_terms.specs.Terms.{is_ambivalent_symbol}
 use Rattle.model_lists.specs.declared.handle.ModelList.{ModelList}
 

@@ -21,7 +21,7 @@ use crate::rows::{build_row, grow, insert_row, row_from, row_upto, set_row, stuc
 use all_summary::AllSummary;
 use child_trees::Seqs;
 use content_models::ContentAutomaton;
-use model_rows::RowSummary;
+use crate::RowSummary;
 use model_terms::{first_term, is_ambivalent_symbol, member_term};
 use std::alloc::{AllocError, Global};
 use std::marker::Model;

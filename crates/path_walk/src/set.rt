@@ -1,7 +1,7 @@
 //! What identity constraints are evaluated by.
 
 use component_tables::ContentTypes;
-use identity_paths::IdentityPaths;
+use xpath_subset::IdentityPaths;
 use std::alloc::Global;
 use xs_components::Components;
 use xs_names::Names;

@@ -15,7 +15,7 @@ use Rattle.schema_check.specs.declared.documents.CompiledSet.{CompiledSet}
 use Rattle.compiled_schema.specs.Usable.{HasModelOver, AreModels, IsUsable}
 use Rattle.compiled_schema.specs.declared.compiled.Compiled.{Compiled}
 use Rattle.schema_compile.specs.Fit.{IsFit}
-use Rattle.identity_paths.specs.Reads.{AreIdentities}
+use Rattle.xpath_subset.specs.Reads.{AreIdentities}
 use Rattle.schema_compile.specs.declared.finding.Found.{Found}
 use Rattle.schema_compile.specs.declared.finding.Faultless.{Faultless}
 use Rattle.schema_compile.specs.declared.outcome.Outcome.TheVariants.{Accepted}

@@ -11,7 +11,7 @@ use attr_uses::AttrTables;
 use component_tables::{ComponentNames, ContentTypes, Declarations};
 use derive_faults::id_marks;
 use element_classes::classes_of;
-use identity_paths::IdentityPaths;
+use xpath_subset::IdentityPaths;
 use schema_check::CompiledSet;
 use schema_models::Models;
 use std::alloc::{AllocError, Global};

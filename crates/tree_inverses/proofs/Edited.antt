@@ -12,7 +12,7 @@ use Rattle.tree_rows.specs.declared.row.Attribute.{Attribute}
 use Rattle.tree_rows.specs.declared.row.Binding.{Binding}
 use Rattle.tree_building.specs.Blocks.{one_element}
 use Rattle.tree_building.specs.Building.{block}
-use Rattle.block_trees.proofs.Trees.{block_tree}
+use Rattle.tree_inverses.proofs.Trees.{block_tree}
 use Rattle.std.specs.List.{list_any}
 use Rattle.tree_edits.specs.Blocks.{tags_in, has_too_many, has_double}
 use Rattle.tree_edits.specs.Changes.{has_name, set_in, has_no_room}

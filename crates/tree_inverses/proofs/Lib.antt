@@ -6,3 +6,5 @@ pub mod Inverses
 pub mod Fitting
 pub mod Edited
 pub mod Undone
+mod Roots
+pub mod Trees

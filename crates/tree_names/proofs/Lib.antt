@@ -2,3 +2,5 @@ pub mod Numbers
 pub mod Tables
 pub mod RowLaws
 pub mod Staying
+pub mod EditTables
+pub mod Edited

@@ -2,3 +2,4 @@ pub mod Numbers
 pub mod Table
 pub mod Found
 pub mod inside
+pub mod Names

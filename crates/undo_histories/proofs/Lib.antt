@@ -1,3 +1,4 @@
 mod Meaning
 mod Leading
 pub mod Remembering
+pub mod Logged

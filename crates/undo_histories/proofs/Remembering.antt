@@ -21,8 +21,8 @@ use Rattle.undo_log.specs.Log.{Log, log_of, noted, with_undo_taken, with_undo_an
 use Rattle.undo_log.specs.History as histories
 use Rattle.undo_log.specs.History.{History, IsLogOf, undone, redone}
 use Rattle.undo_log.specs.declared.log.Taken.TheVariants.{Nothing}
-use Rattle.undo_steps.specs.Steps.{GoesTo}
-use Rattle.undo_steps.proofs.Logged.{edit_logged, undo_logged, redo_logged}
+use Rattle.undo_histories.specs.Steps.{GoesTo}
+use Rattle.undo_histories.proofs.Logged.{edit_logged, undo_logged, redo_logged}
 use Rattle.undo_histories.specs.Meant.{meant, meant_log}
 use Rattle.undo_histories.specs.Through.{history_through, IsLogged, Remembers, StepsTo, Gives}
 use Rattle.undo_histories.proofs.Meaning.{meant_is}

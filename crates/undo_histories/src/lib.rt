@@ -2,5 +2,7 @@
 #![tactic(auto)]
 
 mod laws;
+mod step_laws;
 
 pub use laws::{edits_are_remembered, redos_are_remembered, undos_are_remembered};
+pub use step_laws::{edits_are_logged, logs_lead_on, redos_are_logged, undos_are_logged};

@@ -6,8 +6,8 @@ use Rattle.tree_rows.specs.Whole.{IsTree}
 use Rattle.attr_assess.specs.Added.{AreNamed}
 use Rattle.assessment.specs.Attribution.{SchemaSet}
 use Rattle.assessment.specs.Assessment.{Entry, Assessed, entries, IsAssessment}
-use Rattle.identity_paths.specs.Reads.{AreIdentities}
-use Rattle.identity_paths.specs.declared.paths.IdentityPaths.{IdentityPaths}
+use Rattle.xpath_subset.specs.Reads.{AreIdentities}
+use Rattle.xpath_subset.specs.declared.paths.IdentityPaths.{IdentityPaths}
 use Rattle.identity_assessment.specs.Identity.{beside_of}
 
 -- These are the entries of the assessment of a document by a set, in document order, with the codes of the set's identity constraints (3.11.4)

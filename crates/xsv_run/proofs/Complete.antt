@@ -28,7 +28,7 @@ use Rattle.stream_sections.specs.declared.schemas.SchemaSection.{SchemaSection}
 use Rattle.stream_answers.specs.Faults.{fault_line, fault_ending}
 use Rattle.stream_answers.specs.Output.{ends, schema_ok, inputs, question_of, compiled_told, check_told, opening, opened_told, commands_told, stream_told, sections_told}
 use Rattle.stream_answers.specs.declared.wanted.Wanted.{Wanted}
-use Rattle.generated_stream.specs.Lines.{stream_text}
+use Rattle.generated_trial.specs.Lines.{stream_text}
 use Rattle.command_words.specs.declared.request.Request.{Request}
 use Rattle.command_words.specs.declared.request.Request.TheVariants.{Read, Generate, Trial}
 use Rattle.xsv_run.specs.Statuses.{status_of}

@@ -2,7 +2,7 @@
 use Rattle.std.proofs.Common.{◌≡◌, ℕ, List, [], true, Option, Some, None, IfSome, refl, sym, subst, append-nil, is_some}
 use Rattle.std.specs.Io.KnownBytes.{Appends}
 use Rattle.xsv_io.specs.Writing.{AppendsFront}
-use Rattle.generated_stream.specs.Lines.{stream_text}
+use Rattle.generated_trial.specs.Lines.{stream_text}
 use Rattle.told.specs.Told.{Told}
 use Rattle.told.specs.Going.{Trace, trace, Breaks}
 use Rattle.told.specs.declared.break_off.BreakOff.TheVariants as breaks

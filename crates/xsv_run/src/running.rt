@@ -12,7 +12,7 @@ use crate::stream::answer_stream;
 use crate::trial::run_trial;
 use crate::wanted::wanted_of;
 use command_words::{Request, WordsFault, read_words};
-use generated_stream::generate_stream;
+use generated_trial::generate_stream;
 use std::alloc::Global;
 use xs_names::Text;
 use xsv_io::{Sink, Source, write_text};

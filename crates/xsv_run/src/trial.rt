@@ -1,6 +1,6 @@
 ghost use Rattle.std.specs.Prelude.{◌≡◌, ◌≤◌, Some};
 ghost use Rattle.xsv_io.specs.Causes.{KeepsCount};
-ghost use Rattle.generated_stream.specs.Lines.{stream_text};
+ghost use Rattle.generated_trial.specs.Lines.{stream_text};
 ghost use Rattle.told.specs.Going.{trace};
 ghost use Rattle.xsv_run.specs.Statuses.{is_broken};
 ghost use Rattle.xsv_run.specs.Output.{Answers, Tries, usual_session};
@@ -10,7 +10,7 @@ use crate::Status;
 use crate::stream::answer_stream;
 use crate::wanted::wanted_of;
 use command_words::{Task, USUAL_MOST};
-use generated_stream::generated_lines;
+use generated_trial::generated_lines;
 use generated_trial::{GeneratedSource, KeptText, summary_of, write_summary};
 use std::alloc::Global;
 use xsv_io::Sink;

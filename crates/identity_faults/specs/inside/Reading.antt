@@ -8,7 +8,7 @@ use Rattle.xs_components.specs.declared.constraint.Constraint.{Constraint}
 use Rattle.xs_components.specs.declared.constraint.PathText.{PathText}
 use Rattle.xs_codes.specs.Least.{IsLeast}
 use Rattle.xpath_subset.specs.Grammar.{WrittenPaths, IsField}
-use Rattle.identity_paths.specs.Reads.{IsReadAs, ArePathsOf}
+use Rattle.xpath_subset.specs.Reads.{IsReadAs, ArePathsOf}
 use Rattle.identity_faults.specs.Faults.{IsUnreadable, IsFaultOf}
 use Rattle.identity_faults.specs.declared.reading.PathReading.{PathReading}
 use Rattle.identity_faults.specs.declared.reading.FieldsReading.{FieldsReading}

@@ -1,5 +1,5 @@
 use Rattle.std.proofs.Common.{List, subst, sym}
-use Rattle.identity_counts.specs.Counting.{Links, IsLinked}
+use Rattle.identity_carry.specs.Counting.{Links, IsLinked}
 use Rattle.identity_carry.specs.Tables.{AreParents}
 use Rattle.key_records.specs.Counted.{Counted, plus}
 use Rattle.key_records.specs.Records.{AreRecords}

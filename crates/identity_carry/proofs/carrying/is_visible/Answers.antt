@@ -1,5 +1,5 @@
 use Rattle.std.proofs.Common.{◌∙◌}
-use Rattle.identity_counts.proofs.Exact.{seen_is}
+use Rattle.identity_carry.proofs.Exact.{seen_is}
 use Rattle.identity_carry.specs.Tables.{for_key, own, said, same_key_tuple}
 use Rattle.identity_carry.proofs.carrying.is_visible.Goals as goal
 

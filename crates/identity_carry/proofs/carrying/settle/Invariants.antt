@@ -1,4 +1,4 @@
-use Rattle.identity_counts.specs.Counting.{Links, IsLinked}
+use Rattle.identity_carry.specs.Counting.{Links, IsLinked}
 use Rattle.identity_carry.specs.Tables.{AreParents, ArePending, AreTold, HasSameOwn, for_key, level}
 use Rattle.identity_carry.proofs.carrying.settle.Given as goal
 

@@ -1,5 +1,5 @@
 use Rattle.std.proofs.Common.{sym, subst}
-use Rattle.identity_counts.specs.Counting.{IsTouched}
+use Rattle.identity_carry.specs.Counting.{IsTouched}
 use Rattle.identity_carry.specs.Tables.{for_key, own, said, same_key_tuple}
 use Rattle.identity_carry.proofs.ToldLaws.{told-one}
 use Rattle.identity_carry.proofs.carrying.settle_at.Goals as goal

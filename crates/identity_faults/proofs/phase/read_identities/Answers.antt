@@ -1,7 +1,7 @@
 use Rattle.std.proofs.Common.{◌≡◌, ◌<◌, ◌≤◌, ◌++◌, List, [], ◌∷◌, length, get_or, subst, arith}
 use Rattle.xs_codes.specs.Least.{IsLeast, sooner}
 use Rattle.xs_components.specs.declared.constraint.Constraint.{Constraint}
-use Rattle.identity_paths.specs.Reads.{ArePathsOf}
+use Rattle.xpath_subset.specs.Reads.{ArePathsOf}
 use Rattle.identity_faults.specs.Faults.{IsFaultOf, IsIdentityFault}
 use Rattle.identity_faults.proofs.FaultLaws.{known-least, known-read, least-all, zip-all}
 use Rattle.identity_faults.proofs.phase.read_identities.Goals as goal

@@ -2,7 +2,7 @@ use Rattle.std.proofs.Common.{◌≡◌, None, take}
 use Rattle.std.specs.Prelude.{Any}
 use Rattle.std.specs.List.{AllZip}
 use Rattle.xs_codes.specs.Least.{IsLeast}
-use Rattle.identity_paths.specs.Reads.{ArePathsOf}
+use Rattle.xpath_subset.specs.Reads.{ArePathsOf}
 use Rattle.identity_faults.specs.Faults.{IsFaultOf}
 use Rattle.identity_faults.proofs.phase.read_identities.Given as goal
 

@@ -2,7 +2,7 @@ use Rattle.std.proofs.Common.{◌≡◌, ◌++◌, [], ◌∷◌, arith}
 use Rattle.xs_codes.specs.Least.{sooner}
 use Rattle.xs_codes.specs.declared.code.Code.TheVariants.{CFieldsXpaths}
 use Rattle.xpath_subset.specs.Grammar.{IsField}
-use Rattle.identity_paths.specs.Reads.{IsReadAs}
+use Rattle.xpath_subset.specs.Reads.{IsReadAs}
 use Rattle.identity_faults.specs.Faults.{IsUnreadable}
 use Rattle.identity_faults.proofs.FaultLaws.{known-least, known-read, least-all, zip-all}
 use Rattle.identity_faults.proofs.reading.fields_reading.Goals as goal

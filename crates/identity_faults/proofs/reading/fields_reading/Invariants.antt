@@ -4,7 +4,7 @@ use Rattle.std.specs.List.{AllZip}
 use Rattle.xs_codes.specs.Least.{IsLeast}
 use Rattle.xs_codes.specs.declared.code.Code.TheVariants.{CFieldsXpaths}
 use Rattle.xpath_subset.specs.Grammar.{IsField}
-use Rattle.identity_paths.specs.Reads.{IsReadAs}
+use Rattle.xpath_subset.specs.Reads.{IsReadAs}
 use Rattle.identity_faults.specs.Faults.{IsUnreadable}
 use Rattle.identity_faults.proofs.reading.fields_reading.Given as goal
 

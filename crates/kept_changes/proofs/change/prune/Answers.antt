@@ -7,7 +7,7 @@ use Rattle.doc_nodes.specs.Nodes.{IsChildAt, is_element_at}
 use Rattle.doc_changes.specs.Held.{parent_at}
 use Rattle.doc_changes.specs.Parts.{IsOver, Prunes}
 use Rattle.kept_state.specs.Kept.{outcome_at}
-use Rattle.kept_forgetting.specs.Forgotten.{Forgets}
+use Rattle.kept_judging.specs.Forgotten.{Forgets}
 use Rattle.kept_children.specs.Steps.{width}
 use Rattle.kept_changes.specs.Steps.{TakesBelow}
 use Rattle.kept_changes.proofs.Reread.{right-made}

@@ -6,8 +6,8 @@ use Rattle.doc_changes.specs.Held.{parent_at}
 use Rattle.kept_records.specs.Fit.{models_of, AboveIn, IsGathered}
 use Rattle.kept_state.specs.Kept.{CanGovern, FitBut, IsBeside}
 use Rattle.kept_state.specs.declared.element.Governed.{Governed}
-use Rattle.kept_above.specs.Climbing.{IsClimbing}
-use Rattle.kept_below.specs.Below.{AreAbove, IsSettled}
+use Rattle.kept_judging.specs.Climbing.{IsClimbing}
+use Rattle.child_listing.specs.Below.{AreAbove, IsSettled}
 use Rattle.kept_changes.proofs.Reread.{all-ok}
 use Rattle.kept_changes.proofs.Reattributed.{above-of, own-made, others-fit, own-gathered, above-waits, above-higher, same-again, again-can, reattribute-climbs, reattribute-right}
 use Rattle.kept_changes.proofs.own.reattribute.Goals as goal

@@ -3,7 +3,7 @@ use Rattle.compiled_schema.specs.Usable.{set_of}
 use Rattle.doc_nodes.specs.Nodes.{is_element_at}
 use Rattle.kept_records.specs.Fit.{models_of, AboveIn, IsGathered}
 use Rattle.kept_state.specs.Kept.{FitBut}
-use Rattle.kept_below.specs.Below.{AreAbove}
+use Rattle.child_listing.specs.Below.{AreAbove}
 use Rattle.kept_changes.proofs.Reread.{all-ok}
 use Rattle.kept_changes.proofs.RootNamed.{root-element, root-gathered, others-fit, root-alone, root-right}
 use Rattle.kept_changes.proofs.own.rename_root.Goals as goal

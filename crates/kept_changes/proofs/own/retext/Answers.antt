@@ -7,7 +7,7 @@ use Rattle.kept_state.specs.Kept.{CanGovern, FitBut, IsBeside, children_at}
 use Rattle.kept_state.specs.declared.state.KeptState.{KeptState}
 use Rattle.kept_state.proofs.Beside.{kept-there}
 use Rattle.kept_judging.specs.Judged.{IsJudgedAnew}
-use Rattle.kept_above.specs.Climbing.{IsClimbing}
+use Rattle.kept_judging.specs.Climbing.{IsClimbing}
 use Rattle.kept_changes.proofs.Reread.{all-ok}
 use Rattle.kept_changes.proofs.Retexted.{made-own, texts-written, texts-beside, retext-climbs, retext-right}
 use Rattle.kept_changes.proofs.own.retext.Goals as goal

@@ -1,5 +1,5 @@
 use Rattle.std.proofs.Common.{[]}
-use Rattle.kept_above.specs.Climbing.{with_outcome}
+use Rattle.kept_judging.specs.Climbing.{with_outcome}
 use Rattle.kept_children.proofs.Counted.{few-less, fewer-less, made-parent, count-written, count-is, settled-midway, settled-attributed, settled-given, counted-all, settled-pair, settled-left}
 use Rattle.kept_children.proofs.edits.settle_new.Goals as goal
 

@@ -3,7 +3,7 @@ use Rattle.compiled_schema.specs.declared.compiled.Compiled.{Compiled}
 use Rattle.kept_state.specs.Kept.{FitBut, IsBeside}
 use Rattle.kept_state.specs.declared.element.Outcome.{Outcome}
 use Rattle.kept_judging.proofs.Keeping.{both-ok}
-use Rattle.kept_above.specs.Climbing.{IsClimbing}
+use Rattle.kept_judging.specs.Climbing.{IsClimbing}
 use Rattle.kept_children.specs.Edited.{IsRightFor}
 use Rattle.kept_children.proofs.Ending.{climbing, top-kept}
 use Rattle.kept_children.proofs.edits.settle_parent.Goals as goal

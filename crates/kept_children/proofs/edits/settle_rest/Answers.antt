@@ -4,7 +4,7 @@ use Rattle.compiled_schema.specs.declared.compiled.Compiled.{Compiled}
 use Rattle.kept_records.specs.Slots.{pair_at}
 use Rattle.kept_state.specs.Kept.{children_at}
 use Rattle.kept_judging.specs.Judged.{AreChildren}
-use Rattle.child_lists.specs.Family.{IsMidway}
+use Rattle.child_listing.specs.Family.{IsMidway}
 use Rattle.kept_children.specs.Edited.{IsRightFor}
 use Rattle.kept_children.proofs.Ending.{children-right}
 use Rattle.kept_children.proofs.edits.settle_rest.Goals as goal

@@ -3,8 +3,8 @@ use Rattle.std.specs.Prelude.{slice_get}
 use Rattle.std.proofs.lemmas.Option.{none-some}
 use Rattle.content_models.specs.declared.automaton.ContentAutomaton.{ContentAutomaton}
 use Rattle.kept_records.specs.Slots.{kept_at}
-use Rattle.child_lists.specs.Family.{marked_places, model_of, symbols_of}
-use Rattle.child_lists.proofs.Listed.{listed-as, unlisted, unlisted-places}
+use Rattle.child_listing.specs.Family.{marked_places, model_of, symbols_of}
+use Rattle.child_listing.proofs.FamilyListed.{listed-as, unlisted, unlisted-places}
 use Rattle.kept_children.proofs.Asking.{child-there, child-up}
 use Rattle.kept_children.proofs.marked.marked_at.Goals as goal
 

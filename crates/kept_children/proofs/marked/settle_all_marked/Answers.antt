@@ -4,8 +4,8 @@ use Rattle.std.proofs.lemmas.Option.{slice_get_within}
 use Rattle.elem_governing.specs.declared.pairs.Governing.{Governing}
 use Rattle.compiled_schema.specs.declared.compiled.Compiled.{Compiled}
 use Rattle.kept_records.specs.Slots.{pair_at}
-use Rattle.kept_below.specs.Moved.{moved}
-use Rattle.child_lists.specs.Family.{AreGivenBut, IsAttributed, IsListedBy, IsMidway, symbols_of}
+use Rattle.child_listing.specs.Moved.{moved}
+use Rattle.child_listing.specs.Family.{AreGivenBut, IsAttributed, IsListedBy, IsMidway, symbols_of}
 use Rattle.kept_children.specs.Steps.{GovernsBelow, digits, marked_count, places_of, width}
 use Rattle.kept_children.proofs.Asking.{places-stay, places-next, places-ended, places-past, few-marked-children, asked-next, asked-all, asked-stopped}
 use Rattle.kept_children.proofs.marked.settle_all_marked.Goals as goal

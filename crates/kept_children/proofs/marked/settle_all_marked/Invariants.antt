@@ -4,8 +4,8 @@ use Rattle.elem_governing.specs.declared.pairs.Governing.{Governing}
 use Rattle.doc_nodes.specs.Nodes.{element_children}
 use Rattle.kept_records.specs.Slots.{pair_at}
 use Rattle.kept_state.specs.declared.children.KeptChildren.{KeptChildren}
-use Rattle.kept_below.specs.Moved.{moved}
-use Rattle.child_lists.specs.Family.{AreCounted, AreGivenBut, IsAttributed, IsMidway}
+use Rattle.child_listing.specs.Moved.{moved}
+use Rattle.child_listing.specs.Family.{AreCounted, AreGivenBut, IsAttributed, IsMidway}
 use Rattle.kept_children.specs.Steps.{GovernsBelow, digits, marked_count, places_of, width}
 use Rattle.kept_children.proofs.marked.settle_all_marked.Given as goal
 

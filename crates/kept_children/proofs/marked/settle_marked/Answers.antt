@@ -1,5 +1,5 @@
 use Rattle.std.proofs.Common.{[]}
-use Rattle.kept_above.specs.Climbing.{with_outcome}
+use Rattle.kept_judging.specs.Climbing.{with_outcome}
 use Rattle.kept_children.proofs.Counted.{others, counted-as, few-before, fewer-before, made-parent, recount-written, recount-is, settled-midway, settled-attributed, settled-given, recounted-all, settled-pair, settled-left}
 use Rattle.kept_children.proofs.marked.settle_marked.Goals as goal
 

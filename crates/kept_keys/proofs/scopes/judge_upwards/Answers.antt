@@ -6,7 +6,7 @@ use Rattle.compiled_schema.specs.declared.compiled.Compiled.{Compiled}
 use Rattle.kept_state.specs.Kept.{CanGovern, FitBut, IsBeside, children_at}
 use Rattle.kept_state.specs.declared.element.Outcome.{Outcome}
 use Rattle.kept_judging.specs.Judged.{IsJudgedAnew}
-use Rattle.kept_above.specs.Climbing.{IsClimbing}
+use Rattle.kept_judging.specs.Climbing.{IsClimbing}
 use Rattle.kept_keys.proofs.Again.{all-ok, climbing, codes-kept, whole-again}
 use Rattle.kept_keys.proofs.scopes.judge_upwards.Goals as goal
 

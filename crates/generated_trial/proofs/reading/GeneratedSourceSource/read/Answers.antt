@@ -1,5 +1,5 @@
 use Rattle.std.proofs.Common.{◌-◌, ◌++◌, drop, arith, ap, sym, ◌∙◌, length-take}
-use Rattle.generated_stream.specs.Lines.{pieces_lines, lines_text}
+use Rattle.generated_trial.specs.Lines.{pieces_lines, lines_text}
 use Rattle.generated_trial.specs.Rest.{pieces_left}
 use Rattle.generated_trial.proofs.Buffers.{piece_then_more, at_its_end}
 use Rattle.generated_trial.proofs.reading.GeneratedSourceSource.read.Goals as goal

@@ -1,0 +1,101 @@
+use Rattle.std.specs.Prelude.{length, slice_set}
+use Rattle.std.proofs.Common.{◌+◌}
+use Rattle.kept_records.specs.Slots.{kept_at, pair_at}
+use Rattle.doc_documents.specs.Readers.{name_at}
+use Rattle.doc_nodes.specs.Nodes.{element_children}
+use Rattle.child_listing.specs.Family.{model_of, symbols_of}
+use Rattle.child_listing.proofs.FamilyListed.{unlisted-any, child-element, symbol-alone, in-list, place-taken, listed-again, set-many, as-many-steps}
+use Rattle.child_listing.proofs.Written.{midway-edited}
+use Rattle.child_listing.proofs.lists.relist_child.Goals as goal
+
+pub list_of-requires : goal.list_of-requires
+list_of-requires g c = c.requires.midway.2.made
+
+pub returns-in_default-clause-listed : goal.returns-in_default-clause-listed
+returns-in_default-clause-listed g c =
+    let k = c.args.kept.now in
+    let p = c.args.at.now.parent in
+    let symbols = symbols_of c.args.set.now c.args.doc.now k p in
+    unlisted-any k.lists (model_of c.args.set.now k p) (kept_at k.records.slots p).list (slice_set symbols c.args.at.now.place c.requires.listed.0) symbols c.in_default.ensures c.requires.listed.1
+
+pub listed-child-requires-clause-usable : goal.listed-child-requires-clause-usable
+listed-child-requires-clause-usable g c = c.requires.midway.2.beside.over.1.usable
+
+pub listed-child-requires-clause-stands : goal.listed-child-requires-clause-stands
+listed-child-requires-clause-stands g c = let over = c.requires.midway.2.beside.over in (over.0, over.1.stands)
+
+pub listed-child-requires-clause-model : goal.listed-child-requires-clause-model
+listed-child-requires-clause-model g c = ((pair_at c.args.kept.now.records.slots c.args.at.now.parent).of, c.in-Some.ensures.1)
+
+pub listed-child-requires-clause-element : goal.listed-child-requires-clause-element
+listed-child-requires-clause-element g c = child-element c.args.doc.now c.args.at.now c.requires.place
+
+pub set-requires-clause-list : goal.set-requires-clause-list
+set-requires-clause-list g c =
+    let set = c.args.set.now in
+    let ns = c.args.doc.now in
+    let k = c.args.kept.now in
+    let spot = c.args.at.now in
+    let a = c.in-Some.automaton.now in
+    let found = c.in-Some.ensures in
+    let child = c.listed-child in
+    let was = c.requires.listed.0 in
+    let others = slice_set (symbols_of set ns k spot.parent) spot.place was in (
+      others,
+      in-list set ns k spot c.requires.place a c.in-Some.list found.0 found.1 child.result child.ensures.place child.ensures.symbol others c.requires.listed.1,
+      place-taken set ns k spot c.requires.place a c.in-Some.list found.0 found.1 child.result child.ensures.place child.ensures.symbol was,
+    )
+
+pub set-requires-clause-symbol : goal.set-requires-clause-symbol
+set-requires-clause-symbol g c =
+    symbol-alone c.args.set.now c.requires.midway.2.beside.over.1.usable (pair_at c.args.kept.now.records.slots c.args.at.now.parent).of c.in-Some.automaton.now c.in-Some.ensures.1 c.listed-child.result.symbol
+    (name_at c.args.doc.now c.args.at.now.node) c.listed-child.ensures.symbol
+
+pub returns-in-Some-clause-midway : goal.returns-in-Some-clause-midway
+returns-in-Some-clause-midway g c = λ was waiting m.
+    let set = c.args.set.now in
+    let ns = c.args.doc.now in
+    let k = c.args.kept.now in
+    let spot = c.args.at.now in
+    let a = c.in-Some.automaton.now in
+    let h = c.in-Some.list in
+    let found = c.in-Some.ensures in
+    let child = c.listed-child in
+    let others = slice_set (symbols_of set ns k spot.parent) spot.place c.requires.listed.0 in
+    midway-edited set ns k c.set.new.self spot.parent h found.0 c.set.ensures.others (
+      a,
+      slice_set others child.result.place child.result.symbol,
+      c.set.ensures.list others (in-list set ns k spot c.requires.place a h found.0 found.1 child.result child.ensures.place child.ensures.symbol others c.requires.listed.1),
+    )
+    was waiting m
+
+pub returns-in-Some-clause-listed : goal.returns-in-Some-clause-listed
+returns-in-Some-clause-listed g c =
+    let set = c.args.set.now in
+    let ns = c.args.doc.now in
+    let k = c.args.kept.now in
+    let spot = c.args.at.now in
+    let a = c.in-Some.automaton.now in
+    let h = c.in-Some.list in
+    let found = c.in-Some.ensures in
+    let child = c.listed-child in
+    let was = c.requires.listed.0 in
+    let others = slice_set (symbols_of set ns k spot.parent) spot.place was in
+    listed-again set ns k spot c.requires.place a h found.0 found.1 child.result child.ensures.place child.ensures.symbol c.set.new.self was
+    (c.set.ensures.list others (in-list set ns k spot c.requires.place a h found.0 found.1 child.result child.ensures.place child.ensures.symbol others c.requires.listed.1))
+
+pub returns-in-Some-clause-steps : goal.returns-in-Some-clause-steps
+returns-in-Some-clause-steps g c =
+    let set = c.args.set.now in
+    let ns = c.args.doc.now in
+    let k = c.args.kept.now in
+    let spot = c.args.at.now in
+    let a = c.in-Some.automaton.now in
+    let h = c.in-Some.list in
+    let found = c.in-Some.ensures in
+    let child = c.listed-child in
+    let was = c.requires.listed.0 in
+    let others = slice_set (symbols_of set ns k spot.parent) spot.place was in
+    as-many-steps c.args.steps.now c.set.new.steps (length others + 1) (length (element_children ns spot.parent) + 1)
+    (set-many set ns k spot c.requires.place a h found.0 found.1 child.result child.ensures.place child.ensures.symbol was)
+    (c.set.ensures.steps others (in-list set ns k spot c.requires.place a h found.0 found.1 child.result child.ensures.place child.ensures.symbol others c.requires.listed.1))

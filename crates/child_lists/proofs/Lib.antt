@@ -1,4 +1,0 @@
-pub mod Edits
-pub mod Terms
-pub mod Listed
-pub mod Written

@@ -1,8 +1,0 @@
-//! The list of an element's child elements, edited and read.
-#![tactic(auto)]
-
-mod lists;
-mod place;
-
-pub use lists::{govern_at, list_child, note_stuck, relist_child, unlist_child};
-pub use place::{ChildPlace, list_of, place_of};

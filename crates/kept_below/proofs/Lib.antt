@@ -1,7 +1,0 @@
-pub mod Keeping
-pub mod Fits
-mod Counts
-mod Children
-mod Again
-pub mod Moving
-mod Opening

@@ -1,4 +1,0 @@
-use Rattle.kept_below.proofs.below.give_back.Goals as goal
-
-pub give-requires : goal.give-requires
-give-requires c = c.requires c.in-Some.list c.in-Some.is
