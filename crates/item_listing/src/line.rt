@@ -8,7 +8,7 @@ use crate::locations::read_locations;
 use crate::{Item, Reason};
 use std::alloc::{AllocError, Global};
 use std::str;
-use xs_names::Text;
+use xs_names::{Text, TextPool};
 
 /// Why a line gave no item.
 #[derive(Clone, Copy, Debug)]
@@ -25,13 +25,13 @@ impl From<AllocError> for LineError {
     }
 }
 
-fn read_name(alloc: Global, name: &str) -> Result<Text, LineError>
+fn read_name(names: &mut TextPool, name: &str) -> Result<Text, LineError>
     ensures { Gives result (listed.name_of name.now) }
 {
     if name.is_empty() {
         return Err(LineError::Refused(Reason::NoName));
     }
-    Ok(Text::new(alloc, name)?)
+    Ok(names.text(name)?)
 }
 
 fn read_text(alloc: Global, text: &str) -> Result<Text, LineError>
@@ -55,11 +55,16 @@ fn split_at_space(text: &str) -> (&str, &str)
 }
 
 #[tactic(auto, unfolding(crate::specs::Items::attribute))]
-fn read_attribute(alloc: Global, tag_open: bool, rest: &str) -> Result<Item, LineError>
+fn read_attribute(
+    alloc: Global,
+    names: &mut TextPool,
+    tag_open: bool,
+    rest: &str,
+) -> Result<Item, LineError>
     ensures { Gives result (listed.attribute tag_open rest.now) }
 {
     let (name, value) = split_at_space(rest);
-    let name = read_name(alloc, name)?;
+    let name = read_name(names, name)?;
     let value = read_text(alloc, value)?;
     if tag_open {
         Ok(Item::Attr(name, value))
@@ -88,6 +93,7 @@ fn read_word(alloc: Global, line: &str) -> Result<Item, LineError>
 #[tactic(auto, unfolding(crate::specs::Items::by_first))]
 fn read_by_first(
     alloc: Global,
+    names: &mut TextPool,
     tag_open: bool,
     line: &str,
     first: u8,
@@ -97,10 +103,10 @@ fn read_by_first(
     ensures { Gives result (listed.by_first tag_open line.now first rest.now) }
 {
     match first {
-        b'(' => Ok(Item::Start(read_name(alloc, rest)?)),
-        b'A' => read_attribute(alloc, tag_open, rest),
+        b'(' => Ok(Item::Start(read_name(names, rest)?)),
+        b'A' => read_attribute(alloc, names, tag_open, rest),
         b'-' => Ok(Item::Chars(read_text(alloc, rest)?)),
-        b')' => Ok(Item::Close(read_name(alloc, rest)?)),
+        b')' => Ok(Item::Close(read_name(names, rest)?)),
         b'?' => Ok(Item::Instruction),
         b'.' if rest.is_empty() => Ok(Item::Dot),
         b'a'..=b'z' => read_word(alloc, line),
@@ -108,12 +114,18 @@ fn read_by_first(
     }
 }
 
-fn read_started(alloc: Global, tag_open: bool, line: &str) -> Result<Item, LineError>
+fn read_started(
+    alloc: Global,
+    names: &mut TextPool,
+    tag_open: bool,
+    line: &str,
+) -> Result<Item, LineError>
     ensures { Gives result (listed.started tag_open line.now) }
 {
     match line.as_bytes().first() {
         Some(first) if *first < 128 => read_by_first(
             alloc,
+            names,
             tag_open,
             line,
             *first,
@@ -124,12 +136,17 @@ fn read_started(alloc: Global, tag_open: bool, line: &str) -> Result<Item, LineE
     }
 }
 
-/// What a line says, by its text.
-pub fn read_line(alloc: Global, tag_open: bool, line: &[u8]) -> Result<Item, LineError>
+/// What a line says, by its text. Names come from the pool.
+pub fn read_line(
+    alloc: Global,
+    names: &mut TextPool,
+    tag_open: bool,
+    line: &[u8],
+) -> Result<Item, LineError>
     ensures { Gives result (listed.item tag_open line.now) }
 {
     match str::from_utf8(line) {
-        Ok(text) => read_started(alloc, tag_open, text),
+        Ok(text) => read_started(alloc, names, tag_open, text),
         Err(_) => Err(LineError::Refused(Reason::NotUtf8)),
     }
 }
@@ -147,7 +164,8 @@ pub fn read_item(
 ) -> Result<Result<Item, Reason>, AllocError>
     ensures { IfOk result (λ read. read ≡ listed.item tag_open line.now) }
 {
-    match read_line(alloc, tag_open, line) {
+    let mut names = TextPool::new(alloc);
+    match read_line(alloc, &mut names, tag_open, line) {
         Ok(item) => Ok(Ok(item)),
         Err(LineError::Memory) => Err(AllocError),
         Err(LineError::Refused(reason)) => Ok(Err(reason)),

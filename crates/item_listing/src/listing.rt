@@ -15,6 +15,7 @@ use crate::{Item, Reason};
 use memchr::memchr;
 use std::alloc::{AllocError, Global};
 use std::marker::Model;
+use xs_names::TextPool;
 
 /// Why no item was read.
 #[derive(Clone, Copy, Debug)]
@@ -34,6 +35,8 @@ pub struct Listing {
     searched: usize,
     past: Past,
     finished: bool,
+    /// The names that came.
+    names: TextPool,
 }
 
 impl Model for Listing {
@@ -88,7 +91,12 @@ fn drop_front(bytes: &mut Vec<u8>, at: usize)
 }
 
 /// What a whole line says, without its line feed.
-fn read_whole(alloc: Global, past: Past, line: &[u8]) -> Result<Item, LineError>
+fn read_whole(
+    alloc: Global,
+    names: &mut TextPool,
+    past: Past,
+    line: &[u8],
+) -> Result<Item, LineError>
     requires { past.bytes ≤ MOST_BYTES }
     ensures { Gives result (whole_line past line.now) }
 {
@@ -97,7 +105,7 @@ fn read_whole(alloc: Global, past: Past, line: &[u8]) -> Result<Item, LineError>
     }
     match whole_limit(past.bytes, line.len()) {
         Some(reason) => Err(LineError::Refused(reason)),
-        None => read_line(alloc, past.tag_open, drop_return(line)),
+        None => read_line(alloc, names, past.tag_open, drop_return(line)),
     }
 }
 
@@ -143,6 +151,7 @@ impl Listing {
             searched: 0,
             past: Past::nothing(),
             finished: false,
+            names: TextPool::new(alloc),
         }
     }
 
@@ -198,7 +207,7 @@ impl Listing {
             self.searched = rest.len();
             return read_begun(self.past, rest, self.finished);
         };
-        match read_whole(self.alloc, self.past, &rest[..count]) {
+        match read_whole(self.alloc, &mut self.names, self.past, &rest[..count]) {
             Ok(item) => {
                 self.past = self.past.and_line(count, &item);
                 self.at += count + 1;

@@ -10,7 +10,7 @@ use crate::named::{bindings_in, judged_lines};
 use crate::{NameReason, Named, Prefixes, Tag, TagFaults};
 use std::alloc::{AllocError, Global};
 use tree_rows::{Attribute, Attributes, Binding, Bindings, Expanded, MAX_ATTRIBUTES};
-use xs_names::{TextPool, XML_NAMESPACE, XMLNS_NAMESPACE};
+use xs_names::{Text, TextPool, XML_NAMESPACE, XMLNS_NAMESPACE};
 
 /// What a tag says of its element, and what stands against its names.
 #[derive(Debug, Drop)]
@@ -76,7 +76,7 @@ fn judged_alone(
     alloc: Global,
     scope: &Prefixes,
     pool: &mut TextPool,
-    name: &str,
+    name: &Text,
 ) -> Result<JudgedTag, AllocError>
     ensures { IfOk result (λ judged. judged ≡ resolving.judged scope.now (record { name = name.now; attributes = [] })) }
 {
@@ -110,12 +110,12 @@ impl Tag {
     {
         let lines = self.attributes.as_slice();
         if lines.is_empty() {
-            return judged_alone(alloc, scope, pool, self.name.as_str());
+            return judged_alone(alloc, scope, pool, &self.name);
         }
         let bindings = bindings_in(alloc, pool, lines)?;
         let own = own_scope(alloc, bindings.as_slice())?;
         let own = own.as_ref();
-        let element = judged_element(own, scope, pool, self.name.as_str())?;
+        let element = judged_element(own, scope, pool, &self.name)?;
         let judged = judged_lines(alloc, own, scope, pool, lines)?;
         let double = has_double(alloc, bindings.as_slice(), judged.attributes.as_slice())?;
         let faults = TagFaults {
@@ -171,7 +171,8 @@ impl Prefixes {
     ) -> Result<Result<Expanded, NameReason>, AllocError>
         ensures { IfOk result (λ end. end ≡ resolving.element_resolved self.now name.now) }
     {
-        let judged = judged_element(None, self, pool, name)?;
+        let name = pool.text(name)?;
+        let judged = judged_element(None, self, pool, &name)?;
         Ok(judged.end())
     }
 
@@ -189,7 +190,8 @@ impl Prefixes {
     ) -> Result<Result<Expanded, NameReason>, AllocError>
         ensures { IfOk result (λ end. end ≡ resolving.attribute_resolved self.now name.now) }
     {
-        let judged = judged_attribute(None, self, pool, name)?;
+        let name = pool.text(name)?;
+        let judged = judged_attribute(None, self, pool, &name)?;
         Ok(judged.end())
     }
 }
