@@ -13,7 +13,7 @@ mod pairs;
 mod view;
 
 pub use children::{child_names, text_of};
-pub use govern::{govern_child, govern_root};
+pub use govern::{govern_child, govern_plain_child, govern_root};
 pub use governed_laws::governed_types_are_there;
 pub use head::{ElementHead, read_head};
 pub use laws::derivation_is_tested;
