@@ -53,6 +53,10 @@ pub mod indexmap {
         pub fn is_empty(&self) -> bool {
             self.entries.is_empty()
         }
+        pub fn reserve(&mut self, more: usize) -> Result<(), AllocError> {
+            self.entries.reserve(more);
+            Ok(())
+        }
         pub fn get_index_of<Q: ?Sized + Eq + Hash>(&self, q: &Q) -> Option<usize>
         where
             K: Borrow<Q>,
@@ -200,6 +204,42 @@ pub mod indexmap {
         }
         pub fn clear(&mut self) {
             self.0.clear()
+        }
+    }
+}
+pub mod circular_buffer {
+    use super::*;
+    use std::collections::VecDeque;
+    pub struct HeapCircularBuffer<T> {
+        items: VecDeque<T>,
+        most: usize,
+    }
+    impl<T> HeapCircularBuffer<T> {
+        pub fn with_capacity(_: Global, most: usize) -> Result<Self, AllocError> {
+            Ok(HeapCircularBuffer { items: VecDeque::new(), most })
+        }
+        pub fn push_back(&mut self, x: T) -> Option<T> {
+            self.items.push_back(x);
+            if self.items.len() > self.most { self.items.pop_front() } else { None }
+        }
+        pub fn push_front(&mut self, x: T) -> Option<T> {
+            self.items.push_front(x);
+            if self.items.len() > self.most { self.items.pop_back() } else { None }
+        }
+        pub fn pop_back(&mut self) -> Option<T> {
+            self.items.pop_back()
+        }
+        pub fn pop_front(&mut self) -> Option<T> {
+            self.items.pop_front()
+        }
+        pub fn clear(&mut self) {
+            self.items.clear()
+        }
+        pub fn len(&self) -> usize {
+            self.items.len()
+        }
+        pub fn is_empty(&self) -> bool {
+            self.items.is_empty()
         }
     }
 }

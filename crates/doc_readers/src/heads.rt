@@ -1,11 +1,11 @@
 //! Heads of elements, and the names of child elements.
 
-ghost use Rattle.std.specs.Prelude.{◌≡◌, ◌∷◌, [], ◌++◌, filter, map, reverse, Some, IfOk, OnOk};
+ghost use Rattle.std.specs.Prelude.{◌≡◌, ◌∷◌, [], ◌++◌, filter, map, reverse, Some, IfOk, IfSome, OnOk};
 ghost use Rattle.tree_rows.specs.declared.row.NodeKind.TheVariants as kinds;
 ghost use Rattle.doc_nodes.specs.Nodes.{element_children, is_element_at};
 ghost use Rattle.doc_changes.specs.Held.{kind_at};
 ghost use Rattle.doc_documents.specs.Readers.{name_at};
-ghost use Rattle.doc_heads.specs.Heads.{IsHeadAt, text_named, pair_of};
+ghost use Rattle.doc_heads.specs.Heads.{IsHeadAt, text_named, texts_named, pair_of};
 
 use assess_records::{NamedText, NamedTextList};
 use doc_nodes::{Content, Element, NameAttribute, NameBinding};
@@ -73,6 +73,17 @@ pub fn head_at(
     match doc.content(node) {
         Some(Content::Element(element)) => head_of(alloc, element, outer),
         _ => unreachable!(),
+    }
+}
+
+/// The number of the name of an element that has no attributes; `None` where the number is of any other node, or of none.
+pub fn name_alone(doc: &DocTree, node: u32) -> Option<NameId>
+    ensures name { IfSome result (λ name. name ≡ name_at doc.now node) }
+    ensures alone { IfSome result (λ _. texts_named doc.now node ≡ []) }
+{
+    match doc.content(node) {
+        Some(Content::Element(element)) if element.attributes.is_empty() => Some(element.name),
+        _ => None,
     }
 }
 

@@ -3,4 +3,4 @@
 
 mod heads;
 
-pub use heads::{head_at, names_below};
+pub use heads::{head_at, name_alone, names_below};

@@ -11,8 +11,9 @@ ghost use Rattle.kept_judging.specs.Judged.{root_pair, given_pair, again_pair};
 
 use crate::view::{head_of, local_type, view_of};
 use compiled_schema::Compiled;
+use doc_readers::name_alone;
 use doc_tree::DocTree;
-use elem_governing::{Governing, govern_child, govern_root};
+use elem_governing::{Governing, govern_child, govern_plain_child, govern_root};
 use elem_regoverning::regovern;
 use kept_state::Governed;
 use std::alloc::{AllocError, Global};
@@ -43,6 +44,33 @@ pub fn pair_of_root(alloc: Global, doc: &DocTree, set: &Compiled) -> Result<Gove
 ///
 /// `AllocError` is want of memory.
 pub fn pair_below(
+    alloc: Global,
+    doc: &DocTree,
+    set: &Compiled,
+    parent: Governing,
+    child: (u32, Option<TermId>),
+) -> Result<Governed, AllocError>
+    requires usable { IsUsable set.now }
+    requires stands { (d : Document) × StandsFor set.now.names doc.now d }
+    requires element { is_element_at doc.now child.0 ≡ true }
+    ensures node { IfOk result (λ it. it.node ≡ child.0) }
+    ensures pair { IfOk result (λ it. it.pair ≡ given_pair (set_of set.now) parent child.1 (head_at (set_of set.now) doc.now child.0)) }
+    ensures governed { IfOk result (λ it. CanGovern set.now.parts it.pair) }
+{
+    match name_alone(doc, child.0) {
+        Some(name) => {
+            let pair = govern_plain_child(&view_of(set), parent, child.1, name);
+            Ok(Governed {
+                node: child.0,
+                pair,
+            })
+        }
+        None => pair_by_head(alloc, doc, set, parent, child),
+    }
+}
+
+// The same by the child's head.
+fn pair_by_head(
     alloc: Global,
     doc: &DocTree,
     set: &Compiled,

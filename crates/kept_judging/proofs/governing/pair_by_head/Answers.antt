@@ -6,7 +6,7 @@ use Rattle.kept_records.specs.Fit.{head_at}
 use Rattle.kept_state.specs.Kept.{CanGovern}
 use Rattle.kept_judging.proofs.Heads.{scope-known, texts-named}
 use Rattle.kept_judging.proofs.Reading.{known-read, child-read, given-can}
-use Rattle.kept_judging.proofs.governing.pair_below.Goals as goal
+use Rattle.kept_judging.proofs.governing.pair_by_head.Goals as goal
 
 pub local_type-xsi-requires : goal.local_type-xsi-requires
 local_type-xsi-requires c =
