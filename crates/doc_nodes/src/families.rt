@@ -42,7 +42,7 @@ fn leaf(child: &NewNode) -> Leaf<Child>
 fn leaves(alloc: Global, children: &[NewNode]) -> Result<Vec<Leaf<Child>>, AllocError>
     ensures { IfOk result (λ made. made.items ≡ map leaf_of children.now) }
 {
-    let mut made = Vec::new(alloc);
+    let mut made = Vec::with_capacity(alloc, children.len())?;
     for child in children {
         made.push(leaf(child))?;
     }

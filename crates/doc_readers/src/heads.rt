@@ -29,7 +29,7 @@ fn bind_own(scope: &mut Scope, bindings: &[NameBinding]) -> Result<(), AllocErro
 fn texts_of(alloc: Global, attributes: &[NameAttribute]) -> Result<NamedTextList, AllocError>
     ensures { IfOk result (λ texts. texts ≡ map text_named attributes.now) }
 {
-    let mut texts = Listed::new(alloc);
+    let mut texts = Listed::from_vec(Vec::with_capacity(alloc, attributes.len())?);
     for attribute in attributes {
         texts.push(NamedText {
             name: attribute.name,

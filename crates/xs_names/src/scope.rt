@@ -102,7 +102,7 @@ impl Scope {
     {
         let alloc = *self.bindings.allocator();
         let held = self.bindings.as_slice();
-        let mut bindings = Vec::new(alloc);
+        let mut bindings = Vec::with_capacity(alloc, held.len())?;
         for binding in held {
             bindings.push(ScopeBinding {
                 prefix: binding.prefix.try_clone()?,
