@@ -1,6 +1,5 @@
 -- Literals of built-in types, whose facets are white space and the bounds of integers: Datatypes 4.1.4.
 use Rattle.std.specs.Prelude.{◌≡◌, ℕ, List, Option, None, Some, Result, Ok, Err}
-use Rattle.xs_names.specs.WhiteSpace.{normalized}
 use Rattle.xs_codes.specs.declared.builtin.Builtin.{Builtin}
 use Rattle.xs_codes.specs.declared.code.Code.{Code}
 use Rattle.simple_values.specs.declared.value.Value.{Value}

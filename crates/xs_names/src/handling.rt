@@ -51,10 +51,16 @@ pub fn normalized(alloc: Global, handling: WhiteSpace, text: &str) -> Result<Tex
 }
 
 /// Whether the text has no white space: every way to treat it then leaves it as it is (Datatypes 4.3.6).
-#[tactic(auto, using(crate::proofs::Bare::bare_kept))]
 pub fn is_bare(text: &str) -> bool
     ensures value { result ≡ spec.is_bare text.now }
     ensures kept { IsTrue result → (handling : WhiteSpace) → spec.normalized handling text.now ≡ text.now }
+{
+    has_no_white(text)
+}
+
+// Whether no character is white space.
+fn has_no_white(text: &str) -> bool
+    ensures { result ≡ spec.is_bare text.now }
 {
     text.as_bytes().iter().all(|b| !is_white(*b))
 }
