@@ -1,5 +1,6 @@
 -- Commands of several authors are answered as the accepted ones without their authors.
 use Rattle.std.proofs.Common.{◌≡◌, ℕ, List, [], ◌∷◌, Option, Some, None, Result, Ok, Err, refl, sym, ap, ◌∙◌, subst}
+use Rattle.std.proofs.lemmas.Option.{none-some}
 use Rattle.tree_rows.specs.Forest.{Document}
 use Rattle.tree_edits.specs.Tests.{edited}
 use Rattle.tree_edits.specs.declared.edit.Edit.{Edit}
@@ -61,45 +62,49 @@ refused_turn s author edit own next fault found is h = subst (λ (f : Option Tur
 refused_so : (s : OpenState) (read : Read) (own : Said) (next : OpenState) (fault : TurnFault) → fault_of s read ≡ Some fault → IsReply s read own next
     → (own ≡ free (turn_refusal fault)) × (next ≡ s)
 refused_so s (Ok (commands.Turn author seen edit)) own next fault is h = refused_turn s author edit own next fault (turn_fault s author seen edit) is h
-refused_so s (Ok (commands.Change edit)) own next fault is h = cc
-refused_so s (Ok (commands.Assess node)) own next fault is h = cc
-refused_so s (Ok commands.Errors) own next fault is h = cc
-refused_so s (Ok commands.Report) own next fault is h = cc
-refused_so s (Ok commands.Total) own next fault is h = cc
-refused_so s (Ok commands.Undo) own next fault is h = cc
-refused_so s (Ok commands.Redo) own next fault is h = cc
-refused_so s (Err e) own next fault is h = cc
+refused_so s (Ok (commands.Change edit)) own next fault is h = absurd (none-some fault is)
+refused_so s (Ok (commands.Assess node)) own next fault is h = absurd (none-some fault is)
+refused_so s (Ok commands.Errors) own next fault is h = absurd (none-some fault is)
+refused_so s (Ok commands.Report) own next fault is h = absurd (none-some fault is)
+refused_so s (Ok commands.Total) own next fault is h = absurd (none-some fault is)
+refused_so s (Ok commands.Undo) own next fault is h = absurd (none-some fault is)
+refused_so s (Ok commands.Redo) own next fault is h = absurd (none-some fault is)
+refused_so s (Err e) own next fault is h = absurd (none-some fault is)
 
 -- what there is for lines
 abbrev Plainly : OpenState → OpenState → List Read → List Said → OpenState → Type 0
 Plainly s q reads said last =
     (plain : List Read) × (answers : List Said) × (behind : OpenState) × ArePlain s reads said plain answers × AreAnswers q plain answers behind × IsAlike last behind
 
+-- of the first line, where there are such for the others, whatever the document
+first_so : (s q : OpenState) (read : Read) (own : Said) (reads : List Read) (more : List Said) (last : OpenState)
+    → ((x y : OpenState) → IsAlike x y → AreAnswers x reads more last → Plainly x y reads more last)
+    → IsAlike s q → AreAnswers s (read ∷ reads) (own ∷ more) last → (found : Option TurnFault) → fault_of s read ≡ found → Plainly s q (read ∷ reads) (own ∷ more) last
+first_so s q read own reads more last others alike h (Some fault) is =
+    let refused = refused_so s read own h.0 fault is h.1 in
+    let rest = others s q alike (subst (λ (x : OpenState). AreAnswers x reads more last) refused.1 h.2) in (
+      rest.0,
+      rest.1,
+      rest.2,
+      subst (λ (f : Option TurnFault). IsPlainBy f s read own (λ next. ArePlain next reads more) rest.0 rest.1) (sym is) (refused.0, rest.3),
+      rest.4,
+      rest.5,
+    )
+first_so s q read own reads more last others alike h None is =
+    let one = reply_so s q own h.0 read is h.1 in
+    let rest = others h.0 (turned one.0 h.0) refl h.2 in (
+      without_author read ∷ rest.0,
+      own ∷ rest.1,
+      rest.2,
+      subst (λ (f : Option TurnFault). IsPlainBy f s read own (λ next. ArePlain next reads more) (without_author read ∷ rest.0) (own ∷ rest.1)) (sym is)
+          (h.0, rest.0, rest.1, h.1, refl, refl, rest.3),
+      (turned one.0 h.0, subst (λ (x : OpenState). IsReply x (without_author read) own (turned one.0 h.0)) (sym alike) one.1, rest.4),
+      rest.5,
+    )
+
 pub plain_so : (s q : OpenState) (reads : List Read) (said : List Said) (last : OpenState) → IsAlike s q → AreAnswers s reads said last → Plainly s q reads said last
 plain_so s q [] [] last alike h = ([], [], q, (refl, refl), refl, alike ∙ ap (turned q) (sym h))
 plain_so s q [] (own ∷ more) last alike h = absurd h
 plain_so s q (read ∷ reads) [] last alike h = absurd h
-plain_so s q (read ∷ reads) (own ∷ more) last alike h = by (fault_of s read) refl
-  where
-    by : (found : Option TurnFault) → fault_of s read ≡ found → Plainly s q (read ∷ reads) (own ∷ more) last
-    by (Some fault) is =
-        let refused = refused_so s read own h.0 fault is h.1 in
-        let rest = plain_so s q reads more last alike (subst (λ (x : OpenState). AreAnswers x reads more last) refused.1 h.2) in (
-          rest.0,
-          rest.1,
-          rest.2,
-          subst (λ (f : Option TurnFault). IsPlainBy f s read own (λ next. ArePlain next reads more) rest.0 rest.1) (sym is) (refused.0, rest.3),
-          rest.4,
-          rest.5,
-        )
-    by None is =
-        let one = reply_so s q own h.0 read is h.1 in
-        let rest = plain_so h.0 (turned one.0 h.0) reads more last refl h.2 in (
-          without_author read ∷ rest.0,
-          own ∷ rest.1,
-          rest.2,
-          subst (λ (f : Option TurnFault). IsPlainBy f s read own (λ next. ArePlain next reads more) (without_author read ∷ rest.0) (own ∷ rest.1)) (sym is)
-              (h.0, rest.0, rest.1, h.1, refl, refl, rest.3),
-          (turned one.0 h.0, subst (λ (x : OpenState). IsReply x (without_author read) own (turned one.0 h.0)) (sym alike) one.1, rest.4),
-          rest.5,
-        )
+plain_so s q (read ∷ reads) (own ∷ more) last alike h =
+    first_so s q read own reads more last (λ x y a b. plain_so x y reads more last a b) alike h (fault_of s read) refl
