@@ -17,7 +17,7 @@ use xs_lists::Listed;
 use xs_names::Names;
 
 /// A symbol that a term accepts, and the class of what it then gives.
-#[derive(Clone, Copy, Debug)]
+#[derive(Clone, Copy)]
 pub(crate) struct Entry {
     pub(crate) symbol: u32,
     pub(crate) class: u32,

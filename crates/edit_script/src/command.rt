@@ -4,7 +4,7 @@ ghost use Rattle.edit_script.specs.Faults.{number_of, name_of};
 use tree_edits::Edit;
 
 /// A command of a script.
-#[derive(Debug, Drop)]
+#[derive(Drop)]
 pub enum Command {
     /// `insert`, `addtext`, `text`, `remove`, `rename`, `set` or `unset`: a change of the tree.
     Change(Edit),
@@ -27,7 +27,7 @@ pub enum Command {
 }
 
 /// Why a line is no command.
-#[derive(Clone, Copy, Debug, PartialEq, Eq)]
+#[derive(Clone, Copy)]
 pub enum ScriptFault {
     /// The first word is that of no command.
     UnknownCommand,

@@ -20,7 +20,7 @@ use tree_edits::Edit;
 use xs_names::Text;
 
 /// Why a line gave no command.
-#[derive(Clone, Copy, Debug)]
+#[derive(Clone, Copy)]
 pub enum ScriptError {
     Memory,
     Refused(ScriptFault),
@@ -43,7 +43,7 @@ impl From<ScriptFault> for ScriptError {
 }
 
 /// A node and a name.
-#[derive(Debug, Drop)]
+#[derive(Drop)]
 pub struct NodeAndName {
     pub node: u32,
     pub name: Text,

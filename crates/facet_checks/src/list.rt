@@ -11,21 +11,21 @@ use xs_names::WhiteSpace;
 
 /// A number that limits a length or a count of digits, and whether the types derived from this one have to keep it
 /// (Datatypes 4.3.1 to 4.3.3, 4.3.11 and 4.3.12).
-#[derive(Debug, Clone, Copy, PartialEq, Eq)]
+#[derive(Clone, Copy)]
 pub struct Count {
     pub value: u32,
     pub fixed: bool,
 }
 
 /// What is done with white space, and whether the types derived from this one have to keep it (Datatypes 4.3.6).
-#[derive(Debug, Clone, Copy, PartialEq, Eq)]
+#[derive(Clone, Copy)]
 pub struct Handling {
     pub value: WhiteSpace,
     pub fixed: bool,
 }
 
 /// The value of a bound, and whether the types derived from this one have to keep it (Datatypes 4.3.7 to 4.3.10).
-#[derive(Debug, Drop)]
+#[derive(Drop)]
 pub struct Bound {
     pub value: Value,
     pub fixed: bool,
@@ -51,7 +51,7 @@ pub type ValueList = Listed<Value>;
 
 /// The facets in force for a simple type, those of its steps of restriction merged (Structures 3.14.6). What is absent
 /// restricts nothing. A type whose steps have no fault has one upper and one lower bound at most.
-#[derive(Debug, Drop)]
+#[derive(Drop)]
 pub struct FacetList {
     /// Absent for unions, which leave white space to their members.
     pub white_space: Option<Handling>,

@@ -13,7 +13,7 @@ use xs_names::Text;
 use xs_regex::Pattern;
 
 /// A pattern as it is written, ready to match texts (Datatypes 4.3.4). Contracts see its text.
-#[derive(Debug, Drop)]
+#[derive(Drop)]
 pub struct PatternText {
     text: Text,
     pattern: Pattern,

@@ -31,7 +31,7 @@ pub fn restricted(base: FacetList, step: ReadStep) -> Result<Result<FacetList, F
 }
 
 /// What judging a step comes to, also where it is at fault: other types may be derived from the one that it makes.
-#[derive(Debug, Drop)]
+#[derive(Drop)]
 pub struct Judged {
     /// The first fault of the step.
     pub fault: Option<Fault>,

@@ -9,7 +9,7 @@ use std::alloc::AllocError;
 use xs_components::FacetItem;
 
 /// A facet that is read.
-#[derive(Debug, Drop)]
+#[derive(Drop)]
 pub enum FacetRead {
     /// Neither a pattern nor a value of an enumeration, or not read.
     Plain(Reading),

@@ -11,7 +11,7 @@ use xs_codes::{Builtin, Code};
 use xs_names::{Scope, Text, WhiteSpace, count_items, normalized};
 
 /// A value, and the text that it was read from, its white space treated.
-#[derive(Debug, Drop)]
+#[derive(Drop)]
 pub struct Accepted {
     pub value: Value,
     pub text: Text,

@@ -23,7 +23,7 @@ use xs_names::Scope;
 pub type Restricted = Result<Facets, Fault>;
 
 /// The facets in force for a simple type, and what its literals are.
-#[derive(Debug, Drop)]
+#[derive(Drop)]
 pub struct Facets {
     pub(crate) source: Source,
     pub(crate) list: FacetList,

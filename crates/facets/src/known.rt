@@ -10,7 +10,7 @@ use std::alloc::{AllocError, Global};
 use xs_codes::Fault;
 
 /// What is defined of a type, where others are at fault. Its built-in type, or that it is a list or a union, always is.
-#[derive(Debug, Clone, Copy, PartialEq, Eq)]
+#[derive(Clone, Copy)]
 pub enum Known {
     /// The facets in force for it, and what its literals are.
     Whole,
@@ -21,7 +21,7 @@ pub enum Known {
 }
 
 /// What judging a step comes to.
-#[derive(Debug, Drop)]
+#[derive(Drop)]
 pub struct Judged {
     /// The first fault of the step.
     pub fault: Option<Fault>,

@@ -9,7 +9,7 @@ use xs_codes::Builtin;
 use xs_lists::Listed;
 
 /// A type that is derived from a built-in one by restriction.
-#[derive(Debug, Drop)]
+#[derive(Drop)]
 pub struct Plain {
     pub(crate) kind: Builtin,
     pub(crate) list: FacetList,
@@ -17,7 +17,7 @@ pub struct Plain {
 
 /// A union among the members of another, which are those from an index and before another: what one of them accepts has to
 /// meet its facets too, or else they have all refused.
-#[derive(Debug, Drop)]
+#[derive(Drop)]
 pub struct Gate {
     pub(crate) from: usize,
     pub(crate) to: usize,
@@ -25,14 +25,14 @@ pub struct Gate {
 }
 
 /// What the items of a list are of: the first of these types that accepts an item.
-#[derive(Debug, Drop)]
+#[derive(Drop)]
 pub struct Choices {
     pub(crate) members: Listed<Plain>,
     pub(crate) gates: Listed<Gate>,
 }
 
 /// What the literals of a type are that is no union.
-#[derive(Debug, Drop)]
+#[derive(Drop)]
 pub enum Literals {
     /// Those of a built-in type.
     OfBuiltin(Builtin),
@@ -41,7 +41,7 @@ pub enum Literals {
 }
 
 /// A member of a union, which is no union itself.
-#[derive(Debug, Drop)]
+#[derive(Drop)]
 pub struct Member {
     pub(crate) literals: Literals,
     pub(crate) list: FacetList,
@@ -49,14 +49,14 @@ pub struct Member {
 
 /// The members of a union, those of its unions among them (Structures 3.14.1): each tries a text in turn, and the first that
 /// accepts it decides.
-#[derive(Debug, Drop)]
+#[derive(Drop)]
 pub struct Members {
     pub(crate) members: Listed<Member>,
     pub(crate) gates: Listed<Gate>,
 }
 
 /// What the literals of a type are.
-#[derive(Debug, Drop)]
+#[derive(Drop)]
 pub enum Source {
     Literals(Literals),
     Union(Members),

@@ -80,7 +80,7 @@ fn try_plains(
 }
 
 /// What comes of a member's answer in a trial.
-#[derive(Debug, Drop)]
+#[derive(Drop)]
 pub enum Turn {
     /// The trial ends with this.
     Ends(Result<Accepted, Code>),

@@ -21,7 +21,7 @@ use xs_lists::Listed;
 use xs_names::Scope;
 
 /// The simple types of a set and the simple contents of its complex types, ready to judge texts.
-#[derive(Debug, Drop)]
+#[derive(Drop)]
 pub struct SimpleTypes {
     simples: Listed<JudgedType>,
     complexes: Listed<JudgedType>,
