@@ -149,13 +149,13 @@ module _ (a b : CompiledSet) (same : IsSameMade a b) where
 
 -- ---- what documents come to
 module _ (inputs : List SchemaInput) where
-  faults-same : (f g : Fault) → IsCompilation inputs (Err f) → IsCompilation inputs (Err g) → IsSameOutcome (Broken f) (Broken g)
+  faults-same : (f g : Fault) → IsCompilation inputs start (Err f) → IsCompilation inputs start (Err g) → IsSameOutcome (Broken f) (Broken g)
   faults-same f g p q = compilations-same inputs (Err f) (Err g) p q
 
-  broken-or-made : (f : Fault) (made : CompiledSet) → IsCompilation inputs (Err f) → IsCompilation inputs (Ok made) → ⊥
+  broken-or-made : (f : Fault) (made : CompiledSet) → IsCompilation inputs start (Err f) → IsCompilation inputs start (Ok made) → ⊥
   broken-or-made f made p q = compilations-same inputs (Err f) (Ok made) p q
 
-  pub outcomes-same : (x y : Outcome) → IsOutcome inputs x → IsOutcome inputs y → IsSameOutcome x y
+  pub outcomes-same : (x y : Outcome) → IsOutcome inputs start x → IsOutcome inputs start y → IsSameOutcome x y
   outcomes-same x y (inl p) (inl q) =
       subst (λ (o : Outcome). IsSameOutcome o y) (sym p.2) (subst (IsSameOutcome (Broken p.0)) (sym q.2) (faults-same p.0 q.0 p.1 q.1))
   outcomes-same x y (inl p) (inr q) = absurd (broken-or-made p.0 q.0 p.1 q.1)

@@ -145,7 +145,7 @@ module _ (available : List Available) where
     pub phase : f.phase ≡ 2
     pub number : place + 1 ≡ f.document
     pub there : slice_get available place ≡ Some document
-    pub within : InSet available f.document target
+    pub within : InSet available start f.document target
     pub says : Contains (redefining document.shaped.shapes) child
     pub declares : declared_as child.shape.form ≡ Some (of, name)
     pub item : child.shape.item ≡ f.item

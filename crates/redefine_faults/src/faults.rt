@@ -179,8 +179,8 @@ pub fn first_redefine_fault<'a>(
     set: &[SetDocument<'a>],
 ) -> Result<Option<Fault>, AllocError>
     requires some { 0 < length available.now }
-    requires set { IsEffectiveSet available.now set.now }
-    ensures least { IfOk result (IsLeast (spec.IsRedefineFault available.now)) }
+    requires set { (start : ℕ) × IsEffectiveSet available.now start set.now }
+    ensures least { (start : ℕ) → IsEffectiveSet available.now start set.now → IfOk result (IsLeast (spec.IsRedefineFault available.now start)) }
 {
     if available.len() > MOST {
         return Err(AllocError);

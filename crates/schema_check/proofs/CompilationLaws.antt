@@ -28,37 +28,37 @@ composed (Ok (Err fault)) available set none h = inr (none, h.0, h.1, h.2)
 composed (Err e) available set none h = h
 
 module _ (documents : List SchemaInput) where
-  pub shape-phase : (found : Option Fault) → IsLeast (IsShapeFault documents) found → shape_phase documents found
+  pub shape-phase : (found : Option Fault) → IsLeast (IsShapeFault documents start) found → shape_phase documents start found
   unfolding shape_phase
   shape-phase found least = least
 
-  composition-phase : (found : Option Fault) → IsComposed (available documents) found → composition_phase documents found
+  composition-phase : (found : Option Fault) → IsComposed (available documents) found → composition_phase documents start found
   unfolding composition_phase
   composition-phase found least = least
 
-  pub shape-refused : (fault : Fault) → shape_phase documents (Some fault) → IsCompilation documents (Err fault)
+  pub shape-refused : (fault : Fault) → shape_phase documents start (Some fault) → IsCompilation documents start (Err fault)
   shape-refused fault is = inl is
 
-  module _ (set : List SetDocument) (of : IsSet documents set) (shaped : shape_phase documents None) where
-    behind : (originals : List (Option ℕ)) (found : Option Fault) → AreOriginals (available documents) set originals → composition_phase documents None → IsFirstOfPhases (set_phases set originals) found
-        → IsFirstOfPhases (later_phases documents) found
+  module _ (set : List SetDocument) (of : IsSet documents start set) (shaped : shape_phase documents start None) where
+    behind : (originals : List (Option ℕ)) (found : Option Fault) → AreOriginals (available documents) set originals → composition_phase documents start None → IsFirstOfPhases (set_phases set originals) found
+        → IsFirstOfPhases (later_phases documents start) found
     behind originals found are none h =
-        after-one (composition_phase documents) (by_set documents name_phase ∷ by_set documents (λ s o. by_components s o base_phase) ∷ by_set documents (λ s o. by_components s o type_phase) ∷ []) found none
-        (first-implied (set_phases set originals) (by_set documents name_phase ∷ by_set documents (λ s o. by_components s o base_phase) ∷ by_set documents (λ s o. by_components s o type_phase) ∷ []) found
+        after-one (composition_phase documents start) (by_set documents start name_phase ∷ by_set documents start (λ s o. by_components s o base_phase) ∷ by_set documents start (λ s o. by_components s o type_phase) ∷ []) found none
+        (first-implied (set_phases set originals) (by_set documents start name_phase ∷ by_set documents start (λ s o. by_components s o base_phase) ∷ by_set documents start (λ s o. by_components s o type_phase) ∷ []) found
         ((λ f p. (set, originals, of, are, p)), ((λ f p. (set, originals, of, are, p)), ((λ f p. (set, originals, of, are, p)), tt))) h)
 
     refused : (fault : Fault)
         → IsComposed (available documents) (Some fault)
         ⊎ (IsComposed (available documents) None × (originals : List (Option ℕ)) × AreOriginals (available documents) set originals × IsSetCompiled set originals (Err fault))
-        → IsFirstOfPhases (later_phases documents) (Some fault)
+        → IsFirstOfPhases (later_phases documents start) (Some fault)
     refused fault (inl here) = inl (composition-phase (Some fault) here)
     refused fault (inr later) = behind later.1 (Some fault) later.2 (composition-phase None later.0) later.3
 
     pub closed-compiled : {E : Type 0} (result : Result (Result CompiledSet Fault) E) (shown : List Available) → shown ≡ available documents
-        → IfOk result (IsClosedCompiled shown set) → IfOk result (IsCompilation documents)
+        → IfOk result (IsClosedCompiled shown set) → IfOk result (IsCompilation documents start)
     closed-compiled result shown same h = by-all result (subst (λ (l : List Available). IfOk result (IsClosedCompiled l set)) same h)
       where
-        by-all : {F : Type 0} (answer : Result (Result CompiledSet Fault) F) → IfOk answer (IsClosedCompiled (available documents) set) → IfOk answer (IsCompilation documents)
+        by-all : {F : Type 0} (answer : Result (Result CompiledSet Fault) F) → IfOk answer (IsClosedCompiled (available documents) set) → IfOk answer (IsCompilation documents start)
         by-all (Ok (Ok made)) k = ((shaped, behind k.1 None k.2 (composition-phase None k.0) k.3.0), set, k.1, of, k.2, k.3)
         by-all (Ok (Err fault)) k = inr (shaped, refused fault k)
         by-all (Err e) k = tt

@@ -15,9 +15,9 @@ some-available documents slice same some =
     omega (arith, long, some)
 
 -- the numbers of the documents of a set begin with 1
-pub numbers : (slice : List Available) (set : List SetDocument) → IsEffectiveSet slice set → All (λ d. 0 < d.number) set
+pub numbers : (slice : List Available) (start : ℕ) (set : List SetDocument) → IsEffectiveSet slice start set → All (λ d. 0 < d.number) set
 numbers slice set is = λ k d h. let there = is.there k d h in omega (arith, there.2)
 
-pub read-set : (documents : List SchemaInput) (slice : List Available) (set : List SetDocument) → slice ≡ available documents → IsEffectiveSet slice set → IsInOrder slice set → IsSet documents set
+pub read-set : (documents : List SchemaInput) (start : ℕ) (slice : List Available) (set : List SetDocument) → slice ≡ available documents → IsEffectiveSet slice start set → IsInOrder slice set → IsSet documents start set
 read-set documents slice set same is order =
-    (subst (λ (l : List Available). IsEffectiveSet l set) same is, subst (λ (l : List Available). IsInOrder l set) same order)
+    (subst (λ (l : List Available). IsEffectiveSet l start set) same is, subst (λ (l : List Available). IsInOrder l set) same order)

@@ -18,7 +18,7 @@ use Rattle.schema_check.specs.OfTree.{IsDeclared, IsOfTree}
 use Rattle.schema_check.specs.SimpleParts.{HasSimpleTypes}
 
 -- the documents of a set are among those that there are
-pub documents-of : (available : List Available) (ds : List SetDocument) → All (λ a. IsDeclared a.shaped) available → IsEffectiveSet available ds → All IsOfTree ds
+pub documents-of : (available : List Available) (start : ℕ) (ds : List SetDocument) → All (λ a. IsDeclared a.shaped) available → IsEffectiveSet available start ds → All IsOfTree ds
 documents-of available ds all set = All-weaker (IsDocument available) IsOfTree one ds set.there
   where
     one : (d : SetDocument) → IsDocument available d → IsOfTree d

@@ -7,6 +7,6 @@ use Rattle.schema_check.specs.declared.documents.CompiledSet.{CompiledSet}
 use Rattle.schema_compile.specs.declared.outcome.Outcome.{Outcome}
 use Rattle.schema_compile.specs.Outcomes.{IsSetOutcome, IsOutcome}
 
-pub set-outcome : {E : Type 0} (documents : List SchemaInput) (result : Result Outcome E) (made : CompiledSet) → IsCompilation documents (Ok made) → IfOk result (IsSetOutcome made) → IfOk result (IsOutcome documents)
+pub set-outcome : {E : Type 0} (documents : List SchemaInput) (start : ℕ) (result : Result Outcome E) (made : CompiledSet) → IsCompilation documents start (Ok made) → IfOk result (IsSetOutcome made) → IfOk result (IsOutcome documents start)
 set-outcome documents (Ok outcome) made is h = inr (made, is, h)
 set-outcome documents (Err error) made is h = tt

@@ -44,6 +44,18 @@ fn own_place(sources: &Sources<'_>, number: u32) -> u32
     place
 }
 
+// The number of the document of this place with its own target namespace.
+pub(crate) fn own_number(sources: &Sources<'_>, start: u32) -> u32
+    requires sources { AreSources sources.now }
+    requires place { start < length sources.now.available.now }
+    ensures number { result ≡ spec.with_own sources.now.available.now (start + 1) }
+    ensures within { result < length sources.now.available.now * length sources.now.available.now }
+{
+    let number = start + 1;
+    let place = own_place(sources, number);
+    with_place(sources.available.len() as u32, place, number)
+}
+
 // The document of a location with its own target namespace.
 fn imported(sources: &Sources<'_>, location: &Text) -> Result<Option<u32>, AllocError>
     requires sources { AreSources sources.now }

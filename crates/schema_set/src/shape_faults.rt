@@ -35,7 +35,7 @@ fn first_of(faults: &[Option<Fault>], set: &[SetDocument<'_>]) -> Option<Fault>
 /// The first constraint on its shape that a document of a set breaks: by document, element and the order of the codes.
 pub fn first_shape_fault(faults: &[Option<Fault>], set: &[SetDocument<'_>]) -> Option<Fault>
     requires numbers { All (λ d. 0 < d.number) set.now }
-    ensures least { (inputs : List SchemaInputData) → faults.now ≡ spec.shape_faults inputs → spec.IsSet inputs set.now → IsLeast (spec.IsShapeFault inputs) result }
+    ensures least { (inputs : List SchemaInputData) (start : ℕ) → faults.now ≡ spec.shape_faults inputs → spec.IsSet inputs start set.now → IsLeast (spec.IsShapeFault inputs start) result }
 {
     first_of(faults, set)
 }

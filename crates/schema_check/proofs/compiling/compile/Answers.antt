@@ -25,8 +25,8 @@ returns-in-Some c =
     let same = c.as_slice-available.ensures ∙ c.in_ok-read.ensures.available in
     let set = read-set documents c.as_slice-available.result.now closed.set.documents same c.in_ok-closed.ensures.set c.in_ok-closed.ensures.order in
     let least = c.first_shape_fault.ensures.least documents (c.as_slice-faults.ensures ∙ c.in_ok-read.ensures.faults)
-    (subst (λ (l : List SetDocument). IsSet documents l) (sym c.as_slice-set.ensures) set) in
-    shape-refused documents c.in-Some.fault (shape-phase documents (Some c.in-Some.fault) (subst (λ (o : Option Fault). IsLeast (IsShapeFault documents) o) c.in-Some.is least))
+    (subst (λ (l : List SetDocument). IsSet documents start l) (sym c.as_slice-set.ensures) set) in
+    shape-refused documents c.in-Some.fault (shape-phase documents (Some c.in-Some.fault) (subst (λ (o : Option Fault). IsLeast (IsShapeFault documents start) o) c.in-Some.is least))
 
 pub returns : goal.returns
 returns c =
@@ -35,8 +35,8 @@ returns c =
     let same = c.as_slice-available.ensures ∙ c.in_ok-read.ensures.available in
     let set = read-set documents c.as_slice-available.result.now closed.set.documents same c.in_ok-closed.ensures.set c.in_ok-closed.ensures.order in
     let least = c.first_shape_fault.ensures.least documents (c.as_slice-faults.ensures ∙ c.in_ok-read.ensures.faults)
-    (subst (λ (l : List SetDocument). IsSet documents l) (sym c.as_slice-set.ensures) set) in
-    closed-compiled documents closed.set.documents set (shape-phase documents None (subst (λ (o : Option Fault). IsLeast (IsShapeFault documents) o) c.in-None.is least))
+    (subst (λ (l : List SetDocument). IsSet documents start l) (sym c.as_slice-set.ensures) set) in
+    closed-compiled documents closed.set.documents set (shape-phase documents None (subst (λ (o : Option Fault). IsLeast (IsShapeFault documents start) o) c.in-None.is least))
     c.compile_closed.result c.as_slice-available.result.now same c.compile_closed.ensures
 
 pub compile_closed-requires : goal.compile_closed-requires

@@ -6,12 +6,12 @@ use Rattle.schema_compile.proofs.compiling.compile.Goals as goal
 pub complete-requires : goal.complete-requires
 complete-requires c =
     let documents = c.args.documents.now in
-    record { fit = c.compiled_parts_are_fit.ensures.fit documents c.in-Ok.set c.requires.trees (subst (IsCompilation documents) c.in-Ok.is c.in_ok-compiled.ensures) }
+    record { fit = c.compiled_parts_are_fit.ensures.fit documents c.in-Ok.set c.requires.trees (subst (IsCompilation documents start) c.in-Ok.is c.in_ok-compiled.ensures) }
 
 pub returns-in-Ok : goal.returns-in-Ok
 returns-in-Ok c =
     let documents = c.args.documents.now in
-    record { outcome = set-outcome documents c.complete.result c.in-Ok.set (subst (IsCompilation documents) c.in-Ok.is c.in_ok-compiled.ensures) c.complete.ensures }
+    record { outcome = set-outcome documents c.complete.result c.in-Ok.set (subst (IsCompilation documents start) c.in-Ok.is c.in_ok-compiled.ensures) c.complete.ensures }
 
 pub returns-in-Err : goal.returns-in-Err
-returns-in-Err c = record { outcome = inl (c.in-Err.fault, subst (IsCompilation c.args.documents.now) c.in-Err.is c.in_ok-compiled.ensures, refl) }
+returns-in-Err c = record { outcome = inl (c.in-Err.fault, subst (IsCompilation c.args.documents.now start) c.in-Err.is c.in_ok-compiled.ensures, refl) }

@@ -1,4 +1,4 @@
-use Rattle.schema_set.proofs.closing.close_set.Goals as goal
+use Rattle.schema_set.proofs.closing.close_set_from.Goals as goal
 
 pub returns-in-Ok-clause-set : goal.returns-in-Ok-clause-set
 returns-in-Ok-clause-set c = rw c.in_ok-sources.ensures.same at c.in-Ok.ensures.set
