@@ -107,3 +107,31 @@ pub(crate) fn matches_each(steps: &mut [Listed<PatternText>], text: &str) -> boo
     }
     true
 }
+
+/// Whether the text matches one of the patterns of each step, which are shared.
+pub(crate) fn do_match_each(
+    alloc: Global,
+    steps: &[Listed<PatternText>],
+    text: &str,
+) -> Result<bool, AllocError>
+    ensures { IfOk result (λ answer. IsTrue answer ↔ MatchesEach steps.now text.now) }
+{
+    for patterns in steps {
+        if !do_match_some(alloc, patterns.as_slice(), text)? {
+            return Ok(false);
+        }
+    }
+    Ok(true)
+}
+
+// Whether the text matches one of the patterns, of which each is copied while it is matched.
+fn do_match_some(alloc: Global, patterns: &[PatternText], text: &str) -> Result<bool, AllocError>
+    ensures { IfOk result (λ answer. IsTrue answer ↔ MatchesSome patterns.now text.now) }
+{
+    for pattern in patterns {
+        if pattern.try_clone(alloc)?.matches(text) {
+            return Ok(true);
+        }
+    }
+    Ok(false)
+}
