@@ -10,6 +10,7 @@ use doc_inverses::Change;
 use doc_tree::DocTree;
 use kept_inverses::kept_state::KeptState;
 use kept_next::AroundAt;
+use kept_keys::TargetKeys;
 use plain_tree::Tree;
 use report_text::Records;
 use session_model::{Session, SessionError, entries_are_named};
@@ -26,6 +27,7 @@ pub struct EditSession {
     set: Box<Compiled>,
     doc: DocTree,
     kept: KeptState,
+    keys: TargetKeys,
     revision: u64,
     closed: bool,
 }
@@ -78,7 +80,7 @@ impl EditSession {
         if self.closed {
             return Err(SessionError::Closed);
         }
-        match edit_kept(&mut self.doc, &mut self.set, &mut self.kept, edit, steps) {
+        match edit_kept(&mut self.doc, &mut self.set, &mut self.kept, &mut self.keys, edit, steps) {
             Ok(back) => {
                 self.revision = self.revision.saturating_add(1);
                 Ok(back)
@@ -110,7 +112,7 @@ impl EditSession {
         if self.closed {
             return Err(SessionError::Closed);
         }
-        match change_kept(&mut self.doc, &mut self.set, &mut self.kept, change, steps) {
+        match change_kept(&mut self.doc, &mut self.set, &mut self.kept, &mut self.keys, change, steps) {
             Ok(back) => {
                 self.revision = self.revision.saturating_add(1);
                 Ok(back)
@@ -147,10 +149,11 @@ impl EditSession {
 
     /// Lets go of it.
     pub fn close(self) {
-        let EditSession { set, doc, kept, .. } = self;
+        let EditSession { set, doc, kept, keys, .. } = self;
         drop(set);
         drop(doc);
         drop(kept);
+        drop(keys);
     }
 }
 
@@ -186,6 +189,7 @@ impl Session for EditSession {
                 set,
                 doc: opened.doc,
                 kept: opened.kept,
+                keys: opened.keys,
                 revision: 0,
                 closed: false,
             }),

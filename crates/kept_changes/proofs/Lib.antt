@@ -5,6 +5,7 @@ pub mod Reattributed
 pub mod Came
 pub mod Gone
 pub mod Following
+pub mod Turned
 pub mod RootNamed
 pub mod Grown
 pub mod Under
