@@ -15,7 +15,7 @@ pub enum Mode {
 
 /// What governs an element (Structures 5.2): its declaration, if there is one, and its type. An element that is skipped has
 /// neither.
-#[derive(Clone, Copy)]
+#[derive(Clone, Copy, PartialEq)]
 pub struct Governing {
     pub declaration: Option<ElementId>,
     pub of: Option<TypeId>,

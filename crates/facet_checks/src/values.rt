@@ -10,7 +10,7 @@ use std::marker::Model;
 
 /// The values of an enumeration, in the order of the document. Contracts see the list of them. A value is looked for among
 /// those of its bucket alone.
-#[derive(Debug, Drop)]
+#[derive(Drop)]
 pub struct ValueSet {
     values: ValueList,
     /// The same values by buckets, of which there is one at least.

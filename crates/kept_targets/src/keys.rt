@@ -15,7 +15,7 @@ use std::alloc::{AllocError, Global};
 use xs_names::NameId;
 
 /// The name of an element, and what governed it, as its targets were found.
-#[derive(Clone, Copy, PartialEq, Eq)]
+#[derive(Clone, Copy, PartialEq)]
 pub struct ElementSign {
     pub name: NameId,
     pub pair: Governing,
