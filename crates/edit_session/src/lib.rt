@@ -6,7 +6,6 @@ mod editing;
 mod opening;
 mod reopening;
 mod session;
-mod turning;
 mod undoing;
 
 pub use around::AroundError;

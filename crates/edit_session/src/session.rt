@@ -11,7 +11,6 @@ use doc_inverses::Change;
 use doc_tree::DocTree;
 use kept_inverses::kept_state::KeptState;
 use kept_next::AroundAt;
-use kept_keys::TargetKeys;
 use plain_tree::Tree;
 use report_text::Records;
 use session_model::{Session, SessionError, entries_are_named};
@@ -28,7 +27,6 @@ pub struct EditSession {
     set: Box<Compiled>,
     doc: DocTree,
     kept: KeptState,
-    keys: TargetKeys,
     revision: u64,
     closed: bool,
 }
@@ -84,7 +82,7 @@ impl EditSession {
         if self.closed {
             return Err(SessionError::Closed);
         }
-        match edit_kept(&mut self.doc, &mut self.set, &mut self.kept, &mut self.keys, edit, steps) {
+        match edit_kept(&mut self.doc, &mut self.set, &mut self.kept, edit, steps) {
             Ok(back) => {
                 self.revision = self.revision.saturating_add(1);
                 Ok(back)
@@ -116,7 +114,7 @@ impl EditSession {
         if self.closed {
             return Err(SessionError::Closed);
         }
-        match change_kept(&mut self.doc, &mut self.set, &mut self.kept, &mut self.keys, change, steps) {
+        match change_kept(&mut self.doc, &mut self.set, &mut self.kept, change, steps) {
             Ok(back) => {
                 self.revision = self.revision.saturating_add(1);
                 Ok(back)
@@ -175,7 +173,6 @@ impl EditSession {
                 self.set = set;
                 self.doc = opened.doc;
                 self.kept = opened.kept;
-                self.keys = opened.keys;
                 self.revision = self.revision.saturating_add(1);
                 Ok(())
             }
@@ -195,11 +192,10 @@ impl EditSession {
 
     /// Lets go of it.
     pub fn close(self) {
-        let EditSession { set, doc, kept, keys, .. } = self;
+        let EditSession { set, doc, kept, .. } = self;
         drop(set);
         drop(doc);
         drop(kept);
-        drop(keys);
     }
 }
 
@@ -235,7 +231,6 @@ impl Session for EditSession {
                 set,
                 doc: opened.doc,
                 kept: opened.kept,
-                keys: opened.keys,
                 revision: 0,
                 closed: false,
             }),

@@ -9,7 +9,7 @@ use Rattle.identity_paths.specs.declared.paths.IdentityPaths.{IdentityPaths}
 use Rattle.identity_constraints.specs.Seen.{KeyForest, none, element}
 use Rattle.identity_constraints.specs.Satisfied.{identity_codes, identity_at}
 use Rattle.forest_keys.specs.Codes.{all_codes}
-use Rattle.kept_targets.specs.Seen.{numbers_in}
+use Rattle.kept_keys.specs.Seen.{numbers_in}
 
 -- how many elements have the number
 abbrev pub seen_times : ℕ → KeyForest → ℕ

@@ -1,9 +1,13 @@
 mod Lists
+mod Firsts
+mod Seeing
 mod Coding
+mod Staying
 mod Found
-mod Counted
+mod Numbers
 mod Numbered
 mod Whole
+mod Named
 mod Plain
 mod Deciding
 mod Again

@@ -8,7 +8,7 @@ use Rattle.identity_assessment.specs.Identity.{seen}
 use Rattle.doc_nodes.specs.Nodes.{Nodes, Lacks}
 use Rattle.kept_above.specs.from_kept_records.Slots.{KeptSlots, entry_at}
 use Rattle.kept_above.specs.from_kept_records.Found.{found_in}
-use Rattle.kept_targets.specs.Seen.{numbers_in}
+use Rattle.kept_keys.specs.Seen.{numbers_in}
 use Rattle.kept_keys.proofs.Coding.{seen_times, weight}
 use Rattle.kept_keys.proofs.Lists.{lacks-left, lacks-right}
 

@@ -18,12 +18,12 @@ use Rattle.kept_above.proofs.from_kept_records.Made.{fit-at, read, made-elements
 use Rattle.kept_above.proofs.from_kept_records.Nodes.{root-numbers}
 use Rattle.kept_above.specs.from_kept_state.KeptState.{KeptState}
 use Rattle.kept_keys.specs.Keys.{IsWhole, KeepsElements}
-use Rattle.kept_targets.specs.Seen.{seen_to}
+use Rattle.kept_keys.specs.Seen.{seen_to}
 use Rattle.kept_keys.proofs.Coding.{seen_times}
 use Rattle.kept_keys.proofs.Found.{all-seen, all-borne}
 use Rattle.kept_keys.proofs.Numbered.{AreNumbered, seen-few}
-use Rattle.kept_targets.proofs.Seeing.{seen-is}
-use Rattle.kept_targets.proofs.Staying.{IsSeenAlike, stays-seen}
+use Rattle.kept_keys.proofs.Seeing.{seen-is}
+use Rattle.kept_keys.proofs.Staying.{IsSeenAlike, stays-seen}
 
 -- ---- over a document
 

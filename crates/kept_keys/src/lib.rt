@@ -3,6 +3,6 @@
 
 mod codes;
 mod scopes;
+mod siblings;
 
-pub use kept_targets::{TargetKeys, Turn, add_below};
 pub use scopes::settle_keys;

@@ -1,3 +1,0 @@
--- What crates above name of `kept_targets`, passed on.
-pub use Rattle.kept_targets.specs.declared.turn.Turn
-pub use Rattle.kept_targets.specs.declared.keys.TargetKeys
