@@ -295,5 +295,10 @@ number-fits count number place some within below few =
     let fits = mul-lt count count (2 ^ 16) (2 ^ 16) few few in
     (mul-add-lt (number - 1) count place count a below, omega (arith, fits))
 
+-- the number of a document with its own target namespace
+pub own_within : (available : List Available) (number : ℕ) → IsNumber available number → length available < 2 ^ 16 → with_own available number < length available * length available
+own_within available number is few =
+    (number-fits (length available) number (target_place available (own_target_of available number)) is.0 is.1 (place-below available number is) few).0
+
 pub square-fits : (n : ℕ) → n < 2 ^ 16 → n * n < 2 ^ 32
 square-fits n few = let fits = mul-lt n n (2 ^ 16) (2 ^ 16) few few in omega (arith, fits)
