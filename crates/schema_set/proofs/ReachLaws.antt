@@ -13,7 +13,7 @@ use Rattle.schema_set.specs.declared.documents.Available.{Available}
 use Rattle.schema_set.specs.EffectiveSet.{own_target, IsInclusion, IsImport, Says, InSet, first, included, imported, document_at}
 use Rattle.schema_set.specs.Order.{own_target_of, target_place, IsNumber}
 use Rattle.schema_set.specs.inside.Following.{shapes_of, shapes_at, with_place, with_own, next_of, following, Reaches, begins, further}
-use Rattle.schema_set.proofs.PlaceLaws.{first-place, own-read, place-within, place-own}
+use Rattle.schema_set.proofs.PlaceLaws.{own-read, place-within, place-own}
 use Rattle.schema_set.proofs.LocationLaws.{document_at-within}
 
 -- ---- lists
