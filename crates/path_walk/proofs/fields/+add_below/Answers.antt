@@ -5,6 +5,7 @@ use Rattle.path_walk.specs.Sight.{AreNamed, below_first, seen}
 use Rattle.path_walk.specs.inside.Nodes.{AreAdded}
 use Rattle.path_walk.specs.inside.Walk.{nodes_along, reached, size}
 use Rattle.path_walk.proofs.Adding.{added_none, added_both}
+use Rattle.path_walk.proofs.Ending.{none-along}
 use Rattle.path_walk.proofs.Walking.{along_next, along_done, way_back, way_down, way_all, named_first, named_below, named_behind, size_first}
 use Rattle.path_walk.proofs.fields.+add_below.Goals as goal
 
@@ -86,3 +87,14 @@ returns-clause-nodes g t c =
     let inv = c.left.invariant in
     subst (λ (xs : List FieldNode). AreAdded c.args.set.now.parts.now xs c.args.nodes.now c.left.nodes)
     (sym (along_done (nodes_at names c.args.field.now) c.args.way.now.items (forest c.args.siblings) (forest c.left.left) inv.done c.in_default.ensures inv.all)) inv.added
+
+-- a field that reaches no nodes so far down
+pub returns-then-reaches_deeper-clause-way : goal.returns-then-reaches_deeper-clause-way
+returns-then-reaches_deeper-clause-way g t c = refl
+
+pub returns-then-reaches_deeper-clause-nodes : goal.returns-then-reaches_deeper-clause-nodes
+returns-then-reaches_deeper-clause-nodes g t c =
+    let parts = c.args.set.now.parts.now in
+    subst (λ (xs : List FieldNode). AreAdded parts xs c.args.nodes.now c.args.nodes.now)
+    (sym (none-along c.args.set.now.names.now c.args.field.now c.len-depth.result (c.reaches_deeper.ensures refl) c.args.way.now.items (omega arith) (g.T.KeySiblings.forest c.args.siblings)))
+    (added_none parts c.args.nodes.now)
