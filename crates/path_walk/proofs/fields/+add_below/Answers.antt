@@ -89,12 +89,9 @@ returns-clause-nodes g t c =
     (sym (along_done (nodes_at names c.args.field.now) c.args.way.now.items (forest c.args.siblings) (forest c.left.left) inv.done c.in_default.ensures inv.all)) inv.added
 
 -- a field that reaches no nodes so far down
-pub returns-then-reaches_deeper-clause-way : goal.returns-then-reaches_deeper-clause-way
-returns-then-reaches_deeper-clause-way g t c = refl
-
-pub returns-then-reaches_deeper-clause-nodes : goal.returns-then-reaches_deeper-clause-nodes
-returns-then-reaches_deeper-clause-nodes g t c =
+pub returns-then-not-reaches_deeper-clause-nodes : goal.returns-then-not-reaches_deeper-clause-nodes
+returns-then-not-reaches_deeper-clause-nodes g t c =
     let parts = c.args.set.now.parts.now in
-    subst (λ (xs : List FieldNode). AreAdded parts xs c.args.nodes.now c.args.nodes.now)
-    (sym (none-along c.args.set.now.names.now c.args.field.now c.len-depth.result (c.reaches_deeper.ensures refl) c.args.way.now.items (omega arith) (g.T.KeySiblings.forest c.args.siblings)))
-    (added_none parts c.args.nodes.now)
+    let ends = c.reaches_deeper.ensures c.if-not-reaches_deeper.true in
+    let none = none-along c.args.set.now.names.now c.args.field.now c.len-depth.result ends c.args.way.now.items (omega arith) (g.T.KeySiblings.forest c.args.siblings) in
+    subst (λ (xs : List FieldNode). AreAdded parts xs c.args.nodes.now c.args.nodes.now) (sym none) (added_none parts c.args.nodes.now)
