@@ -1,6 +1,7 @@
 -- A swap to another schema set, and what was written.
-use Rattle.std.proofs.Common.{◌≡◌, ◌≤◌, ◌-◌, ◌^◌, ℕ, List, Bool, true, false, Option, Result, Ok, Err, refl, sym, ap, ◌∙◌, subst}
-use Rattle.std.proofs.lemmas.Bool.{true≢false}
+use Rattle.std.proofs.Common.{◌≡◌, ◌≤◌, ◌<◌, ◌-◌, ◌^◌, ℕ, List, length, nat_lt, nat_le, arith, Bool, true, false, Option, Result, Ok, Err, refl, sym, ap, ◌∙◌, subst}
+use Rattle.std.proofs.lemmas.Bool.{and_parts, true≢false}
+use Rattle.std.proofs.lemmas.Bool.Decides.{nat_tests}
 use Rattle.tree_names.specs.Table.{document_table}
 use Rattle.tree_names.proofs.Tables.{grows}
 use Rattle.assessment.specs.Assessment.{Entry}
@@ -30,7 +31,7 @@ use Rattle.undo_histories.specs.Through.{history_through}
 use Rattle.undo_histories.specs.Through as histories
 use Rattle.doc_inverses.specs.declared.change.Change.{Change}
 use Rattle.open_document.specs.Held.{state_of, IsLogged}
-use Rattle.open_document.specs.Replies.{made_reply, no_section, swap_question, swap_told, swapped_told}
+use Rattle.open_document.specs.Replies.{made_reply, no_section, is_section, swap_question, swap_told, swapped_told}
 use Rattle.open_document.specs.State.{OpenState}
 use Rattle.open_document.specs.Steps.{with_swap}
 use Rattle.open_document.specs.declared.held.OpenDocument.{OpenDocument}
@@ -93,15 +94,26 @@ module _ (s : OpenState) (set : SchemaSet) (next : OpenState → Told) where
 
 -- ---- by the number of a section
 
+-- a section has a place
+pub section_place : (documents : List SchemaInput) (number : ℕ) → is_section documents number ≡ true → (0 < number) × (number ≤ length documents)
+section_place documents number there =
+    let both = and_parts (nat_lt 0 number) (nat_le number (length documents)) there in
+    let low = both.0 in
+    let high = both.1 in
+    (grind (arith, nat_tests, low), grind (arith, nat_tests, high))
+
 module _ (s : OpenState) (number : ℕ) (next : OpenState → Told) (r : Result (Unit {0}) BreakOff) (taken taken' : Option (List ℕ)) (n m : ℕ) (new : OpenState) where
   -- the set that starts at the section was asked for, and this is what it comes to
-  pub known_answers : (there : Bool) → there ≡ true → (o : Outcome) → IsOutcome s.documents (number - 1) o
-      → Answers (swapped_told s next (told_of o)) r (trace taken n) (trace taken' m) (λ done. next new)
-      → Answers (swap_told s number there next) r (trace taken n) (trace taken' m) (λ done. next new)
-  known_answers there is o outcome h =
-      subst (λ (b : Bool). Answers (swap_told s number b next) r (trace taken n) (trace taken' m) (λ done. next new)) (sym is)
-      (asked_answers (swap_question s number) (swapped_told s next) (told_of o) r (trace taken n) (trace taken' m) (λ done. next new)
-      (record { rules_are = refl; outcome = o; is_outcome = outcome; told_is = refl }) h)
+  pub known_answers : (o : Outcome) → IsOutcome s.documents (number - 1) o → Answers (swapped_told s next (told_of o)) r (trace taken n) (trace taken' m) (λ done. next new)
+      → Answers (swap_told s number true next) r (trace taken n) (trace taken' m) (λ done. next new)
+  known_answers o outcome h =
+      asked_answers (swap_question s number) (swapped_told s next) (told_of o) r (trace taken n) (trace taken' m) (λ done. next new)
+      (record { rules_are = refl; outcome = o; is_outcome = outcome; told_is = refl }) h
+
+  -- by whether there is one
+  pub told_answers : (there found : Bool) → found ≡ there → there ≡ true → Answers (swap_told s number true next) r (trace taken n) (trace taken' m) (λ done. next new)
+      → Answers (swap_told s number found next) r (trace taken n) (trace taken' m) (λ done. next new)
+  told_answers there found same is h = subst (λ (b : Bool). Answers (swap_told s number b next) r (trace taken n) (trace taken' m) (λ done. next new)) (sym (same ∙ is)) h
 
   -- there is no such section
   pub unknown_answers : (there : Bool) → there ≡ false → Wrote r taken taken' no_section

@@ -1,6 +1,6 @@
 //! Another schema set for a document that is open.
 
-ghost use Rattle.std.specs.Prelude.{◌≡◌, ◌≤◌, ℕ, false, OnOk, IfOk};
+ghost use Rattle.std.specs.Prelude.{◌≡◌, ◌≤◌, ℕ, true, false, OnOk, IfOk};
 ghost use Rattle.xsv_io.specs.Causes.{KeepsCount};
 ghost use Rattle.xs_names.specs.Names.{IsSound};
 ghost use Rattle.compiled_schema.specs.Usable.{IsUsable, set_of};
@@ -23,6 +23,7 @@ use crate::reply::{answer_made, write_answer, write_refusal};
 use compiled_schema::Compiled;
 use plain_session::let_go;
 use schema_compile::Outcome;
+use schema_set::SchemaInput;
 use std::alloc::{AllocError, Global};
 use told::BreakOff;
 use wildcard_laws::wildcards_name_spaces_of_their_table;
@@ -160,6 +161,37 @@ fn answer_outcome<W: Sink, L: Ledger>(
     }
 }
 
+// Whether a schema section has the number.
+fn has_section(documents: &[SchemaInput], number: u32) -> bool
+    ensures { result ≡ is_section documents.now number }
+{
+    0 < number && number as usize <= documents.len()
+}
+
+// Swaps to the set that starts at the schema section of this number, where it breaks no constraint, and writes the reply.
+fn answer_section<W: Sink, L: Ledger>(
+    alloc: Global,
+    document: &mut OpenDocument,
+    number: u32,
+    sink: &mut W,
+    steps: &mut Steps<L>,
+) -> Result<(), BreakOff>
+    requires there { is_section document.old.documents.items number ≡ true }
+    requires live { document.old.session.closed ≡ false }
+    requires logged { IsLogged document.old }
+    ensures answers { (next : OpenState → Told) → Answers (swap_told (state_of document.old) number true next)
+        result (trace (W.taken sink.old) steps.old) (trace (W.taken sink.new) steps.new) (λ done. next (state_of document.new)) }
+    ensures open { OnOk result (document.new.session.closed ≡ false) }
+    ensures logged { document.new.session.closed ≡ false → IsLogged document.new }
+    ensures writes { KeepsCount W.faults W.fault_bound sink.old sink.new (IsWriteFault result) }
+    ensures later { steps.old ≤ steps.new }
+{
+    match outcome_of(alloc, document.documents.as_slice(), number - 1) {
+        Ok(outcome) => answer_outcome(alloc, document, outcome, sink, steps),
+        Err(_) => Err(BreakOff::Memory),
+    }
+}
+
 /// Assesses the document by the set that starts at the schema section of this number, from 1, where it breaks no constraint, and
 /// writes the reply.
 ///
@@ -183,11 +215,9 @@ pub(crate) fn answer_swap<W: Sink, L: Ledger>(
     ensures writes { KeepsCount W.faults W.fault_bound sink.old sink.new (IsWriteFault result) }
     ensures later { steps.old ≤ steps.new }
 {
-    if number == 0 || document.documents.len() < number as usize {
-        return write_refusal(sink, 33, "NoSection");
-    }
-    match outcome_of(alloc, document.documents.as_slice(), number - 1) {
-        Ok(outcome) => answer_outcome(alloc, document, outcome, sink, steps),
-        Err(_) => Err(BreakOff::Memory),
+    if has_section(document.documents.as_slice(), number) {
+        answer_section(alloc, document, number, sink, steps)
+    } else {
+        write_refusal(sink, 33, "NoSection")
     }
 }
