@@ -8,6 +8,7 @@ use Rattle.xs_components.specs.Tables.{Tables}
 use Rattle.xs_components.specs.declared.common.TypeId.{TypeId}
 use Rattle.xs_components.specs.declared.common.TypeId.TheVariants.{AnyType, Builtin, Simple, Complex}
 use Rattle.attr_uses.specs.Uses.{AttrUses, uses_of, any_wildcard, any_type_uses}
+use Rattle.attr_uses.proofs.DefLaws.{any_type_is}
 use Rattle.attr_uses.specs.Tables.{StandsFor, Answers}
 use Rattle.attr_uses.specs.declared.store.KeptTable.{KeptTable}
 use Rattle.attr_uses.specs.declared.store.Store.{Store}
@@ -78,7 +79,7 @@ any-first t names own r is =
     r is
 
 pub of-any-type : (t : Tables) (base : TypeId) (also : AttrUses) → is_any_type base ≡ true → uses_of t base ≡ Ok also → (base ≡ AnyType) × (also ≡ any_type_uses)
-of-any-type t AnyType also any is = (refl, cc)
+of-any-type t AnyType also any is = (refl, same_Ok also any_type_uses (uses_of t AnyType) is (any_type_is t))
 of-any-type t (Builtin kind) also any is = absurd (false≢true any)
 of-any-type t (Simple id) also any is = absurd (false≢true any)
 of-any-type t (Complex id) also any is = absurd (false≢true any)
