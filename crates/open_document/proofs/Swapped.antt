@@ -31,7 +31,7 @@ use Rattle.undo_histories.specs.Through.{history_through}
 use Rattle.undo_histories.specs.Through as histories
 use Rattle.doc_inverses.specs.declared.change.Change.{Change}
 use Rattle.open_document.specs.Held.{state_of, IsLogged}
-use Rattle.open_document.specs.Replies.{made_reply, no_section, is_section, swap_question, swap_told, swapped_told}
+use Rattle.open_document.specs.Replies.{made_reply, no_section, is_section, swap_question, swap_said, swap_told, swapped_told}
 use Rattle.open_document.specs.State.{OpenState}
 use Rattle.open_document.specs.Steps.{with_swap}
 use Rattle.open_document.specs.declared.held.OpenDocument.{OpenDocument}
@@ -74,7 +74,7 @@ module _ (x : OpenDocument) (session : State) (log : Log Change) (set : SchemaSe
 module _ (s : OpenState) (set : SchemaSet) (next : OpenState → Told) where
   -- what is told where this is found by the set
   abbrev found_told : List Entry → Told
-  found_told found = says (record { text = made_reply (after_swap s.session set found); cost = swap_cost s.session }) (next (with_swap s set found))
+  found_told found = says (swap_said s.session (after_swap s.session set found)) (next (with_swap s set found))
 
   pub swapped_answers : (r : Result (Unit {0}) BreakOff) (taken taken' : Option (List ℕ)) (n m : ℕ) (new : OpenState) → IsReopened s.session set new.session
       → new ≡ with_swap s set new.session.found → Wrote r taken taken' (made_reply new.session) → Counts n m (swap_cost s.session)
@@ -83,7 +83,7 @@ module _ (s : OpenState) (set : SchemaSet) (next : OpenState → Told) where
       let found = new.session.found in
       subst (λ (x : OpenState). Answers (swapped_told s next (accepted set)) r (trace taken n) (trace taken' m) (λ done. next x)) (sym new_is)
       (looked_answers (with_names set s.session.document.forest) s.session.document found_told found r (trace taken n) (trace taken' m) (λ done. next (with_swap s set found)) is.found_is
-      (said_answers (record { text = made_reply (after_swap s.session set found); cost = swap_cost s.session }) (λ done. next (with_swap s set found)) (next (with_swap s set found))
+      (said_answers (swap_said s.session (after_swap s.session set found)) (λ done. next (with_swap s set found)) (next (with_swap s set found))
       r taken taken' n m (λ done. refl) (subst (λ (x : State). Wrote r taken taken' (made_reply x)) is.new_is w) counts.later counts.few))
 
   -- memory was wanting for it

@@ -141,12 +141,16 @@ next_told s children (Err e) next = says (free (refusal (around.number_of e) (ar
 abbrev pub child_count : State → ℕ → ℕ
 child_count s node = width (children_at s.document node)
 
+-- a swap that is made, behind which this is the session: the reply, and what it costs
+abbrev pub swap_said : State → State → Said
+swap_said before after = record { text = made_reply after; cost = swap_cost before }
+
 -- another set was asked for: where it breaks a constraint, this is said, and nothing changes; else what is found of the document by it is looked at,
 -- and the document stands with it then
 abbrev pub swapped_told : OpenState → (OpenState → Told) → SetOutcome → Told
 swapped_told s next (accepted set) =
     looks (with_names set s.session.document.forest) s.session.document (λ found.
-    says (record { text = made_reply (after_swap s.session set found); cost = swap_cost s.session }) (next (with_swap s set found)))
+    says (swap_said s.session (after_swap s.session set found)) (next (with_swap s set found)))
 swapped_told s next (broken fault) = says (free (set_refused fault)) (next s)
 
 -- whether a schema section has the number

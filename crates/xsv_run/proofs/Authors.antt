@@ -45,11 +45,11 @@ module _ (s t : OpenState) (own : Said) (next : OpenState) where
 
   set_so : (o : SetOutcome) → IsSetReply s o own next → (later : OpenState) × IsSetReply (turned t s) o own (turned later next)
   set_so (accepted set) h = (t, (h.0, h.1, h.2, ap (turned t) h.3))
-  set_so (broken fault) h = stays_so h
+  set_so (broken fault) h = (t, (h.0, ap (turned t) h.1))
 
   swap_so : (number : ℕ) (there : Bool) → IsSwapReply s number there own next → (later : OpenState) × IsSwapReply (turned t s) number there own (turned later next)
   swap_so number true h = let one = set_so h.0 h.2 in (one.0, (h.0, h.1, one.1))
-  swap_so number false h = stays_so h
+  swap_so number false h = (t, (h.0, ap (turned t) h.1))
 
   turn_so : (author : ℕ) (edit : Edit) (fault : Option TurnFault) → fault ≡ None → IsTurnReply s author edit fault own next
       → (later : OpenState) × IsEditReply (turned t s) 0 edit (edited s.session.document edit) own (turned later next)

@@ -13,13 +13,13 @@ use Rattle.stream_answers.specs.from_edit_session.Changed.{after_change}
 use Rattle.kept_next.specs.Answers.{PlaceQuestion, Answer, AreAnswers}
 use Rattle.stream_answers.specs.from_edit_session.Around.{asked_at}
 use Rattle.stream_answers.specs.from_edit_session.AroundError.{AroundError}
-use Rattle.stream_answers.specs.from_edit_session.Reopened.{after_swap, swap_cost}
+use Rattle.stream_answers.specs.from_edit_session.Reopened.{after_swap}
 use Rattle.told.specs.Outcomes.{SetOutcome, accepted, broken}
 use Rattle.told.specs.Told.{Said, free, silent, joined, Told, over, says, Leads}
 use Rattle.told.specs.declared.ending.Ending.{Ending}
 use Rattle.told.proofs.Leading.{IsOver, silent_first, silent_last, joined_assoc, leads_says}
 use Rattle.stream_answers.specs.from_open_document.Answers.{verdict}
-use Rattle.stream_answers.specs.from_open_document.Replies.{edit_told, turn_told, swap_told, swapped_told, swap_question, is_section, made_reply, step_told, next_told, line_told, no_past, no_future, made_said, step_said, next_said, child_count}
+use Rattle.stream_answers.specs.from_open_document.Replies.{edit_told, turn_told, swap_told, swapped_told, swap_question, is_section, swap_said, step_told, next_told, line_told, no_past, no_future, made_said, step_said, next_said, child_count}
 use Rattle.stream_answers.specs.from_open_document.State.{OpenState}
 use Rattle.stream_answers.specs.from_open_document.Touches.{turn_fault}
 use Rattle.stream_answers.specs.from_open_document.TurnFault.{TurnFault}
@@ -90,7 +90,7 @@ module _ (s : OpenState) (k : OpenState → Told) (said : Said) (e : Option Endi
   set_back : (o : SetOutcome) → Leads (swapped_told s k o) said (over e) → IsRepliedTo (IsSetReply s o)
   set_back (accepted set) (inl h) = absurd (subst IsOver h.1 tt)
   set_back (accepted set) (inr h) =
-      let own = record { text = made_reply (after_swap s.session set h.0); cost = swap_cost s.session } in
+      let own = swap_said s.session (after_swap s.session set h.0) in
       let one = says_back own (k (with_swap s set h.0)) said e h.2 in
       (own, with_swap s set h.0, one.0, (h.0, h.1, refl, refl), one.1, one.2)
   set_back (broken fault) h = stays_back _ h
@@ -162,7 +162,7 @@ module _ (s : OpenState) (k : OpenState → Told) (own : Said) (next : OpenState
 
   set_on : (o : SetOutcome) → IsSetReply s o own next → Leads (swapped_told s k o) (joined own later) rest
   set_on (accepted set) h =
-      let said = record { text = made_reply (after_swap s.session set h.0); cost = swap_cost s.session } in
+      let said = swap_said s.session (after_swap s.session set h.0) in
       inr (
         h.0,
         h.1,

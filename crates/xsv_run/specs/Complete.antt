@@ -18,11 +18,11 @@ use Rattle.stream_answers.specs.from_edit_session.Around as around
 use Rattle.stream_answers.specs.from_edit_session.Around.{asked_at}
 use Rattle.stream_answers.specs.from_edit_session.AroundError.{AroundError}
 use Rattle.kept_next.specs.Answers.{PlaceQuestion, Answer, AreAnswers}
-use Rattle.stream_answers.specs.from_edit_session.Reopened.{after_swap, swap_cost}
+use Rattle.stream_answers.specs.from_edit_session.Reopened.{after_swap}
 use Rattle.told.specs.Outcomes.{SetOutcome, accepted, broken, IsOutcomeOf}
 use Rattle.told.specs.Told.{Said, free, silent, joined}
 use Rattle.stream_answers.specs.from_open_document.Answers.{opened, opening_cost, verdict}
-use Rattle.stream_answers.specs.from_open_document.Replies.{refusal, turn_refusal, set_refused, no_section, swap_question, is_section, made_reply, no_past, no_future, assess_reply, report_reply, total_reply, made_said, step_said, next_said, child_count}
+use Rattle.stream_answers.specs.from_open_document.Replies.{refusal, turn_refusal, set_refused, no_section, swap_question, is_section, swap_said, no_past, no_future, assess_reply, report_reply, total_reply, made_said, step_said, next_said, child_count}
 use Rattle.stream_answers.specs.from_open_document.State.{OpenState, with_documents}
 use Rattle.stream_answers.specs.from_open_document.Touches.{turn_fault}
 use Rattle.stream_answers.specs.from_open_document.TurnFault.{TurnFault}
@@ -72,7 +72,7 @@ IsNextReply s children (Err e) own next = (own ≡ free (refusal (around.number_
 abbrev pub IsSetReply : OpenState → SetOutcome → Said → OpenState → Type 0
 IsSetReply s (accepted set) own next =
     (found : List Entry) × IsFound (with_names set s.session.document.forest) s.session.document found
-    × (own ≡ record { text = made_reply (after_swap s.session set found); cost = swap_cost s.session }) × (next ≡ with_swap s set found)
+    × (own ≡ swap_said s.session (after_swap s.session set found)) × (next ≡ with_swap s set found)
 IsSetReply s (broken fault) own next = (own ≡ free (set_refused fault)) × (next ≡ s)
 
 -- The reply to a swap, by whether a schema section has the number.
