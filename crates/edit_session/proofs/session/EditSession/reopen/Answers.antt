@@ -28,8 +28,16 @@ returns-in-Ok-clause-reopens g c =
     (subst (λ (y : Compiled). (d : Document) → StandsFor c.deref.result.now.names old.doc d → set_of new.set ≡ with_names (set_of y) d.forest) c.deref_mut.ensures.value c.in-Ok.ensures.named))
     c.in-Ok.ensures.present)
 
-pub returns-clause-spends : goal.returns-clause-spends
-returns-clause-spends g c =
+pub returns-in-Ok-clause-spends : goal.returns-in-Ok-clause-spends
+returns-in-Ok-clause-spends g c =
+    let old = c.self.inside in
+    let d = document_in old.set.value old.doc in
+    let few = subst (λ (x : Compiled). (e : Document) → StandsFor x.names old.doc e → c.reopen_document.new.steps ≤ c.args.steps.now + 8 * count e.forest) c.deref.ensures c.reopen_document.ensures.few
+    d (stands-now old.set.value old.doc c.self.invariant.stands) in
+    subst (λ (x : State). Counts c.args.steps.now c.reopen_document.new.steps (swap_cost x)) c.self.view_is (record { later = c.reopen_document.ensures.least; few = few })
+
+pub returns-in-Err-clause-spends : goal.returns-in-Err-clause-spends
+returns-in-Err-clause-spends g c =
     let old = c.self.inside in
     let d = document_in old.set.value old.doc in
     let few = subst (λ (x : Compiled). (e : Document) → StandsFor x.names old.doc e → c.reopen_document.new.steps ≤ c.args.steps.now + 8 * count e.forest) c.deref.ensures c.reopen_document.ensures.few
