@@ -1,5 +1,6 @@
 -- A swap to another schema set, and what was written.
 use Rattle.std.proofs.Common.{◌≡◌, ◌≤◌, ◌<◌, ◌-◌, ◌^◌, ℕ, List, length, nat_lt, nat_le, arith, Bool, true, false, Option, Result, Ok, Err, refl, sym, ap, ◌∙◌, subst}
+use Rattle.std.specs.Prelude.{OnOk}
 use Rattle.std.proofs.lemmas.Bool.{and_parts, true≢false}
 use Rattle.std.proofs.lemmas.Bool.Decides.{nat_tests}
 use Rattle.tree_names.specs.Table.{document_table}
@@ -70,6 +71,10 @@ module _ (x : OpenDocument) (session : State) (log : Log Change) (set : SchemaSe
   }
 
 -- ---- what was written
+
+pub on-ok : {T E P : Type 0} (r : Result T E) → P → OnOk r P
+on-ok (Ok x) p = p
+on-ok (Err e) p = tt
 
 module _ (s : OpenState) (set : SchemaSet) (next : OpenState → Told) where
   -- what is told where this is found by the set

@@ -10,7 +10,7 @@ use Rattle.open_document.proofs.swapping.answer_accepted.Goals as goal
 
 pub answer_set-requires-clause-ready : goal.answer_set-requires-clause-ready
 answer_set-requires-clause-ready g c =
-    subst IsReadySet (sym c.in-Ok.ensures) (record { usable = c.requires.usable; spaced = c.requires.spaced c.lookup-_sound.ensures.sound })
+    subst IsReadySet (sym c.in-Ok.ensures) (record { usable = c.requires.usable; spaced = c.requires.spaced c.lookup-sound.ensures.sound })
 
 pub returns-in-Ok-clause-answers : goal.returns-in-Ok-clause-answers
 returns-in-Ok-clause-answers g c = λ next.
