@@ -1,6 +1,6 @@
 -- A swap to another schema set, and what was written.
-use Rattle.std.proofs.Common.{◌≡◌, ◌≤◌, ◌<◌, ◌-◌, ◌^◌, ℕ, List, length, nat_lt, nat_le, arith, Bool, true, false, Option, Result, Ok, Err, refl, sym, ap, ◌∙◌, subst}
-use Rattle.std.specs.Prelude.{OnOk}
+use Rattle.std.proofs.Common.{◌≡◌, ◌≤◌, ◌<◌, ◌-◌, ◌^◌, ℕ, List, [], ◌∷◌, ◌++◌, append_assoc, length, nat_lt, nat_le, arith, Bool, true, false, Option, Result, Ok, Err, refl, sym, ap, ◌∙◌, subst}
+use Rattle.std.specs.Prelude.{OnOk, codes}
 use Rattle.std.proofs.lemmas.Bool.{and_parts, true≢false}
 use Rattle.std.proofs.lemmas.Bool.Decides.{nat_tests}
 use Rattle.tree_names.specs.Table.{document_table}
@@ -72,10 +72,6 @@ module _ (x : OpenDocument) (session : State) (log : Log Change) (set : SchemaSe
 
 -- ---- what was written
 
-pub on-ok : {T E P : Type 0} (r : Result T E) → P → OnOk r P
-on-ok (Ok x) p = p
-on-ok (Err e) p = tt
-
 module _ (s : OpenState) (set : SchemaSet) (next : OpenState → Told) where
   -- what is told where this is found by the set
   abbrev found_told : List Entry → Told
@@ -96,6 +92,15 @@ module _ (s : OpenState) (set : SchemaSet) (next : OpenState → Told) where
   broken_swap taken n m counts =
       looks_breaks (with_names set s.session.document.forest) s.session.document found_told (λ (found : List Entry). swap_cost s.session) taken taken n m (λ found k within. within) refl
       counts.later (λ found is. counts.few)
+
+-- the parts of a refusal of a set are its text
+pub refused_parts : (document item code : List ℕ) → codes "no 34 SetRefused " ++ (document ++ (codes " " ++ (item ++ (codes " " ++ (code ++ 10 ∷ []))))) ≡ codes "no 34 SetRefused " ++ document ++ codes " " ++ item ++ codes " " ++ code ++ 10 ∷ []
+refused_parts document item code = simp append_assoc
+
+-- an answer leaves it open
+pub still_open : {T E : Type 0} (r : Result T E) (closed : Bool) → closed ≡ false → OnOk r (closed ≡ false)
+still_open (Ok done) closed is = is
+still_open (Err e) closed is = tt
 
 -- ---- by the number of a section
 

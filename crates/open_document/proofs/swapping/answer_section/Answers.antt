@@ -1,4 +1,4 @@
-use Rattle.std.proofs.Common.{◌-◌, true, subst}
+use Rattle.std.proofs.Common.{true, ◌-◌, subst}
 use Rattle.schema_compile.specs.Outcomes.{IsOutcome}
 use Rattle.told.proofs.Saying.{memory_breaks}
 use Rattle.told.specs.Going.{trace}

@@ -2,14 +2,14 @@ use Rattle.std.proofs.Common.{ap}
 use Rattle.compiled_schema.specs.Usable.{set_of}
 use Rattle.session_model.specs.State.{State}
 use Rattle.open_document.specs.Held.{state_of}
-use Rattle.open_document.proofs.Swapped.{on-ok, swapped_answers, broken_swap}
+use Rattle.open_document.proofs.Swapped.{still_open, swapped_answers, broken_swap}
 use Rattle.open_document.proofs.swapping.answer_set.Goals as goal
 
 pub answer_made-requires : goal.answer_made-requires
 answer_made-requires g c = ap (λ (x : State). x.closed) c.in-Ok.ensures.reopened.new_is
 
 pub returns-in-Ok-clause-open : goal.returns-in-Ok-clause-open
-returns-in-Ok-clause-open g c = on-ok c.answer_made.result (ap (λ (x : State). x.closed) c.in-Ok.ensures.reopened.new_is)
+returns-in-Ok-clause-open g c = still_open c.answer_made.result c.swap.new.document.session.closed (ap (λ (x : State). x.closed) c.in-Ok.ensures.reopened.new_is)
 
 pub returns-in-Ok-clause-answers : goal.returns-in-Ok-clause-answers
 returns-in-Ok-clause-answers g c = λ next.
