@@ -10,8 +10,8 @@ use Rattle.tree_edits.specs.declared.edit.EditError.{EditError}
 use Rattle.edit_script.specs.Commands.{IsReadyOr}
 use Rattle.edit_script.specs.declared.command.Command.TheVariants as commands
 use Rattle.kept_next.specs.Answers.{PlaceQuestion}
-use Rattle.edit_session.specs.Around.{asked_at}
-use Rattle.edit_session.specs.declared.around.AroundError.{AroundError}
+use Rattle.xsv_run.specs.from_edit_session.Around.{asked_at}
+use Rattle.xsv_run.specs.from_edit_session.AroundError.{AroundError}
 use Rattle.assessment.specs.Assessment.{Entry as Found}
 use Rattle.what_is_found.specs.IsFound.{IsFound}
 use Rattle.session_model.specs.State.{with_names}
@@ -20,12 +20,12 @@ use Rattle.undo_log.specs.Log.{Log, log_of, cleared}
 use Rattle.undo_log.specs.declared.log.Taken.TheVariants.{Nothing}
 use Rattle.told.specs.Told.{Said}
 use Rattle.told.specs.Outcomes.{SetOutcome, accepted, broken}
-use Rattle.open_document.specs.Answers.{opened}
-use Rattle.open_document.specs.Replies.{is_section, child_count, no_past, no_future}
-use Rattle.open_document.specs.State.{OpenState, Basis, kept_trees}
-use Rattle.open_document.specs.Steps.{with_edit, with_swap}
-use Rattle.open_document.specs.Touches.{turn_fault}
-use Rattle.open_document.specs.declared.touches.TurnFault.{TurnFault}
+use Rattle.xsv_run.specs.from_open_document.Answers.{opened}
+use Rattle.xsv_run.specs.from_open_document.Replies.{is_section, child_count, no_past, no_future}
+use Rattle.xsv_run.specs.from_open_document.State.{OpenState, Basis, kept_trees}
+use Rattle.xsv_run.specs.from_open_document.Steps.{with_edit, with_swap}
+use Rattle.xsv_run.specs.from_open_document.Touches.{turn_fault}
+use Rattle.xsv_run.specs.from_open_document.TurnFault.{TurnFault}
 use Rattle.xsv_run.specs.Authors.{Read, AreAnswers}
 use Rattle.xsv_run.specs.Complete.{IsReply, IsEditReply, IsTurnReply, IsNextReply, IsSetReply, IsSwapReply}
 use Rattle.turn_laws.specs.Lists.{Child, list_at}

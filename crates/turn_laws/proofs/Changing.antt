@@ -21,7 +21,7 @@ use Rattle.tree_inverses.proofs.Lying.{found_has, element_at, text_at, node_of_o
 use Rattle.tree_inverses.proofs.Twice.{gone, found_changed, has_put}
 use Rattle.tree_inverses.proofs.Undone.{is_change, edit_fits}
 use Rattle.author_turns.specs.declared.touched.Touched.{Touched}
-use Rattle.open_document.specs.Touches.{touched, touches, list_of, node_in}
+use Rattle.xsv_run.specs.from_open_document.Touches.{touched, touches, list_of, node_in}
 use Rattle.turn_laws.specs.Lists.{Child, listed, list_at}
 use Rattle.turn_laws.proofs.Lists.{IsListed, option_cases, list_here, list_past, listed_below, listed_from, list_stays, taken_stays, parent_before, parent_after, element_listed, part_stays}
 use Rattle.turn_laws.proofs.Sites.{found_number, put_below}

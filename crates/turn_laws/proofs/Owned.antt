@@ -20,9 +20,9 @@ use Rattle.author_turns.specs.Turns.{Turn, turn, same_node, have_common, later, 
 use Rattle.author_turns.specs.declared.touched.Touched.{Touched}
 use Rattle.undo_log.specs.Log.{Log}
 use Rattle.told.specs.Told.{Said}
-use Rattle.open_document.specs.State.{OpenState}
-use Rattle.open_document.specs.Touches.{touched, list_of, named, if_live, fault_by, stale_by, turn_fault}
-use Rattle.open_document.specs.declared.touches.TurnFault.TheVariants.{BadRevision, Stale}
+use Rattle.xsv_run.specs.from_open_document.State.{OpenState}
+use Rattle.xsv_run.specs.from_open_document.Touches.{touched, list_of, named, if_live, fault_by, stale_by, turn_fault}
+use Rattle.xsv_run.specs.from_open_document.TurnFault.TheVariants.{BadRevision, Stale}
 use Rattle.xsv_run.specs.Authors.{Read, AreAnswers}
 use Rattle.turn_laws.specs.Lists.{Child, listed, list_at}
 use Rattle.turn_laws.specs.Own.{puts_into, list_of_children, IsOwnTurn, IsListBehind, IsListBehindAll}

@@ -26,9 +26,9 @@ use Rattle.undo_log.specs.History.{History, history_of, undone, redone}
 use Rattle.undo_log.specs.History as histories
 use Rattle.undo_log.specs.Log.{Log, log_of, cleared, noted, with_undo_taken, with_undo_answered, with_redo_taken, with_redo_answered}
 use Rattle.undo_log.specs.declared.log.Taken.TheVariants.{Nothing}
-use Rattle.open_document.specs.State.{OpenState, kept_trees}
-use Rattle.open_document.specs.Steps.{Step, step_by, undo_of, redo_of, document_behind, with_turn, with_edit, with_step, with_swap, touched_undone, touched_redone}
-use Rattle.open_document.specs.Touches.{touched, touches}
+use Rattle.xsv_run.specs.from_open_document.State.{OpenState, kept_trees}
+use Rattle.xsv_run.specs.from_open_document.Steps.{Step, step_by, undo_of, redo_of, document_behind, with_turn, with_edit, with_step, with_swap, touched_undone, touched_redone}
+use Rattle.xsv_run.specs.from_open_document.Touches.{touched, touches}
 use Rattle.told.specs.Told.{Said}
 use Rattle.xsv_run.specs.Complete.{IsStepReply}
 use Rattle.turn_laws.specs.Lists.{Child, list_at}

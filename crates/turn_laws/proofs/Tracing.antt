@@ -4,7 +4,7 @@ use Rattle.std.specs.Prelude.{All}
 use Rattle.tree_rows.specs.Forest.{Forest}
 use Rattle.tree_inverses.specs.Changes.{Change}
 use Rattle.author_turns.specs.declared.touched.Touched.{Touched}
-use Rattle.open_document.specs.Touches.{touches}
+use Rattle.xsv_run.specs.from_open_document.Touches.{touches}
 use Rattle.turn_laws.specs.Lists.{Child, list_at}
 use Rattle.turn_laws.proofs.Changing.{inverse_at}
 use Rattle.turn_laws.proofs.Lists.{IsListed}

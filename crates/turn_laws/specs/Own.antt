@@ -4,7 +4,7 @@ use Rattle.tree_edits.specs.declared.edit.Edit.{Edit}
 use Rattle.tree_edits.specs.declared.edit.Edit.TheVariants as edits
 use Rattle.author_turns.specs.Turns.{Turn}
 use Rattle.told.specs.Told.{Said}
-use Rattle.open_document.specs.State.{OpenState}
+use Rattle.xsv_run.specs.from_open_document.State.{OpenState}
 use Rattle.xsv_run.specs.Authors.{Read}
 use Rattle.xsv_run.specs.Complete.{IsReply}
 use Rattle.turn_laws.specs.Lists.{Child, list_at}

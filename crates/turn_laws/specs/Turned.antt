@@ -11,10 +11,10 @@ use Rattle.assessment.specs.Attribution.{SchemaSet}
 use Rattle.author_turns.specs.declared.touched.Touched.{Touched}
 use Rattle.undo_log.specs.Log.{Log, cleared, noted, with_undo_taken, with_undo_answered, with_redo_taken, with_redo_answered}
 use Rattle.told.specs.Told.{Said}
-use Rattle.open_document.specs.State.{OpenState}
-use Rattle.open_document.specs.Steps.{with_turn, with_swap}
-use Rattle.open_document.specs.Touches.{touched, turn_fault}
-use Rattle.open_document.specs.declared.touches.TurnFault.{TurnFault}
+use Rattle.xsv_run.specs.from_open_document.State.{OpenState}
+use Rattle.xsv_run.specs.from_open_document.Steps.{with_turn, with_swap}
+use Rattle.xsv_run.specs.from_open_document.Touches.{touched, turn_fault}
+use Rattle.xsv_run.specs.from_open_document.TurnFault.{TurnFault}
 use Rattle.xsv_run.specs.Authors.{Read}
 use Rattle.xsv_run.specs.Complete.{IsReply}
 

@@ -1,8 +1,8 @@
 use Rattle.std.proofs.Common.{[]}
 use Rattle.undo_log.specs.Log.{log_of}
 use Rattle.undo_log.specs.declared.log.Taken.TheVariants.{Nothing}
-use Rattle.open_document.specs.Answers.{opened}
-use Rattle.open_document.specs.State.{kept_trees}
+use Rattle.xsv_run.specs.from_open_document.Answers.{opened}
+use Rattle.xsv_run.specs.from_open_document.State.{kept_trees}
 use Rattle.turn_laws.proofs.Along.{opened_so, traced_so}
 use Rattle.turn_laws.proofs.Owned.{lists_so}
 use Rattle.turn_laws.proofs.laws.lists_change_by_own_turns_alone.Goals as goal
