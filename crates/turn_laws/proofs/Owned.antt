@@ -16,7 +16,8 @@ use Rattle.tree_edits.specs.declared.edit.Edit.{Edit}
 use Rattle.tree_edits.specs.declared.edit.Edit.TheVariants as edits
 use Rattle.edit_script.specs.Commands.{IsReadyOr}
 use Rattle.session_model.specs.State.{next_revision}
-use Rattle.author_turns.specs.Turns.{Turn, turn, same_node, have_common, later, latest, is_unseen, stale}
+use Rattle.author_turns.specs.declared.turn.Turn.{Turn}
+use Rattle.author_turns.specs.Turns.{turn, same_node, have_common, later, latest, is_unseen, stale}
 use Rattle.author_turns.specs.declared.touched.Touched.{Touched}
 use Rattle.undo_log.specs.Log.{Log}
 use Rattle.told.specs.Told.{Said}
