@@ -1,5 +1,5 @@
 -- What is remembered of a history, reply by reply.
-use Rattle.std.proofs.Common.{◌≡◌, ◌⊎◌, inl, inr, ℕ, ◌≤◌, List, [], ◌∷◌, Bool, true, false, Option, Some, None, Result, Ok, Err, refl, sym, ap, ◌∙◌, subst, arith}
+use Rattle.std.proofs.Common.{◌≡◌, inl, inr, ℕ, List, [], ◌∷◌, Bool, true, false, Option, Some, None, Result, Ok, Err, refl, sym, subst, arith}
 use Rattle.std.specs.Prelude.{All}
 use Rattle.std.proofs.lemmas.List.Elements.{All-nil, All-head, All-tail}
 use Rattle.tree_rows.specs.Forest.{Document}
@@ -16,20 +16,19 @@ use Rattle.assessment.specs.Assessment.{Entry as Found}
 use Rattle.what_is_found.specs.IsFound.{IsFound}
 use Rattle.session_model.specs.State.{with_names}
 use Rattle.author_turns.specs.declared.touched.Touched.{Touched}
-use Rattle.undo_log.specs.Log.{Log, log_of, cleared}
+use Rattle.undo_log.specs.Log.{Log, log_of}
 use Rattle.undo_log.specs.declared.log.Taken.TheVariants.{Nothing}
 use Rattle.told.specs.Told.{Said}
 use Rattle.told.specs.Outcomes.{SetOutcome, accepted, broken}
 use Rattle.xsv_run.specs.from_open_document.Answers.{opened}
 use Rattle.xsv_run.specs.from_open_document.Replies.{is_section, child_count, no_past, no_future}
 use Rattle.xsv_run.specs.from_open_document.State.{OpenState, Basis, kept_trees}
-use Rattle.xsv_run.specs.from_open_document.Steps.{with_edit, with_swap}
 use Rattle.xsv_run.specs.from_open_document.Touches.{turn_fault}
 use Rattle.xsv_run.specs.from_open_document.TurnFault.{TurnFault}
 use Rattle.xsv_run.specs.Authors.{Read, AreAnswers}
 use Rattle.xsv_run.specs.Complete.{IsReply, IsEditReply, IsTurnReply, IsNextReply, IsSetReply, IsSwapReply}
 use Rattle.turn_laws.specs.Lists.{Child, list_at}
-use Rattle.turn_laws.specs.Turned.{IsNoTurn, IsEditTurn, IsAuthorTurn, IsSwapTurn, IsTurn, AreTurns}
+use Rattle.turn_laws.specs.Turned.{IsEditTurn, IsAuthorTurn, IsSwapTurn, IsTurn, AreTurns}
 use Rattle.turn_laws.proofs.Lists.{listed_below}
 use Rattle.turn_laws.proofs.Tracing.{Entry, Holds}
 use Rattle.turn_laws.proofs.Traced.{IsTraced, Traced, stays_traced, edit_result, undone_so, redone_so, swapped_so}

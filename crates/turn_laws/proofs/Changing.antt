@@ -3,14 +3,14 @@ use Rattle.std.proofs.Common.{◌≡◌, ◌⊎◌, inl, inr, ℕ, ◌≤◌, �
 use Rattle.std.proofs.lemmas.Bool.{eqb-true}
 use Rattle.std.proofs.lemmas.Option.{none-some, same_Some}
 use Rattle.std.specs.Option.{option_or}
-use Rattle.tree_rows.specs.Forest.{Forest, none, text, element, Document}
+use Rattle.tree_rows.specs.Forest.{Forest, none, text, Document}
 use Rattle.tree_rows.specs.Whole.{IsTree, times}
 use Rattle.tree_edits.specs.Changes.{with_name, with_attributes}
-use Rattle.tree_edits.specs.Edits.{Found, found, replaced, insert_at, with_children, with_chars, can_be_made, renumbered, scope_in}
+use Rattle.tree_edits.specs.Edits.{Found, replaced, insert_at, with_children, with_chars, can_be_made, renumbered, scope_in}
 use Rattle.tree_edits.specs.Tests.{edited}
 use Rattle.tree_edits.specs.declared.edit.Edit.{Edit}
 use Rattle.tree_edits.specs.declared.edit.Edit.TheVariants as edits
-use Rattle.tree_edits.proofs.Lying.{Lies, lies}
+use Rattle.tree_edits.proofs.Lying.{lies}
 use Rattle.tag_names.specs.Scopes.{first_scope}
 use Rattle.tree_building.specs.Building.{block}
 use Rattle.tree_inverses.specs.Changes.{Change, put_back, take_out, rename, write, reword, changed, inverse_of, written, Fits}
@@ -22,8 +22,8 @@ use Rattle.tree_inverses.proofs.Twice.{gone, found_changed, has_put}
 use Rattle.tree_inverses.proofs.Undone.{is_change, edit_fits}
 use Rattle.author_turns.specs.declared.touched.Touched.{Touched}
 use Rattle.xsv_run.specs.from_open_document.Touches.{touched, touches, list_of, node_in}
-use Rattle.turn_laws.specs.Lists.{Child, listed, list_at}
-use Rattle.turn_laws.proofs.Lists.{IsListed, option_cases, list_here, list_past, listed_below, listed_from, list_stays, taken_stays, parent_before, parent_after, element_listed, part_stays}
+use Rattle.turn_laws.specs.Lists.{Child, list_at}
+use Rattle.turn_laws.proofs.Lists.{IsListed, option_cases, list_past, listed_from, list_stays, taken_stays, parent_before, parent_after, element_listed, part_stays}
 use Rattle.turn_laws.proofs.Sites.{found_number, put_below}
 
 -- the change that undoes one of this tree

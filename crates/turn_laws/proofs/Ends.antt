@@ -1,5 +1,5 @@
 -- The ends of lists.
-use Rattle.std.proofs.Common.{◌≡◌, ℕ, ◌-◌, List, [], ◌∷◌, ◌++◌, length, map, take, drop, slice_get, Some, refl, sym, ap, ◌∙◌, subst, arith, length-append, take_at, suc, zero}
+use Rattle.std.proofs.Common.{◌≡◌, ℕ, ◌-◌, List, [], ◌∷◌, ◌++◌, length, map, take, drop, slice_get, Some, refl, sym, ap, ◌∙◌, arith, length-append, take_at, suc, zero}
 use Rattle.std.proofs.lemmas.List.{length-map, map_push, drop-map}
 use Rattle.circular_buffer.specs.Buffer.{keep_last, last_item}
 

@@ -1,18 +1,18 @@
 -- What changes of a tree leave of the lists of children.
-use Rattle.std.proofs.Common.{◌≡◌, ◌⊎◌, inl, inr, ℕ, ◌+◌, ◌-◌, ◌≤◌, ◌<◌, List, [], ◌∷◌, Bool, true, false, ◌==◌, ◌||◌, Option, Some, None, refl, sym, ap, ◌∙◌, arith, subst}
+use Rattle.std.proofs.Common.{◌≡◌, ◌⊎◌, inl, inr, ℕ, ◌+◌, ◌-◌, ◌≤◌, ◌<◌, List, ◌∷◌, Bool, true, false, ◌==◌, ◌||◌, Option, Some, None, refl, sym, ap, ◌∙◌, arith, subst}
 use Rattle.std.specs.Prelude.{if◌then◌else◌}
 use Rattle.std.specs.Option.{option_or}
-use Rattle.std.proofs.lemmas.Bool.{or_parts, or_left, or_right, eq-eqb, eqb-true, ne_eqb, false≢true, true≢false}
+use Rattle.std.proofs.lemmas.Bool.{or_left, or_right, eq-eqb, eqb-true, false≢true}
 use Rattle.std.proofs.lemmas.Option.{none-some, same_Some}
 use Rattle.tree_rows.specs.Forest.{Forest, none, text, element, count}
 use Rattle.tree_rows.specs.Whole.{AreNodes, times}
 use Rattle.tree_rows.specs.declared.name.Expanded.{Expanded}
 use Rattle.tree_rows.specs.declared.row.Attribute.{Attribute}
 use Rattle.tree_rows.specs.declared.row.Binding.{Binding}
-use Rattle.tree_edits.specs.Edits.{append, has, Found, replaced, renumbered, insert_at, with_children}
+use Rattle.tree_edits.specs.Edits.{append, has, Found, replaced, renumbered, insert_at}
 use Rattle.tree_edits.specs.Tests.{element_node}
 use Rattle.tree_edits.proofs.Lying.{Lies}
-use Rattle.tree_inverses.proofs.Twice.{gone, past_text, below_element, past_element, has_times, absent, own_one}
+use Rattle.tree_inverses.proofs.Twice.{gone, past_text, below_element, past_element, has_times, absent}
 use Rattle.doc_tree.specs.Readers.{parent_in}
 use Rattle.turn_laws.specs.Lists.{Child, child, listed, list_at}
 

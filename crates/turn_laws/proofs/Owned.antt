@@ -1,7 +1,7 @@
 -- The list that an author had seen, behind turns of which none came between.
-use Rattle.std.proofs.Common.{◌≡◌, ◌⊎◌, inl, inr, ℕ, ◌+◌, ◌-◌, ◌^◌, ◌≤◌, ◌<◌, List, [], ◌∷◌, ◌++◌, length, length-append, Bool, true, false, not, ◌&&◌, ◌||◌, ◌==◌, nat_lt, cond, Option, Some, None, refl, sym, ap, ◌∙◌, subst, arith}
+use Rattle.std.proofs.Common.{◌≡◌, inl, inr, ℕ, ◌-◌, ◌^◌, ◌≤◌, ◌<◌, List, [], ◌∷◌, ◌++◌, length, length-append, Bool, true, false, not, ◌&&◌, ◌||◌, ◌==◌, nat_lt, cond, Option, Some, None, refl, sym, ap, ◌∙◌, subst, arith}
 use Rattle.std.specs.Prelude.{All}
-use Rattle.std.proofs.lemmas.Bool.{eqb-true, eq-eqb, false≢true, true≢false}
+use Rattle.std.proofs.lemmas.Bool.{eqb-true, eq-eqb, false≢true}
 use Rattle.std.proofs.lemmas.Bool.Decides.{nat_tests}
 use Rattle.std.proofs.lemmas.List.Elements.{All-head, All-tail}
 use Rattle.std.proofs.lemmas.Option.{none-some, same_Some}
@@ -22,11 +22,11 @@ use Rattle.author_turns.specs.declared.touched.Touched.{Touched}
 use Rattle.undo_log.specs.Log.{Log}
 use Rattle.told.specs.Told.{Said}
 use Rattle.xsv_run.specs.from_open_document.State.{OpenState}
-use Rattle.xsv_run.specs.from_open_document.Touches.{touched, list_of, named, if_live, fault_by, stale_by, turn_fault}
+use Rattle.xsv_run.specs.from_open_document.Touches.{list_of, if_live, fault_by, stale_by, turn_fault}
 use Rattle.xsv_run.specs.from_open_document.TurnFault.TheVariants.{BadRevision, Stale}
 use Rattle.xsv_run.specs.Authors.{Read, AreAnswers}
-use Rattle.turn_laws.specs.Lists.{Child, listed, list_at}
-use Rattle.turn_laws.specs.Own.{puts_into, list_of_children, IsOwnTurn, IsListBehind, IsListBehindAll}
+use Rattle.turn_laws.specs.Lists.{Child, list_at}
+use Rattle.turn_laws.specs.Own.{puts_into, list_of_children, IsListBehind, IsListBehindAll}
 use Rattle.turn_laws.proofs.Along.{reply_so}
 use Rattle.turn_laws.proofs.Lists.{IsListed, list_past, or_one}
 use Rattle.turn_laws.proofs.Traced.{IsTraced, IsTurnTaken, IsMoved, is_or}

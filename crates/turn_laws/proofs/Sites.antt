@@ -1,12 +1,12 @@
 -- Where a part stands that was put back, and the number of a node that is found.
-use Rattle.std.proofs.Common.{◌≡◌, inl, inr, ℕ, ◌+◌, ◌-◌, List, Bool, true, false, ◌==◌, ◌||◌, refl, sym, ap, ◌∙◌, subst}
+use Rattle.std.proofs.Common.{◌≡◌, inl, inr, ℕ, ◌+◌, ◌-◌, List, true, false, ◌==◌, ◌||◌, refl, sym, ap, ◌∙◌, subst}
 use Rattle.std.specs.Prelude.{if◌then◌else◌}
 use Rattle.std.proofs.lemmas.Bool.{or_parts, or_right, eq-eqb, eqb-true, false≢true}
 use Rattle.tree_rows.specs.Forest.{Forest, none, text, element}
 use Rattle.tree_rows.specs.declared.name.Expanded.{Expanded}
 use Rattle.tree_rows.specs.declared.row.Attribute.{Attribute}
 use Rattle.tree_rows.specs.declared.row.Binding.{Binding}
-use Rattle.tree_edits.specs.Edits.{append, has, Found, found, replaced, insert_at, with_children}
+use Rattle.tree_edits.specs.Edits.{append, has, Found, replaced, insert_at, with_children}
 use Rattle.tree_edits.specs.Tests.{element_node}
 use Rattle.tree_edits.proofs.Lying.{Lies, lies, append-none}
 use Rattle.tree_inverses.specs.Sites.{Site, site_in, first_number, node_of, node_by}

@@ -1,6 +1,6 @@
 -- What is remembered of a history, along the replies to lines.
-use Rattle.std.proofs.Common.{◌≡◌, ◌⊎◌, inl, inr, ℕ, zero, suc, ◌+◌, ◌-◌, ◌^◌, ◌≤◌, ◌<◌, List, [], ◌∷◌, ◌++◌, map, take, drop, length, Bool, true, false, nat_lt, ◌==◌, Option, Some, None, Result, Ok, Err, refl, sym, ap, ◌∙◌, subst, arith}
-use Rattle.std.specs.Prelude.{All, slice_get, unwrap_or, if◌then◌else◌}
+use Rattle.std.proofs.Common.{◌≡◌, ◌⊎◌, inl, inr, ℕ, zero, suc, ◌-◌, ◌^◌, ◌≤◌, ◌<◌, List, [], ◌∷◌, ◌++◌, map, length, Bool, true, false, ◌==◌, Option, Some, None, Ok, refl, sym, ap, ◌∙◌, subst, arith}
+use Rattle.std.specs.Prelude.{All, slice_get, unwrap_or}
 use Rattle.std.specs.Option.{option_map}
 use Rattle.std.proofs.lemmas.Bool.{eqb-true, eq-eqb, false≢true}
 use Rattle.std.proofs.lemmas.List.{map_push}
@@ -13,7 +13,6 @@ use Rattle.tree_edits.specs.Edits.{can_be_made}
 use Rattle.tree_edits.specs.Tests.{first_refusal, tests_of, edited, made}
 use Rattle.tree_edits.specs.declared.edit.Edit.{Edit}
 use Rattle.tree_edits.specs.declared.edit.Edit.TheVariants as edits
-use Rattle.tree_edits.specs.declared.edit.EditError.{EditError}
 use Rattle.tree_inverses.specs.Changes.{Change, inverse_of}
 use Rattle.tree_inverses.specs.Edits.{change_of}
 use Rattle.tree_inverses.proofs.Edited.{made_ok}
@@ -33,10 +32,10 @@ use Rattle.told.specs.Told.{Said}
 use Rattle.xsv_run.specs.Complete.{IsStepReply}
 use Rattle.turn_laws.specs.Lists.{Child, list_at}
 use Rattle.turn_laws.specs.Turned.{IsNoTurn, IsStepTurn}
-use Rattle.turn_laws.proofs.Changing.{inverse_at, inverse_same, LeavesList, IsUndoOf, edit_leaves, edit_undone_by}
+use Rattle.turn_laws.proofs.Changing.{inverse_same, LeavesList, IsUndoOf, edit_leaves, edit_undone_by}
 use Rattle.turn_laws.proofs.Ends.{cut_end, last_of, but_last, kept_more}
 use Rattle.turn_laws.proofs.Lists.{IsListed, listed_below}
-use Rattle.turn_laws.proofs.Tracing.{Side, Entry, tree_of, keys_of, change_of_entry, turned, first_side, IsBack, IsOn, AreBack, AreOn, Holds, AllHold, back_push, back_drop, back_pop, undone_on, redone_back, side_with, entry_with, all_with, keys_with, changes_with, trees_with}
+use Rattle.turn_laws.proofs.Tracing.{Side, Entry, tree_of, keys_of, change_of_entry, turned, IsBack, IsOn, AreBack, AreOn, Holds, AllHold, back_push, back_drop, back_pop, undone_on, redone_back, side_with, entry_with, all_with, keys_with, changes_with, trees_with}
 
 -- ---- numbers
 
